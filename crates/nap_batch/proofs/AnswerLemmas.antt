@@ -38,7 +38,7 @@ pub answers_accepted : (q : Question) (budget : ℕ) (p line body : List ℕ) (c
 answers_accepted q budget p line body (Some n) accepted is shows same = inl (record { accepted = accepted; line_is = shows.0 ∙ ap count_line is; body_is = same })
 answers_accepted q budget p line body None accepted is shows same = cc
 
--- A page is refused, to another question than `check`, and there is no body.
+-- A page is refused, to another question than `check_answer`, and there is no body.
 module _ (q : Question) (apart : q ≢ question.Check) (budget : ℕ) (p : List ℕ) (none : refused_body_of q budget p ≡ []) where
   lacking : (line body : List ℕ) (place : ℕ) → BreaksWithin budget p place → line ≡ refused_line (record { fault = fault.Memory; place = place }) → body ≡ [] → AnswersPage q budget p line body
   lacking line body place h is empty =

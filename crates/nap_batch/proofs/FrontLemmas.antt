@@ -6,7 +6,7 @@ use Rattle.nap_batch.specs.declared.request.Question.{Question}
 use Rattle.nap_batch.specs.declared.request.Question.TheVariants as question
 use Rattle.nap_batch.specs.declared.request.RequestLine.{RequestLine}
 use Rattle.nap_batch.specs.Laws.{BegunRequestsAreNone, RequestsAreCutOneWay}
-use Rattle.nap_batch.specs.Requests.{Cuts, IsBegun, IsLine, IsMore, IsRequest, IsShort, IsWhole, NeverStarts, StartsNone, line_for, name_of}
+use Rattle.nap_batch.specs.Requests.{SplitsAtByte, IsBegun, IsLine, IsMore, IsRequest, IsShort, IsWhole, NeverStarts, StartsNone, line_for, name_of}
 use Rattle.nap_batch.proofs.RequestLemmas.{apart, cut_once, digits_above, first_cut, name_above, no_cut, parts_of, second_cut}
 
 -- The end of a line stands in no line.
@@ -24,21 +24,21 @@ line_end line h is =
 
 -- A request is cut at the end of its line.
 module _ (asked behind : List ℕ) (c : Question) (budget : ℕ) (page : List ℕ) (is : IsRequest asked c budget page) where
-  line_cut : (all : List ℕ) → all ≡ asked ++ behind → Cuts 10 all is.line (page ++ behind)
+  line_cut : (all : List ℕ) → all ≡ asked ++ behind → SplitsAtByte 10 all is.line (page ++ behind)
   line_cut all same = record {
     joins = same ∙ ap (λ (xs : List ℕ). xs ++ behind) is.bytes_are ∙ append_assoc is.line (10 ∷ page) behind;
     first = line_end is.line (line_for c budget page) is.says;
   }
 
 -- a cut stays where more comes
-cut_stays : (b : ℕ) (xs front back more : List ℕ) → Cuts b xs front back → Cuts b (xs ++ more) front (back ++ more)
+cut_stays : (b : ℕ) (xs front back more : List ℕ) → SplitsAtByte b xs front back → SplitsAtByte b (xs ++ more) front (back ++ more)
 cut_stays b xs front back more cut = record {
   joins = ap (λ (ys : List ℕ). ys ++ more) cut.joins ∙ append_assoc front (b ∷ back) more;
   first = cut.first;
 }
 
 -- a line that says nothing is no request's, whatever comes
-pub wrong_line : (held line behind : List ℕ) → Cuts 10 held line behind → ((h : RequestLine) → IsLine line h → ⊥) → NeverStarts held
+pub wrong_line : (held line behind : List ℕ) → SplitsAtByte 10 held line behind → ((h : RequestLine) → IsLine line h → ⊥) → NeverStarts held
 wrong_line held line behind cut none more asked rest c budget page is same =
     let once = cut_once 10 (held ++ more) line (behind ++ more) is.line (page ++ rest) (cut_stays 10 held line behind more cut) (line_cut asked rest c budget page is (held ++ more) same) in
     none (line_for c budget page) (rw once.0 is.says)
@@ -50,7 +50,7 @@ same_size line h k one two =
     sym one.size.value ∙ parts.size.value
 
 -- a request whose page isn't whole is none yet
-pub short_page : (held line behind : List ℕ) (h : RequestLine) → Cuts 10 held line behind → IsLine line h → length behind < h.size → StartsNone held
+pub short_page : (held line behind : List ℕ) (h : RequestLine) → SplitsAtByte 10 held line behind → IsLine line h → length behind < h.size → StartsNone held
 short_page held line behind h cut says short asked rest c budget page is same =
     let once = cut_once 10 held line behind is.line (page ++ rest) cut (line_cut asked rest c budget page is held same) in
     let size = same_size line h (line_for c budget page) says (rw once.0 is.says) in
@@ -127,7 +127,7 @@ module _ (bytes : List ℕ) (h : RequestLine) (n : ℕ) (whole : IsWhole bytes h
   whole_request = record { line = whole.line; says = with_page whole.line h page_of whole.says size_is; bytes_are = asked_is }
 
 -- bytes that can't be cut at the end of a line have none, and no request
-pub uncut_open : (held : List ℕ) → ((front back : List ℕ) → Cuts 10 held front back → ⊥) → All (λ b. b ≢ 10) held
+pub uncut_open : (held : List ℕ) → ((front back : List ℕ) → SplitsAtByte 10 held front back → ⊥) → All (λ b. b ≢ 10) held
 uncut_open [] none = All-nil (λ b. b ≢ 10)
 uncut_open (x ∷ xs) none =
     let P : ℕ → Type 0 = λ b. b ≢ 10 in
@@ -163,7 +163,7 @@ line_short line h is =
     let size_few : length is.size_digits ≤ 8 = is.size.few in
     omega (arith, all, numbers, name_short h.question, budget_few, size_few)
 
-pub long_line : (held : List ℕ) → ((front back : List ℕ) → Cuts 10 held front back → ⊥) → 24 < length held → NeverStarts held
+pub long_line : (held : List ℕ) → ((front back : List ℕ) → SplitsAtByte 10 held front back → ⊥) → 24 < length held → NeverStarts held
 long_line held none long more asked rest c budget page is same =
     let cut = line_cut asked rest c budget page is (held ++ more) same in
     let short = line_short is.line (line_for c budget page) is.says in

@@ -3,7 +3,7 @@ use Rattle.std.specs.Prelude.{All, flat_map}
 use Rattle.std.specs.Io.KnownBytes.{Appends, Consumes}
 use Rattle.std.proofs.KnownBytes.{Appends-nil, Appends-trans, Consumes-nil, Consumes-trans}
 use Rattle.std.proofs.lemmas.List.Elements.{All-nil}
-use Rattle.nap_list.specs.Flushing.{flushed}
+use Rattle.nap_list.specs.Flushing.{flush_count}
 use Rattle.nap_batch.specs.declared.service.Ended.{Ended}
 use Rattle.nap_batch.specs.declared.service.Ended.TheVariants as ended
 use Rattle.nap_batch.specs.Limits.{requests_limit}
@@ -25,7 +25,7 @@ times_of : (xs : List Exchange) (n b m a : ℕ) → length xs ≡ n → a ≡ m 
 times_of xs n b m a size same h = subst (λ (k : ℕ). FlushedTimes k b a) (sym size) (subst (FlushedTimes n b) (sym same) h)
 
 -- those of a row that ends at a failed write or flush
-amid : (w : Bool) (xs : List Exchange) (k n b m a : ℕ) → length xs ≡ n → FlushedTimes n b m → a ≡ flushed w m → FlushedTimes (flushes_of (ended.Write k) w (length xs)) b a
+amid : (w : Bool) (xs : List Exchange) (k n b m a : ℕ) → length xs ≡ n → FlushedTimes n b m → a ≡ flush_count w m → FlushedTimes (flushes_of (ended.Write k) w (length xs)) b a
 amid true xs k n b m a size h is = times_of xs n b m a size is h
 amid false xs k n b m a size h is = subst (λ (i : ℕ). FlushedTimes (i + 1) b a) (sym size) (once_more b m a n h is)
 
@@ -49,7 +49,7 @@ pub record Going (before now : Pipes) (held : List ℕ) (written n : ℕ) : Type
   pub requests : length xs ≡ n
   pub input_works : now.input_failed ≡ before.input_failed
   pub output_works : now.output_failed ≡ before.output_failed
-  pub flushed : xs ≢ [] → now.sent ≡ true
+  pub flush_count : xs ≢ [] → now.sent ≡ true
   pub each_flushed : before.output_failed ≡ false → FlushedTimes n before.flushes now.flushes
 
 pub starts : (p : Pipes) → Going p p [] 0 0

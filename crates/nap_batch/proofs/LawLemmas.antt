@@ -15,7 +15,7 @@ use Rattle.nap_command.specs.declared.command.Action.TheVariants as action
 use Rattle.nap_command.specs.Commands.{IsRefusal, PrintsBy}
 use Rattle.nap_batch.specs.declared.request.Question.{Question}
 use Rattle.nap_batch.specs.declared.request.Question.TheVariants as question
-use Rattle.nap_batch.specs.Answers.{IsAnswer, Lacks, Refuses, added, came_with, line_at, lines_at, page_command, places, places_before}
+use Rattle.nap_batch.specs.Answers.{IsAnswer, Lacks, Refuses, entries_added, came_with, line_at, lines_at, page_command, places, places_before}
 use Rattle.nap_batch.specs.Laws.{AnswersAreThoseOfCommands, AsCheck, AsCommand, AsRefused, PlacesAreLines, lines_placed}
 
 -- The answers and the commands.
@@ -30,7 +30,7 @@ module _ (q : Question) (act : Action) (budget : ℕ) (p line body : List ℕ) w
   checks_refused : (h : Refuses q budget p line body) → PrintsBy action.Check (page_command action.Check budget) p line verdict.Refused
   checks_refused h = (h.refusal, record { refused = λ _. h.refused; memory = λ is. absurd (h.own is) }, λ is. absurd (h.own is), h.line_is)
 
-  -- a page is refused, to a command that isn't `check`
+  -- a page is refused, to a command that isn't `check_answer`
   as_refused : act ≢ action.Check → Refuses q budget p line body → body ≡ [] → AsRefused act budget p line body
   as_refused other h none =
       record { r = h.refusal; denied = (other, own_refusal h); line_is = h.line_is; checked = λ _. checks_refused h; body_is = none }
@@ -106,9 +106,9 @@ placing_more n es fs gs bytes h same = record {
 }
 
 -- what is added to a list that goes on another
-added_is : (es fs gs : List Entry) → gs ≡ es ++ fs → gs ≡ es ++ added es gs
+added_is : (es fs gs : List Entry) → gs ≡ es ++ fs → gs ≡ es ++ entries_added es gs
 added_is es fs gs same =
-    let back : added es gs ≡ fs = ap (drop (length es)) same ∙ drop_at es fs (length es) refl in
+    let back : entries_added es gs ≡ fs = ap (drop (length es)) same ∙ drop_at es fs (length es) refl in
     same ∙ ap (λ (list : List Entry). es ++ list) (sym back)
 
 -- nothing comes of no bytes
@@ -122,7 +122,7 @@ unfolding front placed_from
 begun_nothing budget =
     let m : Machine = start_machine budget in
     let none : front m [] ≡ course.pause nothing = rw (no_code m.sets) refl in
-    ap (λ (o : Outcome). o.entries) (front_after_front m [] ∙ ap (course.onward outcome_from m []) none)
+    ap (λ (o : Outcome). o.entries) (front_after_front m [] ∙ ap (course.outcome_by_front outcome_from m []) none)
 
 take_nothing : (p : List ℕ) → take 0 p ≡ []
 take_nothing [] = refl
@@ -152,8 +152,8 @@ module _ (budget : ℕ) (p : List ℕ) where
       let whole : take (length p) p ≡ p = take_all (length p) p (omega arith) in
       let longer = begun_comes_first budget p in
       let more = added_is (begun budget p).entries longer.0 (means budget p).entries longer.1 in
-      placing_more (length p) (entries (length p)) (added (begun budget p).entries (means budget p).entries) (means budget p).entries (places_before budget p (length p)) (fronts (length p))
-      (more ∙ ap (λ (bytes : List ℕ). (begun budget bytes).entries ++ added (begun budget p).entries (means budget p).entries) (sym whole))
+      placing_more (length p) (entries (length p)) (entries_added (begun budget p).entries (means budget p).entries) (means budget p).entries (places_before budget p (length p)) (fronts (length p))
+      (more ∙ ap (λ (bytes : List ℕ). (begun budget bytes).entries ++ entries_added (begun budget p).entries (means budget p).entries) (sym whole))
 
 pub places_are_lines : PlacesAreLines
 places_are_lines budget p = let h = all_placed budget p in (h.at, h.each, h.is)

@@ -11,11 +11,11 @@ use Rattle.nap_reader.specs.declared.reader.Reader.{Reader}
 use Rattle.std.specs.Prelude.{IfOk}
 use Rattle.std.specs.declared.alloc.AllocError.{AllocError}
 use Rattle.nap_reader.specs.Breaking.{BreaksInRun, BreaksWithin, cause_of}
-use Rattle.nap_reader.specs.Standing.{Answers, AnswersBy, Stands, StopsAt, StopsBy, budget_of, left_of, refusal_of, sink_of}
+use Rattle.nap_reader.specs.Standing.{Answers, AnswersBy, HasRead, StopsAt, StopsBy, budget_of, left_of, refusal_of, sink_of}
 use Rattle.nap_reader.specs.Stream.{Outcome, begun, ended_by, means}
 use Rattle.nap_reader.proofs.PublicLaws.{begun_comes_first, fed_breaks_among, more_bytes_keep_entries, more_bytes_keep_refusal}
-use Rattle.nap_batch.specs.declared.places.Placed.{Placed}
-use Rattle.nap_batch.specs.Answers.{IsPlaced, added, came_with, lines_at, places, places_before}
+use Rattle.nap_batch.specs.declared.places.PlacesText.{PlacesText}
+use Rattle.nap_batch.specs.Answers.{IsPlaced, entries_added, came_with, lines_at, places, places_before}
 
 -- The lines of a page's entries, each behind its place, byte by byte.
 
@@ -31,7 +31,7 @@ walks_nothing = refl
 
 -- What a sink has that keeps all entries.
 module _ {g : Ghosts (List Entry)} (keeps : (s t d : List Entry) → g.took s d t → t ≡ s ++ d) (reader : Reader (List Entry) g) (budget : ℕ) (p : List ℕ)
-    (h : Stands reader [] p) (same : budget_of reader ≡ budget) where
+    (h : HasRead reader [] p) (same : budget_of reader ≡ budget) where
   pub kept : refusal_of reader ≡ None → sink_of reader ≡ (begun budget p).entries
   kept live =
       let known = subst (Answers g [] (budget_of reader) p (sink_of reader) (left_of reader)) live h.answers in
@@ -85,7 +85,7 @@ module _ (budget : ℕ) (p : List ℕ) where
   written_last i known old es end before count all =
       rw (before, count, all, end) refl
 
-  pub stops_so : (found : Result Placed AllocError) (q : Refusal) (text : List ℕ) → IfOk found (λ r. r.ended ≡ Err q) →
+  pub stops_so : (found : Result PlacesText AllocError) (q : Refusal) (text : List ℕ) → IfOk found (λ r. r.ended ≡ Err q) →
       IfOk found (λ r. q.fault ≡ fault.Memory → r.text.items ≡ []) → IfOk found (λ r. q.fault ≢ fault.Memory → r.text.items ≡ text) →
       (q.fault ≢ fault.Memory → ((means budget p).refusal ≡ Some q) × (text ≡ places budget p)) → (q.fault ≡ fault.Memory → BreaksWithin budget p q.place) →
       IfOk found (λ r. IsPlaced budget p r.text.items r.ended)
@@ -118,7 +118,7 @@ module _ (budget : ℕ) (p : List ℕ) where
         let all : begun budget p ≡ begun budget (take i p) = ap (begun budget) (sym whole) ∙ settled (length p) within in
         let some : (begun budget p).refusal ≡ Some r = ap (λ (o : Outcome). o.refusal) all ∙ refused in
         let same : means budget p ≡ begun budget p = ap (ended_by (begun budget p) (length p)) some in
-        let none : added (begun budget p).entries (means budget p).entries ≡ [] =
+        let none : entries_added (begun budget p).entries (means budget p).entries ≡ [] =
         ap (λ (o : Outcome). drop (length (begun budget p).entries) o.entries) same ∙ drop_all _ (begun budget p).entries (omega arith) in
         let e : length p ≡ i + (length p - i) = omega (arith, within) in
         ap (λ (es : List Entry). places_before budget p (length p) ++ lines_at (length p) es) none ∙ append-nil (places_before budget p (length p))
@@ -129,7 +129,7 @@ broke_apart is own = let other = ap cause_of (sym is) ∙ own in let bad : ⊥ =
 
 -- A reader broke at a byte of the page.
 module _ {g : Ghosts (List Entry)} (old new : Reader (List Entry) g) (budget : ℕ) (page : List ℕ) (i j : ℕ) (q : Refusal) (at : i ≡ j) (within : j < length page)
-    (was : budget_of old ≡ budget) (before : Stands old [] (take i page)) (n : ℕ) (stops : StopsAt old new (get_or page j 0 ∷ []) q n) where
+    (was : budget_of old ≡ budget) (before : HasRead old [] (take i page)) (n : ℕ) (stops : StopsAt old new (get_or page j 0 ∷ []) q n) where
   pub breaks_at : q.fault ≡ fault.Memory → BreaksWithin budget page q.place
   breaks_at is =
       let last : List ℕ = get_or page j 0 ∷ [] in

@@ -12,7 +12,7 @@ use Rattle.nap_batch.specs.declared.request.Question.TheVariants as question
 use Rattle.nap_batch.specs.declared.request.RequestLine.{RequestLine}
 use Rattle.nap_reader.specs.Budgets.{most_budget}
 use Rattle.nap_batch.specs.Limits.{page_limit}
-use Rattle.nap_batch.specs.Requests.{Cuts, IsLine, IsNumber, name_of}
+use Rattle.nap_batch.specs.Requests.{SplitsAtByte, IsLine, IsNumber, name_of}
 
 -- A list is cut in one way.
 
@@ -24,7 +24,7 @@ one_cut b (x ∷ f) k (y ∷ g) l none also same =
     let more = one_cut b f k g l (All-tail (λ z. z ≢ b) x f none) (All-tail (λ z. z ≢ b) y g also) (cc) in
     (cc, more.1)
 
-pub cut_once : (b : ℕ) (xs f k g l : List ℕ) → Cuts b xs f k → Cuts b xs g l → (f ≡ g) × (k ≡ l)
+pub cut_once : (b : ℕ) (xs f k g l : List ℕ) → SplitsAtByte b xs f k → SplitsAtByte b xs g l → (f ≡ g) × (k ≡ l)
 cut_once b xs f k g l one two = one_cut b f k g l one.first two.first (sym one.joins ∙ two.joins)
 
 -- and in none where there is no such byte
@@ -32,7 +32,7 @@ never : (b : ℕ) (f k : List ℕ) → All (λ x. x ≢ b) (f ++ b ∷ k) → �
 never b [] k none = All-head (λ x. x ≢ b) b k none refl
 never b (x ∷ f) k none = never b f k (All-tail (λ z. z ≢ b) x (f ++ b ∷ k) none)
 
-pub no_cut : (b : ℕ) (xs f k : List ℕ) → All (λ x. x ≢ b) xs → Cuts b xs f k → ⊥
+pub no_cut : (b : ℕ) (xs f k : List ℕ) → All (λ x. x ≢ b) xs → SplitsAtByte b xs f k → ⊥
 no_cut b xs f k none cut = never b f k (subst (λ (ys : List ℕ). All (λ x. x ≢ b) ys) cut.joins none)
 
 -- Digits.
@@ -74,10 +74,10 @@ digits_above (d ∷ ds) all = let range = digit_from_value d all.0 in (omega (ar
 
 -- The cuts of a request's line.
 
-pub first_cut : (line : List ℕ) (h : RequestLine) (is : IsLine line h) → Cuts 32 line (name_of h.question) (is.budget_digits ++ 32 ∷ is.size_digits)
+pub first_cut : (line : List ℕ) (h : RequestLine) (is : IsLine line h) → SplitsAtByte 32 line (name_of h.question) (is.budget_digits ++ 32 ∷ is.size_digits)
 first_cut line h is = record { joins = is.line_is; first = apart 32 (name_of h.question) (omega arith) (name_above h.question) }
 
-pub second_cut : (line : List ℕ) (h : RequestLine) (is : IsLine line h) → Cuts 32 (is.budget_digits ++ 32 ∷ is.size_digits) is.budget_digits is.size_digits
+pub second_cut : (line : List ℕ) (h : RequestLine) (is : IsLine line h) → SplitsAtByte 32 (is.budget_digits ++ 32 ∷ is.size_digits) is.budget_digits is.size_digits
 second_cut line h is = record {
   joins = refl;
   first = apart 32 is.budget_digits (omega arith) (digits_above is.budget_digits is.budget.numeral.1);
@@ -89,19 +89,19 @@ pub record Parts (h : RequestLine) (name budget_digits size_digits : List ℕ) :
   pub budget : IsNumber most_budget budget_digits h.budget
   pub size : IsNumber page_limit size_digits h.size
 
-pub parts_of : (line name numbers budget size : List ℕ) (h : RequestLine) → Cuts 32 line name numbers → Cuts 32 numbers budget size → IsLine line h → Parts h name budget size
+pub parts_of : (line name numbers budget size : List ℕ) (h : RequestLine) → SplitsAtByte 32 line name numbers → SplitsAtByte 32 numbers budget size → IsLine line h → Parts h name budget size
 parts_of line name numbers budget size h one two is =
     let a = cut_once 32 line name numbers _ _ one (first_cut line h is) in
     let b = cut_once 32 numbers budget size _ _ two (rw a.1 (second_cut line h is)) in
     record { name_is = a.0; budget = rw b.0 is.budget; size = rw b.1 is.size }
 
 -- a line without two spaces is none
-pub no_second : (line name numbers : List ℕ) (h : RequestLine) → Cuts 32 line name numbers → ((front back : List ℕ) → Cuts 32 numbers front back → ⊥) → IsLine line h → ⊥
+pub no_second : (line name numbers : List ℕ) (h : RequestLine) → SplitsAtByte 32 line name numbers → ((front back : List ℕ) → SplitsAtByte 32 numbers front back → ⊥) → IsLine line h → ⊥
 no_second line name numbers h one none is =
     let a = cut_once 32 line name numbers _ _ one (first_cut line h is) in
     none is.budget_digits is.size_digits (rw a.1 (second_cut line h is))
 
-pub joined : (line name numbers budget size : List ℕ) (h : RequestLine) → Cuts 32 line name numbers → Cuts 32 numbers budget size → Parts h name budget size → IsLine line h
+pub joined : (line name numbers budget size : List ℕ) (h : RequestLine) → SplitsAtByte 32 line name numbers → SplitsAtByte 32 numbers budget size → Parts h name budget size → IsLine line h
 joined line name numbers budget size h one two parts = record {
   budget_digits = budget;
   size_digits = size;

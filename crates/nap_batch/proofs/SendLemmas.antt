@@ -4,7 +4,7 @@ use Rattle.std.proofs.Math.Seq.{take-append-add}
 use Rattle.std.proofs.lemmas.List.{length-take, length-take-le, take-append-le, take_all}
 use Rattle.std.specs.Io.KnownBytes.{Appends, Keeps}
 use Rattle.nap_list.specs.declared.device.outlet.Outlet as outlet
-use Rattle.nap_list.specs.Flushing.{flushed}
+use Rattle.nap_list.specs.Flushing.{flush_count}
 use Rattle.nap_batch.specs.declared.service.Ended.{Ended}
 use Rattle.nap_batch.specs.declared.service.Ended.TheVariants as ended
 use Rattle.nap_batch.specs.Sessions.{Leads, Sends, count_on, flushed_once}
@@ -48,7 +48,7 @@ module _ {O : Type 0} (o : outlet.Ghosts O) (written : ℕ) (head body : List �
     ap (λ (k : ℕ). take k (head ++ body)) (length-append head part) ∙ take-append-add head body (length part) ∙ ap (λ (bytes : List ℕ). head ++ bytes) front,
     count_behind written head part n m count number,
     failed,
-    λ good. flushes (works ∙ good) ∙ ap (flushed (o.write_failed after)) still,
+    λ good. flushes (works ∙ good) ∙ ap (flush_count (o.write_failed after)) still,
   )
   led_then mid after n led (Err _) h = absurd h
 
@@ -62,5 +62,5 @@ module _ {O : Type 0} (o : outlet.Ghosts O) (written : ℕ) (head body : List �
         ap (λ (k : ℕ). take k head) size,
         count ∙ ap (count_on written) (sym size),
         failed,
-        λ good. still ∙ sym (ap (λ (b : Bool). flushed b (o.flushes before)) wrote),
+        λ good. still ∙ sym (ap (λ (b : Bool). flush_count b (o.flushes before)) wrote),
       )

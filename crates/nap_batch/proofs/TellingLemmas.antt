@@ -6,16 +6,16 @@ use Rattle.nap_command.specs.declared.failure.Failure.{Failure}
 use Rattle.nap_command.specs.declared.failure.Failure.TheVariants as failure
 use Rattle.nap_command.specs.Devices.{Takes}
 use Rattle.nap_command.specs.Commands as commands
-use Rattle.nap_command.specs.Failures.{exit_status, told_text}
+use Rattle.nap_command.specs.Failures.{exit_status, reported_text}
 use Rattle.nap_batch.specs.declared.service.Ended.{Ended}
 use Rattle.nap_batch.specs.declared.service.Ended.TheVariants as ended
-use Rattle.nap_batch.specs.Sessions.{Tells, ended_text}
+use Rattle.nap_batch.specs.Sessions.{Reports, ended_text}
 
 -- How an end is told on standard error.
 
 -- A failure stands for an end: its line is told, with the status 3.
 pub record StandsFor (end : Ended) (f : Failure) : Type 0 where
-  pub text : told_text (Err f) ≡ ended_text end
+  pub text : reported_text (Err f) ≡ ended_text end
   pub status : exit_status (Err f) ≡ 3
 
 pub read_stands : StandsFor ended.Read failure.Read
@@ -28,7 +28,7 @@ pub memory_stands : StandsFor ended.Memory failure.Memory
 memory_stands = record { text = refl; status = refl }
 
 -- what was told of the failure was told of the end
-pub tells_of : (e : List ℕ) (failed : Bool) (end : Ended) (f : Failure) (status : ℕ) → StandsFor end f → commands.Tells e failed (Err f) status → Tells e failed end × (status ≡ 3)
+pub tells_of : (e : List ℕ) (failed : Bool) (end : Ended) (f : Failure) (status : ℕ) → StandsFor end f → commands.Reports e failed (Err f) status → Reports e failed end × (status ≡ 3)
 tells_of e failed end f status h k = (
   record {
     front = subst (λ (xs : List ℕ). take (length e) xs ≡ e) h.text k.front;
@@ -48,7 +48,7 @@ failed_is_false : (was now : Bool) → now ≡ (was || true) → now ≡ false �
 failed_is_false was now h k = cc (or-true was)
 
 pub tells_line : (old new : Option (List ℕ)) (r : Result (Unit {0}) Failure) (was now : Bool) (end : Ended) → Takes old new (ended_text end) r → now ≡ (was || is_err r) →
-    (e : List ℕ) × Appends old new e × Tells e now end
+    (e : List ℕ) × Appends old new e × Reports e now end
 tells_line old new (Ok done) was now end h flag =
     (ended_text end, h, record { front = take_all (length (ended_text end)) (ended_text end) (omega arith); all = λ _. refl })
 tells_line old new (Err (failure.Write n)) was now end h flag = (

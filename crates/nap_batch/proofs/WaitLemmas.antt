@@ -4,12 +4,12 @@ use Rattle.std.proofs.KnownBytes.{Consumes-nil, Consumes-trans}
 use Rattle.nap_list.specs.declared.device.inlet.Inlet as inlet
 use Rattle.nap_list.specs.Limits.{reads_limit}
 use Rattle.nap_list.specs.Reading.{Reading, NoneFailed, reading}
-use Rattle.nap_batch.specs.declared.held.Stop.TheVariants as stop
+use Rattle.nap_batch.specs.declared.input_buffer.Stop.TheVariants as stop
 use Rattle.nap_batch.specs.declared.service.Ended.{Ended}
 use Rattle.nap_batch.specs.declared.service.Ended.TheVariants as ended
-use Rattle.nap_batch.specs.declared.waiting.Found.{Found}
-use Rattle.nap_batch.specs.declared.waiting.Found.TheVariants as found
-use Rattle.nap_batch.specs.declared.waiting.Step.TheVariants as step
+use Rattle.nap_batch.specs.declared.waiting.FoundRequest.{FoundRequest}
+use Rattle.nap_batch.specs.declared.waiting.FoundRequest.TheVariants as found
+use Rattle.nap_batch.specs.declared.waiting.ReadStep.TheVariants as step
 use Rattle.nap_batch.specs.Requests.{IsBegun, IsMore, IsShort, IsWhole, NeverStarts}
 use Rattle.nap_batch.specs.Waiting.{Finds, IsAsked, IsFound, IsLast, IsSkipped, IsStep, ReadsOn, Skips, StopsBy, end_of}
 use Rattle.nap_batch.proofs.FrontLemmas.{made_whole, more_begun, some_front, still_short}
@@ -51,7 +51,7 @@ stops_amid seen old bytes n most ended.Read short few (less, inr (often, works))
 stops_amid seen old bytes n most _ short few h = absurd h
 
 -- what stands in front after the last read
-pub last_found : (seen : Reading) (all held : List ℕ) (r : Result Found Ended) → held ≡ all → reads_limit ≤ length all → NoneFailed seen → IsLast held r → Finds seen all held r
+pub last_found : (seen : Reading) (all held : List ℕ) (r : Result FoundRequest Ended) → held ≡ all → reads_limit ≤ length all → NoneFailed seen → IsLast held r → Finds seen all held r
 last_found seen all held (Ok (found.Whole line start)) same many works h = (same, subst (λ (xs : List ℕ). IsWhole xs line start) same h, works)
 last_found seen all held (Err ended.Request) same many works h = (inl (subst NeverStarts same h), works)
 last_found seen all held (Err ended.Read) same many works h = (subst IsBegun same h, inr (many, works))
@@ -98,7 +98,7 @@ module _ {I : Type 0} (i : inlet.Ghosts I) (old held bytes : List ℕ) (before m
   pub finds_wrong : NeverStarts held → IsFound i old held before mid (Err ended.Request)
   finds_wrong never = record { bytes = bytes; read = read; finds = (inl (subst NeverStarts is never), works) }
 
-  pub finds_last : (r : Result Found Ended) → reads_limit ≤ length bytes → IsLast held r → IsFound i old held before mid r
+  pub finds_last : (r : Result FoundRequest Ended) → reads_limit ≤ length bytes → IsLast held r → IsFound i old held before mid r
   finds_last r many h = record {
     bytes = bytes;
     read = read;

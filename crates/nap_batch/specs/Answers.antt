@@ -33,33 +33,33 @@ ended_line (Err r) = refused_line r
 
 -- The places of entries.
 
--- the line of an entry, behind this place
+-- the line of an entry, after this place
 abbrev pub line_at : ℕ → Entry → List ℕ
 line_at place e = decimal place ++ 32 ∷ (line e ++ 10 ∷ [])
 
 abbrev pub lines_at : ℕ → List Entry → List ℕ
 lines_at place entries = flat_map (line_at place) entries
 
--- what a list has more than one that it begins with
-abbrev pub added : List Entry → List Entry → List Entry
-added before after = drop (length before) after
+-- the entries that a list has after those of a prefix
+abbrev pub entries_added : List Entry → List Entry → List Entry
+entries_added before after = drop (length before) after
 
--- the entries that came with the byte at this index
+-- the entries that the byte at this index added
 abbrev pub came_with : ℕ → List ℕ → ℕ → List Entry
-came_with budget p i = added (begun budget (take i p)).entries (begun budget (take (i + 1) p)).entries
+came_with budget p i = entries_added (begun budget (take i p)).entries (begun budget (take (i + 1) p)).entries
 
--- the lines of the entries that came with the first n bytes
+-- the lines of the entries that the first n bytes added
 unfoldable pub places_before : ℕ → List ℕ → ℕ → List ℕ
 places_before budget p zero = []
 places_before budget p (suc n) = places_before budget p n ++ lines_at n (came_with budget p n)
 
--- the lines of all entries, each behind its place: those that came at the end have the length of the page
+-- the lines of all entries, each after its place; those added at the end have the length of the page
 abbrev pub places : ℕ → List ℕ → List ℕ
-places budget p = places_before budget p (length p) ++ lines_at (length p) (added (begun budget p).entries (means budget p).entries)
+places budget p = places_before budget p (length p) ++ lines_at (length p) (entries_added (begun budget p).entries (means budget p).entries)
 
--- A page was read byte by byte, and its places written: all, and how many entries there are; or it is refused, or lacks
--- memory, and none is written.
-pub record Counts (budget : ℕ) (p text : List ℕ) (n : ℕ) : Type 0 where
+-- A page was read byte by byte, and its places written: all, with the number of entries; or none, if it is refused for
+-- lack of memory.
+pub record CountsPlaces (budget : ℕ) (p text : List ℕ) (n : ℕ) : Type 0 where
   pub accepted : IsAccepted budget p
   pub count : n ≡ length (list_of budget p)
   pub text_is : text ≡ places budget p
@@ -69,12 +69,12 @@ pub record Stops (budget : ℕ) (p text : List ℕ) (r : Refusal) : Type 0 where
   pub memory : r.fault ≡ fault.Memory → BreaksWithin budget p r.place × (text ≡ [])
 
 abbrev pub IsPlaced : ℕ → List ℕ → List ℕ → Result ℕ Refusal → Type 0
-IsPlaced budget p text (Ok n) = Counts budget p text n
+IsPlaced budget p text (Ok n) = CountsPlaces budget p text n
 IsPlaced budget p text (Err r) = Stops budget p text r
 
--- The answer.
+-- The answer to a question.
 
--- the body of an answer where the page is accepted
+-- the body of an answer for an accepted page
 abbrev pub body_of : Question → ℕ → List ℕ → List ℕ
 body_of question.Check budget p = []
 body_of question.List budget p = lines (list_of budget p)
@@ -82,7 +82,7 @@ body_of question.Canon budget p = text (list_of budget p)
 body_of question.Places budget p = places budget p
 body_of question.Make budget p = []
 
--- the body of an answer where the page is refused
+-- the body of an answer for a refused page
 abbrev pub refused_body_of : Question → ℕ → List ℕ → List ℕ
 refused_body_of question.Places budget p = places budget p
 refused_body_of _ budget p = []
@@ -101,8 +101,8 @@ pub record Refuses (q : Question) (budget : ℕ) (p line body : List ℕ) : Type
   pub line_is : line ≡ refused_line refusal
   pub body_is : body ≡ refused_body_of q budget p
 
--- There was no memory for the reading, at a place where the page can lack it. For a count, the reader itself lacks it, or
--- 64 bits can't hold the number of the entries.
+-- Memory ran out in reading, at a place where the page can lack it. For a count, the reader itself lacks it, or the
+-- number of entries exceeds 64 bits.
 pub record Lacks (q : Question) (budget : ℕ) (p line body : List ℕ) : Type 0 where
   pub place : ℕ
   pub breaks : BreaksWithin budget p place
@@ -110,22 +110,22 @@ pub record Lacks (q : Question) (budget : ℕ) (p line body : List ℕ) : Type 0
   pub line_is : line ≡ refused_line (refusal fault.Memory place)
   pub body_is : body ≡ []
 
--- the line and the body of an answer to a question on a page
+-- the line and the body of an answer to a question about a page
 abbrev pub AnswersPage : Question → ℕ → List ℕ → List ℕ → List ℕ → Type 0
 AnswersPage q budget p line body = Accepts q budget p line body ⊎ (Refuses q budget p line body ⊎ Lacks q budget p line body)
 
 -- The page that lines make.
 
--- the line of an answer where lines make no page: what `make` tells
+-- the line of an answer for lines that make no page: what `make` reports
 abbrev pub unmade_line : MakeFault → List ℕ
 unmade_line fault = failure_text (failure_of fault) ++ 10 ∷ []
 
--- the lines make the page that is the body, and the line says how many entries that has
+-- the lines make the page that is the body, and the line has its number of entries
 pub record MakesPage (p line body : List ℕ) : Type 0 where
   pub made : IsMadeOf body p
   pub line_is : line ≡ count_line (length made.entries)
 
--- the lines make none, and the line says why
+-- the lines make no page, and the line says why
 pub record MakesNoPage (p line body : List ℕ) : Type 0 where
   pub fault : MakeFault
   pub denied : DeniesLines p fault
@@ -140,11 +140,11 @@ abbrev pub IsAnswer : Question → ℕ → List ℕ → List ℕ → List ℕ �
 IsAnswer question.Make budget p line body = AnswersLines p line body
 IsAnswer q budget p line body = AnswersPage q budget p line body
 
--- an answer as it goes out
+-- the bytes of an answer
 abbrev pub answer_text : List ℕ → List ℕ → List ℕ
 answer_text line body = line ++ decimal (length body) ++ 10 ∷ body
 
--- The commands.
+-- The commands of the same names.
 
 -- the command of an action, on bytes
 abbrev pub page_command : Action → ℕ → Command
@@ -161,7 +161,7 @@ question_of action.Canon = question.Canon
 
 -- The canonical text of a page.
 
--- what an answer shows of it, or why the page is refused
+-- what an answer has of the canonical text of a page, or of its refusal
 abbrev pub ShowsText : Result PageText Refusal → List ℕ → List ℕ → Type 0
 ShowsText (Ok found) line body = IfSome found.count (λ n. line ≡ count_line n) × IsSome found.count × (body ≡ found.text.items)
 ShowsText (Err r) line body = (line ≡ refused_line r) × (body ≡ [])

@@ -13,21 +13,21 @@ use Rattle.nap_batch.specs.declared.request.Question.{Question}
 use Rattle.nap_batch.specs.Answers.{DeniesPage, IsAnswer, line_at, page_command, places, question_of, refused_line}
 use Rattle.nap_batch.specs.Requests.{IsBegun, IsRequest, StartsNone}
 
--- Two requests that stand in front of the same bytes are the same.
+-- Bytes begin with at most one complete request.
 abbrev pub RequestsAreCutOneWay : Type 0
 RequestsAreCutOneWay = (asked other behind rest : List ℕ) (q r : Question) (b e : ℕ) (page paper : List ℕ) → IsRequest asked q b page → IsRequest other r e paper →
     asked ++ behind ≡ other ++ rest → (asked ≡ other) × (q ≡ r) × (b ≡ e) × (page ≡ paper)
 
--- A request that has only begun is none: no whole one stands in front.
+-- Bytes that begin with an incomplete request don't begin with a complete one.
 abbrev pub BegunRequestsAreNone : Type 0
 BegunRequestsAreNone = (bytes : List ℕ) → IsBegun bytes → StartsNone bytes
 
--- A page is accepted: the line is what `check` prints, and the body what the command prints.
+-- A page is accepted: the line is what `check_answer` prints, and the body what the command prints.
 pub record AsAccepted (act : Action) (budget : ℕ) (p line body : List ℕ) : Type 0 where
   pub line_is : PrintsBy action.Check (page_command action.Check budget) p line verdict.Accepted
   pub body_is : PrintsBy act (page_command act budget) p body verdict.Accepted
 
--- The command refuses a page, as the line says, and there is no body. If memory wasn't wanting, `check` prints that line.
+-- The command refuses a page, as the line says, and the body is empty. Unless memory ran out, `check_answer` prints that line.
 pub record AsRefused (act : Action) (budget : ℕ) (p line body : List ℕ) : Type 0 where
   pub r : Refusal
   pub denied : DeniesPage act budget p (failure.Refused r)
@@ -38,7 +38,7 @@ pub record AsRefused (act : Action) (budget : ℕ) (p line body : List ℕ) : Ty
 abbrev pub AsCommand : Action → ℕ → List ℕ → List ℕ → List ℕ → Type 0
 AsCommand act budget p line body = AsAccepted act budget p line body ⊎ AsRefused act budget p line body
 
--- the line is what `check` prints, and there is no body
+-- the line is what `check_answer` prints, and the body is empty
 pub record AsCheck (budget : ℕ) (p line body : List ℕ) : Type 0 where
   pub v : Verdict
   pub line_is : PrintsBy action.Check (page_command action.Check budget) p line v
@@ -48,17 +48,17 @@ abbrev pub AsAction : Action → ℕ → List ℕ → List ℕ → List ℕ → 
 AsAction action.Check budget p line body = AsCheck budget p line body
 AsAction act budget p line body = AsCommand act budget p line body
 
--- Each answer is what the command of the same name prints.
+-- Each answer has what the command of the same name prints.
 abbrev pub AnswersAreThoseOfCommands : Type 0
 AnswersAreThoseOfCommands = (act : Action) (budget : ℕ) (p line body : List ℕ) → IsAnswer (question_of act) budget p line body → AsAction act budget p line body
 
--- the lines of entries, each behind a place of its own
+-- the lines of entries, each after a place of its own
 unfoldable pub lines_placed : List ℕ → List Entry → List ℕ
 lines_placed [] entries = []
 lines_placed (n ∷ ns) [] = []
 lines_placed (n ∷ ns) (e ∷ es) = line_at n e ++ lines_placed ns es
 
--- The places are the lines that `list` prints, each behind a place: without the places they are those.
+-- The places without their numbers are the lines that `print_list` prints.
 abbrev pub PlacesAreLines : Type 0
 PlacesAreLines = (budget : ℕ) (p : List ℕ) →
     (at : List ℕ) × (length at ≡ length (means budget p).entries) × (places budget p ≡ lines_placed at (means budget p).entries)

@@ -1,19 +1,19 @@
 use Rattle.std.specs.Prelude.{ℕ, ◌≡◌, ◌≢◌, ◌⊎◌, ◌≤◌, ◌<◌, ◌+◌, List, ◌∷◌, ◌++◌, All, codes, length}
 use Rattle.std.specs.Str.Parse.{IsNumeral, digits_value}
 use Rattle.nap_reader.specs.Budgets.{most_budget}
-use Rattle.nap_batch.specs.declared.front.Front.{Front}
-use Rattle.nap_batch.specs.declared.front.Front.TheVariants as front
+use Rattle.nap_batch.specs.declared.request_front.RequestFront.{RequestFront}
+use Rattle.nap_batch.specs.declared.request_front.RequestFront.TheVariants as front
 use Rattle.nap_batch.specs.declared.request.Question.{Question}
 use Rattle.nap_batch.specs.declared.request.Question.TheVariants as question
 use Rattle.nap_batch.specs.declared.request.RequestLine.{RequestLine}
 use Rattle.nap_batch.specs.Limits.{digits_limit, line_limit, page_limit}
 
--- a list is cut at the first such byte
-pub record Cuts (byte : ℕ) (bytes front back : List ℕ) : Type 0 where
+-- a list is split at the first byte of this value
+pub record SplitsAtByte (byte : ℕ) (bytes front back : List ℕ) : Type 0 where
   pub joins : bytes ≡ front ++ byte ∷ back
   pub first : All (λ b. b ≢ byte) front
 
--- decimal digits, a few of them, that write this number, which is no more than so many
+-- at most eight decimal digits write this number, which is at most `most`
 pub record IsNumber (most : ℕ) (digits : List ℕ) (n : ℕ) : Type 0 where
   pub numeral : IsNumeral 10 digits
   pub few : length digits ≤ digits_limit
@@ -27,7 +27,7 @@ name_of question.Canon = codes "canon"
 name_of question.Places = codes "places"
 name_of question.Make = codes "make"
 
--- the line of a request, without its end
+-- the line of a request, without LF
 pub record IsLine (line : List ℕ) (r : RequestLine) : Type 0 where
   pub budget_digits : List ℕ
   pub size_digits : List ℕ
@@ -38,55 +38,55 @@ pub record IsLine (line : List ℕ) (r : RequestLine) : Type 0 where
 abbrev pub line_for : Question → ℕ → List ℕ → RequestLine
 line_for q budget page = record { question = q; budget = budget; size = length page }
 
--- a request: its line, and the page
+-- a request: its line and its page
 pub record IsRequest (bytes : List ℕ) (q : Question) (budget : ℕ) (page : List ℕ) : Type 0 where
   pub line : List ℕ
   pub says : IsLine line (line_for q budget page)
   pub bytes_are : bytes ≡ line ++ 10 ∷ page
 
--- no request stands at the front
+-- the bytes begin with no complete request
 abbrev pub StartsNone : List ℕ → Type 0
 StartsNone bytes = (asked behind : List ℕ) (q : Question) (budget : ℕ) (page : List ℕ) → IsRequest asked q budget page → bytes ≡ asked ++ behind → ⊥
 
--- and none will, whatever comes
+-- the bytes, with whatever follows them, begin with no complete request
 abbrev pub NeverStarts : List ℕ → Type 0
 NeverStarts bytes = (more : List ℕ) → StartsNone (bytes ++ more)
 
--- a whole request is in front: its line with the end, which has so many bytes, and at least as many behind as its page has
+-- the bytes begin with a complete request: its line with LF has n bytes, and its page follows
 pub record IsWhole (bytes : List ℕ) (r : RequestLine) (n : ℕ) : Type 0 where
   pub line : List ℕ
   pub behind : List ℕ
-  pub cut : Cuts 10 bytes line behind
+  pub cut : SplitsAtByte 10 bytes line behind
   pub says : IsLine line r
   pub start : n ≡ length line + 1
   pub enough : r.size ≤ length behind
 
--- a request is in front, but for the last bytes of its page, which are so many
+-- the bytes begin with a request that lacks the last n bytes of its page
 pub record IsShort (bytes : List ℕ) (n : ℕ) : Type 0 where
   pub line : List ℕ
   pub behind : List ℕ
   pub request : RequestLine
-  pub cut : Cuts 10 bytes line behind
+  pub cut : SplitsAtByte 10 bytes line behind
   pub says : IsLine line request
   pub missing : length behind + n ≡ request.size
   pub some : 0 < n
 
--- no line ends in these bytes, which are no more than a line has
+-- the bytes have no LF, and are no more than a line may have
 pub record IsOpen (bytes : List ℕ) : Type 0 where
   pub none : All (λ b. b ≢ 10) bytes
   pub few : length bytes ≤ line_limit
 
--- a request may have begun: its line has no end yet, or its page lacks bytes
+-- the bytes begin with an incomplete request: its line has no LF yet, or its page lacks bytes
 abbrev pub IsBegun : List ℕ → Type 0
 IsBegun bytes = IsOpen bytes ⊎ ((n : ℕ) × IsShort bytes n)
 
--- a request may have begun: its page lacks so many bytes; or its line has no end yet, and then the number is 0
+-- the bytes begin with an incomplete request: its page lacks n bytes, or its line has no LF yet and n is 0
 pub record IsMore (bytes : List ℕ) (n : ℕ) : Type 0 where
   pub endless : n ≡ 0 → IsOpen bytes
   pub short : n ≢ 0 → IsShort bytes n
 
--- what stands in front: a whole request, one that may have begun, or no request, whatever comes
-abbrev pub IsFront : List ℕ → Front → Type 0
+-- what the bytes begin with: a complete request, an incomplete one, or none whatever follows
+abbrev pub IsFront : List ℕ → RequestFront → Type 0
 IsFront bytes (front.Whole r n) = IsWhole bytes r n
 IsFront bytes (front.More n) = IsMore bytes n
 IsFront bytes front.Wrong = NeverStarts bytes

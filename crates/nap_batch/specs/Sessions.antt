@@ -15,7 +15,7 @@ use Rattle.nap_batch.specs.Limits.{requests_limit}
 use Rattle.nap_batch.specs.Requests.{IsRequest}
 use Rattle.nap_batch.specs.Waiting.{StopsBy}
 
--- what was asked, with its bytes, and what was answered
+-- a question, with its bytes, and its answer
 pub record Exchange : Type 0 where
   pub asked : List ℕ
   pub question : Question
@@ -23,11 +23,11 @@ pub record Exchange : Type 0 where
   pub page : List ℕ
   pub answered : List ℕ
 
--- the answer where there was no memory for one: a line that says so, and the line of a body with no bytes
+-- the answer if memory ran out for one
 abbrev pub no_memory : List ℕ
 no_memory = codes "no memory" ++ 10 ∷ (codes "0" ++ 10 ∷ [])
 
--- a request is answered so: by a line and a body, or that there was no memory for them
+-- the answer to a request: a line and a body, or lack of memory
 abbrev pub IsAnswered : Question → ℕ → List ℕ → List ℕ → Type 0
 IsAnswered q budget page out =
     ((line : List ℕ) × (body : List ℕ) × IsAnswer q budget page line body × (out ≡ answer_text line body)) ⊎ (out ≡ no_memory)
@@ -36,15 +36,15 @@ pub record IsExchange (x : Exchange) : Type 0 where
   pub request : IsRequest x.asked x.question x.budget x.page
   pub answer : IsAnswered x.question x.budget x.page x.answered
 
--- so many bytes more, up to the greatest of 64 bits
+-- a sum that saturates at 2^64 - 1
 abbrev pub count_on : ℕ → ℕ → ℕ
 count_on count more = min (count + more) (2 ^ 64 - 1)
 
--- how often an output was flushed that is flushed once more
+-- the number of flushes after one more, saturating at 2^64 - 1
 abbrev pub flushed_once : ℕ → ℕ
-flushed_once n = flushing.flushed false n
+flushed_once n = flushing.flush_count false n
 
--- an output took all of a text behind so many bytes, and sent it on; or failed amid it
+-- an output took all of a text after a number of bytes, and was flushed; or it failed during the text
 abbrev pub Sends : {O : Type 0} → outlet.Ghosts O → ℕ → List ℕ → O → O → Result ℕ Ended → Type 0
 Sends o written text before after (Ok n) =
     Appends (o.taken before) (o.taken after) text × (n ≡ count_on written (length text)) × (o.failed after ≡ o.failed before) × (o.sent after ≡ true)
@@ -66,13 +66,13 @@ Leads o written head before after (Err end) = Sends o written head before after 
 pub record IsLed {O : Type 0} (o : outlet.Ghosts O) (written : ℕ) (head : List ℕ) (before after : O) (result : Result ℕ Ended) : Type 0 where
   pub leads : Leads o written head before after result
 
--- a request was answered so, behind so many bytes, or the output failed amid the answer
+-- a request was answered like this after a number of bytes, or the output failed during the answer
 abbrev pub Replies : {O : Type 0} → outlet.Ghosts O → ℕ → Question → ℕ → List ℕ → O → O → Result ℕ Ended → Type 0
 Replies o written q budget page before after result = (text : List ℕ) × IsAnswered q budget page text × IsSent o written text before after result
 
--- What the input and the output show: the bytes left in the one and those that the other took, where they tell them; how
--- often the input was read; whether the output was flushed behind its last write, and how often; which of them failed, and
--- whether a write of the output did.
+-- The input and the output: the bytes left and the bytes taken, if they tell them; the number of reads; whether the
+-- output was flushed after its last write, and the number of flushes; which devices have failed, and whether a write of
+-- the output has.
 pub record Pipes : Type 0 where
   pub left : Option (List ℕ)
   pub reads : ℕ
@@ -110,8 +110,8 @@ pipes_of d = record {
 abbrev pub reading_of : Pipes → Pipes → Reading
 reading_of before after = record { left = after.left; failed_before = before.input_failed; failed = after.input_failed; reads = after.reads - before.reads }
 
--- How a row of requests ends, with these bytes behind the last one that was answered, and these behind its answer: reading
--- ended; or there were as many requests as there may be; or a write failed amid an answer.
+-- How a run ends, with these bytes after the last answered request, and these after its answer: reading ended, there
+-- were as many requests as allowed, or a write failed during an answer.
 abbrev pub EndsBy : Pipes → Pipes → List Exchange → List ℕ → List ℕ → Ended → Type 0
 EndsBy before after xs rest part (ended.Write n) =
     (x : Exchange) × (behind : List ℕ) × IsExchange x × (rest ≡ x.asked ++ behind) × (take (length part) x.answered ≡ part)
@@ -121,17 +121,17 @@ EndsBy before after xs rest part ended.Request =
     × (after.output_failed ≡ before.output_failed)
 EndsBy before after xs rest part end = (part ≡ []) × StopsBy (reading_of before after) rest end × (after.output_failed ≡ before.output_failed)
 
--- an output was flushed so many times more, up to the greatest number of 64 bits
+-- an output was flushed this many times more, saturating at 2^64 - 1
 abbrev pub FlushedTimes : ℕ → ℕ → ℕ → Type 0
 FlushedTimes n before after = (n ≡ 0 → after ≡ before) × (n ≢ 0 → after ≡ min (before + n) (2 ^ 64 - 1))
 
--- How often an output is flushed for so many answers: once behind each. Where a write of the next one failed, it was flushed
--- no more; and where that was written whole and its flush failed, once more.
+-- The number of flushes for a number of answers: one for each. If a write of the next answer failed there is no more;
+-- if its flush failed there is one more.
 abbrev pub flushes_of : Ended → Bool → ℕ → ℕ
 flushes_of (ended.Write n) false answers = answers + 1
 flushes_of end write_failed answers = answers
 
--- Requests were answered, one after another, from the devices before to those after, and that ended so.
+-- Requests were answered, one after another, from the devices before to those after, and the run ended like this.
 pub record Session (before after : Pipes) (end : Ended) : Type 0 where
   pub exchanges : List Exchange
   pub each : All IsExchange exchanges
@@ -143,7 +143,7 @@ pub record Session (before after : Pipes) (end : Ended) : Type 0 where
   pub flushed : exchanges ≢ [] → after.output_failed ≡ false → after.sent ≡ true
   pub each_flushed : before.output_failed ≡ false → FlushedTimes (flushes_of end after.write_failed (length exchanges)) before.flushes after.flushes
 
--- One request was answered, behind bytes that were held: these are held then, and the output took so many bytes in all.
+-- One request was answered: the buffer held old before and holds new now, and the output took n bytes in all.
 pub record Answers (written : ℕ) (old new : List ℕ) (before after : Pipes) (n : ℕ) : Type 0 where
   pub exchange : Exchange
   pub is_exchange : IsExchange exchange
@@ -157,15 +157,15 @@ pub record Answers (written : ℕ) (old new : List ℕ) (before after : Pipes) (
   pub flushed : after.sent ≡ true
   pub once : before.output_failed ≡ false → after.flushes ≡ flushed_once before.flushes
 
--- how it ends where none is
+-- how a run ends where no request is answered
 abbrev pub StopsIn : ℕ → List ℕ → List ℕ → Pipes → Pipes → Ended → Type 0
 StopsIn written rest part before after (ended.Write n) =
     (x : Exchange) × (behind : List ℕ) × IsExchange x × (rest ≡ x.asked ++ behind) × (take (length part) x.answered ≡ part)
     × (n ≡ count_on written (length part)) × (after.output_failed ≡ true) × (after.input_failed ≡ before.input_failed)
-    × (before.output_failed ≡ false → after.flushes ≡ flushing.flushed after.write_failed before.flushes)
+    × (before.output_failed ≡ false → after.flushes ≡ flushing.flush_count after.write_failed before.flushes)
 StopsIn written rest part before after end = (part ≡ []) × StopsBy (reading_of before after) rest end × (after.output_failed ≡ before.output_failed)
 
--- None was, and that is the end.
+-- No request was answered, and the run ends.
 pub record Stops (written : ℕ) (old : List ℕ) (before after : Pipes) (end : Ended) : Type 0 where
   pub bytes : List ℕ
   pub part : List ℕ
@@ -179,7 +179,7 @@ abbrev pub IsExchanged : ℕ → List ℕ → List ℕ → Pipes → Pipes → R
 IsExchanged written old new before after (Ok n) = Answers written old new before after n
 IsExchanged written old new before after (Err end) = Stops written old before after end
 
--- what standard error tells of how a row of requests ended
+-- what standard error reports of how a run ended
 abbrev pub ended_text : Ended → List ℕ
 ended_text ended.Done = []
 ended_text ended.Request = codes "request fault" ++ 10 ∷ []
@@ -192,7 +192,7 @@ status_of ended.Done = 0
 status_of _ = 3
 
 -- Standard error took e: all of the line, unless it failed.
-pub record Tells (e : List ℕ) (failed : Bool) (end : Ended) : Type 0 where
+pub record Reports (e : List ℕ) (failed : Bool) (end : Ended) : Type 0 where
   pub front : take (length e) (ended_text end) ≡ e
   pub all : failed ≡ false → e ≡ ended_text end
 
@@ -202,5 +202,5 @@ pub record Served (before after : Devices) (status : ℕ) : Type 0 where
   pub session : Session (pipes_of before) (pipes_of after) end
   pub e : List ℕ
   pub told : Appends before.told after.told e
-  pub tells : Tells e after.errors_failed end
+  pub tells : Reports e after.errors_failed end
   pub status_is : status ≡ status_of end

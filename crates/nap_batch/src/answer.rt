@@ -17,21 +17,21 @@ use nap_maker::page_of_lines;
 use nap_reader::{Budget, Refusal, read_counted};
 use std::alloc::{AllocError, Global};
 
-/// A line with its end, and a body.
+/// The answer to a request: a line, and a body (docs/BATCH.md).
 #[derive(Drop)]
-pub struct Answer {
-    /// Whether the page is accepted, as `check` prints it.
+pub struct BatchAnswer {
+    /// Whether the page is accepted, as `check_answer` prints it, with LF.
     pub line: Vec<u8>,
-    /// What is asked for.
+    /// What was asked for.
     pub body: Vec<u8>,
 }
 
-impl Answer {
+impl BatchAnswer {
     /// The answer as it goes out, in two parts: the line and how many bytes the body has, and then the body.
     pub fn into_parts(self) -> Result<(Vec<u8>, Vec<u8>), AllocError>
         ensures { IfOk result (λ parts. parts.0.items ++ parts.1.items ≡ answer_text self.line.items self.body.items) }
     {
-        let Answer { line, body } = self;
+        let BatchAnswer { line, body } = self;
         let mut head = line;
         let mut digits = Buffer::new();
         head.extend_from_slice(digits.format(body.len()).as_bytes())?;
@@ -40,8 +40,8 @@ impl Answer {
     }
 }
 
-/// What `check` prints of a page.
-fn check(alloc: Global, budget: Budget, page: &[u8]) -> Result<Printout, AllocError>
+/// Returns what `check_answer` prints of a page.
+fn check_answer(alloc: Global, budget: Budget, page: &[u8]) -> Result<Printout, AllocError>
     ensures { IfOk result (λ a. PrintsBy Check (page_command Check budget) page.now a.text.items a.verdict) }
 {
     let command = Command {
@@ -52,66 +52,70 @@ fn check(alloc: Global, budget: Budget, page: &[u8]) -> Result<Printout, AllocEr
     };
     match answer_stream(alloc, &command, page) {
         Ok(printout) => Ok(printout),
-        // It prints a refusal, and wants memory alone.
+        // `check_answer` prints a refusal, and fails only for lack of memory.
         Err(_) => Err(AllocError),
     }
 }
 
-/// The answer that shows a refused page, with no body.
-fn refused(alloc: Global, refusal: Refusal) -> Result<Answer, AllocError>
+/// Returns the answer for a refused page, without a body.
+fn refused_answer(alloc: Global, refusal: Refusal) -> Result<BatchAnswer, AllocError>
     ensures { IfOk result (λ a. (a.line.items ≡ refused_line refusal) × (a.body.items ≡ [])) }
 {
-    Ok(Answer {
+    Ok(BatchAnswer {
         line: refusal_line(alloc, refusal)?,
         body: Vec::new(alloc),
     })
 }
 
-/// The answer that shows an accepted page: the line of its entries, and a body.
-fn accepted(alloc: Global, count: Option<u64>, body: Vec<u8>) -> Result<Answer, AllocError>
+/// Returns the answer for an accepted page: the line of its number of entries, and a body.
+fn accepted_answer(
+    alloc: Global,
+    count: Option<u64>,
+    body: Vec<u8>,
+) -> Result<BatchAnswer, AllocError>
     ensures { IfOk result (λ a. IfSome count (λ n. a.line.items ≡ count_line n) × IsSome count × (a.body.items ≡ body.items)) }
 {
     match count {
-        Some(count) => Ok(Answer {
+        Some(count) => Ok(BatchAnswer {
             line: count_line(alloc, count)?,
             body,
         }),
-        // A `u64` can't hold their number.
+        // The number of entries exceeds a `u64`.
         None => Err(AllocError),
     }
 }
 
-/// The answer that shows the lines of a page's entries.
-fn listed(alloc: Global, budget: Budget, page: &[u8]) -> Result<Answer, AllocError>
+/// Returns the answer with the lines of a page's entries.
+fn list_answer(alloc: Global, budget: Budget, page: &[u8]) -> Result<BatchAnswer, AllocError>
     ensures { IfOk result (λ a. IsAnswer Question.List budget page.now a.line.items a.body.items) }
 {
     match read_counted(alloc, budget, page, LineSink::new(alloc)) {
-        Ok((sink, count)) => accepted(alloc, count, sink.into_text()),
-        Err(refusal) => refused(alloc, refusal),
+        Ok((sink, count)) => accepted_answer(alloc, count, sink.into_text()),
+        Err(refusal) => refused_answer(alloc, refusal),
     }
 }
 
-/// The answer that shows the canonical text that was made of a page, or why that is refused.
-fn shown(alloc: Global, found: Result<PageText, Refusal>) -> Result<Answer, AllocError>
+/// Returns the answer with the canonical text that was made of a page, or with its refusal.
+fn text_answer(alloc: Global, found: Result<PageText, Refusal>) -> Result<BatchAnswer, AllocError>
     ensures { IfOk result (λ a. ShowsText found a.line.items a.body.items) }
 {
     match found {
-        Ok(found) => accepted(alloc, found.count, found.text),
-        Err(refusal) => refused(alloc, refusal),
+        Ok(found) => accepted_answer(alloc, found.count, found.text),
+        Err(refusal) => refused_answer(alloc, refusal),
     }
 }
 
-/// The answer that shows the canonical text of a page.
-fn spelled(alloc: Global, budget: Budget, page: &[u8]) -> Result<Answer, AllocError>
+/// Returns the answer with the canonical text of a page.
+fn canon_answer(alloc: Global, budget: Budget, page: &[u8]) -> Result<BatchAnswer, AllocError>
     ensures { IfOk result (λ a. IsAnswer Question.Canon budget page.now a.line.items a.body.items) }
 {
     match page_text(alloc, budget, page) {
-        Ok(found) => shown(alloc, found),
+        Ok(found) => text_answer(alloc, found),
         Err(AllocError) => Err(AllocError),
     }
 }
 
-/// The line of a page that has so many entries, or is refused.
+/// Returns the line of a page with this number of entries, or with this refusal.
 fn ended_line(alloc: Global, ended: Result<usize, Refusal>) -> Result<Vec<u8>, AllocError>
     ensures { IfOk result (λ text. text.items ≡ ended_line ended) }
 {
@@ -121,62 +125,62 @@ fn ended_line(alloc: Global, ended: Result<usize, Refusal>) -> Result<Vec<u8>, A
     }
 }
 
-/// The answer that shows where entries come from.
-fn placed(alloc: Global, budget: Budget, page: &[u8]) -> Result<Answer, AllocError>
+/// Returns the answer with the places of a page's entries.
+fn places_answer(alloc: Global, budget: Budget, page: &[u8]) -> Result<BatchAnswer, AllocError>
     ensures { IfOk result (λ a. IsAnswer Question.Places budget page.now a.line.items a.body.items) }
 {
     let placed = read_places(alloc, budget, page)?;
     let line = ended_line(alloc, placed.ended)?;
-    Ok(Answer {
+    Ok(BatchAnswer {
         line,
         body: placed.text,
     })
 }
 
-/// The answer that tells why lines make no page.
-fn unmade(alloc: Global, fault: MakeFault) -> Result<Answer, AllocError>
+/// Returns the answer with the reason why lines make no page.
+fn unmade_answer(alloc: Global, fault: MakeFault) -> Result<BatchAnswer, AllocError>
     ensures { IfOk result (λ a. (a.line.items ≡ unmade_line fault) × (a.body.items ≡ [])) }
 {
     let line = lines_failure(fault).line();
-    Ok(Answer {
+    Ok(BatchAnswer {
         line: Vec::from_slice(alloc, line.as_bytes())?,
         body: Vec::new(alloc),
     })
 }
 
-/// The answer that shows the page that lines make.
-fn made(alloc: Global, lines: &[u8]) -> Result<Answer, AllocError>
+/// Returns the answer with the page that lines make.
+fn make_answer(alloc: Global, lines: &[u8]) -> Result<BatchAnswer, AllocError>
     ensures { IfOk result (λ a. AnswersLines lines.now a.line.items a.body.items) }
 {
     match page_of_lines(alloc, lines) {
-        Ok(page) => Ok(Answer {
+        Ok(page) => Ok(BatchAnswer {
             line: count_line(alloc, page.count as u64)?,
             body: page.text,
         }),
-        Err(fault) => unmade(alloc, fault),
+        Err(fault) => unmade_answer(alloc, fault),
     }
 }
 
-/// The answer to a page, or that there was no memory for it, other than in a reading.
+/// Returns the answer to a question about a page. The error is lack of memory, but not in reading the page.
 pub fn answer_page(
     alloc: Global,
     question: Question,
     budget: Budget,
     page: &[u8],
-) -> Result<Answer, AllocError>
+) -> Result<BatchAnswer, AllocError>
     ensures { IfOk result (λ a. IsAnswer question budget page.now a.line.items a.body.items) }
 {
     match question {
         Question::Check => {
-            let checked = check(alloc, budget, page)?;
-            Ok(Answer {
+            let checked = check_answer(alloc, budget, page)?;
+            Ok(BatchAnswer {
                 line: checked.text,
                 body: Vec::new(alloc),
             })
         }
-        Question::List => listed(alloc, budget, page),
-        Question::Canon => spelled(alloc, budget, page),
-        Question::Places => placed(alloc, budget, page),
-        Question::Make => made(alloc, page),
+        Question::List => list_answer(alloc, budget, page),
+        Question::Canon => canon_answer(alloc, budget, page),
+        Question::Places => places_answer(alloc, budget, page),
+        Question::Make => make_answer(alloc, page),
     }
 }

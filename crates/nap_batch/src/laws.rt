@@ -1,22 +1,22 @@
-//! Laws of requests and answers.
+//! Laws about requests and answers. Each is the contract of a function that does nothing.
 ghost use Rattle.std.specs.Prelude.{◌≡◌};
-ghost use Rattle.nap_batch.specs.declared.front.TheConstants.{LINE};
+ghost use Rattle.nap_batch.specs.declared.request_front.TheConstants.{LINE};
 ghost use Rattle.nap_batch.specs.declared.request.TheConstants.{DIGITS, PAGE};
 ghost use Rattle.nap_batch.specs.declared.service.TheConstants.{REQUESTS};
 ghost use Rattle.nap_batch.specs.Limits.{digits_limit, line_limit, page_limit, requests_limit};
 ghost use Rattle.nap_batch.specs.Laws.{AnswersAreThoseOfCommands, BegunRequestsAreNone, PlacesAreLines, RequestsAreCutOneWay};
 
-/// Two requests that stand in front of the same bytes are the same.
+/// Bytes begin with at most one complete request.
 pub fn requests_are_cut_one_way()
     ensures { RequestsAreCutOneWay }
 {}
 
-/// A request that has only begun is none: no whole one stands in front.
+/// Bytes that begin with an incomplete request don't begin with a complete one.
 pub fn begun_requests_are_none()
     ensures { BegunRequestsAreNone }
 {}
 
-/// Each answer is what the command of the same name prints.
+/// Each answer has what the command of the same name prints.
 pub fn answers_are_those_of_commands()
     ensures { AnswersAreThoseOfCommands }
 {}
@@ -26,10 +26,10 @@ pub fn places_are_lines()
     ensures { PlacesAreLines }
 {}
 
-/// The limits are those of our profile: 8 digits, 16,777,216 bytes of a page, and 2^42 requests.
+/// The constants have the values of the profile: 8 digits, 16,777,216 bytes of a page, and 2^42 requests.
 pub fn limits()
     ensures digits { DIGITS ≡ digits_limit }
-    ensures line { LINE ≡ line_limit }
-    ensures page { PAGE ≡ page_limit }
+    ensures line { LINE_LIMIT ≡ line_limit }
+    ensures page { PAGE_LIMIT ≡ page_limit }
     ensures requests { REQUESTS ≡ requests_limit }
 {}

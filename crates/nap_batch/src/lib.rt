@@ -1,18 +1,18 @@
-//! Pages one after another through one process: requests, and what is answered.
+//! Many pages through one process: requests and answers (docs/BATCH.md).
 #![tactic(auto)]
 
 mod answer;
-mod front;
-mod held;
+mod input_buffer;
 pub mod laws;
 mod places;
 mod request;
+mod request_front;
 mod service;
 mod skipping;
 mod waiting;
 
-pub use answer::{Answer, answer_page};
-pub use front::{Front, front_of};
-pub use places::{Placed, read_places};
-pub use request::{PAGE, Question, RequestLine, parse_line};
+pub use answer::{BatchAnswer, answer_page};
+pub use places::{PlacesText, read_places};
+pub use request::{PAGE_LIMIT, Question, RequestLine, parse_line};
+pub use request_front::{RequestFront, request_front_of};
 pub use service::{Ended, REQUESTS, batch, serve};

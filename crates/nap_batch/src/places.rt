@@ -1,4 +1,4 @@
-//! Where the entries of a page come from.
+//! The places of the entries of a page.
 ghost use Rattle.std.specs.Prelude.{◌≡◌, ◌≢◌, ◌++◌, ◌≤◌, [], Err, IfOk, drop, length};
 ghost use Rattle.nap_list.specs.declared.entry.Entry.{Entry};
 ghost use Rattle.nap_batch.specs.Answers.{IsPlaced, lines_at};
@@ -9,12 +9,12 @@ use nap_list::{Entry, ListSink};
 use nap_reader::{Budget, Fault, Reader, Refusal};
 use std::alloc::{AllocError, Global};
 
-/// The lines of a page's entries, each after its place, and how many there are, or why the page is refused.
+/// The lines of a page's entries, each after its place, and the number of entries or the refusal.
 #[derive(Drop)]
-pub struct Placed {
-    /// The lines. There are none where the reading lacked memory.
+pub struct PlacesText {
+    /// The lines; empty if reading lacked memory.
     pub text: Vec<u8>,
-    /// How many entries there are.
+    /// The number of entries, or the refusal.
     pub ended: Result<usize, Refusal>,
 }
 
@@ -31,7 +31,7 @@ fn write_places(text: &mut Vec<u8>, place: usize, entries: &[Entry]) -> Result<(
     Ok(())
 }
 
-/// Appends the lines of the entries that aren't known yet to the text, and answers how many are known then.
+/// Appends the lines of the entries from index `known` on, and returns the number of entries.
 fn write_new(
     text: &mut Vec<u8>,
     place: usize,
@@ -45,36 +45,36 @@ fn write_new(
     Ok(entries.len())
 }
 
-/// What comes of a page that is refused at a byte, or at its end. If memory ran out, nothing is written.
-fn stopped(
+/// Returns the places of a page that is refused at a byte or at its end. They are empty if memory ran out.
+fn stopped_places(
     alloc: Global,
     text: Vec<u8>,
     place: usize,
     known: usize,
     entries: &[Entry],
     refusal: Refusal,
-) -> Result<Placed, AllocError>
+) -> Result<PlacesText, AllocError>
     requires { refusal.fault ≢ Fault.Memory → known ≤ length entries.now }
     ensures ended { IfOk result (λ r. r.ended ≡ Err refusal) }
     ensures memory { IfOk result (λ r. refusal.fault ≡ Fault.Memory → r.text.items ≡ []) }
     ensures own { IfOk result (λ r. refusal.fault ≢ Fault.Memory → r.text.items ≡ text.items ++ lines_at place (drop known entries.now)) }
 {
     if refusal.fault == Fault::Memory {
-        return Ok(Placed {
+        return Ok(PlacesText {
             text: Vec::new(alloc),
             ended: Err(refusal),
         });
     }
     let mut text = text;
     write_new(&mut text, place, known, entries)?;
-    Ok(Placed {
+    Ok(PlacesText {
         text,
         ended: Err(refusal),
     })
 }
 
-/// Reads a page byte by byte, and writes the lines of each byte's entries after its place.
-pub fn read_places(alloc: Global, budget: Budget, page: &[u8]) -> Result<Placed, AllocError>
+/// Reads a page byte by byte, and returns the lines of each byte's entries after its place.
+pub fn read_places(alloc: Global, budget: Budget, page: &[u8]) -> Result<PlacesText, AllocError>
     ensures { IfOk result (λ r. IsPlaced budget page.now r.text.items r.ended) }
 {
     let mut text = Vec::new(alloc);
@@ -83,7 +83,7 @@ pub fn read_places(alloc: Global, budget: Budget, page: &[u8]) -> Result<Placed,
     let mut place = 0;
     for byte in page {
         if let Err(refusal) = reader.feed(&[*byte]) {
-            return stopped(alloc, text, place, known, reader.sink().entries(), refusal);
+            return stopped_places(alloc, text, place, known, reader.sink().entries(), refusal);
         }
         known = write_new(&mut text, place, known, reader.sink().entries())?;
         place += 1;
@@ -91,11 +91,11 @@ pub fn read_places(alloc: Global, budget: Budget, page: &[u8]) -> Result<Placed,
     match reader.finish() {
         Ok(sink) => {
             let count = write_new(&mut text, place, known, sink.entries())?;
-            Ok(Placed {
+            Ok(PlacesText {
                 text,
                 ended: Ok(count),
             })
         }
-        Err(end) => stopped(alloc, text, place, known, end.sink.entries(), end.refusal),
+        Err(end) => stopped_places(alloc, text, place, known, end.sink.entries(), end.refusal),
     }
 }

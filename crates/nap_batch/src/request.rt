@@ -1,44 +1,44 @@
 //! The line of a request.
 ghost use Rattle.std.specs.Prelude.{◌≡◌, ◌≢◌, ◌≤◌, ◌<◌, ◌^◌, ℕ, List, MatchOption, length};
 ghost use Rattle.nap_reader.specs.Budgets.{most_budget};
-ghost use Rattle.nap_batch.specs.Requests.{Cuts, IsLine, IsNumber, name_of};
+ghost use Rattle.nap_batch.specs.Requests.{SplitsAtByte, IsLine, IsNumber, name_of};
 
 use nap_reader::Budget;
 
-/// What is asked of a page.
+/// What is asked about a page.
 #[derive(Clone, Copy, PartialEq, Eq, Drop)]
 pub enum Question {
-    /// How many entries it has.
+    /// The number of its entries.
     Check,
     /// A line for each entry.
     List,
     /// Its canonical stream.
     Canon,
-    /// A line for each entry, after the place of the byte with which it came.
+    /// A line for each entry, after the place of the byte that added it.
     Places,
     /// The page that its lines make.
     Make,
 }
 
-/// The most bytes of a page.
-pub const PAGE: u32 = 16_777_216;
+/// The greatest number of bytes of a page.
+pub const PAGE_LIMIT: u32 = 16_777_216;
 
-/// The most digits of a number.
+/// The greatest number of digits of a number.
 const DIGITS: usize = 8;
 
-/// The line of a request: what is asked, and how long the page is.
+/// The line of a request: the question, the budget and the length of the page.
 #[derive(Clone, Copy, PartialEq, Eq, Drop)]
 pub struct RequestLine {
-    /// What is asked.
+    /// The question.
     pub question: Question,
-    /// How many bytes of macro bodies the page may be charged with.
+    /// How many bytes of macro bodies may be charged.
     pub budget: Budget,
-    /// How many bytes the page has.
+    /// The number of bytes of the page.
     pub size: u32,
 }
 
 impl Question {
-    /// The question of this name.
+    /// Returns the question with this name.
     pub fn named(name: &[u8]) -> Option<Question>
         ensures { MatchOption result ((q : Question) → name.now ≢ name_of q) (λ q. name.now ≡ name_of q) }
     {
@@ -53,9 +53,9 @@ impl Question {
     }
 }
 
-/// What comes before the first such byte, and after it.
-pub(crate) fn cut(bytes: &[u8], byte: u8) -> Option<(&[u8], &[u8])>
-    ensures { MatchOption result ((front back : List ℕ) → Cuts byte bytes.now front back → ⊥) (λ parts. Cuts byte bytes.now parts.0.now parts.1.now) }
+/// Returns what is before the first byte of this value, and what is after it.
+pub(crate) fn split_at_byte(bytes: &[u8], byte: u8) -> Option<(&[u8], &[u8])>
+    ensures { MatchOption result ((front back : List ℕ) → SplitsAtByte byte bytes.now front back → ⊥) (λ parts. SplitsAtByte byte bytes.now parts.0.now parts.1.now) }
 {
     let mut at = 0;
     while at < bytes.len() {
@@ -67,8 +67,8 @@ pub(crate) fn cut(bytes: &[u8], byte: u8) -> Option<(&[u8], &[u8])>
     None
 }
 
-/// The number that decimal digits write, if it is no more than so many.
-fn number(digits: &[u8], most: u32) -> Option<u32>
+/// Parses a decimal number of at most `most`.
+fn number_below(digits: &[u8], most: u32) -> Option<u32>
     ensures { MatchOption result ((n : ℕ) → IsNumber most digits.now n → ⊥) (IsNumber most digits.now) }
 {
     if digits.is_empty() || digits.len() > DIGITS {
@@ -87,22 +87,22 @@ fn number(digits: &[u8], most: u32) -> Option<u32>
     Some(value)
 }
 
-/// The budget that decimal digits write.
+/// Parses a budget.
 fn budget(digits: &[u8]) -> Option<Budget>
     ensures { MatchOption result ((n : ℕ) → IsNumber most_budget digits.now n → ⊥) (λ b. IsNumber most_budget digits.now b) }
 {
-    Budget::new(number(digits, Budget::MOST)?)
+    Budget::new(number_below(digits, Budget::MOST)?)
 }
 
-/// What the line of a request says, without its end.
+/// Parses the line of a request, without LF.
 pub fn parse_line(line: &[u8]) -> Option<RequestLine>
     ensures { MatchOption result ((r : RequestLine) → IsLine line.now r → ⊥) (IsLine line.now) }
 {
-    let (name, numbers) = cut(line, b' ')?;
-    let (budget_digits, size_digits) = cut(numbers, b' ')?;
+    let (name, numbers) = split_at_byte(line, b' ')?;
+    let (budget_digits, size_digits) = split_at_byte(numbers, b' ')?;
     let question = Question::named(name)?;
     let budget = budget(budget_digits)?;
-    let size = number(size_digits, PAGE)?;
+    let size = number_below(size_digits, PAGE_LIMIT)?;
     Some(RequestLine {
         question,
         budget,

@@ -1,37 +1,37 @@
-//! Requests one after another, and their answers.
+//! Requests, one after another, and their answers.
 ghost use Rattle.std.specs.Prelude.{◌≡◌, ◌+◌, ◌++◌, IfOk, drop, length, take};
 ghost use Rattle.nap_command.specs.Devices.{devices};
-ghost use Rattle.nap_batch.specs.declared.held.TheConstants.{ROOM};
+ghost use Rattle.nap_batch.specs.declared.input_buffer.TheConstants.{ROOM};
 ghost use Rattle.nap_batch.specs.Requests.{IsWhole};
 ghost use Rattle.nap_batch.specs.Sessions.{IsAnswered, IsExchanged, IsLed, IsSent, Replies, Served, Session, pipes};
 
 use crate::answer::answer_page;
-use crate::held::{Held, ROOM};
+use crate::input_buffer::{InputBuffer, READ_SIZE};
 use crate::request::RequestLine;
-use crate::waiting::{Found, wait};
-use nap_command::{Failure, tell, write_whole};
+use crate::waiting::{FoundRequest, wait};
+use nap_command::{Failure, report, write_whole};
 use nap_list::{Inlet, Outlet};
 use std::alloc::{AllocError, Global};
 
-/// The most requests that are answered.
+/// The greatest number of requests of one run.
 pub const REQUESTS: u64 = 4_398_046_511_104;
 
-/// How a row of requests ends.
+/// How a run ends.
 #[derive(Clone, Copy, PartialEq, Eq, Drop)]
 pub enum Ended {
     /// The input ended between two requests.
     Done,
-    /// What stands there is no request, or there were as many as there may be.
+    /// The next bytes are no request, or there were as many requests as allowed.
     Request,
-    /// A read failed, or there were as many of one request as there may be.
+    /// A read failed, or there were as many reads for one request as allowed.
     Read,
-    /// A write failed once the output had taken so many bytes, up to the greatest `u64`.
+    /// A write failed after the output had taken this many bytes, saturating at the greatest `u64`.
     Write(u64),
-    /// There was no memory to read the line of a request.
+    /// Memory ran out for the line of a request.
     Memory,
 }
 
-/// The answer where there was no memory for one.
+/// The answer if memory ran out for one.
 const NO_MEMORY: &[u8] = b"no memory\n0\n";
 
 /// The answer to a request whose page is here, as it goes out: what comes before the body, and the body.
@@ -67,7 +67,7 @@ fn send<O: Outlet>(output: &mut O, written: u64, text: &[u8]) -> Result<u64, End
     match write_whole(output, text) {
         Ok(()) => Ok(written.saturating_add(text.len() as u64)),
         Err(Failure::Write(taken)) => Err(Ended::Write(written.saturating_add(taken))),
-        // It fails in no other way.
+        // Writing fails in no other way.
         Err(_) => unreachable!(),
     }
 }
@@ -87,7 +87,7 @@ fn send_parts<O: Outlet>(
     }
 }
 
-/// Answers a request whose page is here.
+/// Answers a request with this page.
 fn answer<O: Outlet>(
     alloc: Global,
     line: RequestLine,
@@ -103,58 +103,60 @@ fn answer<O: Outlet>(
     }
 }
 
-/// Answers the request in front of what is held, whose page begins at this index, and drops it.
+/// Answers the request that the buffer begins with, whose page is at this index, and drops it.
 fn answer_front<O: Outlet>(
     alloc: Global,
     line: RequestLine,
     start: usize,
-    held: &mut Held,
+    buffer: &mut InputBuffer,
     output: &mut O,
     written: u64,
 ) -> Result<u64, Ended>
-    requires { IsWhole held.old line start }
-    ensures held { held.new ≡ drop (start + line.size) held.old }
-    ensures answers { let page = take line.size (drop start held.old) in
+    requires { IsWhole buffer.old line start }
+    ensures held { buffer.new ≡ drop (start + line.size) buffer.old }
+    ensures answers { let page = take line.size (drop start buffer.old) in
         Replies O.Outlet written line.question line.budget page output.old output.new result }
 {
     let end = start + line.size as usize;
-    let sent = answer(alloc, line, &held.bytes()[start..end], output, written);
-    held.pass(end);
+    let sent = answer(alloc, line, &buffer.bytes()[start..end], output, written);
+    buffer.drop_first(end);
     sent
 }
 
 /// Reads one request and answers it.
 fn exchange<I: Inlet, O: Outlet>(
     alloc: Global,
-    held: &mut Held,
-    room: &mut [u8],
+    buffer: &mut InputBuffer,
+    scratch: &mut [u8],
     input: &mut I,
     output: &mut O,
     written: u64,
 ) -> Result<u64, Ended>
-    requires { length room.old ≡ ROOM }
-    ensures room { length room.new ≡ ROOM }
+    requires { length scratch.old ≡ READ_SIZE }
+    ensures space { length scratch.new ≡ READ_SIZE }
     ensures exchanged { let seen = pipes I.Inlet O.Outlet in
-        IsExchanged written held.old held.new (seen input.old output.old) (seen input.new output.new) result }
+        IsExchanged written buffer.old buffer.new (seen input.old output.old) (seen input.new output.new) result }
 {
-    match wait(held, input, room) {
-        Ok(Found::Whole(line, start)) => { answer_front(alloc, line, start, held, output, written) }
-        Ok(Found::Dropped) => send(output, written, NO_MEMORY),
+    match wait(buffer, input, scratch) {
+        Ok(FoundRequest::Whole(line, start)) => {
+            answer_front(alloc, line, start, buffer, output, written)
+        }
+        Ok(FoundRequest::Dropped) => send(output, written, NO_MEMORY),
         Err(ended) => Err(ended),
     }
 }
 
-/// Answers requests until the input ends, or a device fails.
+/// Answers requests until the input ends or a device fails.
 pub fn serve<I: Inlet, O: Outlet>(alloc: Global, input: &mut I, output: &mut O) -> Ended
     ensures { let seen = pipes I.Inlet O.Outlet in Session (seen input.old output.old) (seen input.new output.new) result }
 {
-    let Ok(mut held) = Held::new(alloc) else {
+    let Ok(mut buffer) = InputBuffer::new(alloc) else {
         return Ended::Memory;
     };
-    let mut room = [0; ROOM];
+    let mut scratch = [0; READ_SIZE];
     let mut written = 0;
     for _ in 0..REQUESTS {
-        match exchange(alloc, &mut held, &mut room, input, output, written) {
+        match exchange(alloc, &mut buffer, &mut scratch, input, output, written) {
             Ok(more) => written = more,
             Err(ended) => return ended,
         }
@@ -162,7 +164,8 @@ pub fn serve<I: Inlet, O: Outlet>(alloc: Global, input: &mut I, output: &mut O) 
     Ended::Request
 }
 
-/// The command `batch`: answers requests, tells on standard error how that ended, and answers the exit status.
+/// Executes `batch`: answers requests, reports on standard error how that ended, and returns the exit status
+/// (docs/BATCH.md).
 pub fn batch<I: Inlet, O: Outlet, E: Outlet>(
     alloc: Global,
     input: &mut I,
@@ -178,8 +181,8 @@ pub fn batch<I: Inlet, O: Outlet, E: Outlet>(
             let _ = write_whole(errors, b"request fault\n");
             3
         }
-        Ended::Read => tell(Failure::Read, errors),
-        Ended::Write(taken) => tell(Failure::Write(taken), errors),
-        Ended::Memory => tell(Failure::Memory, errors),
+        Ended::Read => report(Failure::Read, errors),
+        Ended::Write(taken) => report(Failure::Write(taken), errors),
+        Ended::Memory => report(Failure::Memory, errors),
     }
 }

@@ -1,107 +1,107 @@
-//! Waits for a whole request.
+//! Waiting for a complete request.
 ghost use Rattle.std.specs.Prelude.{◌≡◌, ◌+◌, ◌≤◌, length};
 ghost use Rattle.nap_list.specs.Limits.{reads_limit};
-ghost use Rattle.nap_batch.specs.declared.held.TheConstants.{ROOM};
+ghost use Rattle.nap_batch.specs.declared.input_buffer.TheConstants.{ROOM};
 ghost use Rattle.nap_batch.specs.Requests.{IsMore};
 ghost use Rattle.nap_batch.specs.Waiting.{IsFound, IsLast, IsStep, end_of};
 
-use crate::front::{Front, front_of};
-use crate::held::{Held, ROOM, Stop};
+use crate::input_buffer::{InputBuffer, READ_SIZE, Stop};
 use crate::request::RequestLine;
+use crate::request_front::{RequestFront, request_front_of};
 use crate::service::Ended;
 use crate::skipping::skip;
 use nap_list::{Inlet, READS};
 
 /// A request that was read to its last byte.
 #[derive(Clone, Copy, PartialEq, Eq, Drop)]
-pub(crate) enum Found {
-    /// It stands in front of the bytes that are held, with its page from this index on.
+pub(crate) enum FoundRequest {
+    /// The buffer begins with it, and its page is at this index.
     Whole(RequestLine, usize),
-    /// There was no memory for its page, and nothing is held.
+    /// Memory ran out for its page, and the buffer is empty.
     Dropped,
 }
 
-/// What one read brings.
+/// The result of one read.
 #[derive(Clone, Copy, PartialEq, Eq, Drop)]
-pub(crate) enum Step {
-    /// More bytes.
+pub(crate) enum ReadStep {
+    /// More bytes in the buffer.
     Longer,
-    /// All of a request for whose page there was no memory. Nothing is held.
+    /// All of a request whose page lacked memory. The buffer is empty.
     Dropped,
 }
 
-/// How the input ends in front of these bytes, to which no more will come.
-fn end_of(held: &Held) -> Ended
-    ensures { result ≡ end_of held.now }
+/// Returns how the input ends after these bytes.
+fn end_of(buffer: &InputBuffer) -> Ended
+    ensures { result ≡ end_of buffer.now }
 {
-    if held.bytes().is_empty() {
+    if buffer.bytes().is_empty() {
         Ended::Done
     } else {
         Ended::Request
     }
 }
 
-/// Reads once, with this many bytes of a page missing. Where there is no memory for them, they are read in so many reads or
-/// fewer, and dropped with what is held.
+/// Reads once, with this many bytes of a page missing. If memory runs out for them, reads and drops them with at most
+/// `most` reads, and empties the buffer.
 fn read_more<I: Inlet>(
-    held: &mut Held,
+    buffer: &mut InputBuffer,
     input: &mut I,
-    room: &mut [u8],
+    scratch: &mut [u8],
     missing: usize,
     most: u64,
-) -> Result<Step, Ended>
-    requires more { IsMore held.old missing }
-    requires most { reads_limit ≤ most + length held.old }
-    requires room { length room.old ≡ ROOM }
-    ensures room { length room.new ≡ ROOM }
-    ensures steps { IsStep I.Inlet held.old held.new input.old input.new result }
+) -> Result<ReadStep, Ended>
+    requires more { IsMore buffer.old missing }
+    requires most { reads_limit ≤ most + length buffer.old }
+    requires space { length scratch.old ≡ READ_SIZE }
+    ensures space { length scratch.new ≡ READ_SIZE }
+    ensures steps { IsStep I.Inlet buffer.old buffer.new input.old input.new result }
 {
-    match held.read(input, room, missing) {
-        Ok(0) => Err(end_of(held)),
-        Ok(_) => Ok(Step::Longer),
+    match buffer.read(input, scratch, missing) {
+        Ok(0) => Err(end_of(buffer)),
+        Ok(_) => Ok(ReadStep::Longer),
         Err(Stop::Read) => Err(Ended::Read),
         Err(Stop::Memory) => {
             if missing == 0 {
                 return Err(Ended::Memory);
             }
-            held.clear();
-            skip(input, room, missing, most)?;
-            Ok(Step::Dropped)
+            buffer.clear();
+            skip(input, scratch, missing, most)?;
+            Ok(ReadStep::Dropped)
         }
     }
 }
 
-/// What stands in front of bytes once there were as many reads as there may be.
-fn last_look(bytes: &[u8]) -> Result<Found, Ended>
+/// Returns what the bytes begin with after the last allowed read.
+fn final_front(bytes: &[u8]) -> Result<FoundRequest, Ended>
     ensures { IsLast bytes.now result }
 {
-    match front_of(bytes) {
-        Front::Whole(line, start) => Ok(Found::Whole(line, start)),
-        Front::Wrong => Err(Ended::Request),
-        Front::More(_) => Err(Ended::Read),
+    match request_front_of(bytes) {
+        RequestFront::Whole(line, start) => Ok(FoundRequest::Whole(line, start)),
+        RequestFront::Wrong => Err(Ended::Request),
+        RequestFront::More(_) => Err(Ended::Read),
     }
 }
 
-/// Reads until a whole request stands in front of what is held.
+/// Reads until the buffer begins with a complete request.
 pub(crate) fn wait<I: Inlet>(
-    held: &mut Held,
+    buffer: &mut InputBuffer,
     input: &mut I,
-    room: &mut [u8],
-) -> Result<Found, Ended>
-    requires { length room.old ≡ ROOM }
-    ensures room { length room.new ≡ ROOM }
-    ensures found { IsFound I.Inlet held.old held.new input.old input.new result }
+    scratch: &mut [u8],
+) -> Result<FoundRequest, Ended>
+    requires { length scratch.old ≡ READ_SIZE }
+    ensures space { length scratch.new ≡ READ_SIZE }
+    ensures found { IsFound I.Inlet buffer.old buffer.new input.old input.new result }
 {
     for reads in 0..READS {
-        match front_of(held.bytes()) {
-            Front::Whole(line, start) => return Ok(Found::Whole(line, start)),
-            Front::Wrong => return Err(Ended::Request),
-            Front::More(missing) => {
-                if read_more(held, input, room, missing, READS - reads)? == Step::Dropped {
-                    return Ok(Found::Dropped);
+        match request_front_of(buffer.bytes()) {
+            RequestFront::Whole(line, start) => return Ok(FoundRequest::Whole(line, start)),
+            RequestFront::Wrong => return Err(Ended::Request),
+            RequestFront::More(missing) => {
+                if read_more(buffer, input, scratch, missing, READS - reads)? == ReadStep::Dropped {
+                    return Ok(FoundRequest::Dropped);
                 }
             }
         }
     }
-    last_look(held.bytes())
+    final_front(buffer.bytes())
 }

@@ -12,7 +12,7 @@ use Rattle.nap_reader.specs.declared.reader.Reader.{Reader}
 use Rattle.nap_reader.specs.declared.reader.Stopped.{Stopped}
 use Rattle.nap_reader.specs.Breaking.{BreaksInRun, cause_of}
 use Rattle.nap_reader.specs.Laws.{BreaksAmong, WantsSome}
-use Rattle.nap_reader.specs.Standing.{Answers, AnswersBy, IsBroken, IsTaken, Stands, StopsBy, budget_of, left_of, refusal_of, sink_of}
+use Rattle.nap_reader.specs.Standing.{Answers, AnswersBy, IsBroken, IsTaken, HasRead, StopsBy, budget_of, left_of, refusal_of, sink_of}
 use Rattle.nap_reader.specs.Stream.{Outcome, begun, ended_by, means}
 use Rattle.nap_reader.proofs.PublicLaws.{begun_comes_first, end_breaks_among, fed_breaks_among, more_bytes_keep_refusal}
 use Rattle.nap_c.specs.Checks.{uncounted}
@@ -47,7 +47,7 @@ refused_on budget p more r is =
 
 -- Why a page is refused that is checked in pieces, under this budget.
 module _ {g : Ghosts CountSink} (wants_is : (d : List Entry) → g.wants uncounted d → Uncounted uncounted d) (reader : Reader CountSink g) (budget : ℕ) (same : budget_of reader ≡ budget)
-    (p : List ℕ) (stands : Stands reader uncounted p) (r : Refusal) where
+    (p : List ℕ) (stands : HasRead reader uncounted p) (r : Refusal) where
   -- a count that is wanting is that of all entries, and more
   uncountable : (known more all : List Entry) → all ≡ known ++ more → WantsSome g uncounted known → 2 ^ 64 ≤ length all
   uncountable known more all joins (first, rest, parts, wants) =

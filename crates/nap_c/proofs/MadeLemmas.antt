@@ -5,15 +5,15 @@ use Rattle.nap_maker.specs.declared.text.MadePage.{MadePage}
 use Rattle.nap_maker.specs.Texts.{IsPageMade}
 use Rattle.nap_c.specs.declared.made.Made.{Made}
 use Rattle.nap_c.specs.Answers.{IsGiven}
-use Rattle.nap_c.specs.Lines.{AnswersLines, offering}
+use Rattle.nap_c.specs.Lines.{AnswersLines, offered_answer}
 
 pub answers_page : (p old new text : List ℕ) (page : MadePage) (gave given : Bool) (answer : Made) → IsPageMade p page → text ≡ page.text.items → IsGiven text old new gave → gave ≡ given →
-    answer ≡ offering given (length text) page.count → AnswersLines p old new answer
+    answer ≡ offered_answer given (length text) page.count → AnswersLines p old new answer
 answers_page p old new text page gave given answer made same gives is says =
     inl (record {
       page = page.text.items;
       made = made.0;
       given = given;
       room = subst (λ (bytes : List ℕ). IsGiven bytes old new given) same (subst (λ (b : Bool). IsGiven text old new b) is gives);
-      answer_is = says ∙ ap₂ (offering given) (ap length same) made.1;
+      answer_is = says ∙ ap₂ (offered_answer given) (ap length same) made.1;
     })

@@ -15,15 +15,15 @@ use Rattle.nap_c.specs.contracts.check.Check.{the_row}
 abbrev pub check_coded : Coded (Option the_row.Denot)
 check_coded = coded_option the_row.coded
 
--- it is so
-abbrev pub told : Type 0 → Fml
-told P = fex P (λ _. ftrue)
+-- a fact as a formula
+abbrev pub as_formula : Type 0 → Fml
+as_formula P = fex P (λ _. ftrue)
 
 -- the box at a pointer, and the right to free it
-abbrev pub boxed : Global → Ptr → the_row.Denot → Fml
-boxed alloc = box_owns (ghosts.dealloc_token alloc) the_row
+abbrev pub box_at : Global → Ptr → the_row.Denot → Fml
+box_at alloc = box_owns (ghosts.dealloc_token alloc) the_row
 
--- no page at null; else the box there
-abbrev pub kept : Ptr → Option the_row.Denot → Fml
-kept null_ptr check = told (check ≡ None)
-kept (block_ptr b o) check = fex (Global × the_row.Denot) (λ x. fsep (told (check ≡ Some x.1)) (boxed x.0 (block_ptr b o) x.1))
+-- no page at null; else the box at the pointer
+abbrev pub page_at : Ptr → Option the_row.Denot → Fml
+page_at null_ptr check = as_formula (check ≡ None)
+page_at (block_ptr b o) check = fex (Global × the_row.Denot) (λ x. fsep (as_formula (check ≡ Some x.1)) (box_at x.0 (block_ptr b o) x.1))

@@ -2,35 +2,35 @@ use Rattle.std.specs.Prelude.{ℕ, ◌≡◌, ◌⊎◌, ◌≤◌, List, [], �
 use Rattle.nap_reader.specs.Budgets.{most_budget}
 use Rattle.nap_c.specs.declared.answer.Answer.{Answer}
 use Rattle.nap_c.specs.declared.check.Check.{Check}
-use Rattle.nap_c.specs.Answers.{Denies, IsCounted, accepting, missing, wanting_memory}
-use Rattle.nap_c.specs.Checks.{IsSoFar, StandsFor}
+use Rattle.nap_c.specs.Answers.{Denies, IsCounted, accepted_answer, not_begun_answer, memory_answer}
+use Rattle.nap_c.specs.Checks.{IsSoFar, HasChecked}
 
--- What the calls on a page that comes in pieces answer, and what is begun then.
+-- The calls on a page in pieces: what they answer, and what is begun afterwards.
 
--- a page is begun, of which nothing has come
+-- a page is begun, of which no byte has come
 pub record Opens (budget : ℕ) (new : Option Check) (a : Answer) : Type 0 where
   pub check : Check
   pub begun : new ≡ Some check
-  pub stands : StandsFor check budget []
-  pub answer : a ≡ accepting 0
+  pub stands : HasChecked check budget []
+  pub answer : a ≡ accepted_answer 0
 
--- it is where there is such a budget, unless there is no memory for it
+-- a page is begun if there is such a budget, unless memory runs out
 abbrev pub Begins : ℕ → Option Check → Answer → Type 0
 Begins budget new a =
-    ((budget ≤ most_budget) × (Opens budget new a ⊎ ((new ≡ None) × (a ≡ wanting_memory 0)))) ⊎ (Denies budget a × (new ≡ None))
+    ((budget ≤ most_budget) × (Opens budget new a ⊎ ((new ≡ None) × (a ≡ memory_answer 0)))) ⊎ (Denies budget a × (new ≡ None))
 
--- a piece came behind the bytes so far
+-- a piece came after the bytes so far
 pub record Takes (piece : List ℕ) (old : Check) (new : Option Check) (a : Answer) : Type 0 where
   pub check : Check
   pub begun : new ≡ Some check
-  pub stands : (budget : ℕ) (p : List ℕ) → StandsFor old budget p → StandsFor check budget (p ++ piece)
-  pub answer : (budget : ℕ) (p : List ℕ) → StandsFor old budget p → IsSoFar budget (p ++ piece) a
+  pub stands : (budget : ℕ) (p : List ℕ) → HasChecked old budget p → HasChecked check budget (p ++ piece)
+  pub answer : (budget : ℕ) (p : List ℕ) → HasChecked old budget p → IsSoFar budget (p ++ piece) a
 
 abbrev pub Feeds : Option Check → Option Check → List ℕ → Answer → Type 0
-Feeds None new piece a = (new ≡ None) × (a ≡ missing)
+Feeds None new piece a = (new ≡ None) × (a ≡ not_begun_answer)
 Feeds (Some old) new piece a = Takes piece old new a
 
 -- the answer is that of all bytes
 abbrev pub Finishes : Option Check → Answer → Type 0
-Finishes None a = a ≡ missing
-Finishes (Some check) a = (budget : ℕ) (p : List ℕ) → StandsFor check budget p → IsCounted budget p a
+Finishes None a = a ≡ not_begun_answer
+Finishes (Some check) a = (budget : ℕ) (p : List ℕ) → HasChecked check budget p → IsCounted budget p a

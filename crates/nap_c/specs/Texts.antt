@@ -10,20 +10,20 @@ pub record IsTextOf (budget : ℕ) (p whole text : List ℕ) : Type 0 where
   pub accepted : IsAccepted budget p
   pub text_is : text ≡ whole
 
--- Why there is none: the refusal is that of the page; or memory was wanting, at a place where it can be.
+-- The refusal is that of the page; or memory ran out, at a place where the page can lack it.
 pub record IsRefusal (budget : ℕ) (p : List ℕ) (CanLack : ℕ → Type 0) (r : Refusal) : Type 0 where
   pub refused : r.fault ≢ fault.Memory → (means budget p).refusal ≡ Some r
   pub memory : r.fault ≡ fault.Memory → CanLack r.place
 
--- there was no memory for a text, which is told at the end of the page
-abbrev pub wanting_at_end : List ℕ → Refusal
-wanting_at_end p = record { fault = fault.Memory; place = length p }
+-- the refusal for lack of memory for a text, placed at the end of the page
+abbrev pub memory_refusal_at_end : List ℕ → Refusal
+memory_refusal_at_end p = record { fault = fault.Memory; place = length p }
 
--- Memory can be wanting here: to the reading, or for the text.
+-- Memory can run out at this place: in reading, or for the text.
 abbrev pub LacksForText : ℕ → List ℕ → ℕ → Type 0
 LacksForText budget p place = BreaksWithin budget p place ⊎ (place ≡ length p)
 
--- Memory can be wanting here for a count: to the reader itself; or 64 bits can't hold the number of the entries.
+-- Memory can run out for a count at this place: in the reader itself, or because the number of entries exceeds 64 bits.
 pub record LacksToCount (budget : ℕ) (p : List ℕ) (place : ℕ) : Type 0 where
   pub breaks : BreaksWithin budget p place
   pub own : LacksWithin budget p place ⊎ (2 ^ 64 ≤ length (means budget p).entries)

@@ -1,27 +1,27 @@
-//! What comes of a page, as it is answered to C.
+//! Answers of the library for C (docs/LIBRARY.md).
 ghost use Rattle.std.specs.Prelude.{◌≡◌, length, MatchResult};
-ghost use Rattle.nap_c.specs.Answers.{IsGiven, Offers, accepting, denying, ending, missing, refusing};
+ghost use Rattle.nap_c.specs.Answers.{IsGiven, Offers, accepted_answer, no_budget_answer, ended_answer, not_begun_answer, refused_answer};
 
 use crate::name::{NAME, padded_name};
-use nap_batch::Placed;
+use nap_batch::PlacesText;
 use nap_reader::Refusal;
 
-/// The page is accepted.
+/// Status: the page is accepted.
 pub(crate) const ACCEPTED: u32 = 0;
 
-/// The page is refused.
+/// Status: the page is refused.
 pub(crate) const REFUSED: u32 = 1;
 
-/// The room is too small for the text.
+/// Status: the room is too small for the text.
 pub(crate) const SMALL: u32 = 2;
 
-/// There is no such budget.
+/// Status: there is no such budget.
 const NO_BUDGET: u32 = 3;
 
-/// No page is begun.
+/// Status: no page is begun.
 const NOT_BEGUN: u32 = 4;
 
-/// What comes of a page.
+/// The answer to a call on a page, as C sees it.
 #[repr(C)]
 #[derive(Clone, Copy, Drop)]
 pub struct Answer {
@@ -31,16 +31,16 @@ pub struct Answer {
     pub number: u32,
     /// The place of the refusal: the offset of a byte, or the length of the page.
     pub place: u64,
-    /// How many bytes the text has, or how many entries there are.
+    /// The number of bytes of the text, or the number of entries.
     pub length: u64,
-    /// The name of the refusal, followed by zeros.
+    /// The name of the refusal, padded with zeros.
     pub name: [u8; NAME],
 }
 
 impl Answer {
-    /// The page is accepted, with a text of this length, or so many entries.
-    pub(crate) fn accepting(length: u64) -> Answer
-        ensures { result ≡ accepting length }
+    /// Returns the answer for an accepted page, with a text of this length or this number of entries.
+    pub(crate) fn accepted_answer(length: u64) -> Answer
+        ensures { result ≡ accepted_answer length }
     {
         Answer {
             status: ACCEPTED,
@@ -51,9 +51,9 @@ impl Answer {
         }
     }
 
-    /// The page is refused, with a text of this length.
-    pub(crate) fn refusing(refusal: Refusal, length: u64) -> Answer
-        ensures { result ≡ refusing refusal length }
+    /// Returns the answer for a refused page, with a text of this length.
+    pub(crate) fn refused_answer(refusal: Refusal, length: u64) -> Answer
+        ensures { result ≡ refused_answer refusal length }
     {
         Answer {
             status: REFUSED,
@@ -64,39 +64,39 @@ impl Answer {
         }
     }
 
-    /// The page ended so, with a text of this length.
-    fn ending(ended: Result<usize, Refusal>, length: u64) -> Answer
-        ensures { result ≡ ending ended length }
+    /// Returns the answer for a page that was read with this result, with a text of this length.
+    fn ended_answer(ended: Result<usize, Refusal>, length: u64) -> Answer
+        ensures { result ≡ ended_answer ended length }
     {
         match ended {
-            Ok(_) => Answer::accepting(length),
-            Err(refusal) => Answer::refusing(refusal, length),
+            Ok(_) => Answer::accepted_answer(length),
+            Err(refusal) => Answer::refused_answer(refusal, length),
         }
     }
 
-    /// There is no such budget.
-    pub(crate) fn denying() -> Answer
-        ensures { result ≡ denying }
+    /// Returns the answer for a budget that there isn't.
+    pub(crate) fn no_budget_answer() -> Answer
+        ensures { result ≡ no_budget_answer }
     {
         Answer {
             status: NO_BUDGET,
-            ..Answer::accepting(0)
+            ..Answer::accepted_answer(0)
         }
     }
 
-    /// No page is begun.
-    pub(crate) fn missing() -> Answer
-        ensures { result ≡ missing }
+    /// Returns the answer for a call without a begun page.
+    pub(crate) fn not_begun_answer() -> Answer
+        ensures { result ≡ not_begun_answer }
     {
         Answer {
             status: NOT_BEGUN,
-            ..Answer::accepting(0)
+            ..Answer::accepted_answer(0)
         }
     }
 }
 
-/// Copies a text to the front of a room, if it is as large; says whether it is.
-pub(crate) fn give(text: &[u8], room: &mut [u8]) -> bool
+/// Copies a text to the beginning of a room that is large enough, and returns whether it is.
+pub(crate) fn copy_if_fits(text: &[u8], room: &mut [u8]) -> bool
     ensures { IsGiven text.now room.old room.new result }
 {
     if text.len() > room.len() {
@@ -106,11 +106,11 @@ pub(crate) fn give(text: &[u8], room: &mut [u8]) -> bool
     true
 }
 
-/// Copies a text to the front of a room, and gives its answer; or says that the room is too small for it.
-pub(crate) fn offer(text: &[u8], room: &mut [u8], answer: Answer) -> Answer
+/// Copies a text to the beginning of a room and returns its answer, or returns that the room is too small.
+pub(crate) fn copy_and_answer(text: &[u8], room: &mut [u8], answer: Answer) -> Answer
     ensures { Offers text.now room.old room.new answer result }
 {
-    if !give(text, room) {
+    if !copy_if_fits(text, room) {
         return Answer {
             status: SMALL,
             ..answer
@@ -119,25 +119,29 @@ pub(crate) fn offer(text: &[u8], room: &mut [u8], answer: Answer) -> Answer
     answer
 }
 
-/// Answers with the text that was found of a page, or with why there is none.
+/// Copies the text of a page to a room and returns its answer, or the answer for its refusal.
 pub(crate) fn answer_text(found: Result<Vec<u8>, Refusal>, room: &mut [u8]) -> Answer
     ensures { MatchResult found
-        (λ text. Offers text.items room.old room.new (accepting (length text.items)) result)
-        (λ refusal. (result ≡ refusing refusal 0) × (room.new ≡ room.old)) }
+        (λ text. Offers text.items room.old room.new (accepted_answer (length text.items)) result)
+        (λ refusal. (result ≡ refused_answer refusal 0) × (room.new ≡ room.old)) }
 {
     match found {
         Ok(text) => {
             let text = text.as_slice();
-            offer(text, room, Answer::accepting(text.len() as u64))
+            copy_and_answer(text, room, Answer::accepted_answer(text.len() as u64))
         }
-        Err(refusal) => Answer::refusing(refusal, 0),
+        Err(refusal) => Answer::refused_answer(refusal, 0),
     }
 }
 
-/// Answers with the places that were found of a page.
-pub(crate) fn answer_placed(placed: Placed, room: &mut [u8]) -> Answer
-    ensures { let text = placed.text.items in Offers text room.old room.new (ending placed.ended (length text)) result }
+/// Copies the places of a page to a room and returns the answer.
+pub(crate) fn answer_placed(placed: PlacesText, room: &mut [u8]) -> Answer
+    ensures { let text = placed.text.items in Offers text room.old room.new (ended_answer placed.ended (length text)) result }
 {
     let text = placed.text.as_slice();
-    offer(text, room, Answer::ending(placed.ended, text.len() as u64))
+    copy_and_answer(
+        text,
+        room,
+        Answer::ended_answer(placed.ended, text.len() as u64),
+    )
 }

@@ -1,4 +1,4 @@
-//! The calls of the library.
+//! The calls of the library on a page in memory (docs/LIBRARY.md).
 ghost use Rattle.std.specs.Prelude.{◌≡◌, ◌↔◌, IsTrue};
 ghost use Rattle.nap_reader.specs.Breaking.{BreaksWithin};
 ghost use Rattle.nap_canon.specs.Plain.{IsPlain};
@@ -9,51 +9,51 @@ ghost use Rattle.nap_c.specs.Answers.{AnswersCount, AnswersPlaces, AnswersText};
 ghost use Rattle.nap_c.specs.Texts.{LacksForText};
 
 use crate::answer::{Answer, answer_placed, answer_text};
-use crate::text::{canon_text, form1_text, list_text, wanting_at_end};
+use crate::text::{canon_text, form1_text, list_text, memory_refusal_at_end};
 use nap_batch::read_places;
 use nap_list::CountSink;
 use nap_reader::{Budget, read_stream};
 use std::alloc::{AllocError, Global};
 
-/// How many entries a page has.
+/// Counts the entries of a page.
 #[unsafe(no_mangle)]
 pub extern "C" fn naplps_check(alloc: Global, budget: u32, page: &[u8]) -> Answer
     ensures { AnswersCount budget page.now result }
 {
     let Some(budget) = Budget::new(budget) else {
-        return Answer::denying();
+        return Answer::no_budget_answer();
     };
     match read_stream(alloc, budget, page, CountSink::new()) {
-        Ok(sink) => Answer::accepting(sink.count()),
-        Err(refusal) => Answer::refusing(refusal, 0),
+        Ok(sink) => Answer::accepted_answer(sink.count()),
+        Err(refusal) => Answer::refused_answer(refusal, 0),
     }
 }
 
-/// The lines of a page's entries.
+/// Copies the lines of a page's entries to a room.
 #[unsafe(no_mangle)]
 pub extern "C" fn naplps_list(alloc: Global, budget: u32, page: &[u8], room: &mut [u8]) -> Answer
     ensures { let accepted = lines (list_of budget page.now) in
         AnswersText budget page.now (BreaksWithin budget page.now) accepted room.old room.new result }
 {
     let Some(budget) = Budget::new(budget) else {
-        return Answer::denying();
+        return Answer::no_budget_answer();
     };
     answer_text(list_text(alloc, budget, page), room)
 }
 
-/// The canonical stream of a page.
+/// Copies the canonical stream of a page to a room.
 #[unsafe(no_mangle)]
 pub extern "C" fn naplps_canon(alloc: Global, budget: u32, page: &[u8], room: &mut [u8]) -> Answer
     ensures { let accepted = text (list_of budget page.now) in
         AnswersText budget page.now (LacksForText budget page.now) accepted room.old room.new result }
 {
     let Some(budget) = Budget::new(budget) else {
-        return Answer::denying();
+        return Answer::no_budget_answer();
     };
     answer_text(canon_text(alloc, budget, page), room)
 }
 
-/// The text of a page's list in form 1.
+/// Copies the text of a page's list in form 1 to a room.
 #[unsafe(no_mangle)]
 pub extern "C" fn naplps_canon_form1(
     alloc: Global,
@@ -65,22 +65,23 @@ pub extern "C" fn naplps_canon_form1(
         AnswersText budget page.now (LacksForText budget page.now) accepted room.old room.new result }
 {
     let Some(budget) = Budget::new(budget) else {
-        return Answer::denying();
+        return Answer::no_budget_answer();
     };
     answer_text(form1_text(alloc, budget, page), room)
 }
 
-/// The lines of a page's entries, also of those before a refusal, each after the place of the byte that brought it.
+/// Copies the lines of a page's entries to a room, each after the place of the byte that added it, also those before a
+/// refusal.
 #[unsafe(no_mangle)]
 pub extern "C" fn naplps_places(alloc: Global, budget: u32, page: &[u8], room: &mut [u8]) -> Answer
     ensures { AnswersPlaces budget page.now room.old room.new result }
 {
     let Some(budget) = Budget::new(budget) else {
-        return Answer::denying();
+        return Answer::no_budget_answer();
     };
     match read_places(alloc, budget, page) {
         Ok(placed) => answer_placed(placed, room),
-        Err(AllocError) => Answer::refusing(wanting_at_end(page), 0),
+        Err(AllocError) => Answer::refused_answer(memory_refusal_at_end(page), 0),
     }
 }
 

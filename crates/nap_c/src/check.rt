@@ -14,11 +14,11 @@ pub struct Check {
 
 impl Check {
     ghost use Rattle.nap_c.specs.Answers.{IsCounted};
-    ghost use Rattle.nap_c.specs.Checks.{IsSoFar, StandsFor, fed};
+    ghost use Rattle.nap_c.specs.Checks.{IsSoFar, HasChecked, fed};
 
-    /// Nothing of a page has come yet.
+    /// Returns the check of a page of which no byte has come.
     pub(crate) fn new(alloc: Global, budget: Budget) -> Check
-        ensures { StandsFor result budget [] }
+        ensures { HasChecked result budget [] }
     {
         Check {
             reader: Reader::new(alloc, budget, CountSink::new()),
@@ -28,23 +28,23 @@ impl Check {
     /// Takes the next piece.
     pub(crate) fn feed(&mut self, piece: &[u8]) -> Answer
         requires { fed self.old + length piece.now < 2 ^ 63 }
-        ensures stands { (budget : ℕ) (p : List ℕ) → StandsFor self.old budget p → StandsFor self.new budget (p ++ piece.now) }
-        ensures answer { (budget : ℕ) (p : List ℕ) → StandsFor self.old budget p → IsSoFar budget (p ++ piece.now) result }
+        ensures stands { (budget : ℕ) (p : List ℕ) → HasChecked self.old budget p → HasChecked self.new budget (p ++ piece.now) }
+        ensures answer { (budget : ℕ) (p : List ℕ) → HasChecked self.old budget p → IsSoFar budget (p ++ piece.now) result }
     {
         match self.reader.feed(piece) {
-            Ok(()) => Answer::accepting(0),
-            Err(refusal) => Answer::refusing(refusal, 0),
+            Ok(()) => Answer::accepted_answer(0),
+            Err(refusal) => Answer::refused_answer(refusal, 0),
         }
     }
 
-    /// The end of the page.
+    /// Ends the page.
     pub(crate) fn finish(self) -> Answer
-        ensures { (budget : ℕ) (p : List ℕ) → StandsFor self budget p → IsCounted budget p result }
+        ensures { (budget : ℕ) (p : List ℕ) → HasChecked self budget p → IsCounted budget p result }
     {
         let Check { reader } = self;
         match reader.finish() {
-            Ok(sink) => Answer::accepting(sink.count()),
-            Err(stopped) => Answer::refusing(stopped.refusal, 0),
+            Ok(sink) => Answer::accepted_answer(sink.count()),
+            Err(stopped) => Answer::refused_answer(stopped.refusal, 0),
         }
     }
 }

@@ -3,16 +3,16 @@ ghost use Rattle.std.specs.Prelude.{◌≡◌, None, Some};
 ghost use Rattle.std.specs.Option.{MatchOption};
 ghost use Rattle.std.specs.declared.option.Option.{Option};
 ghost use Rattle.nap_c.specs.declared.check.Check.{Check};
-ghost use Rattle.nap_c.specs.Kept.{check_coded, kept};
+ghost use Rattle.nap_c.specs.Kept.{check_coded, page_at};
 
 use crate::check::Check;
-use crate::loose::Loose;
+use crate::raw_box::RawBox;
 use std::alloc::Global;
 use std::marker::Model;
 use std::mem::replace;
 use std::ptr::null_mut;
 
-/// A page that is checked in pieces, if one is begun.
+/// A page that is checked in pieces, if one is begun: null, or a pointer to a box.
 #[repr(C)]
 pub struct Checking {
     at: *mut u8,
@@ -20,57 +20,57 @@ pub struct Checking {
 }
 
 impl Model for Checking {
-    ghost also_owns = { λ c. kept c.at c.check };
+    ghost also_owns = { λ c. page_at c.at c.check };
 }
 
 impl Checking {
-    /// No page is begun.
+    /// Returns no page.
     fn none() -> Checking
         ensures { result.check ≡ None }
     {
         Checking { at: null_mut() }
     }
 
-    /// The page that is known so far.
-    fn some(check: Loose<Check, Global>) -> Checking
+    /// Returns a page with what is known of it.
+    fn some(check: RawBox<Check, Global>) -> Checking
         ensures { result.check ≡ Some check.value }
     {
-        let Loose { at, alloc: _ } = check;
+        let RawBox { at, alloc: _ } = check;
         Checking { at: at as *mut u8 }
     }
 
-    /// What is known of the page, if one is begun.
-    fn into_loose(self, alloc: Global) -> Option<Loose<Check, Global>>
+    /// Returns what is known of the page, if one is begun.
+    fn into_raw_box(self, alloc: Global) -> Option<RawBox<Check, Global>>
         ensures { MatchOption result (self.check ≡ None) (λ l. self.check ≡ Some l.value) }
     {
         let Checking { at } = self;
         if at.is_null() {
             None
         } else {
-            Some(Loose {
+            Some(RawBox {
                 at: at as *mut Check,
                 alloc,
             })
         }
     }
 
-    /// Takes out what is known of the page, which is begun no longer.
+    /// Takes out what is known of the page. No page is begun afterwards.
     pub(crate) fn take(&mut self, alloc: Global) -> Option<Box<Check>>
         ensures none { self.new.check ≡ None }
         ensures known { MatchOption result (self.old.check ≡ None) (λ b. self.old.check ≡ Some b.value) }
     {
-        match replace(self, Checking::none()).into_loose(alloc) {
+        match replace(self, Checking::none()).into_raw_box(alloc) {
             Some(check) => Some(check.into_box()),
             None => None,
         }
     }
 
-    /// Puts in what is known of a page, and gives up the one that was begun.
+    /// Puts in what is known of a page, and drops the one that was begun.
     pub(crate) fn put(&mut self, alloc: Global, check: Box<Check>)
         ensures { self.new.check ≡ Some check.value }
     {
-        let old = replace(self, Checking::some(Loose::of(check)));
-        if let Some(check) = old.into_loose(alloc) {
+        let old = replace(self, Checking::some(RawBox::from_box(check)));
+        if let Some(check) = old.into_raw_box(alloc) {
             drop(check.into_box());
         }
     }

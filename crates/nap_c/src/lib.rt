@@ -1,14 +1,14 @@
-//! What comes of a page, for callers in C.
+//! The library for C: calls on a page in memory or in pieces (docs/LIBRARY.md).
 #![tactic(auto)]
 
 mod answer;
 mod call;
 mod check;
 mod checking;
-mod loose;
 mod made;
 mod name;
 mod pieces;
+mod raw_box;
 mod text;
 
 pub use answer::Answer;

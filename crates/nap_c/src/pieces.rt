@@ -1,4 +1,4 @@
-//! The calls of the library on a page that comes in pieces.
+//! The calls of the library on a page in pieces (docs/LIBRARY.md).
 ghost use Rattle.std.specs.Prelude.{◌≡◌, ◌+◌, ◌<◌, ◌^◌, None, IfSome, length};
 ghost use Rattle.nap_c.specs.Checks.{fed};
 ghost use Rattle.nap_c.specs.Pieces.{Begins, Feeds, Finishes};
@@ -9,21 +9,21 @@ use crate::checking::Checking;
 use nap_reader::{Budget, Fault, Refusal};
 use std::alloc::Global;
 
-/// Begins a page that comes in pieces. One that was begun there is given up.
+/// Begins a page in pieces, and drops the one that was begun.
 #[unsafe(no_mangle)]
 pub extern "C" fn naplps_check_begin(page: &mut Checking, alloc: Global, budget: u32) -> Answer
     ensures { Begins budget page.new.check result }
 {
     drop(page.take(alloc));
     let Some(budget) = Budget::new(budget) else {
-        return Answer::denying();
+        return Answer::no_budget_answer();
     };
     match Box::new(alloc, Check::new(alloc, budget)) {
         Ok(check) => {
             page.put(alloc, check);
-            Answer::accepting(0)
+            Answer::accepted_answer(0)
         }
-        Err(_) => Answer::refusing(
+        Err(_) => Answer::refused_answer(
             Refusal {
                 fault: Fault::Memory,
                 place: 0,
@@ -40,14 +40,14 @@ pub extern "C" fn naplps_check_feed(page: &mut Checking, alloc: Global, piece: &
     ensures { Feeds page.old.check page.new.check piece.now result }
 {
     let Some(mut check) = page.take(alloc) else {
-        return Answer::missing();
+        return Answer::not_begun_answer();
     };
     let answer = check.feed(piece);
     page.put(alloc, check);
     answer
 }
 
-/// How many entries a page has that came in pieces. It is begun no longer.
+/// Ends a page in pieces, and counts its entries. No page is begun afterwards.
 #[unsafe(no_mangle)]
 pub extern "C" fn naplps_check_finish(page: &mut Checking, alloc: Global) -> Answer
     ensures none { page.new.check ≡ None }
@@ -55,11 +55,11 @@ pub extern "C" fn naplps_check_finish(page: &mut Checking, alloc: Global) -> Ans
 {
     match page.take(alloc) {
         Some(check) => Box::into_inner(check).finish(),
-        None => Answer::missing(),
+        None => Answer::not_begun_answer(),
     }
 }
 
-/// Gives up a page that came in pieces, if one is begun.
+/// Drops a page in pieces, if one is begun.
 #[unsafe(no_mangle)]
 pub extern "C" fn naplps_check_drop(page: &mut Checking, alloc: Global)
     ensures { page.new.check ≡ None }

@@ -1,4 +1,4 @@
-pub mod bring
+pub mod prelude
 pub mod reading
 pub mod spelling
 pub mod reading_back

@@ -3,16 +3,16 @@
 use Rattle.nap_list.specs.declared.device.outlet.Outlet as outlet
 use Rattle.nap_canon.specs.declared.form.Form.TheVariants.{One, Two}
 use Rattle.nap_canon.specs.Sinking.{WritesText}
-use Rattle.nap_canon.specs.Laws.{BringLeads, TextOfPrefix, TextIsPlain, PlainOperandLengths, TextIsRead, TextLeads, FormsAgree, CanonicalStreamsAgree}
+use Rattle.nap_canon.specs.Laws.{PreludeLeads, TextOfPrefix, TextIsPlain, PlainOperandLengths, TextIsRead, TextLeads, FormsAgree, CanonicalStreamsAgree}
 use Rattle.nap_canon.proofs.operand_lengths.ActingLemmas as acting
 use Rattle.nap_canon.proofs.reading_back.CanonicalLaws as canonical
 use Rattle.nap_canon.proofs.reading_back.FormLemmas as forms
-use Rattle.nap_canon.proofs.bring.ModeLemmas as modes
+use Rattle.nap_canon.proofs.prelude.ModeLemmas as modes
 use Rattle.nap_canon.proofs.plain_codes.PlainTexts as plain_texts
 use Rattle.nap_canon.proofs.sinks.SinkingLemmas as sinks
 use Rattle.nap_canon.proofs.texts.TextLemmas as texts
 
-pub bring_leads : BringLeads
+pub bring_leads : PreludeLeads
 bring_leads = modes.bring_leads
 
 pub text_of_prefix : TextOfPrefix Two

@@ -6,7 +6,7 @@ use Rattle.nap_codes.specs.declared.opcode.Opcode.{Opcode}
 use Rattle.nap_codes.specs.declared.opcode.Opcode.TheVariants as opcodes
 use Rattle.nap_codes.specs.CodeSets.{start_sets}
 use Rattle.nap_codes.specs.Front as codes
-use Rattle.nap_codes.specs.Lexed.{lexed}
+use Rattle.nap_codes.specs.LexResults.{lex_result}
 use Rattle.nap_reader.specs.Bodies.{Mode, between, in_body}
 use Rattle.nap_reader.specs.Course as course
 use Rattle.nap_reader.specs.Stream.{Placed, Machine, Front, bytes_of, front, left_of, start_machine, placed_from}
@@ -26,18 +26,18 @@ abbrev pub acting_in : Mode → Machine → List Placed → List Acting
 acting_in between m xs = acting_at m (codes.front m.sets (bytes_of xs))
 acting_in (in_body name show) m xs = []
 
--- those behind a front that acts, where those of a list that begins later are known
-abbrev pub acting_behind : (Machine → List Placed → List Acting) → Front → List Acting
-acting_behind later (course.act entries m xs) = later m xs
-acting_behind later _ = []
+-- the acting opcodes after a front that acts, given those of every later part of the list
+abbrev pub acting_after : (Machine → List Placed → List Acting) → Front → List Acting
+acting_after later (course.act entries m xs) = later m xs
+acting_after later _ = []
 
 -- front after front, this many at most
 unfoldable pub acting_within : ℕ → Machine → List Placed → List Acting
 acting_within zero m xs = []
-acting_within (suc most) m xs = acting_in m.mode m xs ++ acting_behind (acting_within most) (front m xs)
+acting_within (suc most) m xs = acting_in m.mode m xs ++ acting_after (acting_within most) (front m xs)
 
--- Front after front, until nothing whole is left. Each front that acts lessens what is unread and what is left to
--- charge, with one for the end of a body, taken together. So this many fronts are enough.
+-- The acting opcodes of a list, front after front, until no complete code is left. Each front that acts lessens the sum
+-- of the unread bytes and of what is left to charge, with one for the end of a body, so this many fronts are enough.
 abbrev pub acting_from : Machine → List Placed → List Acting
 acting_from m xs = acting_within (suc (length xs + left_of m)) m xs
 
@@ -51,11 +51,11 @@ opcodes_of [] = []
 opcodes_of (code.Op op ∷ rest) = op ∷ opcodes_of rest
 opcodes_of (_ ∷ rest) = opcodes_of rest
 
--- But for DOMAIN and RESET, it acts under operands of eight words and of four.
+-- The opcode acts under operands of eight words and four words, unless it is DOMAIN or RESET.
 abbrev pub ActsUnderEightAndFour : Acting → Type 0
 ActsUnderEightAndFour a = a.op ≢ opcodes.Domain → a.op ≢ opcodes.Reset → a.lengths ≡ record { multi = 8; single = 4 }
 
 -- The opcodes that act in a stream are all the opcodes of the stream, and each acts so.
 pub record AllActUnderEightAndFour (budget : ℕ) (p : List ℕ) : Type 0 where
-  pub all : map (λ a. a.op) (acting budget p) ≡ opcodes_of (lexed start_sets p).codes
+  pub all : map (λ a. a.op) (acting budget p) ≡ opcodes_of (lex_result start_sets p).codes
   pub each : All ActsUnderEightAndFour (acting budget p)

@@ -10,122 +10,123 @@ use Rattle.nap_list.specs.declared.batch.Batch.TheVariants as batches
 use Rattle.nap_list.specs.declared.device.outlet.Outlet as outlet
 use Rattle.nap_list.specs.declared.entry.Entry.{Entry}
 use Rattle.nap_list.specs.declared.sink.SinkFault.TheVariants.{Write}
-use Rattle.nap_list.specs.Batches.{last_of, listed}
+use Rattle.nap_list.specs.Batches.{last_point, batch_entries}
 use Rattle.nap_list.specs.State.{walk}
 use Rattle.nap_list.specs.declared.state.State.{State}
-use Rattle.nap_list.specs.Putting.{SinkShows, shows, Put, TakesAll}
+use Rattle.nap_list.specs.Putting.{SinkModel, sink_model, Put, TakesAll}
 use Rattle.nap_canon.specs.declared.form.Form.{Form}
 use Rattle.nap_canon.specs.declared.form.Form.TheVariants.{Two}
-use Rattle.nap_canon.specs.declared.tail.Tail.{Tail}
-use Rattle.nap_canon.specs.declared.tail.Tail.TheVariants.{Apart, InRun}
+use Rattle.nap_canon.specs.declared.text_end.TextEnd.{TextEnd}
+use Rattle.nap_canon.specs.declared.text_end.TextEnd.TheVariants.{NoRun, InRun}
 use Rattle.nap_canon.specs.Sinking.{Canonical, Took, Broke}
-use Rattle.nap_canon.specs.Text.{gl_of, to_opcodes, to_primary, is_joined, run_behind, written, tail_after, entry_pieces, pieces}
+use Rattle.nap_canon.specs.Text.{gl_of, shift_to_opcodes, shift_to_primary, joins_open_run, run_after, pieces_bytes, text_end_after, entry_pieces, pieces}
 
 -- Batches in a sink of canonical text.
 
--- a canonical sink, as any sink shows
-abbrev pub canon_shows : {O : Type 0} → outlet.Ghosts O → SinkShows (Canonical O)
-canon_shows o = shows (λ s. s.state) (λ s d. ⊥) (λ s. o.failed s.outlet) (Took o) (Broke o)
+-- a canonical sink as a model of any sink
+abbrev pub canon_sink_model : {O : Type 0} → outlet.Ghosts O → SinkModel (Canonical O)
+canon_sink_model o = sink_model (λ s. s.state) (λ s d. ⊥) (λ s. o.failed s.outlet) (Took o) (Broke o)
 
--- so many of the bytes were taken, and the write of the next one failed
+-- this many bytes were taken, and the write of the next one failed
 pub record CutAfter {S : Type 0} (sent : S → List ℕ → Bool → S → Type 0) (s : S) (bytes : List ℕ) (n : ℕ) (t : S) : Type 0 where
   pub less : n < length bytes
   pub mid : S
   pub front : sent s (take n bytes) false mid
   pub next : sent mid (slice_index bytes n ∷ []) true t
 
--- all of the bytes were taken, or some first ones
+-- all bytes were taken, or a prefix of them
 abbrev pub SentUpTo : {S : Type 0} → (S → List ℕ → Bool → S → Type 0) → S → List ℕ → S → Result (Unit {0}) ℕ → Type 0
 SentUpTo sent s bytes t (Ok _) = sent s bytes false t
 SentUpTo sent s bytes t (Err n) = CutAfter sent s bytes n t
 
--- an opening and entries of this size were sent, or bytes that hold so many of these whole
+-- the opening and all entries of this size were sent, or a prefix that holds this many complete entries
 abbrev pub SentWhole : {S : Type 0} → (S → List ℕ → Bool → S → Type 0) → S → List ℕ → ℕ → List ℕ → S → Result (Unit {0}) ℕ → Type 0
 SentWhole sent s opening size bytes t (Ok _) = sent s (opening ++ bytes) false t
 SentWhole sent s opening size bytes t (Err whole) = (n : ℕ) × (whole ≡ (n - length opening) / size) × CutAfter sent s (opening ++ bytes) n t
 
--- the operands of points, one behind another
+-- the operands of points, one after another
 unfoldable pub points_bytes : List Coordinates → List ℕ
 points_bytes [] = []
 points_bytes (p ∷ ps) = point_bytes p ++ points_bytes ps
 
--- so many points join the run of this opcode, or open one where even the first of them joins none
-abbrev pub PointsJoin : Form → Tail → ℕ → ℕ → Type 0
-PointsJoin form tail byte count = (count ≤ 126) × (form ≡ Two) × (is_joined tail byte (8 * count) ≡ is_joined tail byte 8)
+-- this many points join the run of this opcode, or open one if not even the first joins
+abbrev pub PointsJoin : Form → TextEnd → ℕ → ℕ → Type 0
+PointsJoin form text_end byte count = (count ≤ 126) × (form ≡ Two) × (joins_open_run text_end byte (8 * count) ≡ joins_open_run text_end byte 8)
 
--- so many of these codes join the last text; or they open one, where the first is a character and they are few
-abbrev pub TextJoins : Tail → List ℕ → ℕ → Type 0
-TextJoins tail codes count = (tail ≡ Apart G0) ⊎ ((count ≤ 1023) × ((code : ℕ) (rest : List ℕ) → codes ≡ code ∷ rest → format_effector code ≡ None))
+-- this many of these codes join the last text, or open one if the first is a character and they are few
+abbrev pub TextJoins : TextEnd → List ℕ → ℕ → Type 0
+TextJoins text_end codes count = (text_end ≡ NoRun G0) ⊎ ((count ≤ 1023) × ((code : ℕ) (rest : List ℕ) → codes ≡ code ∷ rest → format_effector code ≡ None))
 
--- so many entries of a batch, from this index on, join the last run or text, or open one
-abbrev pub Joins : Form → Tail → State → Batch → ℕ → ℕ → Type 0
-Joins form tail s (batches.Points points drawing) first count = PointsJoin form tail 0x26 count
-Joins form tail s (batches.Lines from points drawing) first count = PointsJoin form tail 0x28 count × (s.drawing.pen ≡ At (last_of from (take first points.now)))
-Joins form tail s (batches.Text set codes pen drawing) first count = (set ≡ Primary) × TextJoins tail (drop first codes.now) count
+-- this many entries of a batch, from this index on, join the last run or text, or open one
+abbrev pub Joins : Form → TextEnd → State → Batch → ℕ → ℕ → Type 0
+Joins form text_end s (batches.Points points drawing) first count = PointsJoin form text_end 0x26 count
+Joins form text_end s (batches.Lines from points drawing) first count = PointsJoin form text_end 0x28 count × (s.drawing.pen ≡ At (last_point from (take first points.now)))
+Joins form text_end s (batches.Text set codes pen drawing) first count = (set ≡ Primary) × TextJoins text_end (drop first codes.now) count
 
--- so many behind this one do that where it was put
-abbrev pub JoinsBehind : Form → Tail → Batch → ℕ → ℕ → Type 0
-JoinsBehind form tail batch index count = (s : State) → Joins form tail (walk s (take 1 (drop index (listed batch)))) batch (index + 1) count
+-- this many entries after this one join the last run or text, or open one, once this one was put
+abbrev pub JoinsAfter : Form → TextEnd → Batch → ℕ → ℕ → Type 0
+JoinsAfter form text_end batch index count = (s : State) → Joins form text_end (walk s (take 1 (drop index (batch_entries batch)))) batch (index + 1) count
 
--- what stands in front of so many bytes of operands: nothing where they join the run, or else their opcode
-abbrev pub run_opening : Tail → ℕ → ℕ → List ℕ
-run_opening tail byte count = if is_joined tail byte count then [] else (to_opcodes (gl_of tail) ++ byte ∷ [])
+-- what comes before this many operand bytes: nothing if they join the run, else their opcode
+abbrev pub run_opening : TextEnd → ℕ → ℕ → List ℕ
+run_opening text_end byte count = if joins_open_run text_end byte count then [] else (shift_to_opcodes (gl_of text_end) ++ byte ∷ [])
 
--- what stands in front of so many entries
-abbrev pub opening : Tail → Batch → ℕ → List ℕ
-opening tail (batches.Points points drawing) count = run_opening tail 0x26 (8 * count)
-opening tail (batches.Lines from points drawing) count = run_opening tail 0x28 (8 * count)
-opening tail (batches.Text set codes pen drawing) count = to_primary (gl_of tail)
+-- what comes before this many entries: nothing if they join, else an opcode or a shift
+abbrev pub opening : TextEnd → Batch → ℕ → List ℕ
+opening text_end (batches.Points points drawing) count = run_opening text_end 0x26 (8 * count)
+opening text_end (batches.Lines from points drawing) count = run_opening text_end 0x28 (8 * count)
+opening text_end (batches.Text set codes pen drawing) count = shift_to_primary (gl_of text_end)
 
--- the bytes of each of them
+-- the number of bytes of each of these entries
 abbrev pub entry_size : Batch → ℕ
 entry_size (batches.Points points drawing) = 8
 entry_size (batches.Lines from points drawing) = 8
 entry_size (batches.Text set codes pen drawing) = 1
 
--- the bytes of so many, from this one on
+-- the bytes of this many entries, from this index on
 abbrev pub joined_bytes : Batch → ℕ → ℕ → List ℕ
 joined_bytes (batches.Points points drawing) first count = points_bytes (take count (drop first points.now))
 joined_bytes (batches.Lines from points drawing) first count = points_bytes (take count (drop first points.now))
 joined_bytes (batches.Text set codes pen drawing) first count = take count (drop first codes.now)
 
--- how the text ends after so many
-abbrev pub joined_tail : Tail → Batch → ℕ → Tail
-joined_tail tail (batches.Points points drawing) count = InRun (run_behind tail 0x26 (8 * count))
-joined_tail tail (batches.Lines from points drawing) count = InRun (run_behind tail 0x28 (8 * count))
-joined_tail tail (batches.Text set codes pen drawing) count = Apart G0
+-- the end of the text after this many entries
+abbrev pub text_end_after_joined : TextEnd → Batch → ℕ → TextEnd
+text_end_after_joined text_end (batches.Points points drawing) count = InRun (run_after text_end 0x26 (8 * count))
+text_end_after_joined text_end (batches.Lines from points drawing) count = InRun (run_after text_end 0x28 (8 * count))
+text_end_after_joined text_end (batches.Text set codes pen drawing) count = NoRun G0
 
--- what is laid of so many entries, from this one on: nothing of none
-abbrev pub behind_bytes : Tail → Batch → ℕ → ℕ → List ℕ
-behind_bytes tail batch first zero = []
-behind_bytes tail batch first (suc n) = opening tail batch (suc n) ++ joined_bytes batch first (suc n)
+-- the bytes that are appended for this many entries, from this index on: none for no entry
+abbrev pub bytes_of_rest : TextEnd → Batch → ℕ → ℕ → List ℕ
+bytes_of_rest text_end batch first zero = []
+bytes_of_rest text_end batch first (suc n) = opening text_end batch (suc n) ++ joined_bytes batch first (suc n)
 
--- how the text ends after them
-abbrev pub behind_tail : Tail → Batch → ℕ → Tail
-behind_tail tail batch zero = tail
-behind_tail tail batch (suc n) = joined_tail tail batch (suc n)
+-- the end of the text after these entries
+abbrev pub text_end_after_rest : TextEnd → Batch → ℕ → TextEnd
+text_end_after_rest text_end batch zero = text_end
+text_end_after_rest text_end batch (suc n) = text_end_after_joined text_end batch (suc n)
 
--- a list that was written so many bytes far: so many entries whole, and a part of the next one
-pub record Parted (form : Form) (tail : Tail) (s : State) (list : List Entry) (k n : ℕ) : Type 0 where
+-- a list that was written up to this many bytes: this many complete entries, and part of the next one
+pub record Parted (form : Form) (text_end : TextEnd) (s : State) (list : List Entry) (k n : ℕ) : Type 0 where
   pub next : Entry
   pub rest : List Entry
   pub parts : list ≡ take k list ++ next ∷ rest
   pub part : ℕ
-  pub less : part < length (written (tail_after tail (pieces form s (take k list))) (entry_pieces form (walk s (take k list)) next))
-  pub cut : take n (written tail (pieces form s list))
-      ≡ written tail (pieces form s (take k list)) ++ take part (written (tail_after tail (pieces form s (take k list))) (entry_pieces form (walk s (take k list)) next))
+  pub less : part < length (pieces_bytes (text_end_after text_end (pieces form s (take k list))) (entry_pieces form (walk s (take k list)) next))
+  pub cut : take n (pieces_bytes text_end (pieces form s list))
+      ≡ pieces_bytes text_end (pieces form s (take k list)) ++ take part (pieces_bytes (text_end_after text_end (pieces form s (take k list))) (entry_pieces form (walk s (take k list)) next))
 
--- a front of the list was put, of one entry or more, or the list was put up to an entry that broke
+-- a prefix of the list was put, of at least one entry, or the list was put up to an entry during which the device
+-- failed
 abbrev pub PutsSome : {O : Type 0} → outlet.Ghosts O → List Entry → Canonical O → Canonical O → Result ℕ ℕ → Type 0
-PutsSome o list s t (Ok count) = (0 < count) × (count ≤ length list) × TakesAll (canon_shows o) (take count list) s t
-PutsSome o list s t (Err taken) = Put (canon_shows o) list s t (Err (record { taken = taken; fault = Write }))
+PutsSome o list s t (Ok count) = (0 < count) × (count ≤ length list) × TakesAll (canon_sink_model o) (take count list) s t
+PutsSome o list s t (Err taken) = Put (canon_sink_model o) list s t (Err (record { taken = taken; fault = Write }))
 
--- the first entry of a list was put, or it broke
+-- the first entry of a list was put, or the device failed during it
 abbrev pub PutsFirst : {O E : Type 0} → outlet.Ghosts O → List Entry → Canonical O → Canonical O → Result (Unit {0}) E → Type 0
 PutsFirst o list s t (Ok _) = PutsSome o list s t (Ok 1)
 PutsFirst o list s t (Err _) = PutsSome o list s t (Err 0)
 
--- a list was put from this entry on, and an error counts those before it too
-abbrev pub PutsBehind : {O : Type 0} → outlet.Ghosts O → ℕ → List Entry → Canonical O → Canonical O → Result (Unit {0}) ℕ → Type 0
-PutsBehind o first list s t (Ok _) = TakesAll (canon_shows o) (drop first list) s t
-PutsBehind o first list s t (Err taken) = (n : ℕ) × (taken ≡ first + n) × Put (canon_shows o) (drop first list) s t (Err (record { taken = n; fault = Write }))
+-- a list was put from this entry on, and the error counts the entries before it too
+abbrev pub PutsAfter : {O : Type 0} → outlet.Ghosts O → ℕ → List Entry → Canonical O → Canonical O → Result (Unit {0}) ℕ → Type 0
+PutsAfter o first list s t (Ok _) = TakesAll (canon_sink_model o) (drop first list) s t
+PutsAfter o first list s t (Err taken) = (n : ℕ) × (taken ≡ first + n) × Put (canon_sink_model o) (drop first list) s t (Err (record { taken = n; fault = Write }))

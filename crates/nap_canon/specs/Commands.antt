@@ -14,35 +14,35 @@ use Rattle.nap_canon.specs.declared.command.Command.TheVariants as commands
 use Rattle.nap_canon.specs.declared.command.Flag.{Flag}
 use Rattle.nap_canon.specs.declared.command.Flag.TheVariants as flags
 
--- SET COLOR, where this colour stands: a colour of mode 0 becomes the new one, and the base with it
-abbrev pub coloured : Colour → Components → Drawing → Drawing
-coloured (colours.Own origin) grb d = record d { base = bases.Direct grb; colour = colours.Direct grb }
-coloured (colours.Direct old) grb d = record d { base = bases.Direct grb; colour = colours.Direct grb }
-coloured _ grb d = d
+-- SET COLOR with this colour in use: a colour of mode 0 becomes the new one, and so does the base
+abbrev pub drawing_with_set_color : Colour → Components → Drawing → Drawing
+drawing_with_set_color (colours.Own origin) grb d = record d { base = bases.Direct grb; colour = colours.Direct grb }
+drawing_with_set_color (colours.Direct old) grb d = record d { base = bases.Direct grb; colour = colours.Direct grb }
+drawing_with_set_color _ grb d = d
 
--- a mode of text, on or off
-abbrev pub flagged : Flag → Bool → TextLook → TextLook
-flagged flags.Reverse on t = record t { reverse = on }
-flagged flags.Underline on t = record t { underline = on }
-flagged flags.Wrap on t = record t { wrap = on }
-flagged flags.Scroll on t = record t { scroll = on }
+-- the text attributes with a flag on or off
+abbrev pub look_with_flag : Flag → Bool → TextLook → TextLook
+look_with_flag flags.Reverse on t = record t { reverse = on }
+look_with_flag flags.Underline on t = record t { underline = on }
+look_with_flag flags.Wrap on t = record t { wrap = on }
+look_with_flag flags.Scroll on t = record t { scroll = on }
 
--- what a command does to the values that stand
+-- the effect of a command on the attributes
 abbrev pub effect : Command → Drawing → Drawing
 effect (commands.PointSet p) d = with_pen (pens.At p) d
 effect (commands.Pel m) d = record d { pel = m }
 effect commands.SelectBase d = with_colour (colour_of_base d.base) d
 effect (commands.SelectFront a) d = with_colour (colours.Front a) d
 effect (commands.SelectPair a b) d = with_colour (colours.Pair a b) d
-effect (commands.SetColor grb) d = coloured d.colour grb d
+effect (commands.SetColor grb) d = drawing_with_set_color d.colour grb d
 effect (commands.Texture word) d = record d { texture = record d.texture { word = word } }
 effect (commands.TextureMask word m) d = record d { texture = record { word = word; mask = Some m } }
 effect (commands.Text first second) d = record d { text = record d.text { first = first; second = second } }
 effect (commands.TextSize first second m) d = record d { text = record d.text { first = first; second = second; size = sizes.Given m } }
 effect (commands.Named size) d = record d { text = record d.text { size = sizes.Named size } }
-effect (commands.Flag f on) d = record d { text = flagged f on d.text }
+effect (commands.Flag f on) d = record d { text = look_with_flag f on d.text }
 
--- what commands do, one after another
+-- the effects of commands, one after another
 abbrev pub effects : List Command → Drawing → Drawing
 effects [] d = d
 effects (x ∷ xs) d = effects xs (effect x d)

@@ -14,11 +14,11 @@ use Rattle.nap_canon.specs.Text.{text}
 
 -- A stream is converted: the bytes p were read, and the output took q.
 
--- how many bytes there are, up to the greatest count of 64 bits
+-- the number of bytes, saturating at 2^64 - 1
 abbrev pub count_of : List ℕ → ℕ
 count_of q = min (length q) (2 ^ 64 - 1)
 
--- the one list stands at the front of the other
+-- the first list is a prefix of the other
 abbrev pub IsFrontOf : {A : Type 0} → List A → List A → Type 0
 IsFrontOf {A = A} front whole = (rest : List A) × (whole ≡ front ++ rest)
 
@@ -27,15 +27,15 @@ pub record ConvertsWhole (budget : ℕ) (p : List ℕ) (seen : Reading) (q : Lis
   pub read : IsReadWhole seen p
   pub canonical : IsCanonicalOf budget q p
 
--- The stream is refused, and q is the text of the entries before that. Bytes are left unread only where those that were
--- read show the refusal.
+-- The stream is refused, and q is the text of the entries before the refusal. Bytes are left unread only if those that
+-- were read show the refusal.
 pub record RefusesStream (budget : ℕ) (p : List ℕ) (seen : Reading) (q : List ℕ) (r : Refusal) : Type 0 where
   pub none_failed : NoneFailed seen
   pub refused : (means budget p).refusal ≡ Some r
   pub text : q ≡ text (list_of budget p)
   pub left : IsReadWhole seen p ⊎ ((begun budget p).refusal ≡ Some r)
 
--- There was no memory, where the reader itself can lack it, and q is the text of a front of the entries.
+-- Memory ran out, where the reader itself can lack it, and q is the text of a prefix of the entries.
 pub record LacksMemory (budget : ℕ) (p : List ℕ) (seen : Reading) (q : List ℕ) (r : Refusal) : Type 0 where
   pub none_failed : NoneFailed seen
   pub place : LacksWithin budget p r.place
@@ -55,12 +55,12 @@ pub record StopsReading (budget : ℕ) (p : List ℕ) (seen : Reading) (q : List
   pub going : (begun budget p).refusal ≡ None
   pub text : q ≡ text (begun budget p).entries
 
--- A write failed, or the flush, and q is a front of the text.
+-- A write or the flush failed, and q is a prefix of the text.
 pub record StopsWriting (budget : ℕ) (p : List ℕ) (seen : Reading) (q : List ℕ) : Type 0 where
   pub front : IsFrontOf q (text (list_of budget p))
   pub left : IsReadWhole seen p ⊎ IsFrontOf q (text (begun budget p).entries)
 
--- What is answered, where the output has failed or hasn't.
+-- The answer, by whether the output has failed.
 abbrev pub Converts : ℕ → List ℕ → Reading → List ℕ → Bool → Result ℕ ConvertFault → Type 0
 Converts budget p seen q false (Ok n) = (n ≡ count_of q) × ConvertsWhole budget p seen q
 Converts budget p seen q false (Err (fault.Refused r n)) = (n ≡ count_of q) × RefusesBy budget p seen q r (cause_of r.fault)
@@ -68,8 +68,8 @@ Converts budget p seen q false (Err (fault.Read n)) = (n ≡ count_of q) × Stop
 Converts budget p seen q true (Err (fault.Write n)) = (n ≡ count_of q) × StopsWriting budget p seen q
 Converts budget p seen q failed answer = ⊥
 
--- The last read, where there was one. The text of what the input had given before it was written, so that nothing is read
--- behind a failed write, as nothing is behind a refusal.
+-- The last read, if there was one: the text of what the input had given before it was written. So nothing is read after
+-- a failed write or a refusal.
 pub record StopsAtOnce {I : Type 0} (i : inlet.Ghosts I) (budget : ℕ) (p : List ℕ) (start end : I) (q : List ℕ) : Type 0 where
   pub last : LastRead i budget p start end
-  pub written : i.calls start < i.calls end → IsFrontOf (text (begun budget last.before).entries) q
+  pub pieces_bytes : i.calls start < i.calls end → IsFrontOf (text (begun budget last.before).entries) q

@@ -3,34 +3,34 @@ use Rattle.nap_values.specs.Domains.{OperandLengths}
 use Rattle.nap_canon.specs.declared.form.Form.{Form}
 use Rattle.nap_codes.specs.CodeSets.{start_sets}
 use Rattle.nap_list.specs.declared.entry.Entry.{Entry}
-use Rattle.nap_list.specs.Entry.{held}
+use Rattle.nap_list.specs.Entry.{attributes}
 use Rattle.nap_list.specs.Range.{AllInRange}
-use Rattle.nap_list.specs.State.{start, taking, walk, AllFit, Fits, Legal}
+use Rattle.nap_list.specs.State.{start, with_attributes, walk, AllFit, Fits, Legal}
 use Rattle.nap_reader.specs.Stream.{begun, with_run, means}
 use Rattle.nap_canon.specs.Acting.{AllActUnderEightAndFour}
-use Rattle.nap_canon.specs.Bring.{bring}
+use Rattle.nap_canon.specs.Preludes.{prelude}
 use Rattle.nap_canon.specs.Commands.{effects}
 use Rattle.nap_canon.specs.Plain.{IsPlain}
 use Rattle.nap_canon.specs.Streams.{IsAccepted, list_of, IsCanonicalOf}
-use Rattle.nap_canon.specs.Text.{gl_of, begun_tail, text_in, text, text1, written, pieces, tail_after}
+use Rattle.nap_canon.specs.Text.{gl_of, text_end_after_header, text_in, text, text1, pieces_bytes, pieces, text_end_after}
 
--- The bring of an entry that fits leads to the values that it holds.
-abbrev pub BringLeads : Type 0
-BringLeads = (es : List Entry) (e : Entry) → AllFit start es → Fits (walk start es) e →
-    effects (bring (walk start es).drawing (held e)) (walk start es).drawing ≡ taking (walk start es).drawing (held e)
+-- The prelude of an entry that fits makes its attributes current.
+abbrev pub PreludeLeads : Type 0
+PreludeLeads = (es : List Entry) (e : Entry) → AllFit start es → Fits (walk start es) e →
+    effects (prelude (walk start es).drawing (attributes e)) (walk start es).drawing ≡ with_attributes (walk start es).drawing (attributes e)
 
 -- The first entries of a list that fits fit too, and the text of the list in this form begins with theirs.
 abbrev pub TextOfPrefix : Form → Type 0
 TextOfPrefix form = (es fs : List Entry) → AllFit start (es ++ fs) →
     AllFit start es
-    × (text_in form (es ++ fs) ≡ text_in form es ++ written (tail_after begun_tail (pieces form start es)) (pieces form (walk start es) fs))
+    × (text_in form (es ++ fs) ≡ text_in form es ++ pieces_bytes (text_end_after text_end_after_header (pieces form start es)) (pieces form (walk start es) fs))
 
 -- The text of a list that fits is plain, in this form: it uses no macro and no displacement from the pen, and one length of operands.
 -- `canon` ensures that the list is in range.
 abbrev pub TextIsPlain : Form → Type 0
 TextIsPlain form = (es : List Entry) → AllFit start es → AllInRange es → IsPlain (text_in form es)
 
--- In a plain stream that is accepted, each opcode but DOMAIN and RESET acts under operands of eight words and of four.
+-- In an accepted plain stream, each opcode but DOMAIN and RESET acts under operands of eight words and four words.
 abbrev pub PlainOperandLengths : Type 0
 PlainOperandLengths = (budget : ℕ) (p : List ℕ) → IsPlain p → IsAccepted budget p → AllActUnderEightAndFour budget p
 
@@ -57,14 +57,14 @@ pub record LeadsAlong (form : Form) (budget : ℕ) (p : List ℕ) (es : List Ent
   pub domain : (with_run (begun budget p)).machine.work.domain ≡ text_lengths
   -- so are those that come back at the end of a definition
   pub saved : IsSome (walk start es).definition → (with_run (begun budget p)).machine.work.saved ≡ text_lengths
-  pub sets : (with_run (begun budget p)).machine.sets ≡ record start_sets { gl = gl_of (tail_after begun_tail (pieces form start es)) }
+  pub sets : (with_run (begun budget p)).machine.sets ≡ record start_sets { gl = gl_of (text_end_after text_end_after_header (pieces form start es)) }
   pub uncharged : (with_run (begun budget p)).machine.left ≡ budget
 
 -- The text of a list that fits, in this form, leads to its state, whether a definition is left open or not.
 abbrev pub TextLeads : Form → Type 0
 TextLeads form = (budget : ℕ) (es : List Entry) → AllFit start es → AllInRange es → LeadsAlong form budget (text_in form es) es
 
--- the first stream is the canonical one of the second, and no longer
+-- the first stream is the canonical stream of the second, and no longer
 pub record Shortens (budget : ℕ) (c p : List ℕ) : Type 0 where
   pub canonical : IsCanonicalOf budget c p
   pub no_longer : length c ≤ length p
@@ -75,16 +75,16 @@ FormsAgree = (budget : ℕ) (es : List Entry) → Legal es → AllInRange es →
 
 -- what holds of canonical streams
 pub record CanonicalStreams (budget : ℕ) : Type 0 where
-  -- They are equal exactly where the display lists are.
+  -- Canonical streams are equal exactly if their display lists are.
   pub equal : (other : ℕ) (c p d q : List ℕ) → IsCanonicalOf budget c p → IsCanonicalOf other d q →
       (c ≡ d) ↔ (list_of budget p ≡ list_of other q)
   -- A canonical stream is plain.
   pub plain : (c p : List ℕ) → IsCanonicalOf budget c p → IsPlain c
-  -- It is accepted, whatever the budget,
+  -- A canonical stream is accepted, whatever the budget,
   pub accepted : (other : ℕ) (c p : List ℕ) → IsCanonicalOf budget c p → IsAccepted other c
   -- with the display list of the stream that it was made of.
   pub same_list : (other : ℕ) (c p : List ℕ) → IsCanonicalOf budget c p → list_of other c ≡ list_of budget p
-  -- It is its own canonical stream.
+  -- A canonical stream is its own canonical stream.
   pub own : (other : ℕ) (c p : List ℕ) → IsCanonicalOf budget c p → IsCanonicalOf other c c
 
 -- Canonical streams are equal exactly where the display lists are; each is plain, is accepted with that same list, and is

@@ -1,6 +1,6 @@
 pub mod Equality
 pub mod Commands
-pub mod Bring
+pub mod Preludes
 pub mod Spelling
 pub mod Text
 pub mod Range
@@ -17,5 +17,5 @@ pub mod SinkLaws
 pub mod Converting
 pub mod Concluding
 pub mod Batches
-pub mod Gathering
+pub mod Buffers
 pub mod TextAnswers

@@ -14,11 +14,11 @@ abbrev pub fault_of_text : Fault → Fault
 fault_of_text fault.Sink = fault.Memory
 fault_of_text f = f
 
--- why a page is refused whose text was taken: where its sink failed, memory was wanting
+-- the refusal of a page whose text was taken, where a failed sink is lack of memory
 abbrev pub refusal_of_text : Refusal → Refusal
 refusal_of_text r = record r { fault = fault_of_text r.fault }
 
--- The refusal is that of the page. One for want of memory has a place where an act of the page can lack it.
+-- The refusal is that of the page. One for lack of memory has a place where an act of the page can lack it.
 pub record RefusesPage (budget : ℕ) (p : List ℕ) (r : Refusal) : Type 0 where
   pub refused : r.fault ≢ fault.Memory → (means budget p).refusal ≡ Some r
   pub memory : r.fault ≡ fault.Memory → BreaksWithin budget p r.place

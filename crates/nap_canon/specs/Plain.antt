@@ -5,9 +5,9 @@ use Rattle.nap_codes.specs.declared.code_set.CodeSet.TheVariants as code_sets
 use Rattle.nap_codes.specs.declared.opcode.Opcode.{Opcode}
 use Rattle.nap_codes.specs.declared.opcode.Opcode.TheVariants as opcodes
 use Rattle.nap_codes.specs.CodeSets.{start_sets}
-use Rattle.nap_codes.specs.Lexed.{lexed}
+use Rattle.nap_codes.specs.LexResults.{lex_result}
 
--- it draws by no displacement from the pen
+-- the opcode isn't a REL opcode
 abbrev pub IsAbsolute : Opcode → Type 0
 IsAbsolute opcodes.PointSetRel = ⊥
 IsAbsolute opcodes.PointRel = ⊥
@@ -15,7 +15,7 @@ IsAbsolute opcodes.LineRel = ⊥
 IsAbsolute opcodes.SetLineRel = ⊥
 IsAbsolute _ = ⊤
 
--- It has no part in macros, and draws by no displacement from the pen.
+-- The code uses no macro and isn't a REL opcode.
 abbrev pub IsPlainCode : Code → Type 0
 IsPlainCode (codes.DefMacro name show) = ⊥
 IsPlainCode (codes.Designated number code_sets.Macros) = ⊥
@@ -39,37 +39,37 @@ abbrev pub LengthsNext : List Code → Type 0
 LengthsNext (codes.Operand word ∷ rest) = word ≡ 31
 LengthsNext _ = ⊥
 
--- DOMAIN comes next, behind further operand words
+-- DOMAIN comes next, after further operand words
 unfoldable pub DomainNext : List Code → Type 0
 DomainNext (codes.Operand word ∷ rest) = DomainNext rest
 DomainNext (codes.Op opcodes.Domain ∷ rest) = ⊤
 DomainNext _ = ⊥
 
--- where b1 of the first word puts the lengths of operands back, DOMAIN comes next behind the words
+-- after the words of RESET, DOMAIN comes if b1 of the first word resets the operand lengths
 abbrev pub ResetNext : List Code → Type 0
 ResetNext (codes.Operand word ∷ rest) = word % 2 ≡ 1 → DomainNext rest
 ResetNext _ = ⊤
 
--- what has to come behind a code
-abbrev pub ComesBehind : Code → List Code → Type 0
-ComesBehind (codes.Op opcodes.Domain) rest = LengthsNext rest
-ComesBehind (codes.Op opcodes.Reset) rest = ResetNext rest
-ComesBehind _ rest = ⊤
+-- what has to come after a code
+abbrev pub MayFollowCode : Code → List Code → Type 0
+MayFollowCode (codes.Op opcodes.Domain) rest = LengthsNext rest
+MayFollowCode (codes.Op opcodes.Reset) rest = ResetNext rest
+MayFollowCode _ rest = ⊤
 
--- Behind each code comes what has to come there.
-unfoldable pub AllComeBehind : List Code → Type 0
-AllComeBehind [] = ⊤
-AllComeBehind (code ∷ rest) = ComesBehind code rest × AllComeBehind rest
+-- After each code comes what has to come there.
+unfoldable pub AllMayFollow : List Code → Type 0
+AllMayFollow [] = ⊤
+AllMayFollow (code ∷ rest) = MayFollowCode code rest × AllMayFollow rest
 
 -- the codes of a plain stream
 pub record ArePlain (list : List Code) : Type 0 where
   pub each : All IsPlainCode list
   pub first : DomainFirst list
-  pub behind : AllComeBehind list
+  pub behind : AllMayFollow list
 
--- A stream is plain: it is whole codes, of which none has a part in macros or draws by a displacement from the pen; and
--- DOMAIN keeps the operands eight words and four words long.
+-- A stream is plain: it is complete codes, which use no macro and no REL opcode, and DOMAIN keeps the operands at eight
+-- words and four words.
 pub record IsPlain (bytes : List ℕ) : Type 0 where
-  pub unrefused : (lexed start_sets bytes).fault ≡ None
-  pub whole : (lexed start_sets bytes).state.half ≡ []
-  pub plain : ArePlain (lexed start_sets bytes).codes
+  pub unrefused : (lex_result start_sets bytes).fault ≡ None
+  pub whole : (lex_result start_sets bytes).state.half ≡ []
+  pub plain : ArePlain (lex_result start_sets bytes).codes

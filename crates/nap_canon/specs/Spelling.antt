@@ -27,18 +27,18 @@ use Rattle.nap_canon.specs.declared.command.Flag.{Flag}
 use Rattle.nap_canon.specs.declared.command.Flag.TheVariants as flags
 use Rattle.nap_canon.specs.declared.form.Form.{Form}
 use Rattle.nap_canon.specs.declared.form.Form.TheVariants as forms
-use Rattle.nap_canon.specs.Bring.{bring_colour}
+use Rattle.nap_canon.specs.Preludes.{colour_prelude}
 use Rattle.nap_canon.specs.Equality.{same_pen}
 
 -- a piece of canonical text
 pub data Piece : Type 0 where
   -- an opcode, and the bytes of its operands
   opcode : ℕ → List ℕ → Piece
-  -- an opcode and a group of its operands, which can join a run of that opcode
+  -- an opcode and a group of operands, which can join a run of that opcode
   group : ℕ → List ℕ → Piece
   -- a code of the primary characters
   primary : ℕ → Piece
-  -- controls with the bytes that belong to them, which mean the same whatever is in GL
+  -- controls with their arguments, which mean the same whatever is in GL
   control : List ℕ → Piece
 
 -- the byte that carries a word
@@ -57,7 +57,7 @@ domain pel = opcode 0x21 (0x5F ∷ pel)
 abbrev pub select : List ℕ → Piece
 select addresses = opcode 0x3E addresses
 
--- the control of a size that has a name
+-- the control of a named size
 abbrev pub size_byte : Size → ℕ
 size_byte sizes.Small = 0x4A
 size_byte sizes.Medium = 0x4B
@@ -65,7 +65,7 @@ size_byte sizes.Normal = 0x4C
 size_byte sizes.Tall = 0x4D
 size_byte sizes.Double = 0x4F
 
--- the control of a mode of text
+-- the control that sets a flag on or off
 abbrev pub flag_byte : Flag → Bool → ℕ
 flag_byte flags.Reverse on = if on then 0x48 else 0x49
 flag_byte flags.Underline on = if on then 0x59 else 0x5A
@@ -88,20 +88,20 @@ command_piece (commands.Named size) = escape (size_byte size)
 command_piece (commands.Flag f on) = escape (flag_byte f on)
 
 -- the displacements from each point to the next
-unfoldable pub onward_bytes : Coordinates → List Coordinates → List ℕ
-onward_bytes p [] = []
-onward_bytes p (q ∷ qs) = move_bytes (displacement_to p q) ++ onward_bytes q qs
+unfoldable pub displacement_bytes : Coordinates → List Coordinates → List ℕ
+displacement_bytes p [] = []
+displacement_bytes p (q ∷ qs) = move_bytes (displacement_to p q) ++ displacement_bytes q qs
 
--- a point, and the displacements to the others in turn
+-- a point, and the displacements to each of the others in turn
 abbrev pub shape_bytes : List Coordinates → List ℕ
 shape_bytes [] = []
-shape_bytes (p ∷ ps) = point_bytes p ++ onward_bytes p ps
+shape_bytes (p ∷ ps) = point_bytes p ++ displacement_bytes p ps
 
 -- a shape by the opcode of the outlined one, which that of the filled one follows
 abbrev pub shape : ℕ → Bool → List Coordinates → Piece
 shape outlined filled points = opcode (if filled then (outlined + 1) else outlined) (shape_bytes points)
 
--- a character: of G2 behind SS2; of G3 behind SS3, which holds the DRCS for that time alone
+-- a character: after SS2 one of G2, after SS3 one of G3, which holds the DRCS only for that time
 abbrev pub char_piece : CharSet → ℕ → Piece
 char_piece chars.Primary code = primary code
 char_piece chars.Supplementary code = control (0x19 ∷ code ∷ [])
@@ -118,13 +118,13 @@ step_bytes steps.Apr = 0x0D ∷ []
 step_bytes steps.Aph = 0x1E ∷ []
 step_bytes (steps.Aps a b) = 0x1C ∷ a ∷ b ∷ []
 
--- a byte of a text: the move that it is by itself, or else a character of the set
-abbrev pub typed_piece_as : Option TextStep → CharSet → ℕ → Piece
-typed_piece_as (Some step) set code = control (step_bytes step)
-typed_piece_as None set code = char_piece set code
+-- a byte of a text: a format effector, else a character of the set
+abbrev pub text_byte_piece_as : Option TextStep → CharSet → ℕ → Piece
+text_byte_piece_as (Some step) set code = control (step_bytes step)
+text_byte_piece_as None set code = char_piece set code
 
-abbrev pub typed_piece : CharSet → ℕ → Piece
-typed_piece set code = typed_piece_as (format_effector code) set code
+abbrev pub text_byte_piece : CharSet → ℕ → Piece
+text_byte_piece set code = text_byte_piece_as (format_effector code) set code
 
 abbrev pub area_bytes : Area → List ℕ
 area_bytes areas.Whole = []
@@ -141,53 +141,53 @@ cursor_byte cursors.Flash = 0x5B
 cursor_byte cursors.Steady = 0x5C
 cursor_byte cursors.Off = 0x5D
 
--- DOMAIN once more, behind a RESET that puts the lengths of operands back
+-- DOMAIN again after a RESET that resets the operand lengths
 abbrev pub domain_again : ℕ → List Piece
 domain_again first = if first % 2 == 1 then domain [] ∷ [] else []
 
--- SET COLOR at an address, which is brought where it isn't the colour
+-- SET COLOR at an address, after the selection of that address if it isn't the colour
 abbrev pub map_pieces : Drawing → ℕ → Components → List Piece
-map_pieces d a grb = map command_piece (bring_colour d.base d.colour (Some (colours.Front a))) ++ opcode 0x3C (grb_bytes grb) ∷ []
+map_pieces d a grb = map command_piece (colour_prelude d.base d.colour (Some (colours.Front a))) ++ opcode 0x3C (grb_bytes grb) ∷ []
 
--- points, lines and rectangles can join a run in the second form alone
-abbrev pub stroke : Form → ℕ → List ℕ → Piece
-stroke forms.One byte operands = opcode byte operands
-stroke forms.Two byte operands = group byte operands
+-- points, lines and rectangles, which can join a run only in form 2
+abbrev pub joinable_piece : Form → ℕ → List ℕ → Piece
+joinable_piece forms.One byte operands = opcode byte operands
+joinable_piece forms.Two byte operands = group byte operands
 
 -- a line between two points
 abbrev pub line_between : Form → Coordinates → Coordinates → Piece
-line_between form from to = stroke form 0x2A (point_bytes from ++ point_bytes to)
+line_between form from to = joinable_piece form 0x2A (point_bytes from ++ point_bytes to)
 
--- a line, which in the second form goes on from the pen where it starts there
+-- a line; in form 2 one that starts at the pen has only its end
 abbrev pub line_piece : Form → Pen → Coordinates → Coordinates → Piece
 line_piece forms.One pen from to = line_between forms.One from to
 line_piece forms.Two pen from to = if same_pen pen (pens.At from) then group 0x28 (point_bytes to) else line_between forms.Two from to
 
 -- a rectangle by the opcode of the outlined one, which that of the filled one follows
 abbrev pub rect_piece : Form → Bool → Coordinates → Coordinates → Piece
-rect_piece form filled from to = stroke form (if filled then 0x33 else 0x32) (shape_bytes (from ∷ to ∷ []))
+rect_piece form filled from to = joinable_piece form (if filled then 0x33 else 0x32) (shape_bytes (from ∷ to ∷ []))
 
--- how an entry is spelled where the values that it holds stand
-abbrev pub spelled : Form → Drawing → Entry → List Piece
-spelled form d (entries.Point at pel colour) = stroke form 0x26 (point_bytes at) ∷ []
-spelled form d (entries.Line from to ink) = line_piece form d.pen from to ∷ []
-spelled form d (entries.Arc filled points ink) = shape 0x2E filled points ∷ []
-spelled form d (entries.Rect filled from to ink) = rect_piece form filled from to ∷ []
-spelled form d (entries.Poly filled points ink) = shape 0x36 filled points ∷ []
-spelled form d (entries.Char set code hand) = char_piece set code ∷ []
-spelled form d (entries.TextMove step hand) = control (step_bytes step) ∷ []
-spelled form d (entries.ToEol hand) = escape 0x47 ∷ []
-spelled form d (entries.Map a grb) = map_pieces d a grb
-spelled form d (entries.Blink a on off delay colour) =
+-- the spelling of an entry whose attributes are current
+abbrev pub spelling_pieces : Form → Drawing → Entry → List Piece
+spelling_pieces form d (entries.Point at pel colour) = joinable_piece form 0x26 (point_bytes at) ∷ []
+spelling_pieces form d (entries.Line from to ink) = line_piece form d.pen from to ∷ []
+spelling_pieces form d (entries.Arc filled points ink) = shape 0x2E filled points ∷ []
+spelling_pieces form d (entries.Rect filled from to ink) = rect_piece form filled from to ∷ []
+spelling_pieces form d (entries.Poly filled points ink) = shape 0x36 filled points ∷ []
+spelling_pieces form d (entries.Char set code hand) = char_piece set code ∷ []
+spelling_pieces form d (entries.TextMove step hand) = control (step_bytes step) ∷ []
+spelling_pieces form d (entries.ToEol hand) = escape 0x47 ∷ []
+spelling_pieces form d (entries.Map a grb) = map_pieces d a grb
+spelling_pieces form d (entries.Blink a on off delay colour) =
     opcode 0x3F (addr_bytes a ++ word_byte on ∷ word_byte off ∷ word_byte delay ∷ []) ∷ []
-spelled form d (entries.BlinkEnd colour) = opcode 0x3F [] ∷ []
-spelled form d (entries.BlinkMark on colour) = escape (if on then 0x4E else 0x5E) ∷ []
-spelled form d (entries.Wait word) = opcode 0x3D (word_byte word ∷ []) ∷ []
-spelled form d entries.Bell = control (0x07 ∷ []) ∷ []
-spelled form d (entries.Cursor kind) = escape (cursor_byte kind) ∷ []
-spelled form d (entries.Field area pen) = opcode 0x38 (area_bytes area) ∷ []
-spelled form d (entries.Reset first second pen) = opcode 0x20 (word_byte first ∷ word_byte second ∷ []) ∷ domain_again first
-spelled form d (entries.Clear pen) = control (0x0C ∷ []) ∷ []
-spelled form d (entries.GlyphStart code) = control (0x1B ∷ 0x43 ∷ code ∷ []) ∷ []
-spelled form d (entries.MaskStart mask) = control (0x1B ∷ 0x44 ∷ mask_byte mask ∷ []) ∷ []
-spelled form d entries.DefEnd = escape 0x45 ∷ []
+spelling_pieces form d (entries.BlinkEnd colour) = opcode 0x3F [] ∷ []
+spelling_pieces form d (entries.BlinkMark on colour) = escape (if on then 0x4E else 0x5E) ∷ []
+spelling_pieces form d (entries.Wait word) = opcode 0x3D (word_byte word ∷ []) ∷ []
+spelling_pieces form d entries.Bell = control (0x07 ∷ []) ∷ []
+spelling_pieces form d (entries.Cursor kind) = escape (cursor_byte kind) ∷ []
+spelling_pieces form d (entries.Field area pen) = opcode 0x38 (area_bytes area) ∷ []
+spelling_pieces form d (entries.Reset first second pen) = opcode 0x20 (word_byte first ∷ word_byte second ∷ []) ∷ domain_again first
+spelling_pieces form d (entries.Clear pen) = control (0x0C ∷ []) ∷ []
+spelling_pieces form d (entries.GlyphStart code) = control (0x1B ∷ 0x43 ∷ code ∷ []) ∷ []
+spelling_pieces form d (entries.MaskStart mask) = control (0x1B ∷ 0x44 ∷ mask_byte mask ∷ []) ∷ []
+spelling_pieces form d entries.DefEnd = escape 0x45 ∷ []

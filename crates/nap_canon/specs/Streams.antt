@@ -12,16 +12,16 @@ IsAccepted budget p = (means budget p).refusal ≡ None
 abbrev pub list_of : ℕ → List ℕ → List Entry
 list_of budget p = (means budget p).entries
 
--- the first stream is the canonical one of the second, which is accepted: the text of its list
+-- the first stream is the canonical stream of the second, which is accepted: the text of its list
 pub record IsCanonicalOf (budget : ℕ) (c p : List ℕ) : Type 0 where
   pub accepted : IsAccepted budget p
   pub text_is : c ≡ text (list_of budget p)
 
--- the stream is accepted, and there was no memory for its text: that is so at its end
+-- the stream is accepted, and memory ran out for its text, which is so at its end
 pub record LacksTextMemory (budget : ℕ) (p : List ℕ) (place : ℕ) : Type 0 where
   pub accepted : IsAccepted budget p
   pub place_is : place ≡ length p
 
--- there was no memory here: for the list, or for the text
+-- memory ran out at this place: for the list, or for the text
 abbrev pub LacksMemoryAt : ℕ → List ℕ → ℕ → Type 0
 LacksMemoryAt budget p place = BreaksWithin budget p place ⊎ LacksTextMemory budget p place

@@ -2,7 +2,7 @@ use Rattle.std.specs.Prelude.{ℕ, ◌≡◌, ◌↔◌, List, Result, Vec, IfOk
 use Rattle.std.specs.declared.alloc.Global.{Global}
 use Rattle.nap_list.specs.declared.entry.Entry.{Entry}
 use Rattle.nap_list.specs.Range.{AllInRange}
-use Rattle.nap_list.specs.State.{Legal, BreaksAt}
+use Rattle.nap_list.specs.State.{Legal, IsIllegalAt}
 use Rattle.nap_canon.specs.declared.fault.CanonFault.{CanonFault}
 use Rattle.nap_canon.specs.declared.fault.CanonFault.TheVariants.{Illegal, Memory}
 use Rattle.nap_canon.specs.declared.form.Form.{Form}
@@ -10,9 +10,10 @@ use Rattle.nap_canon.specs.Laws.{IsReadAs}
 use Rattle.nap_canon.specs.Plain.{IsPlain}
 use Rattle.nap_canon.specs.Text.{text_in}
 
--- what is answered of a list: its text in this form, which is plain and is read as the list; where it isn't legal; or want of memory
+-- the answer for a list: its text in this form, which is plain and is read as the list; or where it isn't legal; or
+-- lack of memory
 pub record AnswersText (form : Form) (es : List Entry) (r : Result (Vec ℕ Global) CanonFault) : Type 0 where
-  pub illegal : (index : ℕ) → IsErrOf r (Illegal index) ↔ BreaksAt index es
+  pub illegal : (index : ℕ) → IsErrOf r (Illegal index) ↔ IsIllegalAt index es
   pub legal : IfOk r (λ bytes. Legal es)
   pub range : IfOk r (λ bytes. AllInRange es)
   pub text : IfOk r (λ bytes. bytes.items ≡ text_in form es)

@@ -1,25 +1,25 @@
 use Rattle.std.proofs.Common.{ℕ, ◌≡◌, List, [], ◌∷◌, ◌++◌, refl, ap, sym, ◌∙◌, append_assoc}
-use Rattle.nap_canon.specs.declared.tail.Tail.{Tail}
+use Rattle.nap_canon.specs.declared.text_end.TextEnd.{TextEnd}
 use Rattle.nap_canon.specs.declared.form.Form.{Form}
 use Rattle.nap_list.specs.declared.entry.Entry.{Entry}
 use Rattle.nap_list.specs.declared.state.State.{State}
 use Rattle.nap_list.specs.State.{after, walk}
 use Rattle.nap_canon.specs.Spelling.{Piece}
-use Rattle.nap_canon.specs.Text.{piece_bytes, tail_behind, written, tail_after, entry_pieces, pieces}
+use Rattle.nap_canon.specs.Text.{piece_bytes, text_end_after_piece, pieces_bytes, text_end_after, entry_pieces, pieces}
 
--- pieces behind others
+-- pieces after others
 
-pub written-append : (t : Tail) (ps qs : List Piece) → written t (ps ++ qs) ≡ written t ps ++ written (tail_after t ps) qs
-unfolding written tail_after
-written-append t [] qs = refl
-written-append t (p ∷ ps) qs =
-    ap (λ (bs : List ℕ). piece_bytes t p ++ bs) (written-append (tail_behind t p) ps qs)
-    ∙ sym (append_assoc (piece_bytes t p) (written (tail_behind t p) ps) (written (tail_after (tail_behind t p) ps) qs))
+pub pieces_bytes-append : (t : TextEnd) (ps qs : List Piece) → pieces_bytes t (ps ++ qs) ≡ pieces_bytes t ps ++ pieces_bytes (text_end_after t ps) qs
+unfolding pieces_bytes text_end_after
+pieces_bytes-append t [] qs = refl
+pieces_bytes-append t (p ∷ ps) qs =
+    ap (λ (bs : List ℕ). piece_bytes t p ++ bs) (pieces_bytes-append (text_end_after_piece t p) ps qs)
+    ∙ sym (append_assoc (piece_bytes t p) (pieces_bytes (text_end_after_piece t p) ps) (pieces_bytes (text_end_after (text_end_after_piece t p) ps) qs))
 
-pub tail_after-append : (t : Tail) (ps qs : List Piece) → tail_after t (ps ++ qs) ≡ tail_after (tail_after t ps) qs
-unfolding tail_after
-tail_after-append t [] qs = refl
-tail_after-append t (p ∷ ps) qs = tail_after-append (tail_behind t p) ps qs
+pub text_end_after-append : (t : TextEnd) (ps qs : List Piece) → text_end_after t (ps ++ qs) ≡ text_end_after (text_end_after t ps) qs
+unfolding text_end_after
+text_end_after-append t [] qs = refl
+text_end_after-append t (p ∷ ps) qs = text_end_after-append (text_end_after_piece t p) ps qs
 
 pub pieces-append : (form : Form) (s : State) (es fs : List Entry) → pieces form s (es ++ fs) ≡ pieces form s es ++ pieces form (walk s es) fs
 unfolding pieces walk

@@ -1,9 +1,9 @@
-//! A sink that writes the canonical text of its entries.
+//! A sink that writes the canonical text of its entries (PROFILE.md, Canonical text).
 ghost use Rattle.std.specs.Prelude.{◌≡◌, ◌<◌, ◌≤◌, [], ◌∷◌, length, drop, true, false, OnOk, IsErrOf};
-ghost use Rattle.nap_list.specs.Batches.{EachStands, FirstStands, listed};
+ghost use Rattle.nap_list.specs.Batches.{EachIsCurrent, FirstIsCurrent, batch_entries};
 ghost use Rattle.nap_list.specs.State.{AllFit, Fits, after};
-ghost use Rattle.nap_canon.specs.Batches.{PutsBehind, PutsFirst, PutsSome};
-ghost use Rattle.nap_canon.specs.Sinking.{BegunIn, Begun, Took, Broke};
+ghost use Rattle.nap_canon.specs.Batches.{PutsAfter, PutsFirst, PutsSome};
+ghost use Rattle.nap_canon.specs.Sinking.{StartsTextIn, StartsText, Took, Broke};
 ghost use Rattle.nap_canon.specs.SinkLaws.{took_none, took_more, took_broke};
 
 use crate::form::Form;
@@ -13,9 +13,8 @@ use nap_list::{Batch, BatchFault, Entry, Outlet, Shape, Sink, SinkFault};
 use std::alloc::Global;
 use std::marker::Model;
 
-/// Writes the canonical text of the entries that it takes to an outlet, as they come. It takes no memory.
-///
-/// Once a write has failed, it writes nothing more and answers each further entry with `Write`.
+/// Writes the canonical text of the entries that it takes to an outlet, as they come. Takes no memory. Once a write has
+/// failed, it writes nothing more and answers `Write` for each further entry.
 #[derive(Drop)]
 pub struct CanonSink<O: Outlet + Drop> {
     writer: Writer<Output<O>>,
@@ -26,31 +25,31 @@ impl<O: Outlet + Drop> Model for CanonSink<O> {
 
     ghost Value = { Canonical O };
 
-    ghost view = { λ s. record { outlet = s.writer.to.outlet; written = s.writer.to.written; form = s.writer.form; tail = s.writer.room.tail; state = s.writer.state } };
+    ghost view = { λ s. record { outlet = s.writer.to.outlet; written = s.writer.to.written; form = s.writer.form; text_end = s.writer.pending.text_end; state = s.writer.state } };
 }
 
 impl<O: Outlet + Drop> CanonSink<O> {
-    /// A sink that has taken no entry. It writes the header of a text; where that fails, the sink has failed.
+    /// Returns a sink that has taken no entry, and writes the header of the text. If that fails, the sink has failed.
     pub fn new(outlet: O) -> CanonSink<O>
         requires { O.failed outlet ≡ false }
-        ensures { Begun O.Outlet outlet result }
+        ensures { StartsText O.Outlet outlet result }
     {
         CanonSink::in_form(Form::Two, outlet)
     }
 
-    /// A sink of a text in this form.
+    /// Returns a sink for a text in this form.
     pub(crate) fn in_form(form: Form, outlet: O) -> CanonSink<O>
         requires { O.failed outlet ≡ false }
-        ensures { BegunIn form O.Outlet outlet result }
+        ensures { StartsTextIn form O.Outlet outlet result }
     {
         let mut writer = Writer::new(form, Output { outlet, written: 0 });
-        // The outlet knows of a failure.
-        let _ = writer.begin();
+        // The outlet keeps the failure.
+        let _ = writer.write_header();
         CanonSink { writer }
     }
 
-    /// Takes one entry: writes what it needs to be read as it is, and its own spelling. An error is `Write`, and none but a
-    /// first part of those bytes was written then.
+    /// Takes one entry: writes its prelude and its spelling. The only error is `Write`, after which a proper prefix of
+    /// these bytes is written.
     pub fn put_ref(&mut self, entry: &Entry) -> Result<(), SinkFault>
         requires { Fits self.old.state entry.now }
         ensures took { OnOk result (Took O.Outlet self.old (entry.now ∷ []) self.new) }
@@ -61,7 +60,7 @@ impl<O: Outlet + Drop> CanonSink<O> {
         ensures only_write { O.failed self.new.outlet ≡ true → IsErrOf result SinkFault.Write }
         ensures state { IsErrOf result SinkFault.Write → self.new.state ≡ self.old.state }
         ensures broke { IsErrOf result SinkFault.Write → O.failed self.old.outlet ≡ false → Broke O.Outlet self.old [] entry.now self.new }
-        // A sink that has failed stays as it is.
+        // A sink that has failed is unchanged.
         ensures still { IsErrOf result SinkFault.Write → O.failed self.old.outlet ≡ true → self.new ≡ self.old }
     {
         if self.failed() {
@@ -73,53 +72,53 @@ impl<O: Outlet + Drop> CanonSink<O> {
         Ok(())
     }
 
-    /// Whether the values of a batch's first entry are current, so that it needs no bring either.
+    /// Whether the first entry of a batch needs no prelude, since its attributes are current.
     #[inline(always)]
-    fn goes_on(&self, batch: &Batch) -> bool
-        ensures { result ≡ true → (O.failed self.now.outlet ≡ false) × FirstStands batch.now self.now.state.drawing }
+    fn first_is_joinable(&self, batch: &Batch) -> bool
+        ensures { result ≡ true → (O.failed self.now.outlet ≡ false) × FirstIsCurrent batch.now self.now.state.drawing }
     {
-        !self.failed() && self.writer.stands_first(batch)
+        !self.failed() && self.writer.first_is_current(batch)
     }
 
     /// Takes the first entry of a batch.
     #[inline(always)]
     fn put_first(&mut self, batch: &Batch) -> Result<(), SinkFault>
-        requires some { 0 < length (listed batch.now) }
-        requires fit { AllFit self.old.state (listed batch.now) }
-        ensures { PutsFirst O.Outlet (listed batch.now) self.old self.new result }
+        requires some { 0 < length (batch_entries batch.now) }
+        requires fit { AllFit self.old.state (batch_entries batch.now) }
+        ensures { PutsFirst O.Outlet (batch_entries batch.now) self.old self.new result }
     {
         self.put_ref(&batch.entry(0))
     }
 
-    /// Takes entries of a batch from this index on, whose values are current: as many as make one write, at least one.
-    /// Returns how many it took; an error has that number too.
+    /// Takes entries of a batch from `first`, whose attributes are current: as many as make one write, at least one.
+    /// Returns their number; so does the error.
     #[inline(always)]
-    fn put_some(&mut self, batch: &Batch, first: usize) -> Result<usize, usize>
-        requires some { first < length (listed batch.now) }
-        requires stand { EachStands self.old.state (drop first (listed batch.now)) }
+    fn put_one_write(&mut self, batch: &Batch, first: usize) -> Result<usize, usize>
+        requires some { first < length (batch_entries batch.now) }
+        requires stand { EachIsCurrent self.old.state (drop first (batch_entries batch.now)) }
         requires works { O.failed self.old.outlet ≡ false }
-        ensures { PutsSome O.Outlet (drop first (listed batch.now)) self.old self.new result }
+        ensures { PutsSome O.Outlet (drop first (batch_entries batch.now)) self.old self.new result }
     {
-        let count = self.writer.joining(batch, first);
+        let count = self.writer.joining_count(batch, first);
         if count == 0 {
             return self.writer.put_next(batch, first);
         }
         self.writer.put_joined(batch, first, count)
     }
 
-    /// Takes a batch from this index on, where the values of each entry are current. An error has the number of the
-    /// batch's entries that were taken.
+    /// Takes a batch from `first`, where the attributes of each entry are current. The error has the number of entries
+    /// of the batch that were taken.
     #[inline(always)]
-    fn put_standing(&mut self, batch: &Batch, first: usize) -> Result<(), usize>
-        requires few { first ≤ length (listed batch.now) }
-        requires stand { EachStands self.old.state (drop first (listed batch.now)) }
+    fn put_current(&mut self, batch: &Batch, first: usize) -> Result<(), usize>
+        requires few { first ≤ length (batch_entries batch.now) }
+        requires stand { EachIsCurrent self.old.state (drop first (batch_entries batch.now)) }
         requires works { O.failed self.old.outlet ≡ false }
-        ensures { PutsBehind O.Outlet first (listed batch.now) self.old self.new result }
+        ensures { PutsAfter O.Outlet first (batch_entries batch.now) self.old self.new result }
     {
         let count = batch.len();
         let mut taken = first;
         while taken < count {
-            match self.put_some(batch, taken) {
+            match self.put_one_write(batch, taken) {
                 Ok(more) => taken += more,
                 Err(more) => return Err(taken + more),
             }
@@ -127,14 +126,14 @@ impl<O: Outlet + Drop> CanonSink<O> {
         Ok(())
     }
 
-    /// Takes a batch up to where a write fails. An error has the number of its entries that were taken.
+    /// Takes a batch up to a failed write. The error has the number of entries that were taken.
     #[inline(always)]
     fn put_all(&mut self, batch: &Batch) -> Result<(), usize>
-        requires { AllFit self.old.state (listed batch.now) }
-        ensures { PutsBehind O.Outlet 0 (listed batch.now) self.old self.new result }
+        requires { AllFit self.old.state (batch_entries batch.now) }
+        ensures { PutsAfter O.Outlet 0 (batch_entries batch.now) self.old self.new result }
     {
-        if self.goes_on(batch) {
-            return self.put_standing(batch, 0);
+        if self.first_is_joinable(batch) {
+            return self.put_current(batch, 0);
         }
         if batch.is_empty() {
             return Ok(());
@@ -142,24 +141,24 @@ impl<O: Outlet + Drop> CanonSink<O> {
         if self.put_first(batch).is_err() {
             return Err(0);
         }
-        self.put_standing(batch, 1)
+        self.put_current(batch, 1)
     }
 
-    /// How many bytes the outlet took from this sink; the count stays at the greatest `u64`.
+    /// Returns how many bytes the outlet took from this sink, saturating at the greatest `u64`.
     pub fn written(&self) -> u64
         ensures { result ≡ self.now.written }
     {
-        self.writer.to().written
+        self.writer.target().written
     }
 
     /// Whether a write of this sink has failed.
     pub fn failed(&self) -> bool
         ensures { result ≡ O.failed self.now.outlet }
     {
-        self.writer.to().outlet.failed()
+        self.writer.target().outlet.failed()
     }
 
-    /// The outlet as it stands. It isn't flushed.
+    /// Returns the outlet, which isn't flushed.
     pub fn close(self) -> O
         ensures { result ≡ self.outlet }
     {

@@ -1,13 +1,14 @@
-//! The bring of an entry: commands that lead to the values that it holds, and draw nothing.
+//! The prelude of an entry: commands that set the attributes which it holds and which aren't current (PROFILE.md,
+//! Canonical text).
 ghost use Rattle.std.specs.Prelude.{◌≡◌, ◌++◌, [], ◌∷◌, Some};
-ghost use Rattle.nap_canon.specs.Bring.{told, unless, to_pen, to_base, to_colour, to_mask, to_words, to_given, to_named, to_flag, bring_pen, bring_pel, bring_colour, bring_texture};
+ghost use Rattle.nap_canon.specs.Preludes.{option_commands, unless, pen_commands, base_commands, colour_commands, mask_commands, words_commands, given_size_commands, named_size_commands, flag_commands, pen_prelude, pel_prelude, colour_prelude, texture_prelude};
 ghost use Rattle.nap_canon.specs.Equality.{same_base, same_colour};
 
 use nap_codes::Size;
 use nap_list::{Base, CharSize, Colour, Pen, TextLook, Texture};
 use nap_values::{Addr, Grb, Move, Point, Word};
 
-/// A mode of text of the C1 set.
+/// A flag of the text attributes, set by controls of the C1 set.
 #[derive(Clone, Copy, PartialEq, Eq, Drop)]
 pub(crate) enum Flag {
     /// REVERSE VIDEO and NORMAL VIDEO.
@@ -20,38 +21,38 @@ pub(crate) enum Flag {
     Scroll,
 }
 
-/// A code, with its operands, that changes the values that stand.
+/// A code, with its operands, that sets an attribute.
 #[derive(Clone, Copy, PartialEq, Eq, Default, Drop)]
 pub(crate) enum Command {
-    /// POINT SET ABS: the pen goes to this point.
+    /// POINT SET ABS: moves the pen to this point.
     PointSet(Point),
-    /// DOMAIN with this pel.
+    /// DOMAIN with the operand lengths of canonical text and this pel.
     Pel(Move),
-    /// SELECT COLOR without operands: the colour of mode 0.
+    /// SELECT COLOR without operands: selects the colour of mode 0.
     #[default]
     SelectBase,
-    /// SELECT COLOR: the colour at this address.
+    /// SELECT COLOR: selects the foreground at this address.
     SelectFront(Addr),
-    /// SELECT COLOR: the colours at these addresses.
+    /// SELECT COLOR: selects the foreground and the background at these addresses.
     SelectPair(Addr, Addr),
-    /// SET COLOR.
+    /// SET COLOR with this colour.
     SetColor(Grb),
     /// TEXTURE with its word.
     Texture(Word),
-    /// TEXTURE with its word and the mask's size.
+    /// TEXTURE with its word and the size of the mask.
     TextureMask(Word, Move),
     /// TEXT with both of its words.
     Text(Word, Word),
     /// TEXT with both of its words and a size.
     TextSize(Word, Word, Move),
-    /// A character size that has a name.
+    /// The control of a named size.
     Named(Size),
-    /// A mode of text, on or off.
+    /// The control that sets a flag on or off.
     Flag(Flag, bool),
 }
 
-fn point_set(pen: Pen) -> Option<Command>
-    ensures { told result ≡ to_pen pen }
+fn point_set_command(pen: Pen) -> Option<Command>
+    ensures { option_commands result ≡ pen_commands pen }
 {
     match pen {
         Pen::At(point) => Some(Command::PointSet(point)),
@@ -59,23 +60,23 @@ fn point_set(pen: Pen) -> Option<Command>
     }
 }
 
-/// The bring of a pen.
+/// Returns the command that sets the pen, if it has to be set.
 #[inline]
-#[tactic(auto, unfolding(crate::specs::Bring::bring_pen))]
-pub(crate) fn bring_pen(old: Pen, pen: Pen) -> Option<Command>
-    ensures { told result ≡ bring_pen old (Some pen) }
+#[tactic(auto, unfolding(crate::specs::Preludes::pen_prelude))]
+pub(crate) fn pen_prelude(old: Pen, pen: Pen) -> Option<Command>
+    ensures { option_commands result ≡ pen_prelude old (Some pen) }
 {
     if old == pen {
         return None;
     }
-    point_set(pen)
+    point_set_command(pen)
 }
 
-/// The bring of a pel.
+/// Returns the command that sets the pel, if it has to be set.
 #[inline]
-#[tactic(auto, unfolding(crate::specs::Bring::bring_pel))]
-pub(crate) fn bring_pel(old: Move, pel: Move) -> Option<Command>
-    ensures { told result ≡ bring_pel old (Some pel) }
+#[tactic(auto, unfolding(crate::specs::Preludes::pel_prelude))]
+pub(crate) fn pel_prelude(old: Move, pel: Move) -> Option<Command>
+    ensures { option_commands result ≡ pel_prelude old (Some pel) }
 {
     if old == pel {
         return None;
@@ -83,8 +84,8 @@ pub(crate) fn bring_pel(old: Move, pel: Move) -> Option<Command>
     Some(Command::Pel(pel))
 }
 
-fn mode_0(old: Colour) -> Option<Command>
-    ensures { told result ≡ to_base old }
+fn mode_zero_command(old: Colour) -> Option<Command>
+    ensures { option_commands result ≡ base_commands old }
 {
     match old {
         Colour::Own(_) | Colour::Direct(_) => None,
@@ -92,8 +93,8 @@ fn mode_0(old: Colour) -> Option<Command>
     }
 }
 
-fn set_colour(base: Base, grb: Grb) -> Option<Command>
-    ensures { told result ≡ unless (same_base base (Base.Direct grb)) (Command.SetColor grb ∷ []) }
+fn set_color_command(base: Base, grb: Grb) -> Option<Command>
+    ensures { option_commands result ≡ unless (same_base base (Base.Direct grb)) (Command.SetColor grb ∷ []) }
 {
     if base == Base::Direct(grb) {
         return None;
@@ -116,36 +117,36 @@ pub(crate) fn is_colour(old: &Colour, colour: &Colour) -> bool
 }
 
 #[inline]
-fn other_colour(base: Base, old: Colour, colour: Colour) -> (Option<Command>, Option<Command>)
-    ensures { told result.0 ++ told result.1 ≡ to_colour base old colour }
+fn colour_commands(base: Base, old: Colour, colour: Colour) -> (Option<Command>, Option<Command>)
+    ensures { option_commands result.0 ++ option_commands result.1 ≡ colour_commands base old colour }
 {
     match colour {
         Colour::Own(_) => (Some(Command::SelectBase), None),
-        Colour::Direct(grb) => (mode_0(old), set_colour(base, grb)),
+        Colour::Direct(grb) => (mode_zero_command(old), set_color_command(base, grb)),
         Colour::Front(addr) => (Some(Command::SelectFront(addr)), None),
         Colour::Pair(front, back) => (Some(Command::SelectPair(front, back)), None),
         Colour::ByReset(_) => (None, None),
     }
 }
 
-/// The bring of a colour: one command behind another.
+/// Returns the commands that set the colour, if it has to be set.
 #[inline]
-#[tactic(auto, unfolding(crate::specs::Bring::bring_colour))]
-pub(crate) fn bring_colour(
+#[tactic(auto, unfolding(crate::specs::Preludes::colour_prelude))]
+pub(crate) fn colour_prelude(
     base: Base,
     old: Colour,
     colour: Colour,
 ) -> (Option<Command>, Option<Command>)
-    ensures { told result.0 ++ told result.1 ≡ bring_colour base old (Some colour) }
+    ensures { option_commands result.0 ++ option_commands result.1 ≡ colour_prelude base old (Some colour) }
 {
     if is_colour(&old, &colour) {
         return (None, None);
     }
-    other_colour(base, old, colour)
+    colour_commands(base, old, colour)
 }
 
-fn mask(word: Word, old: Option<Move>, mask: Option<Move>) -> Command
-    ensures { result ∷ [] ≡ to_mask word old mask }
+fn mask_command(word: Word, old: Option<Move>, mask: Option<Move>) -> Command
+    ensures { result ∷ [] ≡ mask_commands word old mask }
 {
     match mask {
         Some(mask) if old != Some(mask) => Command::TextureMask(word, mask),
@@ -153,21 +154,21 @@ fn mask(word: Word, old: Option<Move>, mask: Option<Move>) -> Command
     }
 }
 
-/// The bring of a texture.
+/// Returns the command that sets the texture, if it has to be set.
 #[inline]
-#[tactic(auto, unfolding(crate::specs::Bring::bring_texture))]
-pub(crate) fn bring_texture(old: Texture, texture: Texture) -> Option<Command>
-    ensures { told result ≡ bring_texture old (Some texture) }
+#[tactic(auto, unfolding(crate::specs::Preludes::texture_prelude))]
+pub(crate) fn texture_prelude(old: Texture, texture: Texture) -> Option<Command>
+    ensures { option_commands result ≡ texture_prelude old (Some texture) }
 {
     if old == texture {
         return None;
     }
-    Some(mask(texture.word, old.mask, texture.mask))
+    Some(mask_command(texture.word, old.mask, texture.mask))
 }
 
-/// The bring of the words of text.
-fn words(old: &TextLook, look: &TextLook) -> Option<Command>
-    ensures { told result ≡ to_words old.now look.now }
+/// Returns the command that sets the words of text, if they have to be set.
+fn words_command(old: &TextLook, look: &TextLook) -> Option<Command>
+    ensures { option_commands result ≡ words_commands old.now look.now }
 {
     if old.first == look.first && old.second == look.second {
         return None;
@@ -175,23 +176,23 @@ fn words(old: &TextLook, look: &TextLook) -> Option<Command>
     Some(Command::Text(look.first, look.second))
 }
 
-/// The bring of the words of text, and of a size that has no name.
+/// Returns the command that sets the words of text and a given size, if they have to be set.
 #[inline]
-pub(crate) fn bring_given(old: &TextLook, look: &TextLook) -> Option<Command>
-    ensures { told result ≡ to_given old.now look.now look.now.size }
+pub(crate) fn given_size_prelude(old: &TextLook, look: &TextLook) -> Option<Command>
+    ensures { option_commands result ≡ given_size_commands old.now look.now look.now.size }
 {
     match look.size {
         CharSize::Given(size) if old.size != look.size => {
             Some(Command::TextSize(look.first, look.second, size))
         }
-        _ => words(old, look),
+        _ => words_command(old, look),
     }
 }
 
-/// The bring of a size that has a name.
+/// Returns the command that sets a named size, if it has to be set.
 #[inline]
-pub(crate) fn bring_named(old: CharSize, size: CharSize) -> Option<Command>
-    ensures { told result ≡ to_named old size }
+pub(crate) fn named_size_prelude(old: CharSize, size: CharSize) -> Option<Command>
+    ensures { option_commands result ≡ named_size_commands old size }
 {
     match size {
         CharSize::Named(name) if old != size => Some(Command::Named(name)),
@@ -199,10 +200,10 @@ pub(crate) fn bring_named(old: CharSize, size: CharSize) -> Option<Command>
     }
 }
 
-/// The bring of a mode of text.
+/// Returns the command that sets a flag, if it has to be set.
 #[inline]
-pub(crate) fn bring_flag(flag: Flag, old: bool, on: bool) -> Option<Command>
-    ensures { told result ≡ to_flag flag old on }
+pub(crate) fn flag_prelude(flag: Flag, old: bool, on: bool) -> Option<Command>
+    ensures { option_commands result ≡ flag_commands flag old on }
 {
     if old == on {
         return None;

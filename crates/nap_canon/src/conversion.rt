@@ -1,7 +1,7 @@
-//! Converts a stream into its canonical one as it is read.
+//! Conversion of a stream to its canonical stream as it is read (PROFILE.md, Streaming).
 ghost use Rattle.std.specs.Prelude.{◌≡◌, ◌+◌, ◌^◌, ◌<◌, ◌≤◌, ℕ, List, true, false};
 ghost use Rattle.std.specs.Io.KnownBytes.{Appends, Consumes, Keeps};
-ghost use Rattle.nap_list.specs.Flushing.{FlushedOnce, flushed};
+ghost use Rattle.nap_list.specs.Flushing.{FlushedOnce, flush_count};
 ghost use Rattle.nap_list.specs.Limits.{reads_limit};
 ghost use Rattle.nap_list.specs.Reading.{reading};
 ghost use Rattle.nap_canon.specs.Converting.{Converts, StopsAtOnce};
@@ -13,35 +13,36 @@ use nap_reader::{Budget, FeedFault, Reader, Refusal, feed_from};
 use std::alloc::Global;
 use thiserror::Error;
 
-/// The bytes of one read.
-const ROOM: usize = 4_096;
+/// The greatest number of bytes of one read.
+const READ_SIZE: usize = 4_096;
 
-/// Why a stream wasn't converted whole, and how many bytes the output took before; the count stays at the greatest `u64`.
+/// Why a stream wasn't converted to its end, and how many bytes the output took before, saturating at the greatest
+/// `u64`.
 #[derive(Clone, Copy, PartialEq, Eq, Debug, Drop, Error)]
 pub enum ConvertFault {
-    /// The stream is refused. The text of the entries before that is written.
+    /// The stream is refused. The text of the entries before the refusal is written.
     #[error("{refusal}, once {written} bytes were written")]
     Refused {
-        /// Why, and where.
+        /// The refusal.
         refusal: Refusal,
-        /// The bytes that the output took.
+        /// The number of bytes that the output took.
         written: u64,
     },
-    /// A read failed, or there were as many as one input may have. The text of the entries so far is written.
+    /// A read failed, or there were as many reads as one input may have. The text of the entries so far is written.
     #[error("the input failed, once {written} bytes were written")]
     Read {
-        /// The bytes that the output took.
+        /// The number of bytes that the output took.
         written: u64,
     },
-    /// A write failed, or the flush.
+    /// A write or the flush failed.
     #[error("the output failed, once it had taken {written} bytes")]
     Write {
-        /// The bytes that the output took.
+        /// The number of bytes that the output took.
         written: u64,
     },
 }
 
-/// The output once no more is written: it is flushed, unless a write has failed.
+/// Flushes the output, unless a write has failed, and returns it with the answer.
 fn conclude<O: Outlet + Drop>(
     sink: CanonSink<O>,
     fed: Result<(), FeedFault>,
@@ -49,7 +50,7 @@ fn conclude<O: Outlet + Drop>(
     ensures taken { Keeps (O.taken sink.outlet) (O.taken result.0) }
     ensures failed { O.failed sink.outlet ≡ true → O.failed result.0 ≡ true }
     ensures sent { O.failed result.0 ≡ false → O.sent result.0 ≡ true }
-    ensures flushes { O.flushes result.0 ≡ flushed (O.failed sink.outlet) (O.flushes sink.outlet) }
+    ensures flushes { O.flushes result.0 ≡ flush_count (O.failed sink.outlet) (O.flushes sink.outlet) }
     ensures write_failed { O.write_failed result.0 ≡ O.write_failed sink.outlet }
     ensures answer { Concludes sink.written fed (O.failed result.0) result.1 }
 {
@@ -67,8 +68,9 @@ fn conclude<O: Outlet + Drop>(
     (output, answer)
 }
 
-/// Writes the canonical stream of what the input gives, as it is read, and flushes the output: the output again, and how
-/// many bytes it took. It keeps no entry, so its memory doesn't grow with the stream.
+/// Writes the canonical stream of what the input gives, as it is read, and flushes the output. Returns the output, and
+/// the number of bytes that it took. Keeps no entry, so its memory doesn't grow with the stream (PROFILE.md,
+/// Streaming).
 pub fn convert<I: Inlet, O: Outlet + Drop>(
     alloc: Global,
     input: &mut I,
@@ -89,7 +91,7 @@ pub fn convert<I: Inlet, O: Outlet + Drop>(
     if reader.sink().failed() {
         return conclude(reader.into_sink(), Ok(()));
     }
-    match feed_from(&mut reader, input, &mut [0; ROOM]) {
+    match feed_from(&mut reader, input, &mut [0; READ_SIZE]) {
         Ok(()) => match reader.finish() {
             Ok(sink) => conclude(sink, Ok(())),
             Err(stopped) => conclude(stopped.sink, Err(FeedFault::Refused(stopped.refusal))),

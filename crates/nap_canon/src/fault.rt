@@ -1,4 +1,4 @@
-//! Why a display list has no canonical text.
+//! The lists that have no canonical text.
 ghost use Rattle.std.specs.Prelude.{◌≡◌};
 ghost use Rattle.nap_canon.specs.declared.fault.CanonFault.TheVariants.{Memory};
 
@@ -8,10 +8,10 @@ use thiserror::Error;
 /// Why a display list has no canonical text.
 #[derive(Clone, Copy, PartialEq, Eq, Debug, Drop, Error)]
 pub enum CanonFault {
-    /// The index of the first entry that may not come there, or the length where a definition is left open.
+    /// The index of the first entry that doesn't fit, or the length if a definition is left open.
     #[error("the display list is not legal at {0}")]
     Illegal(usize),
-    /// There was no memory for the text.
+    /// Memory ran out for the text.
     #[error("no memory")]
     Memory,
 }

@@ -1,10 +1,11 @@
-//! The two forms of canonical text.
+//! The two forms of canonical text (PROFILE.md, Canonical text and Form 1).
 
 /// A form of canonical text.
 #[derive(Clone, Copy, PartialEq, Eq, Drop)]
 pub(crate) enum Form {
-    /// Each entry has its own opcode, and a line both its points.
+    /// Form 1: each entry has its own opcode, and each line both its points.
     One,
-    /// Points, lines and rectangles can join a run of their opcode, and a line goes on from the pen where it starts there.
+    /// Form 2: points, lines and rectangles may join the run of their opcode, and a line that starts at the pen has
+    /// only its end.
     Two,
 }

@@ -1,24 +1,24 @@
-//! The canonical text of display lists and of streams.
+//! The canonical text of display lists and of streams (PROFILE.md, Canonical text).
 #![tactic(auto)]
 
+mod byte_buffer;
 mod byte_sink;
 mod canon_sink;
 mod command;
 mod conversion;
 mod fault;
 mod form;
-mod gathered;
 pub mod laws;
 mod output;
 mod page;
 mod parts;
+mod pending;
 mod plain;
 mod ranges;
-mod room;
 mod standing;
 mod stream;
-mod tail;
 mod text;
+mod text_end;
 mod writer;
 
 pub use canon_sink::CanonSink;

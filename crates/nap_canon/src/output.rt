@@ -1,4 +1,4 @@
-//! An outlet whose bytes are counted.
+//! An outlet with a count of its bytes.
 ghost use Rattle.std.specs.Prelude.{◌≤◌, false, length, take};
 ghost use Rattle.nap_list.specs.Sending.{sending};
 ghost use Rattle.nap_canon.specs.declared.output.Output.{Output};
@@ -9,7 +9,7 @@ ghost use Rattle.nap_canon.specs.SinkLaws.{sends_none, sends_more, sends_cut};
 use crate::byte_sink::ByteSink;
 use nap_list::{DeviceFault, Outlet};
 
-/// An outlet, and how many bytes it took; the count stays at the greatest `u64`.
+/// An outlet, and the number of bytes that it took, saturating at the greatest `u64`.
 #[derive(Drop)]
 pub(crate) struct Output<O: Outlet + Drop> {
     pub(crate) outlet: O,
@@ -17,9 +17,10 @@ pub(crate) struct Output<O: Outlet + Drop> {
 }
 
 impl<O: Outlet + Drop> Output<O> {
-    /// Takes the bytes from this index on; those before it were taken. An error has how many of all were taken.
+    /// Writes the bytes from index `first` on, after those before it. On failure returns how many of all bytes were
+    /// taken.
     #[inline(never)]
-    fn take_rest(&mut self, bytes: &[u8], first: usize) -> Result<(), usize>
+    fn write_rest(&mut self, bytes: &[u8], first: usize) -> Result<(), usize>
         requires { first ≤ length bytes.now }
         ensures { (s : Output O) → Sends (sending O.Outlet s.outlet s.written) (take first bytes.now) false (sending O.Outlet self.old.outlet self.old.written) →
             SentUpTo (λ x bytes broke y. Sends (sending O.Outlet x.outlet x.written) bytes broke (sending O.Outlet y.outlet y.written)) s bytes.now self.new result }
@@ -43,16 +44,17 @@ impl<O: Outlet + Drop> ByteSink for Output<O> {
     ghost sent = { λ s bytes broke t. Sends (sending O.Outlet s.outlet s.written) bytes broke (sending O.Outlet t.outlet t.written) };
 
     #[inline(always)]
-    fn take(&mut self, bytes: &[u8]) -> Result<(), DeviceFault> {
-        match self.take_counted(bytes) {
+    fn write_all(&mut self, bytes: &[u8]) -> Result<(), DeviceFault> {
+        match self.write_counted(bytes) {
             Ok(()) => Ok(()),
             Err(_) => Err(DeviceFault),
         }
     }
 
-    // One write takes most pieces whole; what another leaves stands apart, so that this is short where it is inlined.
+    // One write usually takes a whole piece. The rest of a piece is written by a function of its own, which keeps this
+    // one short where it is inlined.
     #[inline(always)]
-    fn take_counted(&mut self, bytes: &[u8]) -> Result<(), usize> {
+    fn write_counted(&mut self, bytes: &[u8]) -> Result<(), usize> {
         if bytes.is_empty() {
             return Ok(());
         }
@@ -61,7 +63,7 @@ impl<O: Outlet + Drop> ByteSink for Output<O> {
         };
         self.written = self.written.saturating_add(count as u64);
         if count < bytes.len() {
-            return self.take_rest(bytes, count);
+            return self.write_rest(bytes, count);
         }
         Ok(())
     }

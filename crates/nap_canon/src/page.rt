@@ -7,16 +7,16 @@ use nap_list::Target;
 use nap_reader::{Budget, Fault, Refusal, read_counted};
 use std::alloc::{AllocError, Global};
 
-/// The canonical text of a page, and how many entries that has, if a `u64` can hold it.
+/// The canonical text of a page, and the number of its entries, if a `u64` can hold it.
 #[derive(Drop)]
 pub struct PageText {
     /// The bytes of the text.
     pub text: Vec<u8>,
-    /// The number of the entries.
+    /// The number of entries.
     pub count: Option<u64>,
 }
 
-/// Why a page is refused whose text is kept in memory: if the sink of the text failed, memory ran out.
+/// Returns the refusal of a page whose text is kept in memory, where a failed sink is lack of memory.
 pub fn refusal_of_text(refusal: Refusal) -> Refusal
     ensures { result ≡ refusal_of_text refusal }
 {
@@ -29,8 +29,8 @@ pub fn refusal_of_text(refusal: Refusal) -> Refusal
     }
 }
 
-/// The canonical text of a page, or why that is refused. The text is written in memory as the page is read, and no entry
-/// is kept. There may be no memory to begin with.
+/// Returns the canonical text of a page, or its refusal. The text is written to memory as the page is read, and no
+/// entry is kept. The outer error is lack of memory before anything is read.
 pub fn page_text(
     alloc: Global,
     budget: Budget,

@@ -1,7 +1,7 @@
 //! Parts of slices.
 ghost use Rattle.std.specs.Prelude.{◌≡◌, ◌<◌, ◌≤◌, ◌+◌, ◌∷◌, length, take, drop};
 
-/// The item of a slice at an index.
+/// Returns the item of a slice at an index.
 #[inline(always)]
 pub(crate) fn item<X: Copy>(items: &[X], index: usize) -> X
     requires { index < length items.now }
@@ -10,7 +10,7 @@ pub(crate) fn item<X: Copy>(items: &[X], index: usize) -> X
     items[index]
 }
 
-/// `count` items of a slice, from this index on.
+/// Returns `operand_count` items of a slice, from `first` on.
 #[inline(always)]
 pub(crate) fn part<X>(items: &[X], first: usize, count: usize) -> &[X]
     requires { count + first ≤ length items.now }

@@ -1,14 +1,14 @@
-//! Whether a stream is plain.
+//! Plain streams (PROFILE.md, Plain streams).
 ghost use Rattle.std.specs.Prelude.{◌≡◌, ◌↔◌, IsTrue};
-ghost use Rattle.nap_canon.specs.Checking.{is_plain_code, begun_with, next_behind, next_with, lengths_word, reset_word, both, check_with, may_end};
+ghost use Rattle.nap_canon.specs.Checking.{is_plain_code, seen_after, expected_after_any, expected_after, lengths_word, reset_word, check_of_parts, check_after, may_end};
 ghost use Rattle.nap_canon.specs.Plain.{IsPlain};
 
 use nap_codes::{Code, CodeSet, Lexer, Opcode, Step};
 use nap_values::Word;
 
-/// What has come.
+/// The codes seen so far.
 #[derive(Clone, Copy, PartialEq, Eq, Drop)]
-pub(crate) enum Begun {
+pub(crate) enum CodesSeen {
     /// Neither an opcode nor a definition.
     Nothing,
     /// A definition, before any opcode.
@@ -19,25 +19,25 @@ pub(crate) enum Begun {
 
 /// What has to come next.
 #[derive(Clone, Copy, PartialEq, Eq, Drop)]
-pub(crate) enum Next {
+pub(crate) enum Expected {
     /// Any code.
     Any,
-    /// The word of DOMAIN for operands of eight words and of four.
+    /// The word of DOMAIN for operands of eight words and four words.
     Lengths,
     /// The first word of RESET, or any other code.
     ResetWord,
-    /// DOMAIN, behind words of RESET.
+    /// DOMAIN, after the words of RESET.
     Domain,
 }
 
-/// A check of codes, one after another.
+/// A check of the codes of a stream, one after another.
 #[derive(Clone, Copy, PartialEq, Eq, Drop)]
-pub(crate) struct Check {
-    begun: Begun,
-    next: Next,
+pub(crate) struct PlainCheck {
+    begun: CodesSeen,
+    next: Expected,
 }
 
-/// Whether a code has no part in macros, and draws by no displacement from the pen.
+/// Whether a code uses no macro and isn't a REL opcode.
 fn is_plain_code(code: &Code) -> bool
     ensures { result ≡ is_plain_code code.now }
 {
@@ -50,103 +50,107 @@ fn is_plain_code(code: &Code) -> bool
     }
 }
 
-impl Begun {
-    /// What has come with this code, None where it may not come.
-    fn with(self, code: &Code) -> Option<Begun>
-        ensures { result ≡ begun_with self code.now }
+impl CodesSeen {
+    /// Returns the codes seen with this one, or `None` if it may not come.
+    fn after_code(self, code: &Code) -> Option<CodesSeen>
+        ensures { result ≡ seen_after self code.now }
     {
         match self {
-            Begun::Nothing => match code {
-                Code::Op(Opcode::Domain) => Some(Begun::Drawing),
+            CodesSeen::Nothing => match code {
+                Code::Op(Opcode::Domain) => Some(CodesSeen::Drawing),
                 Code::Op(_) => None,
-                Code::DefGlyph(_) | Code::DefMask(_) => Some(Begun::Definition),
-                _ => Some(Begun::Nothing),
+                Code::DefGlyph(_) | Code::DefMask(_) => Some(CodesSeen::Definition),
+                _ => Some(CodesSeen::Nothing),
             },
-            Begun::Definition => match code {
+            CodesSeen::Definition => match code {
                 Code::Op(_) => None,
-                _ => Some(Begun::Definition),
+                _ => Some(CodesSeen::Definition),
             },
-            Begun::Drawing => Some(Begun::Drawing),
+            CodesSeen::Drawing => Some(CodesSeen::Drawing),
         }
     }
 }
 
-/// What has to come behind this code, where any may come in its place.
-fn behind(code: &Code) -> Next
-    ensures { result ≡ next_behind code.now }
+/// Returns what has to come after this code, if any code may come at its place.
+fn expected_after_any(code: &Code) -> Expected
+    ensures { result ≡ expected_after_any code.now }
 {
     match code {
-        Code::Op(Opcode::Domain) => Next::Lengths,
-        Code::Op(Opcode::Reset) => Next::ResetWord,
-        _ => Next::Any,
+        Code::Op(Opcode::Domain) => Expected::Lengths,
+        Code::Op(Opcode::Reset) => Expected::ResetWord,
+        _ => Expected::Any,
     }
 }
 
-impl Next {
-    /// What has to come behind this code, None where it may not come.
-    fn with(self, code: &Code) -> Option<Next>
-        ensures { result ≡ next_with self code.now }
+impl Expected {
+    /// Returns what has to come after this code, or `None` if it may not come.
+    fn after_code(self, code: &Code) -> Option<Expected>
+        ensures { result ≡ expected_after self code.now }
     {
         match self {
-            Next::Any => Some(behind(code)),
-            Next::Lengths => match code {
+            Expected::Any => Some(expected_after_any(code)),
+            Expected::Lengths => match code {
                 Code::Operand(word) => lengths_word(*word),
                 _ => None,
             },
-            Next::ResetWord => match code {
+            Expected::ResetWord => match code {
                 Code::Operand(word) => Some(reset_word(*word)),
-                _ => Some(behind(code)),
+                _ => Some(expected_after_any(code)),
             },
-            Next::Domain => match code {
-                Code::Operand(_) => Some(Next::Domain),
-                Code::Op(Opcode::Domain) => Some(Next::Lengths),
+            Expected::Domain => match code {
+                Code::Operand(_) => Some(Expected::Domain),
+                Code::Op(Opcode::Domain) => Some(Expected::Lengths),
                 _ => None,
             },
         }
     }
 }
 
-/// What has to come behind the word of DOMAIN.
-fn lengths_word(word: Word) -> Option<Next>
+/// Returns what has to come after the word of DOMAIN.
+fn lengths_word(word: Word) -> Option<Expected>
     ensures { result ≡ lengths_word word }
 {
     if word.get() == 31 {
-        Some(Next::Any)
+        Some(Expected::Any)
     } else {
         None
     }
 }
 
-/// What has to come behind the first word of RESET.
-fn reset_word(word: Word) -> Next
+/// Returns what has to come after the first word of RESET.
+fn reset_word(word: Word) -> Expected
     ensures { result ≡ reset_word word }
 {
     if word.get() % 2 == 1 {
-        Next::Domain
+        Expected::Domain
     } else {
-        Next::Any
+        Expected::Any
     }
 }
 
-/// The check that these parts make, where all of it holds.
-fn both(plain: bool, begun: Option<Begun>, next: Option<Next>) -> Option<Check>
-    ensures { result ≡ both plain begun next }
+/// Returns the check with these parts, if all of them hold.
+fn check_of_parts(
+    plain: bool,
+    begun: Option<CodesSeen>,
+    next: Option<Expected>,
+) -> Option<PlainCheck>
+    ensures { result ≡ check_of_parts plain begun next }
 {
     match (plain, begun, next) {
-        (true, Some(begun), Some(next)) => Some(Check { begun, next }),
+        (true, Some(begun), Some(next)) => Some(PlainCheck { begun, next }),
         _ => None,
     }
 }
 
-impl Check {
-    /// The check behind this code, None where it may not come.
-    fn with(&self, code: &Code) -> Option<Check>
-        ensures { result ≡ check_with self.now code.now }
+impl PlainCheck {
+    /// Returns the check after this code, or `None` if it may not come.
+    fn after_code(&self, code: &Code) -> Option<PlainCheck>
+        ensures { result ≡ check_after self.now code.now }
     {
-        both(
+        check_of_parts(
             is_plain_code(code),
-            self.begun.with(code),
-            self.next.with(code),
+            self.begun.after_code(code),
+            self.next.after_code(code),
         )
     }
 
@@ -155,27 +159,27 @@ impl Check {
         ensures { result ≡ may_end self.now }
     {
         match self.next {
-            Next::Any | Next::ResetWord => true,
-            Next::Lengths | Next::Domain => false,
+            Expected::Any | Expected::ResetWord => true,
+            Expected::Lengths | Expected::Domain => false,
         }
     }
 }
 
-/// Whether a stream is plain: it is whole codes, of which none has a part in macros or draws by a displacement from the
-/// pen, and DOMAIN keeps the operands eight words and four words long.
+/// Whether a stream is plain: it uses no macro and no REL opcode, its operands have eight words and four words, and no
+/// code is incomplete (PROFILE.md, Plain streams).
 pub fn is_plain(bytes: &[u8]) -> bool
     ensures { IsTrue result ↔ IsPlain bytes.now }
 {
     let mut lexer = Lexer::new();
-    let mut check = Check {
-        begun: Begun::Nothing,
-        next: Next::Any,
+    let mut check = PlainCheck {
+        begun: CodesSeen::Nothing,
+        next: Expected::Any,
     };
     for byte in bytes {
         match lexer.step(*byte) {
             Step::More => {}
             Step::Fault(_) => return false,
-            Step::Code(code) => match check.with(&code) {
+            Step::Code(code) => match check.after_code(&code) {
                 Some(after) => check = after,
                 None => return false,
             },

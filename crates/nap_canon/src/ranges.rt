@@ -1,179 +1,182 @@
-//! The ranges of the parts of an entry, which their types keep. These functions do nothing but show them.
+//! The ranges of the parts of an entry, which their types ensure. The functions do nothing; their contracts state the
+//! ranges.
 ghost use Rattle.std.specs.Prelude.{All};
 ghost use Rattle.nap_values.specs.Coordinates.{IsInSquare, IsInRange};
 ghost use Rattle.nap_values.specs.Colours.{HasSixteenBitParts};
 ghost use Rattle.nap_values.specs.Laws.{IsWord};
 ghost use Rattle.nap_list.specs.Range.{IsAddress, IsByte, StepInRange, PenInRange, ColourInRange, TextureInRange, SizeInRange, TextInRange, AreaInRange, InRange};
-ghost use Rattle.nap_canon.specs.Range.{HeldInRange};
+ghost use Rattle.nap_canon.specs.Range.{AttributesInRange};
 
 use nap_codes::TextStep;
-use nap_list::{Area, CharSize, Colour, Entry, Held, Pen, TextLook, Texture};
+use nap_list::{Area, Attributes, CharSize, Colour, Entry, Pen, TextLook, Texture};
 use nap_values::{Addr, Grb, Move, Point, Word};
 
-fn point(point: Point)
+fn point_in_range(point: Point)
     ensures { IsInSquare point }
 {
     let _ = (point.x(), point.y());
 }
 
-fn points(points: &[Point])
+fn points_in_range(points: &[Point])
     ensures { All IsInSquare points.now }
 {
     for at in points {
-        point(*at);
+        point_in_range(*at);
     }
 }
 
-fn step(step: Move)
+fn move_in_range(step: Move)
     ensures { IsInRange step }
 {
     let _ = (step.x(), step.y());
 }
 
-fn addr(addr: Addr)
+fn addr_in_range(addr: Addr)
     ensures { IsAddress addr }
 {
     let _ = addr.get();
 }
 
-fn word(word: Word)
+fn word_in_range(word: Word)
     ensures { IsWord word }
 {
     let _ = word.get();
 }
 
-fn grb(grb: Grb)
+fn grb_in_range(grb: Grb)
     ensures { HasSixteenBitParts grb }
 {
     let _ = (grb.g(), grb.r(), grb.b());
 }
 
-fn byte(byte: u8)
+fn byte_in_range(byte: u8)
     ensures { IsByte byte }
 {}
 
-fn text_step(step: TextStep)
+fn text_step_in_range(step: TextStep)
     ensures { StepInRange step }
 {
     if let TextStep::Aps(row, column) = step {
-        byte(row);
-        byte(column);
+        byte_in_range(row);
+        byte_in_range(column);
     }
 }
 
-fn pen(pen: Pen)
+fn pen_in_range(pen: Pen)
     ensures { PenInRange pen }
 {
     if let Pen::At(at) = pen {
-        point(at);
+        point_in_range(at);
     }
 }
 
-fn colour(colour: Colour)
+fn colour_in_range(colour: Colour)
     ensures { ColourInRange colour }
 {
     match colour {
-        Colour::Direct(parts) => grb(parts),
-        Colour::Front(front) => addr(front),
+        Colour::Direct(parts) => grb_in_range(parts),
+        Colour::Front(front) => addr_in_range(front),
         Colour::Pair(front, back) => {
-            addr(front);
-            addr(back);
+            addr_in_range(front);
+            addr_in_range(back);
         }
         Colour::Own(_) | Colour::ByReset(_) => {}
     }
 }
 
-fn texture(texture: Texture)
+fn texture_in_range(texture: Texture)
     ensures { TextureInRange texture }
 {
-    word(texture.word);
+    word_in_range(texture.word);
     if let Some(mask) = texture.mask {
-        step(mask);
+        move_in_range(mask);
     }
 }
 
-fn size(size: CharSize)
+fn size_in_range(size: CharSize)
     ensures { SizeInRange size }
 {
     if let CharSize::Given(size) = size {
-        step(size);
+        move_in_range(size);
     }
 }
 
-fn text(text: TextLook)
+fn look_in_range(text: TextLook)
     ensures { TextInRange text }
 {
-    word(text.first);
-    word(text.second);
-    size(text.size);
+    word_in_range(text.first);
+    word_in_range(text.second);
+    size_in_range(text.size);
 }
 
-fn area(area: Area)
+fn area_in_range(area: Area)
     ensures { AreaInRange area }
 {
     if let Area::Part { from, to } = area {
-        point(from);
-        point(to);
+        point_in_range(from);
+        point_in_range(to);
     }
 }
 
-fn held(held: &Held)
-    ensures { HeldInRange held.now }
+fn attributes_in_range(attributes: &Attributes)
+    ensures { AttributesInRange attributes.now }
 {
-    if let Some(before) = held.pen {
-        pen(before);
+    if let Some(before) = attributes.pen {
+        pen_in_range(before);
     }
-    if let Some(pel) = held.pel {
-        step(pel);
+    if let Some(pel) = attributes.pel {
+        move_in_range(pel);
     }
-    if let Some(of) = held.colour {
-        colour(of);
+    if let Some(of) = attributes.colour {
+        colour_in_range(of);
     }
-    if let Some(with) = held.texture {
-        texture(with);
+    if let Some(with) = attributes.texture {
+        texture_in_range(with);
     }
-    if let Some(look) = held.text {
-        text(look);
+    if let Some(look) = attributes.text {
+        look_in_range(look);
     }
 }
 
-fn both(from: Point, to: Point)
+fn two_points_in_range(from: Point, to: Point)
     ensures from { IsInSquare from }
     ensures to { IsInSquare to }
 {
-    point(from);
-    point(to);
+    point_in_range(from);
+    point_in_range(to);
 }
 
-fn times(on: Word, off: Word, delay: Word)
+fn times_in_range(on: Word, off: Word, delay: Word)
     ensures on { IsWord on }
     ensures off { IsWord off }
     ensures delay { IsWord delay }
 {
-    word(on);
-    word(off);
-    word(delay);
+    word_in_range(on);
+    word_in_range(off);
+    word_in_range(delay);
 }
 
-/// The parts of the entry are in their ranges.
+/// States that the parts of the entry are in their ranges.
 pub(crate) fn in_range(entry: &Entry)
     ensures { InRange entry.now }
 {
-    held(&entry.held());
+    attributes_in_range(&entry.attributes());
     match entry {
-        Entry::Point { at, .. } => point(*at),
-        Entry::Line { from, to, .. } | Entry::Rect { from, to, .. } => both(*from, *to),
-        Entry::Arc { points: list, .. } | Entry::Poly { points: list, .. } => points(
+        Entry::Point { at, .. } => point_in_range(*at),
+        Entry::Line { from, to, .. } | Entry::Rect { from, to, .. } => two_points_in_range(
+            *from, *to,
+        ),
+        Entry::Arc { points: list, .. } | Entry::Poly { points: list, .. } => points_in_range(
             list.as_slice(),
         ),
-        Entry::Char { code, .. } | Entry::GlyphStart(code) => byte(*code),
-        Entry::TextMove { step: by, .. } => text_step(*by),
+        Entry::Char { code, .. } | Entry::GlyphStart(code) => byte_in_range(*code),
+        Entry::TextMove { step: by, .. } => text_step_in_range(*by),
         Entry::Map {
             addr: at,
             grb: parts,
         } => {
-            addr(*at);
-            grb(*parts);
+            addr_in_range(*at);
+            grb_in_range(*parts);
         }
         Entry::Blink {
             addr: at,
@@ -182,14 +185,14 @@ pub(crate) fn in_range(entry: &Entry)
             delay,
             ..
         } => {
-            addr(*at);
-            times(*on, *off, *delay);
+            addr_in_range(*at);
+            times_in_range(*on, *off, *delay);
         }
-        Entry::Wait(time) => word(*time),
-        Entry::Field { area: of, .. } => area(*of),
+        Entry::Wait(time) => word_in_range(*time),
+        Entry::Field { area: of, .. } => area_in_range(*of),
         Entry::Reset { first, second, .. } => {
-            word(*first);
-            word(*second);
+            word_in_range(*first);
+            word_in_range(*second);
         }
         Entry::ToEol { .. } | Entry::BlinkEnd { .. } | Entry::BlinkMark { .. } | Entry::Bell => {}
         Entry::Cursor(_) | Entry::Clear { .. } | Entry::MaskStart(_) | Entry::DefEnd => {}

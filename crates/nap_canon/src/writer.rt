@@ -1,189 +1,192 @@
-//! Writes the canonical text of entries, one after another.
+//! Writing of the canonical text of entries, one after another.
 ghost use Rattle.std.specs.Prelude.{◌≡◌, ◌≤◌, ◌+◌, ◌∷◌, length};
 ghost use Rattle.nap_codes.specs.declared.code_set.GSet.TheVariants.{G1};
-ghost use Rattle.nap_canon.specs.declared.tail.Tail.TheVariants.{Apart};
+ghost use Rattle.nap_canon.specs.declared.text_end.TextEnd.TheVariants.{Apart};
 ghost use Rattle.nap_list.specs.declared.entry.Entry.TheVariants.{Rect};
-ghost use Rattle.nap_list.specs.Entry.{held};
-ghost use Rattle.nap_list.specs.Shapes.{drawn_shape, round};
-ghost use Rattle.nap_list.specs.State.{start, taking, Fits};
-ghost use Rattle.nap_canon.specs.Spelling.{onward_bytes, opcode, rect_piece, shape_bytes, shape, spelled};
-ghost use Rattle.nap_canon.specs.Text.{header, gl_of, begun_tail};
-ghost use Rattle.nap_canon.specs.Writing.{Puts, WritesBytes, WritesLaid, WritesPieces};
-ghost use Rattle.nap_canon.specs.Gathering.{piece_limit, room_limit};
+ghost use Rattle.nap_list.specs.Entry.{attributes};
+ghost use Rattle.nap_list.specs.Shapes.{entry_of_shape, circle_closed};
+ghost use Rattle.nap_list.specs.State.{start, with_attributes, Fits};
+ghost use Rattle.nap_canon.specs.Spelling.{displacement_bytes, opcode, rect_piece, shape_bytes, shape, spelling_pieces};
+ghost use Rattle.nap_canon.specs.Text.{header, gl_of, text_end_after_header};
+ghost use Rattle.nap_canon.specs.Writing.{Puts, WritesBytes, WritesPendingAnd, WritesPieces};
+ghost use Rattle.nap_canon.specs.Buffers.{piece_limit, buffer_limit};
 
+use crate::byte_buffer::ByteBuffer;
 use crate::byte_sink::ByteSink;
 use crate::form::Form;
-use crate::gathered::Gathered;
-use crate::room::{Path, Room, opcodes, path_of, shape_opcode};
+use crate::pending::{Path, Pending, opcodes, path_of, shape_opcode};
 use crate::standing::{step_rect, step_shape};
-use crate::tail::Tail;
+use crate::text_end::TextEnd;
 use nap_codes::GSet;
-use nap_list::{Entry, Ink, Shape, ShapeKind, State, start_at};
+use nap_list::{Entry, Ink, Shape, ShapeKind, State, line_start};
 use nap_values::Point;
 
 mod joining;
 
-/// At most so many displacements are gathered.
-const MOST: usize = 128;
+/// The greatest number of displacements that are buffered for one write.
+const MAX_DISPLACEMENTS: usize = 128;
 
-/// At most so many are gathered behind a bring, an opcode and a point.
-const NEAR: usize = 100;
+/// The greatest number of displacements that still fit after a prelude, an opcode and a point.
+const MAX_DISPLACEMENTS_AFTER_PRELUDE: usize = 100;
 
 /// Writes the text of entries.
 #[derive(Drop)]
 pub(crate) struct Writer<T: ByteSink + Drop> {
-    to: T,
+    target: T,
     form: Form,
-    /// What is written next.
-    room: Room,
+    /// The text that isn't written yet.
+    pending: Pending,
     state: State,
 }
 
 impl<T: ByteSink + Drop> Writer<T> {
-    /// A writer of a text in this form that isn't begun.
-    pub(crate) fn new(form: Form, to: T) -> Writer<T>
-        ensures to { result.to ≡ to }
+    /// Returns a writer of a text in this form, whose header isn't written.
+    pub(crate) fn new(form: Form, target: T) -> Writer<T>
+        ensures to { result.target ≡ target }
         ensures form { result.form ≡ form }
-        ensures tail { result.room.tail ≡ begun_tail }
+        ensures tail { result.pending.text_end ≡ text_end_after_header }
         ensures state { result.state ≡ start }
     {
         Writer {
-            to,
+            target,
             form,
-            room: Room {
-                tail: Tail::Apart(GSet::G1),
-                bytes: Gathered::new(),
+            pending: Pending {
+                text_end: TextEnd::NoRun(GSet::G1),
+                bytes: ByteBuffer::new(),
             },
             state: State::start(),
         }
     }
 
-    /// Begins the text: SO brings the opcodes into GL, and DOMAIN makes the operands eight words and four words long.
-    pub(crate) fn begin(&mut self) -> Result<(), T::Fault>
-        ensures { WritesBytes T.sent header (Apart (gl_of self.old.room.tail)) self.old self.new result }
+    /// Writes the header: SO puts the PDI set into GL, and DOMAIN sets the operand lengths to eight and four.
+    pub(crate) fn write_header(&mut self) -> Result<(), T::Fault>
+        ensures { WritesBytes T.sent header (Apart (gl_of self.old.pending.text_end)) self.old self.new result }
     {
-        self.room.bytes.clear();
-        self.room.header();
-        self.to.take(self.room.bytes.as_slice())
+        self.pending.bytes.clear();
+        self.pending.append_header();
+        self.target.write_all(self.pending.bytes.as_slice())
     }
 
-    /// What takes the text.
-    pub(crate) fn to(&self) -> &T
-        ensures { result.now ≡ self.now.to }
+    /// Returns the byte sink.
+    pub(crate) fn target(&self) -> &T
+        ensures { result.now ≡ self.now.target }
     {
-        &self.to
+        &self.target
     }
 
-    /// What took the text.
+    /// Returns the byte sink, and ends the writer.
     pub(crate) fn into_inner(self) -> T
-        ensures { result ≡ self.to }
+        ensures { result ≡ self.target }
     {
-        let Writer { to, .. } = self;
-        to
+        let Writer { target, .. } = self;
+        target
     }
 
-    /// The displacements from a point to the others in turn.
-    fn onward(&mut self, first: Point, others: &[Point]) -> Result<(), T::Fault>
-        ensures { WritesBytes T.sent (onward_bytes first others.now) self.old.room.tail self.old self.new result }
+    /// Writes the displacements from a point to each of the others in turn.
+    fn write_displacements(&mut self, first: Point, others: &[Point]) -> Result<(), T::Fault>
+        ensures { WritesBytes T.sent (displacement_bytes first others.now) self.old.pending.text_end self.old self.new result }
     {
         let mut from = first;
-        for chunk in others.chunks(MOST) {
-            self.room.bytes.clear();
-            self.room.bytes.onward(from, chunk);
-            self.to.take(self.room.bytes.as_slice())?;
-            from = start_at(from, chunk, chunk.len());
+        for chunk in others.chunks(MAX_DISPLACEMENTS) {
+            self.pending.bytes.clear();
+            self.pending.bytes.append_displacements(from, chunk);
+            self.target.write_all(self.pending.bytes.as_slice())?;
+            from = line_start(from, chunk, chunk.len());
         }
         Ok(())
     }
 
-    /// Writes what was laid, and a shape through many points, by its opcode.
+    /// Writes the pending text, and a shape through many points.
     #[inline(never)]
-    fn long_path(&mut self, code: u8, first: Point, others: &[Point]) -> Result<(), T::Fault>
+    fn write_long_path(&mut self, code: u8, first: Point, others: &[Point]) -> Result<(), T::Fault>
         requires many { 100 ≤ length others.now }
-        requires space { length self.old.room.bytes + 810 ≤ room_limit }
-        ensures { WritesLaid T.sent (opcode code (shape_bytes (first ∷ others.now))) self.old self.new result }
+        requires space { length self.old.pending.bytes + 810 ≤ buffer_limit }
+        ensures { WritesPendingAnd T.sent (opcode code (shape_bytes (first ∷ others.now))) self.old self.new result }
     {
-        let (near, far) = others.split_at(NEAR);
-        self.room.shape(code, first, near);
-        self.to.take(self.room.bytes.as_slice())?;
-        self.onward(start_at(first, near, near.len()), far)
+        let (near, far) = others.split_at(MAX_DISPLACEMENTS_AFTER_PRELUDE);
+        self.pending.append_shape(code, first, near);
+        self.target.write_all(self.pending.bytes.as_slice())?;
+        self.write_displacements(line_start(first, near, near.len()), far)
     }
 
-    /// Writes what was laid, and a shape by its opcode.
+    /// Writes the pending text, and a shape by its opcode.
     #[inline(always)]
-    fn path(&mut self, code: u8, first: Point, others: &[Point]) -> Result<(), T::Fault>
-        requires { length self.old.room.bytes + 810 ≤ room_limit }
-        ensures { WritesLaid T.sent (opcode code (shape_bytes (first ∷ others.now))) self.old self.new result }
+    fn write_path(&mut self, code: u8, first: Point, others: &[Point]) -> Result<(), T::Fault>
+        requires { length self.old.pending.bytes + 810 ≤ buffer_limit }
+        ensures { WritesPendingAnd T.sent (opcode code (shape_bytes (first ∷ others.now))) self.old self.new result }
     {
-        if others.len() > NEAR {
-            return self.long_path(code, first, others);
+        if others.len() > MAX_DISPLACEMENTS_AFTER_PRELUDE {
+            return self.write_long_path(code, first, others);
         }
-        self.room.shape(code, first, others);
-        self.to.take(self.room.bytes.as_slice())
+        self.pending.append_shape(code, first, others);
+        self.target.write_all(self.pending.bytes.as_slice())
     }
 
-    /// Writes what was laid, and a shape through its points.
+    /// Writes the pending text, and a shape through its points.
     #[inline(never)]
-    fn shape(&mut self, path: Path) -> Result<(), T::Fault>
-        requires { length self.old.room.bytes ≤ 162 }
-        ensures { WritesLaid T.sent (opcode path.entry.opcode (shape_bytes path.entry.points.now)) self.old self.new result }
+    fn write_shape(&mut self, path: Path) -> Result<(), T::Fault>
+        requires { length self.old.pending.bytes ≤ 162 }
+        ensures { WritesPendingAnd T.sent (opcode path.entry.opcode (shape_bytes path.entry.points.now)) self.old self.new result }
     {
         let Some((first, others)) = path.points.split_first() else {
-            self.room.opened(path.opcode, &[], &[]);
-            return self.to.take(self.room.bytes.as_slice());
+            self.pending
+                .append_opcode_and_operands(path.opcode, &[], &[]);
+            return self.target.write_all(self.pending.bytes.as_slice());
         };
-        self.path(path.opcode, *first, others)
+        self.write_path(path.opcode, *first, others)
     }
 
-    /// Writes what was laid, and an arc through a point and the others in turn. One of a single step goes back to its start.
+    /// Writes the pending text, and an arc through a point and the others. One of a single displacement returns to its
+    /// start.
     #[inline(always)]
-    fn arc(&mut self, filled: bool, first: Point, others: &[Point]) -> Result<(), T::Fault>
-        requires { length self.old.room.bytes ≤ 72 }
-        ensures { WritesLaid T.sent (shape 0x2E filled (round (first ∷ others.now))) self.old self.new result }
+    fn write_arc(&mut self, filled: bool, first: Point, others: &[Point]) -> Result<(), T::Fault>
+        requires { length self.old.pending.bytes ≤ 72 }
+        ensures { WritesPendingAnd T.sent (shape 0x2E filled (circle_closed (first ∷ others.now))) self.old self.new result }
     {
         let code = shape_opcode(opcodes::SET_ARC, filled);
         if let [point] = others {
-            return self.path(code, first, &[*point, first]);
+            return self.write_path(code, first, &[*point, first]);
         }
-        self.path(code, first, others)
+        self.write_path(code, first, others)
     }
 
-    /// Writes what was laid, and how the entry of a shape is spelled where the values that it holds stand.
+    /// Writes the pending text, and the spelling of a shape whose attributes are current.
     #[inline(always)]
-    fn spell_shape(&mut self, shape: &Shape) -> Result<(), T::Fault>
-        requires { length self.old.room.bytes ≤ 72 }
-        ensures { WritesPieces T.sent (spelled self.old.form (taking self.old.state.drawing (held (drawn_shape shape.now))) (drawn_shape shape.now)) self.old self.new result }
+    fn write_shape_spelling(&mut self, shape: &Shape) -> Result<(), T::Fault>
+        requires { length self.old.pending.bytes ≤ 72 }
+        ensures { WritesPieces T.sent (spelling_pieces self.old.form (with_attributes self.old.state.drawing (attributes (entry_of_shape shape.now))) (entry_of_shape shape.now)) self.old self.new result }
     {
         let (from, others) = (shape.from, shape.others);
         match shape.kind {
-            ShapeKind::Arc => self.arc(shape.filled, from, others),
+            ShapeKind::Arc => self.write_arc(shape.filled, from, others),
             ShapeKind::Poly => {
-                self.path(shape_opcode(opcodes::SET_POLY, shape.filled), from, others)
+                self.write_path(shape_opcode(opcodes::SET_POLY, shape.filled), from, others)
             }
         }
     }
 
     /// Writes what was laid, and how a rectangle is spelled.
     #[inline(always)]
-    fn spell_rect(&mut self, filled: bool, from: Point, to: Point) -> Result<(), T::Fault>
-        requires { length self.old.room.bytes + piece_limit ≤ room_limit }
-        ensures { WritesLaid T.sent (rect_piece self.old.form filled from to) self.old self.new result }
+    fn spell_rect(&mut self, filled: bool, from: Point, target: Point) -> Result<(), T::Fault>
+        requires { length self.old.pending.bytes + piece_limit ≤ buffer_limit }
+        ensures { WritesPendingAnd T.sent (rect_piece self.old.form filled from target) self.old self.new result }
     {
-        self.room.rect(self.form, filled, from, to);
-        self.to.take(self.room.bytes.as_slice())
+        self.pending.append_rect(self.form, filled, from, target);
+        self.target.write_all(self.pending.bytes.as_slice())
     }
 
-    /// Writes what was laid, and how an entry is spelled where the values that it holds stand.
+    /// Writes the pending text, and the spelling of an entry whose attributes are current.
     #[inline(always)]
-    fn spell(&mut self, entry: &Entry) -> Result<(), T::Fault>
-        requires { length self.old.room.bytes ≤ 162 }
-        ensures { WritesPieces T.sent (spelled self.old.form (taking self.old.state.drawing (held entry.now)) entry.now) self.old self.new result }
+    fn write_spelling(&mut self, entry: &Entry) -> Result<(), T::Fault>
+        requires { length self.old.pending.bytes ≤ 162 }
+        ensures { WritesPieces T.sent (spelling_pieces self.old.form (with_attributes self.old.state.drawing (attributes entry.now)) entry.now) self.old self.new result }
     {
         if let Some(path) = path_of(entry) {
-            return self.shape(path);
+            return self.write_shape(path);
         }
-        self.room.spelling(self.form, &self.state.drawing, entry);
-        self.to.take(self.room.bytes.as_slice())
+        self.pending
+            .append_spelling(self.form, &self.state.drawing, entry);
+        self.target.write_all(self.pending.bytes.as_slice())
     }
 
     /// Writes an entry that may come next, but for a rectangle: its bring, and its spelling.
@@ -192,27 +195,33 @@ impl<T: ByteSink + Drop> Writer<T> {
         requires { Fits self.old.state entry.now }
         ensures { Puts T.sent entry.now self.old self.new result }
     {
-        self.room.bytes.clear();
-        self.room.lead(&self.state.drawing, entry);
-        self.spell(entry)?;
+        self.pending.bytes.clear();
+        self.pending.append_prelude(&self.state.drawing, entry);
+        self.write_spelling(entry)?;
         self.state.step(entry);
         Ok(())
     }
 
     /// Writes a rectangle that may come next, as any entry.
     #[inline(always)]
-    fn put_rect(&mut self, filled: bool, from: Point, to: Point, ink: &Ink) -> Result<(), T::Fault>
-        requires { Fits self.old.state (Rect filled from to ink.now) }
-        ensures { Puts T.sent (Rect filled from to ink.now) self.old self.new result }
+    fn put_rect(
+        &mut self,
+        filled: bool,
+        from: Point,
+        target: Point,
+        ink: &Ink,
+    ) -> Result<(), T::Fault>
+        requires { Fits self.old.state (Rect filled from target ink.now) }
+        ensures { Puts T.sent (Rect filled from target ink.now) self.old self.new result }
     {
-        self.room.bytes.clear();
-        let stands = self.room.lead_ink(&self.state.drawing, ink);
-        self.spell_rect(filled, from, to)?;
-        step_rect(&mut self.state, filled, from, to, ink, stands);
+        self.pending.bytes.clear();
+        let stands = self.pending.append_ink_prelude(&self.state.drawing, ink);
+        self.spell_rect(filled, from, target)?;
+        step_rect(&mut self.state, filled, from, target, ink, stands);
         Ok(())
     }
 
-    /// Writes an entry that may come next: its bring, and its spelling. The state stays where this fails.
+    /// Writes an entry that fits: its prelude and its spelling. On failure the state is unchanged.
     pub(crate) fn put_ref(&mut self, entry: &Entry) -> Result<(), T::Fault>
         requires { Fits self.old.state entry.now }
         ensures { Puts T.sent entry.now self.old self.new result }
@@ -221,23 +230,23 @@ impl<T: ByteSink + Drop> Writer<T> {
             Entry::Rect {
                 filled,
                 from,
-                to,
+                target,
                 ink,
-            } => self.put_rect(*filled, *from, *to, ink),
+            } => self.put_rect(*filled, *from, *target, ink),
             _ => self.put_other(entry),
         }
     }
 
-    /// Writes a shape that may come next, as `put_ref` writes its entry. Its points are written from where they are.
+    /// Writes a shape that fits, as `put_ref` writes its entry, without copying its points.
     pub(crate) fn put_shape(&mut self, shape: &Shape) -> Result<(), T::Fault>
-        requires { Fits self.old.state (drawn_shape shape.now) }
-        ensures { Puts T.sent (drawn_shape shape.now) self.old self.new result }
+        requires { Fits self.old.state (entry_of_shape shape.now) }
+        ensures { Puts T.sent (entry_of_shape shape.now) self.old self.new result }
     {
-        self.room.bytes.clear();
+        self.pending.bytes.clear();
         let stands = self
-            .room
-            .lead_ink(&self.state.drawing, &shape.drawing.ink());
-        self.spell_shape(shape)?;
+            .pending
+            .append_ink_prelude(&self.state.drawing, &shape.drawing.ink());
+        self.write_shape_spelling(shape)?;
         step_shape(&mut self.state, shape, stands);
         Ok(())
     }

@@ -18,13 +18,13 @@ use Rattle.nap_cli.specs.declared.words.Job.{Job}
 use Rattle.nap_cli.specs.declared.words.Job.TheVariants as job
 use Rattle.nap_cli.specs.Explaining.{Explains, Unread, outputs_of}
 
--- The command line, as clap reads it.
+-- The command line as clap parses it.
 
 -- `--hex`
 abbrev pub hex_rule : Rule
 hex_rule = record (new_rule (codes "hex")) { long = Some (codes "hex"); action = Some SetTrue }
 
--- `--budget N`, a number from 0 to the greatest budget, and with this text where it isn't given
+-- `--budget N`, a number from 0 to the greatest budget, with this text as its default
 abbrev pub budget_rule : Text → Rule
 budget_rule usual = record (new_rule (codes "budget")) {
   long = Some (codes "budget");
@@ -45,13 +45,13 @@ command_app usual name = with_rule (with_rule (new_app name) hex_rule) (budget_r
 abbrev pub canon_app : Text → App
 canon_app usual = with_rule (command_app usual (codes "canon")) stream_rule
 
--- the program, which has a version, of which a command is required, and whose words begin with it
+-- the program: it has a version, requires a command, and its own name comes first
 abbrev pub program_app : App
 program_app = record (new_app (codes "naplps")) {
   top = record (new_app (codes "naplps")).top { no_binary_name = true; subcommand_required = true; has_version = true };
 }
 
--- the commands of one page
+-- the commands on one page
 abbrev pub page_commands : Text → App
 page_commands usual =
     with_subcommand (with_subcommand (with_subcommand program_app (command_app usual (codes "list")).top) (command_app usual (codes "check")).top)
@@ -61,11 +61,11 @@ page_commands usual =
 abbrev pub make_app : App
 make_app = with_rule (new_app (codes "make")) stream_rule
 
--- and `batch`, which has no option
+-- the command line with all commands, `batch` among them, which has no option
 abbrev pub command_line_by : Text → App
 command_line_by usual = with_subcommand (with_subcommand (page_commands usual) make_app.top) (new_app (codes "batch")).top
 
--- the command line, with the usual budget where none is given
+-- the command line, with the usual budget as the default
 abbrev pub command_line : App
 command_line = command_line_by (decimal usual_budget)
 
@@ -74,12 +74,12 @@ action_name action.List = codes "list"
 action_name action.Check = codes "check"
 action_name action.Canon = codes "canon"
 
--- the text of an option that is there or not
+-- the text of an option that is given or not
 abbrev pub flag_text : Bool → Text
 flag_text true = codes "true"
 flag_text false = codes "false"
 
--- a text of decimal digits, behind a plus or not, that write this number of bytes, which is a budget
+-- decimal digits, after a plus or not, that write this budget
 abbrev pub IsBudget : Text → ℕ → Type 0
 IsBudget text n =
     IsNumeral 10 (without_leading_plus text) × (digits_value 10 (without_leading_plus text) ≡ n) × (n ≤ most_budget)
@@ -89,7 +89,7 @@ abbrev pub ChoosesStream : Action → List Row → Bool → Type 0
 ChoosesStream action.Canon rows stream = one_of (codes "stream") rows ≡ Some (flag_text stream)
 ChoosesStream _ rows stream = stream ≡ false
 
--- what clap found of the options is that of this command
+-- the options that clap parsed are those of this command
 pub record Chooses (rows : List Row) (c : Command) : Type 0 where
   pub hex : one_of (codes "hex") rows ≡ Some (flag_text c.hex)
   pub number : Text
@@ -97,27 +97,27 @@ pub record Chooses (rows : List Row) (c : Command) : Type 0 where
   pub budget : IsBudget number c.budget
   pub stream : ChoosesStream c.action rows c.stream
 
--- words that clap takes, and reads as this command
+-- words that clap accepts and parses as this command
 pub record Says (words : List Text) (c : Command) : Type 0 where
   pub right : fault_of command_line words ≡ []
   pub rows : List Row
   pub entered : subcommand_of command_line words ≡ Some (action_name c.action, rows)
   pub chooses : Chooses rows c
 
--- words that clap takes, and reads as `batch`
+-- words that clap accepts and parses as `batch`
 pub record SaysBatch (words : List Text) : Type 0 where
   pub right : fault_of command_line words ≡ []
   pub rows : List Row
   pub entered : subcommand_of command_line words ≡ Some (codes "batch", rows)
 
--- words that clap takes, and reads as `make`, with `--stream` or without
+-- words that clap accepts and parses as `make`, with `--stream` or without
 pub record SaysMake (words : List Text) (stream : Bool) : Type 0 where
   pub right : fault_of command_line words ≡ []
   pub rows : List Row
   pub entered : subcommand_of command_line words ≡ Some (codes "make", rows)
   pub chooses : one_of (codes "stream") rows ≡ Some (flag_text stream)
 
--- words say a command of one page, `make` or `batch`
+-- words that ask for a command on one page, `make` or `batch`
 abbrev pub SaysJob : List Text → Job → Type 0
 SaysJob words (job.Page c) = Says words c
 SaysJob words (job.Make stream) = SaysMake words stream
@@ -128,19 +128,19 @@ job_name (job.Page c) = action_name c.action
 job_name (job.Make stream) = codes "make"
 job_name job.Batch = codes "batch"
 
--- what clap found of the options is that of this job
+-- the options that clap parsed are those of this job
 abbrev pub ChoosesJob : List Row → Job → Type 0
 ChoosesJob rows (job.Page c) = Chooses rows c
 ChoosesJob rows (job.Make stream) = one_of (codes "stream") rows ≡ Some (flag_text stream)
 ChoosesJob rows job.Batch = Unit {0}
 
--- what clap finds in words that say no command: this kind of fault, or want of memory
+-- what clap finds in words that ask for no command: this kind of error, or lack of memory
 abbrev pub IsFault : List Text → ErrorKind → Type 0
 IsFault words k =
     (k ≡ kind.OutOfMemory) ⊎ (IsAmong k (fault_of command_line words) ⊎ ((k ≡ kind.MissingSubcommand) × ((j : Job) → SaysJob words j → ⊥)))
 
--- The program ran on an input, from the devices before to those after: the command that the words say, of one page,
--- `make` or `batch`; or none, and then nothing was read, and what clap finds in the words was told.
+-- The program ran on an input, from the devices before to those after: it executed the command that the words ask for;
+-- or they ask for none, nothing was read, and what clap found was printed or reported.
 abbrev pub Answers : {I : Type 0} → inlet.Ghosts I → List Text → I → I → Devices → Devices → ℕ → Type 0
 Answers i words start end before after status =
     ((c : Command) × Says words c × Ran i c start end before after status)

@@ -3,16 +3,16 @@ use Rattle.std.specs.Io.KnownBytes.{Appends}
 use Rattle.clap.specs.declared.error.kind.ErrorKind.{ErrorKind}
 use Rattle.clap.specs.declared.error.kind.ErrorKind.TheVariants as kind
 use Rattle.nap_list.specs.declared.device.outlet.Outlet as outlet
-use Rattle.nap_list.specs.Flushing.{flushed}
+use Rattle.nap_list.specs.Flushing.{flush_count}
 use Rattle.nap_command.specs.declared.answer.Verdict.{Verdict}
 use Rattle.nap_command.specs.declared.answer.Verdict.TheVariants as verdict
 use Rattle.nap_command.specs.declared.failure.Failure.{Failure}
 use Rattle.nap_command.specs.declared.failure.Failure.TheVariants as failure
 use Rattle.nap_command.specs.Devices.{Devices, Takes}
-use Rattle.nap_command.specs.Commands.{Tells}
+use Rattle.nap_command.specs.Commands.{Reports}
 
--- What the two outputs of a command show: the bytes that they took, where they tell them; whether the one was flushed
--- behind its last write, and how often it was flushed; which of them failed, and whether a write of the one did.
+-- The two outputs of a command: the bytes that they took, if they tell them; whether the first was flushed after its
+-- last write, and the number of flushes; which have failed, and whether a write of the first has.
 pub record Outputs : Type 0 where
   pub taken : Option (List ℕ)
   pub sent : Bool
@@ -44,13 +44,13 @@ outputs_of d = record {
   errors_failed = d.errors_failed;
 }
 
--- the input is as it was
+-- the input is unchanged
 pub record Unread (before after : Devices) : Type 0 where
   pub left : after.left ≡ before.left
   pub reads : after.reads ≡ before.reads
   pub failed : after.input_failed ≡ before.input_failed
 
--- the output is as it was
+-- the output is unchanged
 pub record Unprinted (before after : Outputs) : Type 0 where
   pub taken : after.taken ≡ before.taken
   pub sent : after.sent ≡ before.sent
@@ -58,42 +58,42 @@ pub record Unprinted (before after : Outputs) : Type 0 where
   pub write_failed : after.write_failed ≡ before.write_failed
   pub flushes : after.flushes ≡ before.flushes
 
--- the output was flushed once, where no write failed
+-- the output was flushed once, if no write failed
 abbrev pub FlushesOnce : Outputs → Outputs → Type 0
-FlushesOnce before after = before.write_failed ≡ false → after.flushes ≡ flushed after.write_failed before.flushes
+FlushesOnce before after = before.write_failed ≡ false → after.flushes ≡ flush_count after.write_failed before.flushes
 
--- The output took help, which has this text, and the command ended so: all was taken and sent on; or the output failed,
--- and had taken the first bytes; or there was no memory for the text.
+-- The output took help, which has this text, and the command ended like this: the output took all of it and was
+-- flushed, or it failed after a prefix, or memory ran out for the text.
 abbrev pub ShowsText : Outputs → Outputs → List ℕ → Result Verdict Failure → Type 0
 ShowsText before after text (Ok verdict.Accepted) = Takes before.taken after.taken text (Ok tt) × (after.failed ≡ before.failed) × (after.sent ≡ true) × FlushesOnce before after
 ShowsText before after text (Err (failure.Write taken)) = Takes before.taken after.taken text (Err (failure.Write taken)) × (after.failed ≡ true) × FlushesOnce before after
 ShowsText before after text (Err failure.Memory) = Unprinted before after
 ShowsText before after text _ = ⊥
 
--- help was shown, or failed to be
+-- help was printed, or failed to be
 pub record ShowsHelp (before after : Outputs) (status : ℕ) : Type 0 where
   pub text : List ℕ
   pub e : List ℕ
   pub ended : Result Verdict Failure
   pub shown : ShowsText before after text ended
   pub told : Appends before.told after.told e
-  pub tells : Tells e after.errors_failed ended status
+  pub tells : Reports e after.errors_failed ended status
 
--- There was no memory, which standard error tells; nothing was printed.
+-- Memory ran out, as standard error reports; nothing was printed.
 pub record WantsMemory (before after : Outputs) (status : ℕ) : Type 0 where
   pub unprinted : Unprinted before after
   pub e : List ℕ
   pub told : Appends before.told after.told e
-  pub tells : Tells e after.errors_failed (Err failure.Memory) status
+  pub tells : Reports e after.errors_failed (Err failure.Memory) status
 
--- Nothing was printed. What standard error took of what is wrong with the words is left to clap.
+-- Nothing was printed. What standard error took is clap's report of the words.
 pub record TellsWrong (before after : Outputs) (status : ℕ) : Type 0 where
   pub unprinted : Unprinted before after
   pub e : List ℕ
   pub told : Appends before.told after.told e
   pub status_is : status ≡ 2
 
--- what comes of words that are no command, by what clap finds in them: help, or want of memory, or what is wrong
+-- the answer to words that ask for no command, by what clap finds: help, lack of memory, or what is wrong
 abbrev pub Explains : ErrorKind → Outputs → Outputs → ℕ → Type 0
 Explains kind.DisplayHelp before after status = ShowsHelp before after status
 Explains kind.DisplayVersion before after status = ShowsHelp before after status

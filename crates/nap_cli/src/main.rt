@@ -11,8 +11,8 @@ use std::io::BufWriter;
 use std::process::ExitCode;
 use std::{env, io};
 
-/// How many bytes the output gathers, as many as a pipe takes at once.
-const GATHERED: usize = 65_536;
+/// The size of the output's buffer in bytes, as many as a pipe takes at once.
+const OUTPUT_BUFFER: usize = 65_536;
 
 fn main(rt: HostRuntime) -> io::Result<ExitCode> {
     let alloc = rt.alloc();
@@ -24,7 +24,7 @@ fn main(rt: HostRuntime) -> io::Result<ExitCode> {
         }
         Err(_) => None,
     };
-    let output = BufWriter::with_capacity(alloc, GATHERED, rt.stdout());
+    let output = BufWriter::with_capacity(alloc, OUTPUT_BUFFER, rt.stdout());
     let (Some(words), Ok(output)) = (words, output) else {
         let _ = eprintln!(rt; "no memory");
         return Ok(ExitCode::from(3));

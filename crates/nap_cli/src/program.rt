@@ -1,4 +1,4 @@
-//! The program on its words.
+//! The program on its command line.
 ghost use Rattle.std.specs.Prelude.{◌≡◌, ◌<◌, ◌^◌, false, map, string_bytes};
 ghost use Rattle.clap.specs.Values.{kind_of};
 ghost use Rattle.nap_command.specs.Devices.{devices};
@@ -10,11 +10,11 @@ use crate::wrong::text_of;
 use clap::Error;
 use clap::error::ErrorKind;
 use nap_batch::batch;
-use nap_command::{Failure, execute, execute_make, tell, write_whole};
+use nap_command::{Failure, execute, execute_make, report, write_whole};
 use nap_list::{Inlet, Outlet};
 use std::alloc::Global;
 
-/// Help goes to the output. What is wrong with the words goes to standard error, and the output stays as it is.
+/// Prints help to the output. Reports a wrong command line on standard error, and leaves the output unchanged.
 fn explain<O: Outlet, E: Outlet>(
     alloc: Global,
     words: &[String],
@@ -26,10 +26,10 @@ fn explain<O: Outlet, E: Outlet>(
         Explains (kind_of error) (seen output errors.old) (seen result.0 errors.new) result.1 }
 {
     let Ok(text) = text_of(alloc, words, &error) else {
-        return (output, tell(Failure::Memory, errors));
+        return (output, report(Failure::Memory, errors));
     };
     if error.kind() == ErrorKind::OutOfMemory {
-        return (output, tell(Failure::Memory, errors));
+        return (output, report(Failure::Memory, errors));
     }
     if error.use_stderr() {
         let _ = write_whole(errors, text.as_bytes());
@@ -39,13 +39,14 @@ fn explain<O: Outlet, E: Outlet>(
     match write_whole(&mut output, text.as_bytes()) {
         Ok(()) => (output, 0),
         Err(fault) => {
-            let told = tell(fault, errors);
+            let told = report(fault, errors);
             (output, told)
         }
     }
 }
 
-/// The program on its words, those after its own name: the output again, and the exit status.
+/// Runs the program on its words, without its own name. Returns the output and the exit status (PROFILE.md, The
+/// command).
 pub fn run<I: Inlet, O: Outlet + Drop, E: Outlet>(
     alloc: Global,
     words: &[String],

@@ -1,4 +1,4 @@
-//! How the words of a command line say a command.
+//! Parsing of the command line (PROFILE.md, The command).
 ghost use Rattle.std.specs.Prelude.{◌≡◌, ◌≢◌, ◌⊎◌, Bool, false, IfErr, IfOk, MatchOption, Some, codes, decimal, map, string_bytes};
 ghost use Rattle.clap.specs.Words.{app_of, found_of, kind_of, one_of, rows_of};
 ghost use Rattle.clap.specs.declared.builder.command.Command.TheViews.{out-Command as fields_of};
@@ -126,7 +126,7 @@ prints
   accepted 1 entries
   0";
 
-/// What the words of a command line ask for.
+/// What a command line asks for.
 #[derive(Clone, Copy, PartialEq, Eq, Drop)]
 pub enum Job {
     /// A command on one page.
@@ -137,7 +137,7 @@ pub enum Job {
     Batch,
 }
 
-/// The texts of `--budget` that name its limits.
+/// The texts of `--budget` with its limits.
 #[derive(Drop)]
 struct BudgetTexts {
     usual: String,
@@ -158,7 +158,7 @@ impl BudgetTexts {
     }
 }
 
-/// One command of the program, with the options that each has.
+/// Returns a command of the program with the options that all have.
 fn subcommand<'a>(
     alloc: Global,
     texts: &'a BudgetTexts,
@@ -188,7 +188,7 @@ fn subcommand<'a>(
         .arg(budget)
 }
 
-/// `canon`, which has one option more.
+/// Returns `canon`, which has one more option.
 fn canon_command<'a>(alloc: Global, texts: &'a BudgetTexts) -> Result<clap::Command<'a>, AllocError>
     ensures app { IfOk result (λ c. app_of c ≡ canon_app (string_bytes texts.entry.now.usual)) }
     ensures local { IfOk result (λ c. (fields_of c).has_globals ≡ false) }
@@ -202,7 +202,7 @@ fn canon_command<'a>(alloc: Global, texts: &'a BudgetTexts) -> Result<clap::Comm
     subcommand(alloc, texts, CANON, CANON_USAGE, CANON_HELP, CANON_EXAMPLE)?.arg(stream)
 }
 
-/// `make`, which has one option.
+/// Returns `make`, which has one option.
 fn make_command<'a>(alloc: Global) -> Result<clap::Command<'a>, AllocError>
     ensures { IfOk result (λ c. (app_of c ≡ make_app) × ((fields_of c).has_globals ≡ false)) }
 {
@@ -219,7 +219,7 @@ fn make_command<'a>(alloc: Global) -> Result<clap::Command<'a>, AllocError>
         .arg(stream)
 }
 
-/// The whole command line.
+/// Returns the command line of the program.
 fn program<'a>(alloc: Global, texts: &'a BudgetTexts) -> Result<clap::Command<'a>, AllocError>
     ensures { IfOk result (λ c. app_of c ≡ command_line_by (string_bytes texts.entry.now.usual)) }
 {
@@ -236,7 +236,7 @@ fn program<'a>(alloc: Global, texts: &'a BudgetTexts) -> Result<clap::Command<'a
         .subcommand(canon_command(alloc, texts)?)?
         .subcommand(make_command(alloc)?)?
         .subcommand(
-            // It has no option.
+            // `batch` has no option.
             clap::Command::new(alloc, BATCH)
                 .override_usage(BATCH_USAGE)
                 .about(BATCH_HELP)
@@ -244,7 +244,7 @@ fn program<'a>(alloc: Global, texts: &'a BudgetTexts) -> Result<clap::Command<'a
         )
 }
 
-/// What clap says where words say no command.
+/// Returns clap's error for words without a command.
 fn no_command(program: &mut clap::Command<'_>) -> Error
     ensures { (kind_of result ≡ ErrorKind.OutOfMemory) ⊎ (kind_of result ≡ ErrorKind.MissingSubcommand) }
 {
@@ -254,7 +254,7 @@ fn no_command(program: &mut clap::Command<'_>) -> Error
     }
 }
 
-/// The job that these words say, without the program's name; else clap's text of help or of what is wrong.
+/// Returns the job that the words ask for, or clap's error: help, or what is wrong.
 pub fn parse(alloc: Global, words: &[String]) -> Result<Job, Error>
     ensures said { IfOk result (λ j. SaysJob (map string_bytes words.now) j) }
     ensures fault { IfErr result (λ e. IsFault (map string_bytes words.now) (kind_of e)) }
@@ -272,7 +272,7 @@ pub fn parse(alloc: Global, words: &[String]) -> Result<Job, Error>
     }
 }
 
-/// The job of this name with these options. clap has checked them, so that there is one.
+/// Returns the job with this name and these options, which clap has checked.
 fn job_named(name: &str, options: &ArgMatches<'_>) -> Option<Job>
     ensures { MatchOption result
         ((j : Job) → job_name j ≡ name.now → ChoosesJob (rows_of (found_of options.now)) j → ⊥)
@@ -289,7 +289,7 @@ fn job_named(name: &str, options: &ArgMatches<'_>) -> Option<Job>
     Some(Job::Page(command))
 }
 
-/// The command of this name with these options. clap has checked them, so that there is one.
+/// Returns the command with this name and these options, which clap has checked.
 fn command_named(name: &str, options: &ArgMatches<'_>) -> Option<Command>
     ensures { MatchOption result
         ((c : Command) → action_name c.action ≡ name.now → Chooses (rows_of (found_of options.now)) c → ⊥)
@@ -304,7 +304,7 @@ fn command_named(name: &str, options: &ArgMatches<'_>) -> Option<Command>
     })
 }
 
-/// The action of the command with this name.
+/// Returns the action of the command with this name.
 fn action_named(name: &str) -> Option<Action>
     ensures { MatchOption result ((a : Action) → action_name a ≢ name.now) (λ a. action_name a ≡ name.now) }
 {
@@ -316,7 +316,7 @@ fn action_named(name: &str) -> Option<Action>
     }
 }
 
-/// Whether `--stream` is among these options.
+/// Whether `--stream` is among the options.
 fn stream_chosen(options: &ArgMatches<'_>) -> Option<bool>
     ensures { MatchOption result ((stream : Bool) → one_of (codes "stream") (rows_of (found_of options.now)) ≡ Some (flag_text stream) → ⊥)
         (λ stream. one_of (codes "stream") (rows_of (found_of options.now)) ≡ Some (flag_text stream)) }
@@ -325,7 +325,7 @@ fn stream_chosen(options: &ArgMatches<'_>) -> Option<bool>
     Some(stream)
 }
 
-/// Whether an action prints as it reads, by these options of its command.
+/// Whether an action prints as it reads, by the options of its command.
 fn streams(action: Action, options: &ArgMatches<'_>) -> Option<bool>
     ensures { MatchOption result ((stream : Bool) → ChoosesStream action (rows_of (found_of options.now)) stream → ⊥)
         (λ stream. ChoosesStream action (rows_of (found_of options.now)) stream) }

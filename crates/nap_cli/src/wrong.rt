@@ -1,18 +1,18 @@
-//! What is told of words that say no command.
+//! Reports of a wrong command line.
 
 use clap::Error;
 use clap::error::ErrorKind;
 use nap_reader::Budget;
 use std::alloc::{AllocError, Global};
 
-/// Behind what clap says of a word that is no command.
+/// Appended to clap's report of a word that is no command.
 const COMMANDS: &str = "The commands are list, check, canon, make and batch.\n";
 
-/// Behind what clap says, where a word may be meant for the file of a page.
+/// Appended to clap's report if a word may be meant as the file of a page.
 const HINT: &str = "A page is read from standard input: naplps check < FILE\n";
 
-/// Whether a word may be meant for the file of a page: one that clap took for a command, but behind `help`; or one behind a
-/// command that is no option.
+/// Whether a word may be meant as the file of a page: one that clap took for a command, but not after `help`; or one
+/// after a command that isn't an option.
 fn names_file(words: &[String], kind: ErrorKind) -> bool {
     let mut words = words.iter();
     let Some(first) = words.next() else {
@@ -27,7 +27,7 @@ fn names_file(words: &[String], kind: ErrorKind) -> bool {
     }
 }
 
-/// What clap says of a wrong value of `--budget`, with what is allowed in place of what it says behind the last colon.
+/// Returns clap's report of a wrong value of `--budget`, with the allowed range instead of what follows its last colon.
 fn with_range(alloc: Global, said: &str) -> Result<String, AllocError> {
     match said.rsplit_once(": ") {
         Some((value, _)) => format!(in alloc;
@@ -38,7 +38,7 @@ fn with_range(alloc: Global, said: &str) -> Result<String, AllocError> {
     }
 }
 
-/// What clap says of these words, with what helps behind it.
+/// Returns clap's report of these words, followed by help.
 pub fn text_of(alloc: Global, words: &[String], error: &Error) -> Result<String, AllocError> {
     let kind = error.kind();
     let mut text = error.to_string(alloc)?;

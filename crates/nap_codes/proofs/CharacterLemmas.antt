@@ -6,8 +6,8 @@ use Rattle.nap_codes.specs.declared.code_set.CodeSet.TheVariants as code_sets
 use Rattle.nap_codes.specs.declared.code_set.CodeSets.{CodeSets}
 use Rattle.nap_codes.specs.declared.opcode.Left.{Left}
 use Rattle.nap_codes.specs.declared.opcode.Opcode.{Opcode}
-use Rattle.nap_codes.specs.CodeSets.{characters_of, set_at}
-use Rattle.nap_codes.specs.Front.{whole, plain_code, opcode_front, pdi_front, gl_front, control0_front, front}
+use Rattle.nap_codes.specs.CodeSets.{char_set_of, set_at}
+use Rattle.nap_codes.specs.Front.{whole, non_pdi_code, opcode_front, pdi_front, gl_front, control0_front, front}
 use Rattle.nap_codes.specs.Laws.{IsGraphic}
 use Rattle.nap_codes.specs.Lexer.{LexerState, IsCharacter}
 use Rattle.nap_codes.specs.Tables.{row_of, opcode_rows, left_out_opcode}
@@ -32,14 +32,14 @@ no_char_of_pdi sets (Some op) set byte e = no_char_of_opcode sets op (left_out_o
 
 -- the code of a set is a character where the set is one of characters
 in_set : (sets : CodeSets) (byte : ℕ) (at : CodeSet) (set : CharSet) →
-    (characters_of at ≡ Some set) ↔ (gl_front sets byte (plain_code at byte) ≡ whole (codes.Char set byte) 1 sets)
-unfolding plain_code gl_front
+    (char_set_of at ≡ Some set) ↔ (gl_front sets byte (non_pdi_code at byte) ≡ whole (codes.Char set byte) 1 sets)
+unfolding non_pdi_code gl_front
 in_set sets byte code_sets.Pdi set = (λ e. cc, λ e. absurd (no_char_of_pdi sets (row_of opcode_rows byte) set byte e))
 in_set sets byte _ set = (λ e. cc, λ e. cc)
 
 -- a byte from 20 to 7F is a character where a set of characters is in GL
 pub in_gl : (sets : CodeSets) (byte : ℕ) (set : CharSet) → IsGraphic byte →
-    (characters_of (set_at sets sets.gl) ≡ Some set) ↔ (front sets (byte ∷ []) ≡ whole (codes.Char set byte) 1 sets)
+    (char_set_of (set_at sets sets.gl) ≡ Some set) ↔ (front sets (byte ∷ []) ≡ whole (codes.Char set byte) 1 sets)
 unfolding front control0_front
 in_gl sets byte set range =
     rw (no_control0 byte range.0, graphic_test byte range)
@@ -53,7 +53,7 @@ all_alike lexer byte set range k other range' =
 
 -- no code is half read: all are where a set of characters is in GL
 pub all_in_gl : (lexer : LexerState) (set : CharSet) → lexer.half ≡ [] →
-    (characters_of (set_at lexer.sets lexer.sets.gl) ≡ Some set) ↔ ((byte : ℕ) → IsGraphic byte → IsCharacter lexer byte set)
+    (char_set_of (set_at lexer.sets lexer.sets.gl) ≡ Some set) ↔ ((byte : ℕ) → IsGraphic byte → IsCharacter lexer byte set)
 all_in_gl lexer set rests =
     (λ e byte range. (rests, (in_gl lexer.sets byte set range).0 e), λ k. (in_gl lexer.sets 0x20 set space).1 (k 0x20 space).1)
 

@@ -9,7 +9,7 @@ use Rattle.nap_codes.specs.declared.control.Row.{Row}
 use Rattle.nap_codes.specs.declared.control.Row.TheVariants.{Whole}
 use Rattle.nap_codes.specs.CodeSets.{set_at}
 use Rattle.nap_codes.specs.Tables.{row_of, number_rows, control0_rows, control1_rows}
-use Rattle.nap_codes.specs.Front.{whole, plain_code, front}
+use Rattle.nap_codes.specs.Front.{whole, non_pdi_code, front}
 use Rattle.nap_codes.specs.Laws.{IsGraphic, IsInRange, CodeRanges, OneByteOpcode, OneByteOperand}
 use Rattle.nap_codes.specs.Spelling.{Spells}
 use Rattle.nap_codes.specs.Spelling as spelling
@@ -46,8 +46,8 @@ number_below : (intermediate number : ℕ) → row_of number_rows intermediate �
 unfolding number_rows
 number_below intermediate number e = row_found (λ _ n. n < 4) number_rows intermediate number (omega arith) e
 
-plain_code_is_plain : (set : CodeSet) (byte : ℕ) → IsGraphic byte → IfSome (plain_code set byte) IsPlain
-unfolding plain_code
+plain_code_is_plain : (set : CodeSet) (byte : ℕ) → IsGraphic byte → IfSome (non_pdi_code set byte) IsPlain
+unfolding non_pdi_code
 plain_code_is_plain code_sets.Pdi byte range = tt
 plain_code_is_plain _ byte range = (range, refl)
 

@@ -10,7 +10,7 @@ use Rattle.nap_codes.specs.declared.control.TextStep.{TextStep}
 use Rattle.nap_codes.specs.CodeSets.{after_control0}
 use Rattle.nap_codes.specs.Front.{whole, control0_front, front}
 use Rattle.nap_codes.specs.Lexer.{LexerState, Steps}
-use Rattle.nap_codes.specs.Tables.{row_of, control0_rows, step_in}
+use Rattle.nap_codes.specs.Tables.{row_of, control0_rows, text_step_of_row}
 use Rattle.nap_codes.specs.Laws.{FormatEffectorFront, FormatEffectorKnown}
 use Rattle.nap_codes.proofs.TableLemmas.{control0_below, effector_known, shift_out_row, shift_in_row}
 
@@ -35,7 +35,7 @@ unfolding front control0_front
 format_effector_alone sets byte step row = rw (row, no_shift_after sets byte (codes.Step step) row (λ is. cc)) refl
 
 -- the row of a format effector
-effector_row : (row : Option Row) (step : TextStep) → step_in row ≡ Some step → row ≡ Some (Whole (codes.Step step))
+effector_row : (row : Option Row) (step : TextStep) → text_step_of_row row ≡ Some step → row ≡ Some (Whole (codes.Step step))
 effector_row (Some (Whole (codes.Step move))) step is = let same : move ≡ step = cc in rw same refl
 effector_row None step is = let bad : ⊥ = cc in absurd bad
 effector_row _ step is = let bad : ⊥ = cc in absurd bad

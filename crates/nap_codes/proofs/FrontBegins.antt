@@ -5,12 +5,12 @@ use Rattle.nap_codes.specs.declared.code.CodeFault.{CodeFault}
 use Rattle.nap_codes.specs.declared.code_set.CodeSet.TheVariants as code_sets
 use Rattle.nap_codes.specs.declared.code_set.CodeSets.{CodeSets}
 use Rattle.nap_codes.specs.declared.control.Argument.TheVariants as arguments
-use Rattle.nap_codes.specs.declared.lexer.Half.{Half}
-use Rattle.nap_codes.specs.declared.lexer.Half.TheVariants.{Control, Designation, SpacedDesignation, PositionRow}
+use Rattle.nap_codes.specs.declared.lexer.HalfRead.{HalfRead}
+use Rattle.nap_codes.specs.declared.lexer.HalfRead.TheVariants.{Control, Designation, SpacedDesignation, PositionRow}
 use Rattle.nap_codes.specs.CodeSets.{set_at}
 use Rattle.nap_codes.specs.Tables.{row_of, control0_rows, control1_rows, opcode_rows}
-use Rattle.nap_codes.specs.Front.{Front, unfinished, whole, refused, one_further, plain_code, pdi_front, gl_front, position_front, argument_of, designation_front, sequence_front, control1_front, escape_front, more_front, control0_front, front}
-use Rattle.nap_codes.specs.Half.{half_bytes, IsHalf, rest_front}
+use Rattle.nap_codes.specs.Front.{Front, unfinished, whole, refused, one_byte_later, non_pdi_code, pdi_front, gl_front, position_front, argument_of, designation_front, sequence_front, control1_front, escape_front, more_front, control0_front, front}
+use Rattle.nap_codes.specs.HalfReadCodes.{half_read_bytes, IsHalfRead, rest_front}
 use Rattle.nap_codes.specs.Laws.{IsGraphic}
 use Rattle.nap_codes.proofs.TableLemmas.{graphic_test, no_control0, no_control1}
 
@@ -19,53 +19,53 @@ use Rattle.nap_codes.proofs.TableLemmas.{graphic_test, no_control0, no_control1}
 -- a front so many bytes further
 abbrev pub further : ℕ → Front → Front
 further zero r = r
-further (suc n) r = one_further (further n r)
+further (suc n) r = one_byte_later (further n r)
 
 pub further-unfinished : (n : ℕ) → further n unfinished ≡ unfinished
-unfolding one_further
+unfolding one_byte_later
 further-unfinished zero = refl
-further-unfinished (suc n) = ap one_further (further-unfinished n)
+further-unfinished (suc n) = ap one_byte_later (further-unfinished n)
 
 pub further-whole : (n : ℕ) (code : Code) (m : ℕ) (after : CodeSets) → further n (whole code m after) ≡ whole code (n + m) after
-unfolding one_further
+unfolding one_byte_later
 further-whole zero code m after = ap (λ k. whole code k after) (omega arith)
 further-whole (suc n) code m after =
-    ap one_further (further-whole n code m after) ∙ ap (λ k. whole code k after) (omega arith)
+    ap one_byte_later (further-whole n code m after) ∙ ap (λ k. whole code k after) (omega arith)
 
 pub further-refused : (n : ℕ) (fault : CodeFault) (i : ℕ) → further n (refused fault i) ≡ refused fault (n + i)
-unfolding one_further
+unfolding one_byte_later
 further-refused zero fault i = ap (refused fault) (omega arith)
-further-refused (suc n) fault i = ap one_further (further-refused n fault i) ∙ ap (refused fault) (omega arith)
+further-refused (suc n) fault i = ap one_byte_later (further-refused n fault i) ∙ ap (refused fault) (omega arith)
 
 designation_begins : (sets : CodeSets) (intermediate : ℕ) (bytes : List ℕ) → (0x28 ≤ intermediate) × (intermediate ≤ 0x2F) →
-    escape_front sets (intermediate ∷ bytes) ≡ one_further (designation_front sets intermediate bytes)
+    escape_front sets (intermediate ∷ bytes) ≡ one_byte_later (designation_front sets intermediate bytes)
 unfolding escape_front control1_front sequence_front
 designation_begins sets intermediate bytes range =
     rw (no_control1 intermediate (omega arith), ne_eqb intermediate 0x6E (λ e. omega arith), ne_eqb intermediate 0x6F (λ e. omega arith), le-leb 0x28 intermediate range.0, le-leb intermediate 0x2F range.1)
     refl
 
 -- a half-read code and the bytes behind it
-pub front_of_half : (sets : CodeSets) (half : Half) (bytes : List ℕ) → IsHalf half →
-    front sets (half_bytes half ++ bytes) ≡ further (length (half_bytes half)) (rest_front sets half bytes)
+pub front_of_half : (sets : CodeSets) (half : HalfRead) (bytes : List ℕ) → IsHalfRead half →
+    front sets (half_read_bytes half ++ bytes) ≡ further (length (half_read_bytes half)) (rest_front sets half bytes)
 unfolding front row_of control0_rows control0_front more_front escape_front control1_rows control1_front argument_of designation_front position_front
 front_of_half sets (Control arguments.Macro) bytes is = refl
 front_of_half sets (Control arguments.ShownMacro) bytes is = refl
 front_of_half sets (Control arguments.Glyph) bytes is = refl
 front_of_half sets (Control arguments.Mask) bytes is = refl
 front_of_half sets (Control arguments.Count) bytes is = refl
-front_of_half sets (Designation intermediate) bytes is = ap one_further (designation_begins sets intermediate bytes is)
-front_of_half sets (SpacedDesignation intermediate) bytes is = ap one_further (designation_begins sets intermediate (0x20 ∷ bytes) is)
+front_of_half sets (Designation intermediate) bytes is = ap one_byte_later (designation_begins sets intermediate bytes is)
+front_of_half sets (SpacedDesignation intermediate) bytes is = ap one_byte_later (designation_begins sets intermediate (0x20 ∷ bytes) is)
 front_of_half sets (PositionRow row) bytes is = rw (graphic_test row is) refl
 front_of_half sets _ bytes is = refl
 
 -- a code of the set in GL
 pub gl_begins : (sets : CodeSets) (byte : ℕ) → IsGraphic byte →
-    front sets (byte ∷ []) ≡ gl_front sets byte (plain_code (set_at sets sets.gl) byte)
+    front sets (byte ∷ []) ≡ gl_front sets byte (non_pdi_code (set_at sets sets.gl) byte)
 unfolding front control0_front
 gl_begins sets byte range = rw (no_control0 byte range.0, graphic_test byte range) refl
 
 pub pdi_begins : (sets : CodeSets) (byte : ℕ) → IsGraphic byte → set_at sets sets.gl ≡ code_sets.Pdi →
     front sets (byte ∷ []) ≡ pdi_front sets byte (row_of opcode_rows byte)
-unfolding gl_front plain_code
+unfolding gl_front non_pdi_code
 pdi_begins sets byte range pdi =
-    gl_begins sets byte range ∙ ap (λ set. gl_front sets byte (plain_code set byte)) pdi
+    gl_begins sets byte range ∙ ap (λ set. gl_front sets byte (non_pdi_code set byte)) pdi

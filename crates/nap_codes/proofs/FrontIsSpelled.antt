@@ -20,13 +20,13 @@ use Rattle.nap_codes.specs.declared.opcode.Left.{Left}
 use Rattle.nap_codes.specs.declared.opcode.Opcode.{Opcode}
 use Rattle.nap_codes.specs.CodeSets.{set_at, with_set, after_control0}
 use Rattle.nap_codes.specs.Tables.{row_of, number_rows, set_rows, designation, control0_rows, control1_rows, mask_rows, opcode_rows, left_out_opcode}
-use Rattle.nap_codes.specs.Front.{Front, unfinished, whole, refused, one_further, is_graphic, bad_byte, last_byte, plain_code, opcode_front, pdi_front, gl_front, shifted_front, single_shift_front, column_front, position_front, argument_of, with_argument, argument_front, designated_front, final_front, designation_front, sequence_front, control1_front, escape_front, more_front, control0_front, front}
-use Rattle.nap_codes.specs.Half.{control_of}
+use Rattle.nap_codes.specs.Front.{Front, unfinished, whole, refused, one_byte_later, is_graphic, bad_byte, last_byte, non_pdi_code, opcode_front, pdi_front, gl_front, shifted_front, single_shift_front, column_front, position_front, argument_of, with_argument, argument_front, designated_front, final_front, designation_front, sequence_front, control1_front, escape_front, more_front, control0_front, front}
+use Rattle.nap_codes.specs.HalfReadCodes.{control_of}
 use Rattle.nap_codes.specs.Laws.{IsGraphic}
-use Rattle.nap_codes.specs.Spelling.{Spells, SpellsRefused, IsSpelling, IsProperPrefix, accepted, refusal, escape_fault, escaped_fault, place_fault, stray_fault}
+use Rattle.nap_codes.specs.Spelling.{Spells, SpellsRefused, IsSpelling, IsProperPrefix, accepted, refusal, escape_fault, escaped_fault, place_fault, bad_byte_fault}
 use Rattle.nap_codes.specs.Spelling as spelling
 use Rattle.nap_codes.proofs.RowLemmas.{row_missing}
-use Rattle.nap_codes.proofs.TableLemmas.{graphic_range, space, control0_missing, opcode_missing, no_control1, Leads, leads, shift2, escape, position, shift3, shifts_alone, shift_out_row, shift_in_row, control_of-argument_of, no_plain_code, paired-rows}
+use Rattle.nap_codes.proofs.TableLemmas.{graphic_range, space, control0_missing, opcode_missing, no_control1, Leads, leads, shift2, escape, position, shift3, shifts_alone, shift_out_row, shift_in_row, control_of-argument_of, no_plain_code, option_pair-rows}
 use Rattle.nap_codes.proofs.ControlLemmas.{is_shift}
 
 -- What stands at the front of a list is told by the spellings.
@@ -38,7 +38,7 @@ pub data Answers (sets : CodeSets) (read xs : List ℕ) : Front → Type 0 where
       Answers sets read xs (whole code n after)
   refused_at : {fault : CodeFault} {i : ℕ} → SpellsRefused sets (read ++ take (suc i) xs) fault →
       Answers sets read xs (refused fault i)
-  stray_at : {fault : CodeFault} {i : ℕ} → fault ≡ stray_fault (read ++ take i xs) (get_or xs i 0) →
+  stray_at : {fault : CodeFault} {i : ℕ} → fault ≡ bad_byte_fault (read ++ take i xs) (get_or xs i 0) →
       Answers sets read xs (refused fault i)
 
 Answers-cond : {sets : CodeSets} {read xs : List ℕ} (b : Bool) {x y : Front} →
@@ -47,22 +47,22 @@ Answers-cond true f g = f refl
 Answers-cond false f g = g refl
 
 -- one byte more was read
-one_further-Answers : (sets : CodeSets) (read : List ℕ) (x : ℕ) (xs : List ℕ) (r : Front) →
-    Answers sets (read ++ x ∷ []) xs r → Answers sets read (x ∷ xs) (one_further r)
-unfolding one_further
-one_further-Answers sets read x xs _ (unfinished_at byte more s) =
+one_byte_later-Answers : (sets : CodeSets) (read : List ℕ) (x : ℕ) (xs : List ℕ) (r : Front) →
+    Answers sets (read ++ x ∷ []) xs r → Answers sets read (x ∷ xs) (one_byte_later r)
+unfolding one_byte_later
+one_byte_later-Answers sets read x xs _ (unfinished_at byte more s) =
     unfinished_at byte more (subst (IsSpelling sets) (append_assoc read (x ∷ []) (xs ++ byte ∷ more)) s)
-one_further-Answers sets read x xs _ (whole_at {code = code} {n = n} {after = after} s) =
+one_byte_later-Answers sets read x xs _ (whole_at {code = code} {n = n} {after = after} s) =
     whole_at (subst (λ bytes. Spells sets bytes code after) (append_assoc read (x ∷ []) (take n xs)) s)
-one_further-Answers sets read x xs _ (refused_at {fault = fault} {i = i} s) =
+one_byte_later-Answers sets read x xs _ (refused_at {fault = fault} {i = i} s) =
     refused_at (subst (λ bytes. SpellsRefused sets bytes fault) (append_assoc read (x ∷ []) (take (suc i) xs)) s)
-one_further-Answers sets read x xs _ (stray_at {fault = fault} {i = i} e) =
-    stray_at (e ∙ ap (λ bytes. stray_fault bytes (get_or xs i 0)) (append_assoc read (x ∷ []) (take i xs)))
+one_byte_later-Answers sets read x xs _ (stray_at {fault = fault} {i = i} e) =
+    stray_at (e ∙ ap (λ bytes. bad_byte_fault bytes (get_or xs i 0)) (append_assoc read (x ∷ []) (take i xs)))
 
 -- a byte that continues no spelling
 bad_byte-Answers : (sets : CodeSets) (read : List ℕ) (fault : CodeFault) (byte : ℕ) (bytes : List ℕ) → place_fault read ≡ fault →
     Answers sets read (byte ∷ bytes) (bad_byte fault byte)
-unfolding bad_byte stray_fault
+unfolding bad_byte bad_byte_fault
 bad_byte-Answers sets read fault byte bytes e = stray_at (rw (append-nil read, e) refl)
 
 -- the last byte of a spelling, where it passes a test
@@ -75,14 +75,14 @@ passed sets read fault byte bytes code false e spells = bad_byte-Answers sets re
 
 -- what follows SS2 or SS3
 module _ (sets : CodeSets) (lead : ℕ) (set : CodeSet)
-    (spells : (byte : ℕ) (code : Code) → IsGraphic byte → plain_code set byte ≡ Some code → Spells sets (lead ∷ byte ∷ []) code sets)
+    (spells : (byte : ℕ) (code : Code) → IsGraphic byte → non_pdi_code set byte ≡ Some code → Spells sets (lead ∷ byte ∷ []) code sets)
     (refuses : (byte : ℕ) → IsGraphic byte → set ≡ code_sets.Pdi → SpellsRefused sets (lead ∷ byte ∷ []) ShiftedCode)
     (place : place_fault (lead ∷ []) ≡ ShiftAlone) where
-  some_shifted : (byte : ℕ) (found : Option Code) → IsGraphic byte → plain_code set byte ≡ found → IsSpelling sets (lead ∷ byte ∷ [])
+  some_shifted : (byte : ℕ) (found : Option Code) → IsGraphic byte → non_pdi_code set byte ≡ found → IsSpelling sets (lead ∷ byte ∷ [])
   some_shifted byte (Some code) range e = accepted (spells byte code range e)
   some_shifted byte None range e = refusal (refuses byte range (no_plain_code set byte e))
 
-  shifted_found : (byte : ℕ) (bytes : List ℕ) (found : Option Code) → IsGraphic byte → plain_code set byte ≡ found →
+  shifted_found : (byte : ℕ) (bytes : List ℕ) (found : Option Code) → IsGraphic byte → non_pdi_code set byte ≡ found →
       Answers sets (lead ∷ []) (byte ∷ bytes) (shifted_front sets found)
   unfolding shifted_front
   shifted_found byte bytes (Some code) range e = whole_at (spells byte code range e)
@@ -90,9 +90,9 @@ module _ (sets : CodeSets) (lead : ℕ) (set : CodeSet)
 
   single_shift-Answers : (bytes : List ℕ) → Answers sets (lead ∷ []) bytes (single_shift_front sets set bytes)
   unfolding single_shift_front
-  single_shift-Answers [] = unfinished_at 0x20 [] (some_shifted 0x20 (plain_code set 0x20) (omega arith, omega arith) refl)
+  single_shift-Answers [] = unfinished_at 0x20 [] (some_shifted 0x20 (non_pdi_code set 0x20) (omega arith, omega arith) refl)
   single_shift-Answers (byte ∷ bytes) =
-      Answers-cond (is_graphic byte) (λ e. shifted_found byte bytes (plain_code set byte) (graphic_range byte e) refl)
+      Answers-cond (is_graphic byte) (λ e. shifted_found byte bytes (non_pdi_code set byte) (graphic_range byte e) refl)
       (λ _. bad_byte-Answers sets (lead ∷ []) ShiftAlone byte bytes place)
 
 -- a position
@@ -109,7 +109,7 @@ unfolding position_front place_fault
 position-Answers sets [] = unfinished_at 0x20 (0x20 ∷ []) (accepted (spelling.position space space))
 position-Answers sets (byte ∷ bytes) =
     Answers-cond (is_graphic byte)
-    (λ e. one_further-Answers sets (0x1C ∷ []) byte bytes _ (column-Answers sets byte bytes (graphic_range byte e)))
+    (λ e. one_byte_later-Answers sets (0x1C ∷ []) byte bytes _ (column-Answers sets byte bytes (graphic_range byte e)))
     (λ _. bad_byte-Answers sets (0x1C ∷ []) BadArgument byte bytes refl)
 
 -- the argument of a control
@@ -148,7 +148,7 @@ designated_found : (sets : CodeSets) (read : List ℕ) (intermediate byte : ℕ)
     designation intermediate byte ≡ found → Answers sets read (byte ∷ bytes) (designated_front sets byte found)
 unfolding designated_front designation
 designated_found sets read intermediate byte bytes (Some named) place spells e =
-    let rows = paired-rows (row_of number_rows intermediate) (row_of set_rows byte) named e in
+    let rows = option_pair-rows (row_of number_rows intermediate) (row_of set_rows byte) named e in
     whole_at (spells named.0 named.1 rows.0 rows.1)
 designated_found sets read intermediate byte bytes None place spells e =
     bad_byte-Answers sets read BadEscape byte bytes place
@@ -187,7 +187,7 @@ designation-Answers sets intermediate [] range =
     unfinished_at 0x42 [] (accepted (spelling.designation (has_number intermediate range).1 primary_row))
 designation-Answers sets intermediate (byte ∷ bytes) range =
     Answers-cond (eqb byte 0x20)
-    (λ e. one_further-Answers sets (0x1B ∷ intermediate ∷ []) byte bytes _ (rw (eqb-true byte 0x20 e) (final-Answers sets intermediate bytes range)))
+    (λ e. one_byte_later-Answers sets (0x1B ∷ intermediate ∷ []) byte bytes _ (rw (eqb-true byte 0x20 e) (final-Answers sets intermediate bytes range)))
     (λ _.
     designated_found sets (0x1B ∷ intermediate ∷ []) intermediate byte bytes (designation intermediate byte)
     (no_control_place intermediate [] range.1) (λ number set n s. spelling.designation n s) refl)
@@ -205,7 +205,7 @@ sequence-Answers sets byte bytes =
     Answers-cond (eqb byte 0x6F) (λ e. whole_at (rw (eqb-true byte 0x6F e) spelling.locking_shift3))
     (λ _.
     Answers-cond (leb 0x28 byte && leb byte 0x2F)
-    (λ e. one_further-Answers sets (0x1B ∷ []) byte bytes _ (designation-Answers sets byte bytes (intermediate_test byte e)))
+    (λ e. one_byte_later-Answers sets (0x1B ∷ []) byte bytes _ (designation-Answers sets byte bytes (intermediate_test byte e)))
     (λ _. bad_byte-Answers sets (0x1B ∷ []) BadEscape byte bytes refl)))
 
 control1-Answers : (sets : CodeSets) (byte : ℕ) (bytes : List ℕ) (found : Option Row) → row_of control1_rows byte ≡ found →
@@ -214,7 +214,7 @@ unfolding control1_front
 control1-Answers sets byte bytes (Some (Whole code)) e = whole_at (spelling.control1 e)
 control1-Answers sets byte bytes (Some (Out name)) e = refused_at (spelling.left_out_control1 e)
 control1-Answers sets byte bytes (Some More) e =
-    one_further-Answers sets (0x1B ∷ []) byte bytes _
+    one_byte_later-Answers sets (0x1B ∷ []) byte bytes _
     (subst (λ k. Answers sets (0x1B ∷ k ∷ []) bytes (argument_front sets (argument_of byte) bytes)) (control_of-argument_of byte e)
     (argument-Answers sets (argument_of byte) bytes))
 control1-Answers sets byte bytes None e = sequence-Answers sets byte bytes
@@ -248,7 +248,7 @@ pdi_found sets byte bytes (Some op) pdi range e = left_out_found sets byte bytes
 pdi_found sets byte bytes None pdi range e = whole_at (spelling.operand pdi (opcode_missing byte e range.0) range.1)
 
 gl_found : (sets : CodeSets) (byte : ℕ) (bytes : List ℕ) (found : Option Code) → IsGraphic byte →
-    plain_code (set_at sets sets.gl) byte ≡ found → Answers sets [] (byte ∷ bytes) (gl_front sets byte found)
+    non_pdi_code (set_at sets sets.gl) byte ≡ found → Answers sets [] (byte ∷ bytes) (gl_front sets byte found)
 unfolding gl_front
 gl_found sets byte bytes (Some code) range e = whole_at (spelling.in_gl range e)
 gl_found sets byte bytes None range e =
@@ -274,10 +274,10 @@ eighth_bit byte least e = grind (arith, nat_tests)
 
 control0-Answers : (sets : CodeSets) (byte : ℕ) (bytes : List ℕ) (found : Option Row) → row_of control0_rows byte ≡ found →
     Answers sets [] (byte ∷ bytes) (control0_front sets byte bytes found)
-unfolding control0_front stray_fault
+unfolding control0_front bad_byte_fault
 control0-Answers sets byte bytes (Some (Whole code)) e = whole_at (control0_whole sets byte code e)
 control0-Answers sets byte bytes (Some (Out name)) e = refused_at (spelling.left_out_control0 e)
-control0-Answers sets byte bytes (Some More) e = one_further-Answers sets [] byte bytes _ (more-Answers sets byte bytes (leads byte e))
+control0-Answers sets byte bytes (Some More) e = one_byte_later-Answers sets [] byte bytes _ (more-Answers sets byte bytes (leads byte e))
 control0-Answers sets byte bytes None e =
     Answers-cond (is_graphic byte) (λ g. gl_found sets byte bytes _ (graphic_range byte g) refl)
     (λ g. stray_at (rw (eighth_bit byte (control0_missing byte e) g) refl))
@@ -303,6 +303,6 @@ pub Answers-unfinished : {sets : CodeSets} {xs : List ℕ} → Answers sets [] x
 Answers-unfinished (unfinished_at byte more s) = (byte, more, s)
 
 pub Answers-refused : {sets : CodeSets} {xs : List ℕ} {fault : CodeFault} {i : ℕ} → Answers sets [] xs (refused fault i) →
-    SpellsRefused sets (take (suc i) xs) fault ⊎ (fault ≡ stray_fault (take i xs) (get_or xs i 0))
+    SpellsRefused sets (take (suc i) xs) fault ⊎ (fault ≡ bad_byte_fault (take i xs) (get_or xs i 0))
 Answers-refused (refused_at s) = inl s
 Answers-refused (stray_at e) = inr e

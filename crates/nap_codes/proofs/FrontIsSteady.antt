@@ -11,7 +11,7 @@ use Rattle.nap_codes.specs.declared.opcode.Left.{Left}
 use Rattle.nap_codes.specs.declared.opcode.Opcode.{Opcode}
 use Rattle.nap_codes.specs.CodeSets.{set_at}
 use Rattle.nap_codes.specs.Tables.{row_of, control0_rows, control1_rows, opcode_rows, left_out_opcode, designation}
-use Rattle.nap_codes.specs.Front.{Front, is_graphic, bad_byte, last_byte, plain_code, opcode_front, pdi_front, gl_front, shifted_front, single_shift_front, column_front, position_front, argument_of, with_argument, argument_front, designated_front, final_front, designation_front, sequence_front, control1_front, escape_front, more_front, control0_front, front}
+use Rattle.nap_codes.specs.Front.{Front, is_graphic, bad_byte, last_byte, non_pdi_code, opcode_front, pdi_front, gl_front, shifted_front, single_shift_front, column_front, position_front, argument_of, with_argument, argument_front, designated_front, final_front, designation_front, sequence_front, control1_front, escape_front, more_front, control0_front, front}
 use Rattle.nap_codes.proofs.FrontLemmas.{Steady, Opens, ends, fails, goes_on, Opens-cond, opens-Steady}
 
 -- What stands at the front of a list is decided by the bytes of its answer alone.
@@ -50,7 +50,7 @@ single_shift_front-Steady : (sets : CodeSets) (set : CodeSet) → Steady (single
 unfolding single_shift_front
 single_shift_front-Steady sets set =
     opens-Steady (single_shift_front sets set) refl (λ byte.
-    Opens-cond (is_graphic byte) (shifted_front-Opens sets (plain_code set byte)) (bad_byte-Opens ShiftAlone byte))
+    Opens-cond (is_graphic byte) (shifted_front-Opens sets (non_pdi_code set byte)) (bad_byte-Opens ShiftAlone byte))
 
 column_front-Steady : (sets : CodeSets) (row : ℕ) → Steady (column_front sets row)
 unfolding column_front
@@ -125,7 +125,7 @@ control0_front-Opens sets byte (Some (Whole code)) = ends code _
 control0_front-Opens sets byte (Some (Out name)) = fails _
 control0_front-Opens sets byte (Some More) = goes_on _ (more_front-Steady sets byte)
 control0_front-Opens sets byte None =
-    Opens-cond (is_graphic byte) (gl_front-Opens sets byte (plain_code (set_at sets sets.gl) byte)) (fails EighthBit)
+    Opens-cond (is_graphic byte) (gl_front-Opens sets byte (non_pdi_code (set_at sets sets.gl) byte)) (fails EighthBit)
 
 -- the front of a list decides by the bytes of its answer alone
 pub front-Steady : (sets : CodeSets) → Steady (front sets)

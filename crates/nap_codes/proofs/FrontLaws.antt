@@ -3,7 +3,7 @@ use Rattle.nap_codes.specs.declared.code.Code.{Code}
 use Rattle.nap_codes.specs.declared.code.CodeFault.{CodeFault}
 use Rattle.nap_codes.specs.declared.code_set.CodeSets.{CodeSets}
 use Rattle.nap_codes.specs.Front.{Front, unfinished, whole, refused, front}
-use Rattle.nap_codes.specs.Laws.{WholeStays, RefusedStays, WholeLength, RefusedIndex, WholeTaken, RefusedTaken, EarlierUnfinished, UnfinishedBefore}
+use Rattle.nap_codes.specs.Laws.{WholeStays, RefusedStays, WholeLength, RefusedIndex, WholeByItsBytes, RefusedByItsBytes, EarlierUnfinished, UnfinishedBefore}
 use Rattle.nap_codes.proofs.FrontLemmas.{size, from_taken, earlier}
 use Rattle.nap_codes.proofs.FrontIsSteady.{front-Steady}
 
@@ -23,11 +23,11 @@ whole_stays sets xs ys code n after e = (front-Steady sets).stays xs ys (is_whol
 pub refused_stays : RefusedStays
 refused_stays sets xs ys fault i e = (front-Steady sets).stays xs ys (is_refused sets xs e) ∙ e
 
-pub whole_taken : WholeTaken
+pub whole_taken : WholeByItsBytes
 whole_taken sets xs code n after e =
     ap (λ r. front sets (take (size r) xs)) (sym e) ∙ (front-Steady sets).taken xs (is_whole sets xs e) ∙ e
 
-pub refused_taken : RefusedTaken
+pub refused_taken : RefusedByItsBytes
 refused_taken sets xs fault i e =
     ap (λ r. front sets (take (size r) xs)) (sym e) ∙ (front-Steady sets).taken xs (is_refused sets xs e) ∙ e
 

@@ -3,7 +3,7 @@ use Rattle.std.proofs.lemmas.List.{take-append-drop, take-take}
 use Rattle.nap_codes.specs.declared.code.Code.{Code}
 use Rattle.nap_codes.specs.declared.code.CodeFault.{CodeFault}
 use Rattle.nap_codes.specs.declared.code_set.CodeSets.{CodeSets}
-use Rattle.nap_codes.specs.Front.{Front, unfinished, whole, refused, one_further}
+use Rattle.nap_codes.specs.Front.{Front, unfinished, whole, refused, one_byte_later}
 
 -- Functions from lists to fronts that decide by the bytes of their answer alone.
 
@@ -22,34 +22,34 @@ pub record Steady (f : List ℕ → Front) : Type 0 where
 pub data Opens : (List ℕ → Front) → Type 0 where
   ends : (code : Code) (after : CodeSets) → Opens (λ _. whole code 1 after)
   fails : (fault : CodeFault) → Opens (λ _. refused fault 0)
-  goes_on : (f : List ℕ → Front) → Steady f → Opens (λ xs. one_further (f xs))
+  goes_on : (f : List ℕ → Front) → Steady f → Opens (λ xs. one_byte_later (f xs))
 
 pub Opens-cond : (b : Bool) {f g : List ℕ → Front} → Opens f → Opens g → Opens (λ xs. cond b (f xs) (g xs))
 Opens-cond true p q = p
 Opens-cond false p q = q
 
 -- an answer that stands one byte further
-further_most : (r : Front) → size (one_further r) ≤ suc (size r)
-unfolding one_further
+further_most : (r : Front) → size (one_byte_later r) ≤ suc (size r)
+unfolding one_byte_later
 further_most unfinished = omega arith
 further_most (whole code n after) = omega arith
 further_most (refused fault i) = omega arith
 
-further_size : (r : Front) → r ≢ unfinished → size (one_further r) ≡ suc (size r)
-unfolding one_further
+further_size : (r : Front) → r ≢ unfinished → size (one_byte_later r) ≡ suc (size r)
+unfolding one_byte_later
 further_size unfinished some = absurd (some refl)
 further_size (whole code n after) some = refl
 further_size (refused fault i) some = refl
 
-not_further : {r : Front} → one_further r ≢ unfinished → r ≢ unfinished
-unfolding one_further
-not_further some none = some (ap one_further none)
+not_further : {r : Front} → one_byte_later r ≢ unfinished → r ≢ unfinished
+unfolding one_byte_later
+not_further some none = some (ap one_byte_later none)
 
 -- the facts of a function that opens so
 opened_stays : (f : List ℕ → Front) → Opens f → (xs ys : List ℕ) → f xs ≢ unfinished → f (xs ++ ys) ≡ f xs
 opened_stays _ (ends code after) xs ys some = refl
 opened_stays _ (fails fault) xs ys some = refl
-opened_stays _ (goes_on f steady) xs ys some = ap one_further (steady.stays xs ys (not_further some))
+opened_stays _ (goes_on f steady) xs ys some = ap one_byte_later (steady.stays xs ys (not_further some))
 
 opened_within : (f : List ℕ → Front) → Opens f → (xs : List ℕ) → size (f xs) ≤ suc (length xs)
 opened_within _ (ends code after) xs = omega arith
@@ -62,7 +62,7 @@ opened_taken _ (ends code after) xs some = (0, refl, refl)
 opened_taken _ (fails fault) xs some = (0, refl, refl)
 opened_taken _ (goes_on f steady) xs some =
     let inner = not_further some in
-    (size (f xs), further_size (f xs) inner, ap one_further (steady.taken xs inner))
+    (size (f xs), further_size (f xs) inner, ap one_byte_later (steady.taken xs inner))
 
 module _ (f : List ℕ → Front) (empty : f [] ≡ unfinished) (opens : (x : ℕ) → Opens (λ xs. f (x ∷ xs))) where
   steady_stays : (xs ys : List ℕ) → f xs ≢ unfinished → f (xs ++ ys) ≡ f xs

@@ -6,27 +6,27 @@ use Rattle.nap_codes.specs.declared.code.Step.TheVariants as steps
 use Rattle.nap_codes.specs.declared.code_set.CodeSets.{CodeSets}
 use Rattle.nap_codes.specs.Front.{Front, unfinished, whole, refused, front}
 use Rattle.nap_codes.specs.Lexer.{LexerState, StepsBy}
-use Rattle.nap_codes.specs.Lexed.{Lexed, lexed_by, lexed_within, lexed, StepsThrough, at_end, at_more, at_code, at_fault, StepsAreLexed}
+use Rattle.nap_codes.specs.LexResults.{LexResult, lex_result_by, lex_result_within, lex_result, StepsThrough, at_end, at_more, at_code, at_fault, StepsGiveLexResult}
 use Rattle.nap_codes.proofs.FrontLaws.{whole_stays, refused_stays, whole_length}
 
 -- The steps of a lexer give the codes of a list.
 
 -- a code in front of what is read later
-abbrev with_code : Code → Lexed → Lexed
+abbrev with_code : Code → LexResult → LexResult
 with_code code rest = record rest { codes = code ∷ rest.codes }
 
 -- More steps than there are bytes change nothing.
-lexed_within-spare : (f g : ℕ) (sets : CodeSets) (bytes : List ℕ) → length bytes < f → length bytes < g →
-    lexed_within f sets bytes ≡ lexed_within g sets bytes
-unfolding lexed_within
-lexed_within-spare zero g sets bytes hf hg = absurd (omega arith)
-lexed_within-spare (suc f) zero sets bytes hf hg = absurd (omega arith)
-lexed_within-spare (suc f) (suc g) sets bytes hf hg =
-    at (front sets bytes) refl (λ after rest h h'. lexed_within-spare f g after rest h h')
+lex_result_within-spare : (f g : ℕ) (sets : CodeSets) (bytes : List ℕ) → length bytes < f → length bytes < g →
+    lex_result_within f sets bytes ≡ lex_result_within g sets bytes
+unfolding lex_result_within
+lex_result_within-spare zero g sets bytes hf hg = absurd (omega arith)
+lex_result_within-spare (suc f) zero sets bytes hf hg = absurd (omega arith)
+lex_result_within-spare (suc f) (suc g) sets bytes hf hg =
+    at (front sets bytes) refl (λ after rest h h'. lex_result_within-spare f g after rest h h')
   where
     at : (r : Front) → front sets bytes ≡ r →
-        ((after : CodeSets) (rest : List ℕ) → length rest < f → length rest < g → lexed_within f after rest ≡ lexed_within g after rest) →
-        lexed_by (lexed_within f) sets bytes r ≡ lexed_by (lexed_within g) sets bytes r
+        ((after : CodeSets) (rest : List ℕ) → length rest < f → length rest < g → lex_result_within f after rest ≡ lex_result_within g after rest) →
+        lex_result_by (lex_result_within f) sets bytes r ≡ lex_result_by (lex_result_within g) sets bytes r
     at unfinished e ih = refl
     at (refused fault i) e ih = refl
     at (whole code n after) e ih =
@@ -35,18 +35,18 @@ lexed_within-spare (suc f) (suc g) sets bytes hf hg =
         ap (with_code code) (ih after (drop n bytes) (omega arith) (omega arith))
 
 -- the codes of a list, by what stands at its front
-lexed-front : (sets : CodeSets) (bytes : List ℕ) → lexed sets bytes ≡ lexed_by lexed sets bytes (front sets bytes)
-unfolding lexed lexed_within
-lexed-front sets bytes = at (front sets bytes) refl
+lex_result-front : (sets : CodeSets) (bytes : List ℕ) → lex_result sets bytes ≡ lex_result_by lex_result sets bytes (front sets bytes)
+unfolding lex_result lex_result_within
+lex_result-front sets bytes = at (front sets bytes) refl
   where
     at : (r : Front) → front sets bytes ≡ r →
-        lexed_by (lexed_within (length bytes)) sets bytes r ≡ lexed_by lexed sets bytes r
+        lex_result_by (lex_result_within (length bytes)) sets bytes r ≡ lex_result_by lex_result sets bytes r
     at unfinished e = refl
     at (refused fault i) e = refl
     at (whole code n after) e =
         let some = whole_length sets bytes code n after e in
         let less : length (drop n bytes) < length bytes = simp length-drop (omega arith) in
-        ap (with_code code) (lexed_within-spare (length bytes) (suc (length (drop n bytes))) after (drop n bytes) less (omega arith))
+        ap (with_code code) (lex_result_within-spare (length bytes) (suc (length (drop n bytes))) after (drop n bytes) less (omega arith))
 
 -- what a step says of the front
 module _ (old new : LexerState) (byte : ℕ) where
@@ -75,44 +75,44 @@ unfolding front
 front-nothing sets bytes e = rw e refl
 
 -- the codes of a list that begins with the bytes of a code
-lexed-code : (sets : CodeSets) (read bytes : List ℕ) (code : Code) (after : CodeSets) → front sets read ≡ whole code (length read) after →
-    lexed sets (read ++ bytes) ≡ with_code code (lexed after bytes)
-lexed-code sets read bytes code after e =
-    rw (lexed-front sets (read ++ bytes), whole_stays sets read bytes code (length read) after e, drop-append_seam read bytes) refl
+lex_result-code : (sets : CodeSets) (read bytes : List ℕ) (code : Code) (after : CodeSets) → front sets read ≡ whole code (length read) after →
+    lex_result sets (read ++ bytes) ≡ with_code code (lex_result after bytes)
+lex_result-code sets read bytes code after e =
+    rw (lex_result-front sets (read ++ bytes), whole_stays sets read bytes code (length read) after e, drop-append_seam read bytes) refl
 
 -- the codes of a list that begins with the bytes up to a refused one
-lexed-fault : (sets : CodeSets) (half : List ℕ) (byte : ℕ) (bytes : List ℕ) (fault : CodeFault) →
+lex_result-fault : (sets : CodeSets) (half : List ℕ) (byte : ℕ) (bytes : List ℕ) (fault : CodeFault) →
     front sets (half ++ byte ∷ []) ≡ refused fault (length half) →
-    lexed sets (half ++ byte ∷ bytes) ≡ record { codes = []; fault = Some fault; state = record { sets = sets; half = half } }
-lexed-fault sets half byte bytes fault e =
+    lex_result sets (half ++ byte ∷ bytes) ≡ record { codes = []; fault = Some fault; state = record { sets = sets; half = half } }
+lex_result-fault sets half byte bytes fault e =
     let there : front sets (half ++ byte ∷ bytes) ≡ refused fault (length half) =
     subst (λ xs. front sets xs ≡ refused fault (length half)) (append_assoc half (byte ∷ []) bytes)
     (refused_stays sets (half ++ byte ∷ []) bytes fault (length half) e) in
-    rw (lexed-front sets (half ++ byte ∷ bytes), there, take-append_seam half (byte ∷ bytes)) refl
+    rw (lex_result-front sets (half ++ byte ∷ bytes), there, take-append_seam half (byte ∷ bytes)) refl
 
 -- the steps of a lexer that has these bytes half read
 steps_lexed : (state end : LexerState) (bytes : List ℕ) (codes : List Code) (fault : Option CodeFault) →
     StepsThrough state bytes codes fault end → front state.sets state.half ≡ unfinished →
-    record { codes = codes; fault = fault; state = end } ≡ lexed state.sets (state.half ++ bytes)
+    record { codes = codes; fault = fault; state = end } ≡ lex_result state.sets (state.half ++ bytes)
 steps_lexed state _ _ _ _ at_end rests =
-    sym (rw (append-nil state.half, lexed-front state.sets state.half, rests) refl)
+    sym (rw (append-nil state.half, lex_result-front state.sets state.half, rests) refl)
 steps_lexed state end _ codes fault (at_more {next = next} {byte = byte} {bytes = bytes} step rest) rests =
     let is = on_more state next byte (front state.sets (state.half ++ byte ∷ [])) step in
     let after : front next.sets next.half ≡ unfinished = rw is.1 is.0 in
     steps_lexed next end bytes codes fault rest after
-    ∙ ap (λ s. lexed s.sets (s.half ++ bytes)) is.1 ∙ ap (lexed state.sets) (append_assoc state.half (byte ∷ []) bytes)
+    ∙ ap (λ s. lex_result s.sets (s.half ++ bytes)) is.1 ∙ ap (lex_result state.sets) (append_assoc state.half (byte ∷ []) bytes)
 steps_lexed state end _ _ fault (at_code {next = next} {byte = byte} {bytes = bytes} {code = code} {codes = codes} step rest) rests =
     let is = on_code state next byte (front state.sets (state.half ++ byte ∷ [])) code step in
     ap (with_code code) (steps_lexed next end bytes codes fault rest (front-nothing next.sets next.half is.1))
-    ∙ ap (λ half. with_code code (lexed next.sets (half ++ bytes))) is.1
-    ∙ sym (lexed-code state.sets (state.half ++ byte ∷ []) bytes code next.sets is.0)
-    ∙ ap (lexed state.sets) (append_assoc state.half (byte ∷ []) bytes)
+    ∙ ap (λ half. with_code code (lex_result next.sets (half ++ bytes))) is.1
+    ∙ sym (lex_result-code state.sets (state.half ++ byte ∷ []) bytes code next.sets is.0)
+    ∙ ap (lex_result state.sets) (append_assoc state.half (byte ∷ []) bytes)
 steps_lexed state end _ _ _ (at_fault {byte = byte} {bytes = bytes} {fault = fault} step) rests =
     let is = on_fault state end byte (front state.sets (state.half ++ byte ∷ [])) fault step in
     ap (λ s. record { codes = []; fault = Some fault; state = s }) is.1
-    ∙ sym (lexed-fault state.sets state.half byte bytes fault is.0)
+    ∙ sym (lex_result-fault state.sets state.half byte bytes fault is.0)
 
 -- From a lexer at rest, the steps give the codes of the list.
-pub steps_are_lexed : StepsAreLexed
+pub steps_are_lexed : StepsGiveLexResult
 steps_are_lexed sets bytes codes fault end steps =
     steps_lexed (record { sets = sets; half = [] }) end bytes codes fault steps (front-nothing sets [] refl)

@@ -1,6 +1,6 @@
-use Rattle.nap_codes.specs.Laws.{WholeStays, RefusedStays, WholeLength, RefusedIndex, WholeTaken, RefusedTaken, EarlierUnfinished, UnfinishedBefore, CodeRanges, OneByteOpcode, OneByteOperand, FormatEffectorFront, FormatEffectorKnown}
+use Rattle.nap_codes.specs.Laws.{WholeStays, RefusedStays, WholeLength, RefusedIndex, WholeByItsBytes, RefusedByItsBytes, EarlierUnfinished, UnfinishedBefore, CodeRanges, OneByteOpcode, OneByteOperand, FormatEffectorFront, FormatEffectorKnown}
 use Rattle.nap_codes.specs.SpellingLaws.{WholeIsSpelled, RefusedIsSpelled, UnfinishedIsPrefix}
-use Rattle.nap_codes.specs.Lexed.{StepsAreLexed}
+use Rattle.nap_codes.specs.LexResults.{StepsGiveLexResult}
 use Rattle.nap_codes.proofs.FrontLaws as fronts
 use Rattle.nap_codes.proofs.SpellingLaws as spellings
 use Rattle.nap_codes.proofs.CodeRanges as ranges
@@ -21,10 +21,10 @@ whole_length = fronts.whole_length
 pub refused_index : RefusedIndex
 refused_index = fronts.refused_index
 
-pub whole_taken : WholeTaken
+pub whole_taken : WholeByItsBytes
 whole_taken = fronts.whole_taken
 
-pub refused_taken : RefusedTaken
+pub refused_taken : RefusedByItsBytes
 refused_taken = fronts.refused_taken
 
 pub earlier_unfinished : EarlierUnfinished
@@ -51,7 +51,7 @@ one_byte_opcode = ranges.one_byte_opcode
 pub one_byte_operand : OneByteOperand
 one_byte_operand = ranges.one_byte_operand
 
-pub steps_are_lexed : StepsAreLexed
+pub steps_are_lexed : StepsGiveLexResult
 steps_are_lexed = steps.steps_are_lexed
 
 pub format_effector_front : FormatEffectorFront

@@ -7,8 +7,8 @@ use Rattle.nap_codes.specs.declared.code_set.GSet.TheVariants.{G1}
 use Rattle.nap_codes.specs.declared.opcode.Left.TheVariants as lefts
 use Rattle.nap_codes.specs.CodeSets.{start_sets, with_set, after_control0}
 use Rattle.nap_codes.specs.Tables.{row_of, number_rows, set_rows, designation, control0_rows, control1_rows, opcode_rows, left_out_opcode}
-use Rattle.nap_codes.specs.Front.{unfinished, whole, refused, one_further, bad_byte, last_byte, plain_code, opcode_front, pdi_front, gl_front, shifted_front, single_shift_front, column_front, position_front, argument_front, designated_front, final_front, designation_front, sequence_front, control1_front, escape_front, more_front, control0_front, front}
-use Rattle.nap_codes.specs.Lexed.{lexed_within, lexed}
+use Rattle.nap_codes.specs.Front.{unfinished, whole, refused, one_byte_later, bad_byte, last_byte, non_pdi_code, opcode_front, pdi_front, gl_front, shifted_front, single_shift_front, column_front, position_front, argument_front, designated_front, final_front, designation_front, sequence_front, control1_front, escape_front, more_front, control0_front, front}
+use Rattle.nap_codes.specs.LexResults.{lex_result_within, lex_result}
 
 -- Worked rows of the definitions.
 
@@ -26,29 +26,29 @@ fronts :
     × (front start_sets (0x1B ∷ 0x2B ∷ 0x20 ∷ 0x20 ∷ 0x7A ∷ []) ≡ refused faults.BadEscape 3)
     × (front start_sets (0x19 ∷ 0x0E ∷ []) ≡ refused faults.ShiftAlone 1)
     × (front start_sets (0x1C ∷ 0x40 ∷ 0x05 ∷ []) ≡ refused faults.BadArgument 2)
-unfolding front row_of control0_rows control0_front plain_code gl_front more_front escape_front control1_rows control1_front sequence_front argument_front designation_front final_front designation number_rows set_rows designated_front position_front column_front last_byte single_shift_front bad_byte one_further after_control0
+unfolding front row_of control0_rows control0_front non_pdi_code gl_front more_front escape_front control1_rows control1_front sequence_front argument_front designation_front final_front designation number_rows set_rows designated_front position_front column_front last_byte single_shift_front bad_byte one_byte_later after_control0
 fronts = (refl, refl, refl, refl, refl, refl, refl, refl, refl, refl, refl, refl)
 
 -- Worked rows: the codes of a list. A code of the PDI set behind a single shift is refused, and so is an opcode that is
 -- left out.
 lists :
-    (lexed start_sets (0x1B ∷ 0x2A ∷ 0x57 ∷ 0x19 ∷ 0x26 ∷ [])
+    (lex_result start_sets (0x1B ∷ 0x2A ∷ 0x57 ∷ 0x19 ∷ 0x26 ∷ [])
     ≡ record {
       codes = codes.Designated 2 code_sets.Pdi ∷ [];
       fault = Some faults.ShiftedCode;
       state = record { sets = record start_sets { g2 = code_sets.Pdi }; half = 0x19 ∷ [] };
     })
-    × (lexed start_sets (0x0E ∷ 0x39 ∷ [])
+    × (lex_result start_sets (0x0E ∷ 0x39 ∷ [])
     ≡ record {
       codes = codes.Shifted ∷ [];
       fault = Some (faults.LeftOut lefts.IncrementalPoint);
       state = record { sets = record start_sets { gl = G1 }; half = [] };
     })
-    × (lexed start_sets (0x19 ∷ 0x41 ∷ 0x41 ∷ 0x1B ∷ [])
+    × (lex_result start_sets (0x19 ∷ 0x41 ∷ 0x41 ∷ 0x1B ∷ [])
     ≡ record {
       codes = codes.Char chars.Supplementary 0x41 ∷ codes.Char chars.Primary 0x41 ∷ [];
       fault = None;
       state = record { sets = start_sets; half = 0x1B ∷ [] };
     })
-unfolding lexed lexed_within front row_of control0_rows control0_front plain_code gl_front pdi_front opcode_rows opcode_front left_out_opcode more_front escape_front control1_rows control1_front sequence_front designation_front final_front designation number_rows set_rows designated_front single_shift_front shifted_front one_further after_control0 with_set
+unfolding lex_result lex_result_within front row_of control0_rows control0_front non_pdi_code gl_front pdi_front opcode_rows opcode_front left_out_opcode more_front escape_front control1_rows control1_front sequence_front designation_front final_front designation number_rows set_rows designated_front single_shift_front shifted_front one_byte_later after_control0 with_set
 lists = (refl, refl, refl)

@@ -4,10 +4,10 @@ use Rattle.nap_codes.specs.declared.code.Code.{Code}
 use Rattle.nap_codes.specs.declared.code.CodeFault.{CodeFault}
 use Rattle.nap_codes.specs.declared.code_set.CodeSets.{CodeSets}
 use Rattle.nap_codes.specs.declared.control.Argument.TheVariants as arguments
-use Rattle.nap_codes.specs.declared.lexer.Half.TheVariants.{Escape, Control, Designation, SpacedDesignation, SingleShift2, SingleShift3, PositionRow}
+use Rattle.nap_codes.specs.declared.lexer.HalfRead.TheVariants.{Escape, Control, Designation, SpacedDesignation, SingleShift2, SingleShift3, PositionRow}
 use Rattle.nap_codes.specs.CodeSets.{after_control0}
 use Rattle.nap_codes.specs.Tables.{row_of, designation, control1_rows}
-use Rattle.nap_codes.specs.Front.{whole, refused, one_further, last_byte, plain_code, opcode_front, pdi_front, gl_front, shifted_front, single_shift_front, column_front, with_argument, argument_front, designated_front, final_front, designation_front, sequence_front, control1_front, escape_front, control0_front, front}
+use Rattle.nap_codes.specs.Front.{whole, refused, one_byte_later, last_byte, non_pdi_code, opcode_front, pdi_front, gl_front, shifted_front, single_shift_front, column_front, with_argument, argument_front, designated_front, final_front, designation_front, sequence_front, control1_front, escape_front, control0_front, front}
 use Rattle.nap_codes.specs.Spelling.{Spells, SpellsRefused}
 use Rattle.nap_codes.specs.Spelling as spelling
 use Rattle.nap_codes.proofs.TableLemmas.{graphic_test, no_opcode, opcode_range, intermediate_range, no_space, shift_out_row, shift_in_row}
@@ -22,7 +22,7 @@ no_locking_row = (refl, refl)
 
 pub spelled : (sets : CodeSets) (xs : List ℕ) (code : Code) (after : CodeSets) → Spells sets xs code after →
     front sets xs ≡ whole code (length xs) after
-unfolding front control0_front after_control0 one_further escape_front control1_front sequence_front argument_front with_argument last_byte column_front designation_front final_front designation designated_front single_shift_front shifted_front gl_front pdi_front opcode_front
+unfolding front control0_front after_control0 one_byte_later escape_front control1_front sequence_front argument_front with_argument last_byte column_front designation_front final_front designation designated_front single_shift_front shifted_front gl_front pdi_front opcode_front
 spelled sets _ _ _ (spelling.control0 {byte = byte} {code = code} row differs) =
     rw row (ap (whole code 1) (no_shift_after sets byte code row differs))
 spelled sets _ _ _ spelling.shift_out = rw shift_out_row refl
@@ -60,7 +60,7 @@ spelled sets _ _ _ (spelling.single_shift3 {byte = byte} range e) =
 -- A spelling that is refused is refused at its last byte.
 pub spelled_refused : (sets : CodeSets) (xs : List ℕ) (fault : CodeFault) → SpellsRefused sets xs fault →
     (i : ℕ) × (length xs ≡ suc i) × (front sets xs ≡ refused fault i)
-unfolding front control0_front one_further escape_front control1_front single_shift_front shifted_front plain_code pdi_front opcode_front
+unfolding front control0_front one_byte_later escape_front control1_front single_shift_front shifted_front non_pdi_code pdi_front opcode_front
 spelled_refused sets _ _ (spelling.left_out_control0 row) = (0, refl, rw row refl)
 spelled_refused sets _ _ (spelling.left_out_control1 {byte = byte} row) = (1, refl, rw (front_of_half sets Escape (byte ∷ []) tt, row) refl)
 spelled_refused sets _ _ (spelling.left_out_of_pdi {byte = byte} {op = op} pdi row e) =

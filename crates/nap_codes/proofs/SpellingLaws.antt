@@ -7,8 +7,8 @@ use Rattle.nap_codes.specs.declared.code.CodeFault.{CodeFault}
 use Rattle.nap_codes.specs.declared.code.CodeFault.TheVariants.{ShiftedCode, LeftOut}
 use Rattle.nap_codes.specs.declared.code_set.CodeSets.{CodeSets}
 use Rattle.nap_codes.specs.Front.{Front, unfinished, whole, refused, front}
-use Rattle.nap_codes.specs.Spelling.{Spells, SpellsRefused, IsSpelling, accepted, refusal, left_out_control0, left_out_control1, left_out_of_pdi, shifted2, shifted3, escape_fault, escaped_fault, place_fault, stray_fault}
-use Rattle.nap_codes.specs.SpellingLaws.{WholeIsSpelled, IsStray, RefusedIsSpelled, UnfinishedIsPrefix}
+use Rattle.nap_codes.specs.Spelling.{Spells, SpellsRefused, IsSpelling, accepted, refusal, left_out_control0, left_out_control1, left_out_of_pdi, shifted2, shifted3, escape_fault, escaped_fault, place_fault, bad_byte_fault}
+use Rattle.nap_codes.specs.SpellingLaws.{WholeIsSpelled, IsBadByte, RefusedIsSpelled, UnfinishedIsPrefix}
 use Rattle.nap_codes.proofs.FrontIsSpelled.{front-Answers, Answers-whole, Answers-unfinished, Answers-refused}
 use Rattle.nap_codes.proofs.FrontIsSteady.{front-Steady}
 use Rattle.nap_codes.proofs.FrontLaws.{refused_stays, whole_length, refused_index, refused_taken, unfinished_before, front_from_taken}
@@ -49,9 +49,9 @@ is_stray (LeftOut name) = false
 is_stray ShiftedCode = false
 is_stray _ = true
 
-stray_fault-is_stray : (before : List ℕ) (byte : ℕ) → is_stray (stray_fault before byte) ≡ true
-unfolding stray_fault place_fault escaped_fault escape_fault is_stray
-stray_fault-is_stray before byte = grind (arith, nat_tests)
+bad_byte_fault-is_stray : (before : List ℕ) (byte : ℕ) → is_stray (bad_byte_fault before byte) ≡ true
+unfolding bad_byte_fault place_fault escaped_fault escape_fault is_stray
+bad_byte_fault-is_stray before byte = grind (arith, nat_tests)
 
 SpellsRefused-no_stray : (sets : CodeSets) (xs : List ℕ) (fault : CodeFault) → SpellsRefused sets xs fault → is_stray fault ≡ false
 unfolding is_stray
@@ -77,13 +77,13 @@ no_spelling_goes_on sets xs fault i e stray more s = at s (refused_stays sets (t
         cc
 
 refused_is_spelled_to : (sets : CodeSets) (xs : List ℕ) (fault : CodeFault) (i : ℕ) → front sets xs ≡ refused fault i →
-    SpellsRefused sets (take (suc i) xs) fault ⊎ (fault ≡ stray_fault (take i xs) (get_or xs i 0)) →
-    SpellsRefused sets (take (suc i) xs) fault ⊎ IsStray sets xs i fault
+    SpellsRefused sets (take (suc i) xs) fault ⊎ (fault ≡ bad_byte_fault (take i xs) (get_or xs i 0)) →
+    SpellsRefused sets (take (suc i) xs) fault ⊎ IsBadByte sets xs i fault
 refused_is_spelled_to sets xs fault i e (inl s) = inl s
 refused_is_spelled_to sets xs fault i e (inr is) =
     inr (record {
       begins = (unfinished_is_prefix sets (take i xs)).0 (unfinished_before sets xs fault i i e (omega arith));
-      continues_none = λ s. no_spelling_goes_on sets xs fault i e (ap is_stray is ∙ stray_fault-is_stray (take i xs) (get_or xs i 0)) s.0 s.1;
+      continues_none = λ s. no_spelling_goes_on sets xs fault i e (ap is_stray is ∙ bad_byte_fault-is_stray (take i xs) (get_or xs i 0)) s.0 s.1;
       fault_is = is;
     })
 
@@ -96,7 +96,7 @@ spelled_to_last sets xs fault i within s =
     front_from_taken sets (suc i) xs (r.2 ∙ ap (refused fault) same) (λ e. cc)
 
 -- what stands at the front of the bytes up to one that continues no spelling
-module _ (sets : CodeSets) (xs : List ℕ) (fault : CodeFault) (i : ℕ) (within : i < length xs) (stray : IsStray sets xs i fault) where
+module _ (sets : CodeSets) (xs : List ℕ) (fault : CodeFault) (i : ℕ) (within : i < length xs) (stray : IsBadByte sets xs i fault) where
   long : length (take (suc i) xs) ≡ suc i
   long = length-take-le (suc i) xs (omega arith)
 
@@ -107,7 +107,7 @@ module _ (sets : CodeSets) (xs : List ℕ) (fault : CodeFault) (i : ℕ) (within
   last_of r e some =
       rw e at (last (front sets) (front-Steady sets) xs i ((unfinished_is_prefix sets (take i xs)).1 stray.begins) (rw e some))
 
-  at_refused : (f : CodeFault) → SpellsRefused sets (take (suc i) xs) f ⊎ (f ≡ stray_fault (take i xs) (get_or xs i 0)) → f ≡ fault
+  at_refused : (f : CodeFault) → SpellsRefused sets (take (suc i) xs) f ⊎ (f ≡ bad_byte_fault (take i xs) (get_or xs i 0)) → f ≡ fault
   at_refused f (inl s) = absurd (no_spelling (refusal s))
   at_refused f (inr is) = is ∙ sym stray.fault_is
 
@@ -126,7 +126,7 @@ module _ (sets : CodeSets) (xs : List ℕ) (fault : CodeFault) (i : ℕ) (within
       there ∙ ap (λ g. refused g i) (at_refused f (Answers-refused (rw there at (front-Answers sets xs))))
 
 refused_is_spelled_from : (sets : CodeSets) (xs : List ℕ) (fault : CodeFault) (i : ℕ) → i < length xs →
-    SpellsRefused sets (take (suc i) xs) fault ⊎ IsStray sets xs i fault → front sets xs ≡ refused fault i
+    SpellsRefused sets (take (suc i) xs) fault ⊎ IsBadByte sets xs i fault → front sets xs ≡ refused fault i
 refused_is_spelled_from sets xs fault i within (inl s) = spelled_to_last sets xs fault i within s
 refused_is_spelled_from sets xs fault i within (inr stray) =
     stray_refused sets xs fault i within stray (front sets (take (suc i) xs)) refl

@@ -7,9 +7,9 @@ use Rattle.nap_codes.specs.declared.code_set.CodeSet.TheVariants as code_sets
 use Rattle.nap_codes.specs.declared.control.Row.{Row}
 use Rattle.nap_codes.specs.declared.control.Row.TheVariants.{Whole, More}
 use Rattle.nap_codes.specs.declared.opcode.Opcode.{Opcode}
-use Rattle.nap_codes.specs.Tables.{row_of, number_rows, set_rows, paired, control0_rows, control1_rows, opcode_rows}
-use Rattle.nap_codes.specs.Front.{is_graphic, plain_code, argument_of}
-use Rattle.nap_codes.specs.Half.{control_of}
+use Rattle.nap_codes.specs.Tables.{row_of, number_rows, set_rows, option_pair, control0_rows, control1_rows, opcode_rows}
+use Rattle.nap_codes.specs.Front.{is_graphic, non_pdi_code, argument_of}
+use Rattle.nap_codes.specs.HalfReadCodes.{control_of}
 use Rattle.nap_codes.specs.declared.control.TextStep.{TextStep}
 use Rattle.nap_codes.specs.Laws.{IsGraphic, FormatEffector, backward, forward, down, up, return, home}
 use Rattle.nap_codes.proofs.RowLemmas.{row_found, no_row, row_missing}
@@ -121,15 +121,15 @@ unfolding control1_rows argument_of
 control_of-argument_of byte e = row_found HasArgument control1_rows byte More (assumption) e
 
 -- Only the PDI set has neither characters nor calls.
-pub no_plain_code : (set : CodeSet) (byte : ℕ) → plain_code set byte ≡ None → set ≡ code_sets.Pdi
-unfolding plain_code
+pub no_plain_code : (set : CodeSet) (byte : ℕ) → non_pdi_code set byte ≡ None → set ≡ code_sets.Pdi
+unfolding non_pdi_code
 no_plain_code set byte e = grind arith
 
 -- a designation
-pub paired-rows : (number : Option ℕ) (set : Option CodeSet) (named : ℕ × CodeSet) → paired number set ≡ Some named →
+pub option_pair-rows : (number : Option ℕ) (set : Option CodeSet) (named : ℕ × CodeSet) → option_pair number set ≡ Some named →
     (number ≡ Some named.0) × (set ≡ Some named.1)
-paired-rows (Some n) (Some s) named e =
+option_pair-rows (Some n) (Some s) named e =
     let is : (n, s) ≡ named = cc in
     (ap (λ pair. Some pair.0) is, ap (λ pair. Some pair.1) is)
-paired-rows (Some n) None named e = let bad : ⊥ = cc in absurd bad
-paired-rows None set named e = let bad : ⊥ = cc in absurd bad
+option_pair-rows (Some n) None named e = let bad : ⊥ = cc in absurd bad
+option_pair-rows None set named e = let bad : ⊥ = cc in absurd bad

@@ -11,23 +11,23 @@ use Rattle.nap_codes.specs.declared.code_set.GSet.TheVariants.{G0, G1, G2, G3}
 abbrev pub start_sets : CodeSets
 start_sets = record { g0 = Primary; g1 = Pdi; g2 = Supplementary; g3 = Mosaic; gl = G0 }
 
--- the set of characters that a set is, if it is one
-abbrev pub characters_of : CodeSet → Option CharSet
-characters_of Primary = Some chars.Primary
-characters_of Supplementary = Some chars.Supplementary
-characters_of Mosaic = Some chars.Mosaic
-characters_of Drcs = Some chars.Drcs
-characters_of Macros = None
-characters_of Pdi = None
+-- the character set, or none for the PDI set and the macro set
+abbrev pub char_set_of : CodeSet → Option CharSet
+char_set_of Primary = Some chars.Primary
+char_set_of Supplementary = Some chars.Supplementary
+char_set_of Mosaic = Some chars.Mosaic
+char_set_of Drcs = Some chars.Drcs
+char_set_of Macros = None
+char_set_of Pdi = None
 
--- the set that stands at this place
+-- the set in a register
 abbrev pub set_at : CodeSets → GSet → CodeSet
 set_at sets G0 = sets.g0
 set_at sets G1 = sets.g1
 set_at sets G2 = sets.g2
 set_at sets G3 = sets.g3
 
--- the code sets where this set becomes the G set with this number
+-- the code sets with this set in the register of this number
 unfoldable pub with_set : CodeSets → ℕ → CodeSet → CodeSets
 with_set sets number set =
     if number == 0 then record sets { g0 = set }
@@ -35,7 +35,7 @@ with_set sets number set =
     else if number == 2 then record sets { g2 = set }
     else record sets { g3 = set }
 
--- the code sets after a control of the C0 set: SO and SI shift
+-- the code sets after a control of the C0 set: SO puts G1 into GL, SI puts G0 into GL
 unfoldable pub after_control0 : CodeSets → ℕ → CodeSets
 after_control0 sets byte =
     if byte == 0x0E then record sets { gl = G1 }

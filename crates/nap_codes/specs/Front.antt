@@ -19,84 +19,84 @@ use Rattle.nap_codes.specs.declared.opcode.Opcode.{Opcode}
 use Rattle.nap_codes.specs.CodeSets.{set_at, with_set, after_control0}
 use Rattle.nap_codes.specs.Tables.{row_of, designation, control0_rows, control1_rows, mask_rows, opcode_rows, left_out_opcode}
 
--- What stands at the front of a list of bytes: nothing whole yet; a code, with the number of bytes that spell it and the
--- code sets after it; or a fault, with the index of the byte at which it stands.
+-- The front of a list of bytes: unfinished; or a code, with the number of its bytes and the code sets after it; or a
+-- fault, with the index of the refused byte.
 pub data Front : Type 0 where
   unfinished : Front
   whole : Code → ℕ → CodeSets → Front
   refused : CodeFault → ℕ → Front
 
--- the front of a list, where that of its rest is known and the first byte is part of it
-unfoldable pub one_further : Front → Front
-one_further unfinished = unfinished
-one_further (whole code n sets) = whole code (suc n) sets
-one_further (refused fault i) = refused fault (suc i)
+-- the front of a list, given the front of its rest, if the first byte belongs to it
+unfoldable pub one_byte_later : Front → Front
+one_byte_later unfinished = unfinished
+one_byte_later (whole code n sets) = whole code (suc n) sets
+one_byte_later (refused fault i) = refused fault (suc i)
 
--- whether a byte can be a code of a G set, the name of a macro or part of a position
+-- whether a byte is from 20 to 7F: a code of a set, the name of a macro, or a byte of a position
 abbrev pub is_graphic : ℕ → Bool
 is_graphic byte = nat_le 0x20 byte && nat_lt byte 0x80
 
--- A byte that continues no spelling has this fault, unless it has the eighth bit.
+-- the fault of a byte that continues no code: EighthBit from 80 on, else this one
 abbrev pub fault_of : CodeFault → ℕ → CodeFault
 fault_of fault byte = if nat_le 0x80 byte then EighthBit else fault
 
--- a byte that continues no spelling
+-- the front at a byte that continues no code
 unfoldable pub bad_byte : CodeFault → ℕ → Front
 bad_byte fault byte = refused (fault_of fault byte) 0
 
--- the last byte of a spelling, or a byte that continues none
+-- the front at the last byte of a code, or at a byte that continues none
 unfoldable pub last_byte : CodeSets → CodeFault → ℕ → Option Code → Front
 last_byte sets fault byte (Some code) = whole code 1 sets
 last_byte sets fault byte None = bad_byte fault byte
 
--- a code of a set of characters or of the macro set
-unfoldable pub plain_code : CodeSet → ℕ → Option Code
-plain_code code_sets.Primary byte = Some (Char chars.Primary byte)
-plain_code code_sets.Supplementary byte = Some (Char chars.Supplementary byte)
-plain_code code_sets.Mosaic byte = Some (Char chars.Mosaic byte)
-plain_code code_sets.Drcs byte = Some (Char chars.Drcs byte)
-plain_code code_sets.Macros byte = Some (Call byte)
-plain_code code_sets.Pdi byte = None
+-- the character or macro call that a byte is in this set, or none for the PDI set
+unfoldable pub non_pdi_code : CodeSet → ℕ → Option Code
+non_pdi_code code_sets.Primary byte = Some (Char chars.Primary byte)
+non_pdi_code code_sets.Supplementary byte = Some (Char chars.Supplementary byte)
+non_pdi_code code_sets.Mosaic byte = Some (Char chars.Mosaic byte)
+non_pdi_code code_sets.Drcs byte = Some (Char chars.Drcs byte)
+non_pdi_code code_sets.Macros byte = Some (Call byte)
+non_pdi_code code_sets.Pdi byte = None
 
--- an opcode, which may be left out
+-- the front at an opcode, which may be left out
 unfoldable pub opcode_front : CodeSets → Opcode → Option Left → Front
 opcode_front sets op None = whole (Op op) 1 sets
 opcode_front sets op (Some name) = refused (LeftOut name) 0
 
--- a code of the PDI set: an opcode or an operand
+-- the front at a code of the PDI set: an opcode or an operand word
 unfoldable pub pdi_front : CodeSets → ℕ → Option Opcode → Front
 pdi_front sets byte (Some op) = opcode_front sets op (left_out_opcode op)
 pdi_front sets byte None = whole (Operand (byte - 0x40)) 1 sets
 
--- a code of the set in GL
+-- the front at a code of the set in GL
 unfoldable pub gl_front : CodeSets → ℕ → Option Code → Front
 gl_front sets byte (Some code) = whole code 1 sets
 gl_front sets byte None = pdi_front sets byte (row_of opcode_rows byte)
 
--- the code after a single shift, which may not be of the PDI set
+-- the front at the code after a single shift, which may not be of the PDI set
 unfoldable pub shifted_front : CodeSets → Option Code → Front
 shifted_front sets (Some code) = whole code 1 sets
 shifted_front sets None = refused ShiftedCode 0
 
--- what follows SS2 or SS3, which shift this set
+-- the front after SS2 or SS3 of this set
 unfoldable pub single_shift_front : CodeSets → CodeSet → List ℕ → Front
 single_shift_front sets set [] = unfinished
 single_shift_front sets set (byte ∷ bytes) =
-    if is_graphic byte then shifted_front sets (plain_code set byte) else bad_byte ShiftAlone byte
+    if is_graphic byte then shifted_front sets (non_pdi_code set byte) else bad_byte ShiftAlone byte
 
--- the second byte of a position
+-- the front at the second byte of the position of APS
 unfoldable pub column_front : CodeSets → ℕ → List ℕ → Front
 column_front sets row [] = unfinished
 column_front sets row (byte ∷ bytes) =
     last_byte sets BadArgument byte (if is_graphic byte then Some (Step (Aps row byte)) else None)
 
--- what follows APS: a position
+-- the front after APS
 unfoldable pub position_front : CodeSets → List ℕ → Front
 position_front sets [] = unfinished
 position_front sets (byte ∷ bytes) =
-    if is_graphic byte then one_further (column_front sets byte bytes) else bad_byte BadArgument byte
+    if is_graphic byte then one_byte_later (column_front sets byte bytes) else bad_byte BadArgument byte
 
--- what a control of the C1 set takes as its argument, where it takes one
+-- the meaning of the argument of a control of the C1 set that takes one
 unfoldable pub argument_of : ℕ → Argument
 argument_of byte =
     if byte == 0x40 then arguments.Macro
@@ -105,7 +105,7 @@ argument_of byte =
     else if byte == 0x44 then arguments.Mask
     else arguments.Count
 
--- the code of a control with this argument, if it is in its range
+-- the code of a control with this argument byte, or none outside its range
 unfoldable pub with_argument : Argument → ℕ → Option Code
 with_argument arguments.Macro byte = if is_graphic byte then Some (DefMacro byte false) else None
 with_argument arguments.ShownMacro byte = if is_graphic byte then Some (DefMacro byte true) else None
@@ -114,48 +114,48 @@ with_argument arguments.Mask byte = option_map DefMask (row_of mask_rows byte)
 with_argument arguments.Count byte =
     if nat_le 0x40 byte && nat_lt byte 0x80 then Some (Repeat (byte - 0x40)) else None
 
--- the argument of a control
+-- the front at the argument of a control
 unfoldable pub argument_front : CodeSets → Argument → List ℕ → Front
 argument_front sets argument [] = unfinished
 argument_front sets argument (byte ∷ bytes) = last_byte sets BadArgument byte (with_argument argument byte)
 
--- what a designation does, if it is one
+-- the front at the final byte of a designation, given what it designates
 unfoldable pub designated_front : CodeSets → ℕ → Option (ℕ × CodeSet) → Front
 designated_front sets byte (Some named) = whole (Designated named.0 named.1) 1 (with_set sets named.0 named.1)
 designated_front sets byte None = bad_byte BadEscape byte
 
--- the final byte of a designation
+-- the front at the final byte of a designation
 unfoldable pub final_front : CodeSets → ℕ → List ℕ → Front
 final_front sets intermediate [] = unfinished
 final_front sets intermediate (byte ∷ bytes) = designated_front sets byte (designation intermediate byte)
 
--- what follows the intermediate byte of a designation: the final byte, with one byte 20 before it or none
+-- the front after the intermediate byte of a designation: at most one byte 20, then the final byte
 unfoldable pub designation_front : CodeSets → ℕ → List ℕ → Front
 designation_front sets intermediate [] = unfinished
 designation_front sets intermediate (byte ∷ bytes) =
-    if byte == 0x20 then one_further (final_front sets intermediate bytes) else final_front sets intermediate (byte ∷ bytes)
+    if byte == 0x20 then one_byte_later (final_front sets intermediate bytes) else final_front sets intermediate (byte ∷ bytes)
 
--- an escape sequence that is no control: a locking shift or a designation
+-- the front after ESC of a locking shift or a designation
 unfoldable pub sequence_front : CodeSets → ℕ → List ℕ → Front
 sequence_front sets byte bytes =
     if byte == 0x6E then whole Shifted 1 (record sets { gl = G2 })
     else if byte == 0x6F then whole Shifted 1 (record sets { gl = G3 })
-    else if nat_le 0x28 byte && nat_le byte 0x2F then one_further (designation_front sets byte bytes)
+    else if nat_le 0x28 byte && nat_le byte 0x2F then one_byte_later (designation_front sets byte bytes)
     else bad_byte BadEscape byte
 
--- what follows ESC, by the row of the C1 set
+-- the front after ESC, given the row of the C1 set
 unfoldable pub control1_front : CodeSets → ℕ → List ℕ → Option Row → Front
 control1_front sets byte bytes (Some (Whole code)) = whole code 1 sets
 control1_front sets byte bytes (Some (Out name)) = refused (LeftOut name) 0
-control1_front sets byte bytes (Some More) = one_further (argument_front sets (argument_of byte) bytes)
+control1_front sets byte bytes (Some More) = one_byte_later (argument_front sets (argument_of byte) bytes)
 control1_front sets byte bytes None = sequence_front sets byte bytes
 
--- what follows ESC
+-- the front after ESC
 unfoldable pub escape_front : CodeSets → List ℕ → Front
 escape_front sets [] = unfinished
 escape_front sets (byte ∷ bytes) = control1_front sets byte bytes (row_of control1_rows byte)
 
--- what follows a control of the C0 set that further bytes belong to: ESC, APS, SS2 or SS3
+-- the front after a control of the C0 set that has further bytes: ESC, APS, SS2 or SS3
 unfoldable pub more_front : CodeSets → ℕ → List ℕ → Front
 more_front sets byte bytes =
     if byte == 0x1B then escape_front sets bytes
@@ -163,15 +163,15 @@ more_front sets byte bytes =
     else if byte == 0x19 then single_shift_front sets sets.g2 bytes
     else single_shift_front sets sets.g3 bytes
 
--- what the first byte begins, by the row of the C0 set
+-- the front of a list, given the row of the C0 set for its first byte
 unfoldable pub control0_front : CodeSets → ℕ → List ℕ → Option Row → Front
 control0_front sets byte bytes (Some (Whole code)) = whole code 1 (after_control0 sets byte)
 control0_front sets byte bytes (Some (Out name)) = refused (LeftOut name) 0
-control0_front sets byte bytes (Some More) = one_further (more_front sets byte bytes)
+control0_front sets byte bytes (Some More) = one_byte_later (more_front sets byte bytes)
 control0_front sets byte bytes None =
-    if is_graphic byte then gl_front sets byte (plain_code (set_at sets sets.gl) byte) else refused EighthBit 0
+    if is_graphic byte then gl_front sets byte (non_pdi_code (set_at sets sets.gl) byte) else refused EighthBit 0
 
--- what stands at the front of a list of bytes under these code sets
+-- the front of a list of bytes under these code sets
 unfoldable pub front : CodeSets → List ℕ → Front
 front sets [] = unfinished
 front sets (byte ∷ bytes) = control0_front sets byte bytes (row_of control0_rows byte)

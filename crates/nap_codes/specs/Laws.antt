@@ -9,51 +9,51 @@ use Rattle.nap_codes.specs.declared.opcode.Opcode.{Opcode}
 use Rattle.nap_codes.specs.Tables.{left_out_opcode, format_effector}
 use Rattle.nap_codes.specs.Front.{unfinished, whole, refused, front}
 
--- A code stays at the front where more bytes come.
+-- A front that is a code is unchanged by further bytes.
 abbrev pub WholeStays : Type 0
 WholeStays = (sets : CodeSets) (xs ys : List ℕ) (code : Code) (n : ℕ) (after : CodeSets) →
     front sets xs ≡ whole code n after → front sets (xs ++ ys) ≡ whole code n after
 
--- A refusal stays at the front where more bytes come.
+-- A front that is a refusal is unchanged by further bytes.
 abbrev pub RefusedStays : Type 0
 RefusedStays = (sets : CodeSets) (xs ys : List ℕ) (fault : CodeFault) (i : ℕ) →
     front sets xs ≡ refused fault i → front sets (xs ++ ys) ≡ refused fault i
 
--- A code has at least one byte, and its bytes are there.
+-- A code at the front has at least one byte, and all its bytes are in the list.
 abbrev pub WholeLength : Type 0
 WholeLength = (sets : CodeSets) (xs : List ℕ) (code : Code) (n : ℕ) (after : CodeSets) →
     front sets xs ≡ whole code n after → (1 ≤ n) × (n ≤ length xs)
 
--- A refused byte is there.
+-- The refused byte at the front is in the list.
 abbrev pub RefusedIndex : Type 0
 RefusedIndex = (sets : CodeSets) (xs : List ℕ) (fault : CodeFault) (i : ℕ) →
     front sets xs ≡ refused fault i → i < length xs
 
--- The bytes that spell a code are enough to have it at the front.
-abbrev pub WholeTaken : Type 0
-WholeTaken = (sets : CodeSets) (xs : List ℕ) (code : Code) (n : ℕ) (after : CodeSets) →
+-- A code at the front is the front of its own bytes.
+abbrev pub WholeByItsBytes : Type 0
+WholeByItsBytes = (sets : CodeSets) (xs : List ℕ) (code : Code) (n : ℕ) (after : CodeSets) →
     front sets xs ≡ whole code n after → front sets (take n xs) ≡ whole code n after
 
--- The bytes up to a refused one are enough to have it refused.
-abbrev pub RefusedTaken : Type 0
-RefusedTaken = (sets : CodeSets) (xs : List ℕ) (fault : CodeFault) (i : ℕ) →
+-- A refusal at the front is the front of the bytes up to the refused one.
+abbrev pub RefusedByItsBytes : Type 0
+RefusedByItsBytes = (sets : CodeSets) (xs : List ℕ) (fault : CodeFault) (i : ℕ) →
     front sets xs ≡ refused fault i → front sets (take (suc i) xs) ≡ refused fault i
 
--- Fewer bytes than those that spell a code are unfinished.
+-- Fewer bytes than those of a code at the front are unfinished.
 abbrev pub EarlierUnfinished : Type 0
 EarlierUnfinished = (sets : CodeSets) (xs : List ℕ) (code : Code) (n : ℕ) (after : CodeSets) (k : ℕ) →
     front sets xs ≡ whole code n after → k < n → front sets (take k xs) ≡ unfinished
 
--- The bytes before a refused one, or fewer, are unfinished.
+-- The bytes before a refused one, and any fewer, are unfinished.
 abbrev pub UnfinishedBefore : Type 0
 UnfinishedBefore = (sets : CodeSets) (xs : List ℕ) (fault : CodeFault) (i k : ℕ) →
     front sets xs ≡ refused fault i → k ≤ i → front sets (take k xs) ≡ unfinished
 
--- a byte that can be a code of a G set
+-- a byte from 20 to 7F
 abbrev pub IsGraphic : ℕ → Type 0
 IsGraphic byte = (0x20 ≤ byte) × (byte < 0x80)
 
--- what is known of a code by itself: the ranges of its numbers, and that an opcode is none of those left out
+-- the parameters of a code are in range, and its opcode isn't one that is left out
 abbrev pub IsInRange : Code → Type 0
 IsInRange (codes.Step (steps.Aps row column)) = IsGraphic row × IsGraphic column
 IsInRange (codes.Designated number set) = number < 4
@@ -66,22 +66,22 @@ IsInRange (codes.DefGlyph byte) = IsGraphic byte
 IsInRange (codes.Repeat count) = count < 64
 IsInRange _ = Unit {0}
 
--- The code at a front has its numbers in their ranges, and is no opcode that is left out.
+-- The parameters of a code at the front are in range, and its opcode isn't one that is left out.
 abbrev pub CodeRanges : Type 0
 CodeRanges = (sets : CodeSets) (xs : List ℕ) (code : Code) (n : ℕ) (after : CodeSets) →
     front sets xs ≡ whole code n after → IsInRange code
 
--- An opcode is one byte, and leaves the code sets.
+-- An opcode has one byte, and changes no code set.
 abbrev pub OneByteOpcode : Type 0
 OneByteOpcode = (sets : CodeSets) (xs : List ℕ) (op : Opcode) (n : ℕ) (after : CodeSets) →
     front sets xs ≡ whole (codes.Op op) n after → (n ≡ 1) × (after ≡ sets)
 
--- An operand is one byte, and leaves the code sets.
+-- An operand word has one byte, and changes no code set.
 abbrev pub OneByteOperand : Type 0
 OneByteOperand = (sets : CodeSets) (xs : List ℕ) (word : ℕ) (n : ℕ) (after : CodeSets) →
     front sets xs ≡ whole (codes.Operand word) n after → (n ≡ 1) × (after ≡ sets)
 
--- A format effector is below the codes of the G sets. By itself it stands at the front as that move, and leaves the code sets.
+-- A format effector of one byte is below 20, is a complete code, and changes no code set.
 abbrev pub FormatEffectorFront : Type 0
 FormatEffectorFront = (byte : ℕ) (step : TextStep) → format_effector byte ≡ Some step →
     (byte < 0x20) × ((sets : CodeSets) → front sets (byte ∷ []) ≡ whole (codes.Step step) 1 sets)
@@ -95,6 +95,6 @@ pub data FormatEffector : ℕ → TextStep → Type 0 where
   return : FormatEffector 0x0D steps.Apr
   home : FormatEffector 0x1E steps.Aph
 
--- There are no others.
+-- Every format effector but APS is one of the six of one byte.
 abbrev pub FormatEffectorKnown : Type 0
 FormatEffectorKnown = (byte : ℕ) (step : TextStep) → format_effector byte ≡ Some step → FormatEffector byte step

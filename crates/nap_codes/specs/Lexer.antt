@@ -12,12 +12,12 @@ use Rattle.nap_codes.specs.CodeSets.{set_at}
 use Rattle.nap_codes.specs.Tables.{row_of, control0_rows, opcode_rows, left_out_opcode}
 use Rattle.nap_codes.specs.Front.{Front, unfinished, whole, refused, front}
 
--- what a lexer stands for: its code sets, and the bytes of the code that is half read
+-- the state of a lexer: its code sets, and the bytes of an incomplete code
 pub record LexerState : Type 0 where
   pub sets : CodeSets
   pub half : List ℕ
 
--- The front of the half-read code with this byte behind it says what the byte does.
+-- the effect of a byte on a lexer, given the front of the incomplete code followed by the byte
 abbrev pub StepsBy : Front → LexerState → ℕ → Step → LexerState → Type 0
 StepsBy unfinished old byte step new =
     (step ≡ steps.More) × (new ≡ record { sets = old.sets; half = old.half ++ byte ∷ [] })
@@ -26,25 +26,26 @@ StepsBy (whole code n after) old byte step new =
 StepsBy (refused fault i) old byte step new =
     (step ≡ steps.Fault fault) × (i ≡ length old.half) × (new ≡ old)
 
--- what a byte does to a lexer
+-- the effect of a byte on a lexer
 abbrev pub Steps : LexerState → ℕ → Step → LexerState → Type 0
 Steps old byte step new = StepsBy (front old.sets (old.half ++ byte ∷ [])) old byte step new
 
--- The byte is by itself a character of this set: no code is half read, and the byte alone is that character, which leaves
--- the code sets.
+-- The byte is a character of this set in this state: no code is incomplete, the byte is a complete code, and it changes
+-- no code set.
 abbrev pub IsCharacter : LexerState → ℕ → CharSet → Type 0
 IsCharacter lexer byte set = (lexer.half ≡ []) × (front lexer.sets (byte ∷ []) ≡ whole (codes.Char set byte) 1 lexer.sets)
 
--- The byte is by itself this opcode: no code is half read, the PDI set is in GL, and the tables have the opcode for the byte
+-- The byte is this opcode in this state: no code is incomplete, the PDI set is in GL, and the tables have the opcode
 -- and don't leave it out.
 abbrev pub IsOpcode : LexerState → ℕ → Opcode → Type 0
 IsOpcode lexer byte op =
     (lexer.half ≡ []) × (set_at lexer.sets lexer.sets.gl ≡ Pdi) × (row_of opcode_rows byte ≡ Some op) × (left_out_opcode op ≡ None)
 
--- The byte is by itself this move of the active position: no code is half read, and the C0 set has the move for the byte.
+-- The byte is this format effector in this state: no code is incomplete, and the C0 set has the format effector for the
+-- byte.
 abbrev pub IsFormatEffector : LexerState → ℕ → TextStep → Type 0
 IsFormatEffector lexer byte step = (lexer.half ≡ []) × (row_of control0_rows byte ≡ Some (Whole (codes.Step step)))
 
--- The byte is by itself SO or SI: no code is half read.
+-- The byte is SO or SI in this state: no code is incomplete.
 abbrev pub IsShift : LexerState → ℕ → Type 0
 IsShift lexer byte = (lexer.half ≡ []) × ((byte ≡ 0x0E) ⊎ (byte ≡ 0x0F))

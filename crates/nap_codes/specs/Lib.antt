@@ -5,5 +5,5 @@ pub mod Laws
 pub mod Spelling
 pub mod SpellingLaws
 pub mod Lexer
-pub mod Lexed
-pub mod Half
+pub mod LexResults
+pub mod HalfReadCodes

@@ -14,13 +14,13 @@ use Rattle.nap_codes.specs.declared.control.TextStep.TheVariants.{Aps}
 use Rattle.nap_codes.specs.declared.opcode.Left.{Left}
 use Rattle.nap_codes.specs.declared.opcode.Opcode.{Opcode}
 use Rattle.nap_codes.specs.CodeSets.{set_at, with_set}
-use Rattle.nap_codes.specs.Front.{plain_code}
+use Rattle.nap_codes.specs.Front.{non_pdi_code}
 use Rattle.nap_codes.specs.Laws.{IsGraphic}
 use Rattle.nap_codes.specs.Tables.{row_of, number_rows, set_rows, control0_rows, control1_rows, mask_rows, opcode_rows, left_out_opcode}
 
--- Under these code sets, these bytes spell this code, and these are the code sets after it.
+-- Under these code sets, the bytes spell this code, and these are the code sets after it.
 pub data Spells (sets : CodeSets) : List ℕ → Code → CodeSets → Type 0 where
-  -- a control of the C0 set that is no shift
+  -- a control of the C0 set that isn't a shift
   control0 : {byte : ℕ} {code : Code} → row_of control0_rows byte ≡ Some (Whole code) → code ≢ codes.Shifted →
       Spells sets (byte ∷ []) code sets
   -- SO, SI, LS2 and LS3
@@ -31,7 +31,7 @@ pub data Spells (sets : CodeSets) : List ℕ → Code → CodeSets → Type 0 wh
   -- APS
   position : {row column : ℕ} → IsGraphic row → IsGraphic column →
       Spells sets (0x1C ∷ row ∷ column ∷ []) (codes.Step (Aps row column)) sets
-  -- a control of the C1 set that takes no argument
+  -- a control of the C1 set without an argument
   control1 : {byte : ℕ} {code : Code} → row_of control1_rows byte ≡ Some (Whole code) → Spells sets (0x1B ∷ byte ∷ []) code sets
   -- DEF MACRO, DEFP MACRO, DEF DRCS, DEF TEXTURE and REPEAT
   def_macro : {name : ℕ} → IsGraphic name → Spells sets (0x1B ∷ 0x40 ∷ name ∷ []) (codes.DefMacro name false) sets
@@ -40,7 +40,7 @@ pub data Spells (sets : CodeSets) : List ℕ → Code → CodeSets → Type 0 wh
   def_texture : {byte : ℕ} {mask : Mask} → row_of mask_rows byte ≡ Some mask →
       Spells sets (0x1B ∷ 0x44 ∷ byte ∷ []) (codes.DefMask mask) sets
   repeat : {byte : ℕ} → 0x40 ≤ byte → byte < 0x80 → Spells sets (0x1B ∷ 0x46 ∷ byte ∷ []) (codes.Repeat (byte - 0x40)) sets
-  -- a designation, with or without one byte 20
+  -- a designation, with or without one byte 20 before its final byte
   designation : {intermediate final number : ℕ} {set : CodeSet} →
       row_of number_rows intermediate ≡ Some number → row_of set_rows final ≡ Some set →
       Spells sets (0x1B ∷ intermediate ∷ final ∷ []) (codes.Designated number set) (with_set sets number set)
@@ -48,19 +48,20 @@ pub data Spells (sets : CodeSets) : List ℕ → Code → CodeSets → Type 0 wh
       row_of number_rows intermediate ≡ Some number → row_of set_rows final ≡ Some set →
       Spells sets (0x1B ∷ intermediate ∷ 0x20 ∷ final ∷ []) (codes.Designated number set) (with_set sets number set)
   -- a code of the set in GL
-  in_gl : {byte : ℕ} {code : Code} → IsGraphic byte → plain_code (set_at sets sets.gl) byte ≡ Some code →
+  in_gl : {byte : ℕ} {code : Code} → IsGraphic byte → non_pdi_code (set_at sets sets.gl) byte ≡ Some code →
       Spells sets (byte ∷ []) code sets
   opcode : {byte : ℕ} {op : Opcode} → set_at sets sets.gl ≡ Pdi → row_of opcode_rows byte ≡ Some op →
       left_out_opcode op ≡ None → Spells sets (byte ∷ []) (codes.Op op) sets
   operand : {byte : ℕ} → set_at sets sets.gl ≡ Pdi → 0x40 ≤ byte → byte < 0x80 →
       Spells sets (byte ∷ []) (codes.Operand (byte - 0x40)) sets
-  -- a code behind SS2 or SS3
-  single_shift2 : {byte : ℕ} {code : Code} → IsGraphic byte → plain_code sets.g2 byte ≡ Some code →
+  -- a code after SS2 or SS3
+  single_shift2 : {byte : ℕ} {code : Code} → IsGraphic byte → non_pdi_code sets.g2 byte ≡ Some code →
       Spells sets (0x19 ∷ byte ∷ []) code sets
-  single_shift3 : {byte : ℕ} {code : Code} → IsGraphic byte → plain_code sets.g3 byte ≡ Some code →
+  single_shift3 : {byte : ℕ} {code : Code} → IsGraphic byte → non_pdi_code sets.g3 byte ≡ Some code →
       Spells sets (0x1D ∷ byte ∷ []) code sets
 
--- Under these code sets, these bytes spell a code that is refused by this fault, at the last of them.
+-- Under these code sets, the bytes spell a code that is refused with this fault at its last byte: ShiftedCode or
+-- LeftOut.
 pub data SpellsRefused (sets : CodeSets) : List ℕ → CodeFault → Type 0 where
   left_out_control0 : {byte : ℕ} {name : Left} → row_of control0_rows byte ≡ Some (Out name) →
       SpellsRefused sets (byte ∷ []) (LeftOut name)
@@ -71,30 +72,32 @@ pub data SpellsRefused (sets : CodeSets) : List ℕ → CodeFault → Type 0 whe
   shifted2 : {byte : ℕ} → IsGraphic byte → sets.g2 ≡ Pdi → SpellsRefused sets (0x19 ∷ byte ∷ []) ShiftedCode
   shifted3 : {byte : ℕ} → IsGraphic byte → sets.g3 ≡ Pdi → SpellsRefused sets (0x1D ∷ byte ∷ []) ShiftedCode
 
--- a spelling, refused or not
+-- a spelling of a code, accepted or refused
 pub data IsSpelling (sets : CodeSets) (bytes : List ℕ) : Type 0 where
   accepted : {code : Code} {after : CodeSets} → Spells sets bytes code after → IsSpelling sets bytes
   refusal : {fault : CodeFault} → SpellsRefused sets bytes fault → IsSpelling sets bytes
 
--- More bytes, or none, make a spelling of these.
+-- These bytes, followed by none or more, are a spelling.
 abbrev pub IsPrefix : CodeSets → List ℕ → Type 0
 IsPrefix sets bytes = (more : List ℕ) × IsSpelling sets (bytes ++ more)
 
--- One or more bytes make a spelling of these.
+-- These bytes, followed by one or more, are a spelling.
 abbrev pub IsProperPrefix : CodeSets → List ℕ → Type 0
 IsProperPrefix sets bytes = (byte : ℕ) × (more : List ℕ) × IsSpelling sets (bytes ++ byte ∷ more)
 
--- the fault behind a control of the C1 set, which takes an argument, or behind another byte
+-- the fault of a byte after ESC and another: BadArgument if the other is a control that takes an argument, else
+-- BadEscape
 unfoldable pub escape_fault : Option Row → CodeFault
 escape_fault (Some row) = BadArgument
 escape_fault None = BadEscape
 
--- the fault behind ESC and these bytes
+-- the fault of a byte that can't follow ESC and these bytes
 unfoldable pub escaped_fault : List ℕ → CodeFault
 escaped_fault [] = BadEscape
 escaped_fault (byte ∷ bytes) = escape_fault (row_of control1_rows byte)
 
--- the fault behind these bytes: ShiftAlone behind SS2 or SS3, BadArgument in the place of an argument, else BadEscape
+-- the fault of a byte that can't follow these bytes: ShiftAlone after SS2 or SS3, BadArgument in the place of an
+-- argument, else BadEscape
 unfoldable pub place_fault : List ℕ → CodeFault
 place_fault [] = BadEscape
 place_fault (lead ∷ bytes) =
@@ -102,6 +105,6 @@ place_fault (lead ∷ bytes) =
     else if lead == 0x1C then BadArgument
     else escaped_fault bytes
 
--- the fault of a byte that continues no spelling: that of its place, unless it has the eighth bit
-unfoldable pub stray_fault : List ℕ → ℕ → CodeFault
-stray_fault before byte = if nat_le 0x80 byte then EighthBit else place_fault before
+-- the fault of a byte that can't follow these bytes, with EighthBit from 80 on
+unfoldable pub bad_byte_fault : List ℕ → ℕ → CodeFault
+bad_byte_fault before byte = if nat_le 0x80 byte then EighthBit else place_fault before

@@ -15,12 +15,12 @@ use Rattle.nap_codes.specs.declared.opcode.Left.TheVariants as lefts
 use Rattle.nap_codes.specs.declared.opcode.Opcode.{Opcode}
 use Rattle.nap_codes.specs.declared.opcode.Opcode.TheVariants as opcodes
 
--- the row of a table at this byte, if there is one
+-- the row of a table for a byte, or none
 unfoldable pub row_of : {Entry : Type 0} → List (ℕ × Entry) → ℕ → Option Entry
 row_of [] byte = None
 row_of (row ∷ rows) byte = if byte == row.0 then Some row.1 else row_of rows byte
 
--- the sets by the final byte of the escape sequence that designates them
+-- the sets, by the final byte of their designation
 unfoldable pub set_rows : List (ℕ × CodeSet)
 set_rows =
     (0x42, code_sets.Primary)
@@ -31,23 +31,23 @@ set_rows =
     ∷ (0x7B, code_sets.Drcs)
     ∷ []
 
--- the number of the G set that the intermediate byte of a designation names
+-- the numbers of the registers, by the intermediate byte of a designation
 unfoldable pub number_rows : List (ℕ × ℕ)
 number_rows =
     (0x28, 0) ∷ (0x29, 1) ∷ (0x2A, 2) ∷ (0x2B, 3)
     ∷ (0x2C, 0) ∷ (0x2D, 1) ∷ (0x2E, 2) ∷ (0x2F, 3)
     ∷ []
 
-abbrev pub paired : {A B : Type 0} → Option A → Option B → Option (A × B)
-paired (Some x) (Some y) = Some (x, y)
-paired (Some x) None = None
-paired None y = None
+abbrev pub option_pair : {A B : Type 0} → Option A → Option B → Option (A × B)
+option_pair (Some x) (Some y) = Some (x, y)
+option_pair (Some x) None = None
+option_pair None y = None
 
--- what an escape sequence with this intermediate and this final byte designates
+-- the register and the set that an escape sequence with these bytes designates, or none
 unfoldable pub designation : ℕ → ℕ → Option (ℕ × CodeSet)
-designation intermediate final = paired (row_of number_rows intermediate) (row_of set_rows final)
+designation intermediate final = option_pair (row_of number_rows intermediate) (row_of set_rows final)
 
--- the C0 set
+-- the C0 set (PROFILE.md, The C0 set)
 unfoldable pub control0_rows : List (ℕ × Row)
 control0_rows =
     (0x00, Whole codes.Fill)
@@ -84,16 +84,16 @@ control0_rows =
     ∷ (0x1F, Out lefts.Nsr)
     ∷ []
 
--- the move of the active position that a row is
-abbrev pub step_in : Option Row → Option TextStep
-step_in (Some (Whole (codes.Step step))) = Some step
-step_in _ = None
+-- the format effector of a row, or none
+abbrev pub text_step_of_row : Option Row → Option TextStep
+text_step_of_row (Some (Whole (codes.Step step))) = Some step
+text_step_of_row _ = None
 
--- the move of the active position that a byte is by itself (format effectors of the C0 set); APS, which has two further bytes, is none
+-- the format effector that a single byte is, or none; APS isn't one, since it has two further bytes
 abbrev pub format_effector : ℕ → Option TextStep
-format_effector byte = step_in (row_of control0_rows byte)
+format_effector byte = text_step_of_row (row_of control0_rows byte)
 
--- the C1 set, by the byte after ESC
+-- the C1 set, by the byte after ESC (PROFILE.md, The C1 set)
 unfoldable pub control1_rows : List (ℕ × Row)
 control1_rows =
     (0x40, More)
@@ -130,11 +130,11 @@ control1_rows =
     ∷ (0x5F, Out lefts.Unprotect)
     ∷ []
 
--- the masks by the argument of DEF TEXTURE
+-- the masks, by the argument of DEF TEXTURE
 unfoldable pub mask_rows : List (ℕ × Mask)
 mask_rows = (0x41, masks.A) ∷ (0x42, masks.B) ∷ (0x43, masks.C) ∷ (0x44, masks.D) ∷ []
 
--- the opcodes of the PDI set
+-- the opcodes of the PDI set (PROFILE.md, Opcodes)
 unfoldable pub opcode_rows : List (ℕ × Opcode)
 opcode_rows =
     (0x20, opcodes.Reset)
@@ -171,7 +171,7 @@ opcode_rows =
     ∷ (0x3F, opcodes.Blink)
     ∷ []
 
--- the opcodes that are left out
+-- the opcodes that the profile leaves out, with their names
 unfoldable pub left_out_opcode : Opcode → Option Left
 left_out_opcode opcodes.IncrementalPoint = Some lefts.IncrementalPoint
 left_out_opcode opcodes.IncrementalLine = Some lefts.IncrementalLine

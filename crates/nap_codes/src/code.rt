@@ -1,4 +1,4 @@
-//! The codes that a stream is cut into, and why bytes are none.
+//! The codes of a stream, and the faults of bytes that form none.
 
 use crate::code_set::{CharSet, CodeSet};
 use crate::control::{CursorKind, Mask, Size, TextStep};
@@ -6,92 +6,92 @@ use crate::opcode::{Left, Opcode};
 use nap_values::Word;
 use thiserror::Error;
 
-/// A whole code of a stream, with its arguments.
+/// A complete code of a stream, with its arguments.
 #[derive(Clone, Copy, PartialEq, Eq, Debug, Drop)]
 pub enum Code {
-    /// The bell (BEL).
+    /// BEL: the bell.
     Bell,
-    /// A move of the active position of text.
+    /// A format effector: a move of the active position of text (PROFILE.md, The C0 set).
     Step(TextStep),
-    /// The screen is cleared (CS).
+    /// CS: the screen is cleared.
     Clear,
-    /// A code that adds nothing, such as NUL or PROTECT.
+    /// A code without effect, such as NUL or PROTECT.
     Fill,
-    /// A G set went into GL.
+    /// A locking shift: a register went into GL (PROFILE.md, Shifts).
     Shifted,
-    /// This set became the G set with this number, from 0 to 3.
+    /// A designation: the set went into the register with this number, 0 to 3 (PROFILE.md, Designations).
     Designated(u8, CodeSet),
-    /// A character of this set, by its byte from `20` to `7F`; both of these are characters too.
+    /// A character of a set, given by its byte from `20` to `7F`, both included.
     Char(CharSet, u8),
-    /// A code of the macro set, from `20` to `7F`.
+    /// A call of the macro with this name, from `20` to `7F`.
     Call(u8),
-    /// An opcode (PDI set). Its operands are codes of their own.
+    /// An opcode of the PDI set. Its operand bytes are codes of their own.
     Op(Opcode),
-    /// A word of an operand (PDI set): the byte, from `40` to `7F`, less `40`.
+    /// A word of an operand: a byte of the PDI set from `40` to `7F`, less `40`.
     Operand(Word),
-    /// DEF MACRO, or DEFP MACRO where it is to be shown, with the macro's name.
+    /// DEF MACRO, or DEFP MACRO if `show` is set.
     DefMacro {
-        /// The byte of the macro's name, from `20` to `7F`.
+        /// The name of the macro, from `20` to `7F`.
         name: u8,
-        /// Whether the macro is presented once it is defined.
+        /// Whether the body is presented as soon as it is defined.
         show: bool,
     },
-    /// DEF DRCS, with the byte of the character, from `20` to `7F` (C1 set).
+    /// DEF DRCS, with the code of the character, from `20` to `7F`.
     DefGlyph(u8),
-    /// DEF TEXTURE, with the mask that the codes after it draw.
+    /// DEF TEXTURE, with the mask that is defined.
     DefMask(Mask),
-    /// END, the end of a macro body or of a definition.
+    /// END: the end of a macro body, or of the definition of a glyph or mask.
     End,
-    /// REPEAT, with how often the last character comes again: the byte, from `40` to `7F`, less `40` (C1 set).
+    /// REPEAT, with the number of repetitions: the byte from `40` to `7F`, less `40`.
     Repeat(Word),
-    /// REPEAT TO EOL.
+    /// REPEAT TO EOL: repetition to the end of the line.
     ToEol,
-    /// A character size with a name of its own.
+    /// One of the five named character sizes.
     Named(Size),
-    /// REVERSE VIDEO, or NORMAL VIDEO where it is off.
+    /// REVERSE VIDEO if true, NORMAL VIDEO if false.
     Reverse(bool),
-    /// UNDERLINE START, or STOP where it is off.
+    /// UNDERLINE START if true, UNDERLINE STOP if false.
     Underline(bool),
-    /// WORD WRAP on or off.
+    /// WORD WRAP ON if true, WORD WRAP OFF if false.
     Wrap(bool),
-    /// SCROLL on or off.
+    /// SCROLL ON if true, SCROLL OFF if false.
     Scroll(bool),
-    /// BLINK START, or STOP where it is off (C1 set).
+    /// BLINK START if true, BLINK STOP if false.
     BlinkMark(bool),
-    /// How the cursor shows from here on.
+    /// FLASH CURSOR, STEADY CURSOR or CURSOR OFF.
     Cursor(CursorKind),
 }
 
-/// Why bytes are no code.
+/// Why bytes don't form a code. These are the refusals 1 to 6 of PROFILE.md, Refusals.
 #[derive(Clone, Copy, PartialEq, Eq, Debug, Drop, Error)]
 pub enum CodeFault {
-    /// A byte from `80` on, whatever stands before it.
+    /// A byte from `80` on, at any position.
     #[error("a byte has its eighth bit set")]
     EighthBit,
-    /// A byte that fits no escape sequence of this profile (code extension, C1 set).
+    /// A byte that continues no escape sequence of the profile (PROFILE.md, Where an escape ends).
     #[error("no such escape sequence")]
     BadEscape,
-    /// A control of the C0 set behind a single shift (code extension).
+    /// A byte below `20` after a single shift (PROFILE.md, Shifts).
     #[error("a control stands behind a single shift")]
     ShiftAlone,
-    /// A code of the PDI set behind a single shift, also an opcode that is left out.
+    /// A code of the PDI set after a single shift, also an opcode that is left out (PROFILE.md, Shifts).
     #[error("a drawing code stands behind a single shift")]
     ShiftedCode,
-    /// A byte outside the range of an argument: of APS (C0 set), or of a control of the C1 set.
+    /// An argument outside its range: of APS, or of a control of the C1 set.
     #[error("an argument is out of range")]
     BadArgument,
-    /// A control or an opcode that this profile leaves out. Its argument, where the standard gives it one, isn't read.
+    /// A control or opcode that the profile leaves out by name. Its argument, if the standard gives it one, isn't read.
     #[error("{0} is left out")]
     LeftOut(Left),
 }
 
-/// What a byte does to a lexer.
+/// The effect of one byte on a lexer.
 #[derive(Clone, Copy, PartialEq, Eq, Debug, Drop)]
 pub enum Step {
-    /// The code isn't whole yet.
+    /// The code isn't complete yet.
     More,
-    /// The byte was the last of this code.
+    /// The byte completed this code.
     Code(Code),
-    /// The byte is refused, and the lexer stays as it was.
+    /// The byte is refused; the lexer is unchanged.
     Fault(CodeFault),
 }

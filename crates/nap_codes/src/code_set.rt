@@ -1,58 +1,59 @@
-//! The code sets, the places that they stand at, and the escape sequences that designate them.
+//! The code sets, the registers G0 to G3, and the designations that put sets into them (PROFILE.md, Code sets and
+//! escapes).
 
 ghost use Rattle.std.specs.Prelude.{◌≡◌};
-ghost use Rattle.nap_codes.specs.CodeSets.{after_control0, characters_of, set_at, start_sets, with_set};
+ghost use Rattle.nap_codes.specs.CodeSets.{after_control0, char_set_of, set_at, start_sets, with_set};
 ghost use Rattle.nap_codes.specs.Tables.{designation};
 
-/// A set of codes that can be designated as G0, G1, G2 or G3 (code extension).
+/// A set of 96 codes that a designation can put into a register (PROFILE.md, Designations).
 #[derive(Clone, Copy, PartialEq, Eq, Debug, Drop)]
 pub enum CodeSet {
     /// The primary characters: letters, digits and signs.
     Primary,
     /// The supplementary characters: accents and further signs.
     Supplementary,
-    /// Opcodes and the words of their operands (picture description instructions).
+    /// The picture description instructions: opcodes and the words of their operands.
     Pdi,
-    /// The mosaic characters, which are blocks.
+    /// The mosaic characters.
     Mosaic,
     /// Calls of macros.
     Macros,
-    /// The characters that a stream defines (DRCS).
+    /// The dynamically redefinable characters (DRCS).
     Drcs,
 }
 
-/// One of the four places for a code set (code extension).
+/// One of the four registers for code sets (PROFILE.md, Code sets and escapes).
 #[derive(Clone, Copy, PartialEq, Eq, Debug, Drop)]
 pub enum GSet {
-    /// The place of the primary characters at the start, and in GL there.
+    /// Holds the primary characters at the start of a stream, and is in GL there.
     G0,
-    /// The place of the PDI set at the start.
+    /// Holds the PDI set at the start of a stream.
     G1,
-    /// The place of the supplementary characters at the start.
+    /// Holds the supplementary characters at the start of a stream.
     G2,
-    /// The place of the mosaic characters at the start.
+    /// Holds the mosaic characters at the start of a stream.
     G3,
 }
 
-/// The code sets in use: the four G sets, and which of them is in GL, where the bytes `20` to `7F` take their meaning.
+/// The sets in the four registers, and the register in GL, whose set gives the bytes `20` to `7F` their meaning.
 #[derive(Clone, Copy, PartialEq, Eq, Debug, Drop)]
 pub struct CodeSets {
-    /// The set that is G0.
+    /// The set in G0.
     pub g0: CodeSet,
-    /// The set that is G1.
+    /// The set in G1.
     pub g1: CodeSet,
-    /// The set that is G2.
+    /// The set in G2.
     pub g2: CodeSet,
-    /// The set that is G3.
+    /// The set in G3.
     pub g3: CodeSet,
-    /// Which of them is in GL.
+    /// The register in GL.
     pub gl: GSet,
 }
 
 impl CodeSet {
-    /// The set of characters that this is, if it is one.
-    pub(crate) fn characters(self) -> Option<CharSet>
-        ensures { result ≡ characters_of self }
+    /// Returns the character set, or `None` for the PDI set and the macro set.
+    pub(crate) fn char_set(self) -> Option<CharSet>
+        ensures { result ≡ char_set_of self }
     {
         match self {
             CodeSet::Primary => Some(CharSet::Primary),
@@ -65,7 +66,7 @@ impl CodeSet {
 }
 
 impl CodeSets {
-    /// The code sets at the start of a stream.
+    /// Returns the code sets at the start of a stream.
     pub fn start() -> CodeSets
         ensures { result ≡ start_sets }
     {
@@ -78,37 +79,37 @@ impl CodeSets {
         }
     }
 
-    /// The set that stands at this place.
+    /// Returns the set in a register.
     #[inline]
-    pub fn at(self, place: GSet) -> CodeSet
+    pub fn set_at(self, place: GSet) -> CodeSet
         ensures { result ≡ set_at self place }
     {
         let sets = [self.g0, self.g1, self.g2, self.g3];
         sets[place as usize]
     }
 
-    /// The code sets with this place in GL.
-    pub(crate) fn shifted(self, place: GSet) -> CodeSets
+    /// Returns the code sets with this register in GL.
+    pub(crate) fn with_gl(self, place: GSet) -> CodeSets
         ensures { result ≡ record self { gl = place } }
     {
         CodeSets { gl: place, ..self }
     }
 
-    /// The code sets after a control of the C0 set.
+    /// Returns the code sets after a control of the C0 set, which SO and SI change.
     #[tactic(auto, unfolding(crate::specs::CodeSets::after_control0))]
     pub(crate) fn after_control0(self, byte: u8) -> CodeSets
         ensures { result ≡ after_control0 self byte }
     {
         match byte {
-            0x0E => self.shifted(GSet::G1),
-            0x0F => self.shifted(GSet::G0),
+            0x0E => self.with_gl(GSet::G1),
+            0x0F => self.with_gl(GSet::G0),
             _ => self,
         }
     }
 
-    /// The code sets where this set becomes the G set with this number, from 0 to 3.
+    /// Returns the code sets with the set in the register of this number, 0 to 3.
     #[tactic(auto, unfolding(crate::specs::CodeSets::with_set))]
-    pub(crate) fn with(self, number: u8, set: CodeSet) -> CodeSets
+    pub(crate) fn with_set(self, number: u8, set: CodeSet) -> CodeSets
         ensures { result ≡ with_set self number set }
     {
         match number {
@@ -120,8 +121,8 @@ impl CodeSets {
     }
 }
 
-/// What an escape sequence with this intermediate byte and this final byte designates: the number of a G set, from 0 to
-/// 3, and the set that takes its place. None where the bytes designate nothing (code extension).
+/// Returns what the escape sequence with this intermediate byte and this final byte designates: the number of a
+/// register, 0 to 3, and the set that goes into it. `None` if it designates nothing (PROFILE.md, Designations).
 #[tactic(auto, unfolding(crate::specs::Tables::designation, crate::specs::Tables::row_of, crate::specs::Tables::number_rows, crate::specs::Tables::set_rows))]
 pub fn designate(intermediate: u8, last: u8) -> Option<(u8, CodeSet)>
     ensures { result ≡ designation intermediate last }
@@ -152,8 +153,8 @@ pub enum CharSet {
     Primary,
     /// The supplementary characters: accents and further signs.
     Supplementary,
-    /// The mosaic characters, which are blocks.
+    /// The mosaic characters.
     Mosaic,
-    /// The characters that a stream defines (DRCS).
+    /// The dynamically redefinable characters (DRCS).
     Drcs,
 }

@@ -1,4 +1,4 @@
-//! The controls of the C0 set and of the C1 set, and what their arguments stand for.
+//! The controls of the C0 and C1 sets, and the arguments of those that take one.
 
 ghost use Rattle.std.specs.Prelude.{◌≡◌};
 ghost use Rattle.nap_codes.specs.Front.{argument_of, with_argument};
@@ -8,7 +8,7 @@ use crate::code::Code;
 use crate::opcode::Left;
 use nap_values::Word;
 
-/// A move of the active position of text (format effectors of the C0 set).
+/// A format effector: a move of the active position of text (PROFILE.md, The C0 set).
 #[derive(Clone, Copy, PartialEq, Eq, Debug, Drop)]
 pub enum TextStep {
     /// Active position backward.
@@ -23,18 +23,18 @@ pub enum TextStep {
     Apr,
     /// Active position home.
     Aph,
-    /// Active position set, with its two bytes from `20` to `7F` as they are.
+    /// Active position set, with its two bytes, each from `20` to `7F`.
     Aps(u8, u8),
 }
 
-/// A character size that has a name of its own (C1 set).
+/// A named character size (PROFILE.md, The C1 set).
 #[derive(Clone, Copy, PartialEq, Eq, Debug, Drop)]
 pub enum Size {
     /// SMALL TEXT.
     Small,
     /// MED TEXT.
     Medium,
-    /// NORMAL TEXT, the size at the start.
+    /// NORMAL TEXT, the size at the start of a stream.
     Normal,
     /// DOUBLE HEIGHT.
     Tall,
@@ -42,58 +42,58 @@ pub enum Size {
     Double,
 }
 
-/// A texture mask that a stream can define (C1 set).
+/// A texture mask that a stream can define (PROFILE.md, The C1 set).
 #[derive(Clone, Copy, PartialEq, Eq, Debug, Drop)]
 pub enum Mask {
-    /// Mask A, by the argument `41`.
+    /// Mask A, argument `41`.
     A,
-    /// Mask B, by the argument `42`.
+    /// Mask B, argument `42`.
     B,
-    /// Mask C, by the argument `43`.
+    /// Mask C, argument `43`.
     C,
-    /// Mask D, by the argument `44`.
+    /// Mask D, argument `44`.
     D,
 }
 
-/// How the cursor shows (C1 set).
+/// The state of the cursor (PROFILE.md, The C1 set).
 #[derive(Clone, Copy, PartialEq, Eq, Debug, Drop)]
 pub enum CursorKind {
-    /// It shows, flashing.
+    /// Visible and flashing.
     Flash,
-    /// It shows.
+    /// Visible and steady.
     Steady,
-    /// It doesn't show.
+    /// Not visible.
     Off,
 }
 
-/// What the argument of a control stands for (C1 set).
+/// What the argument of a control of the C1 set means.
 #[derive(Clone, Copy, PartialEq, Eq, Drop)]
 pub(crate) enum Argument {
-    /// The name of a macro.
+    /// The name of a macro (DEF MACRO).
     Macro,
-    /// The name of a macro that is shown once it is defined.
+    /// The name of a macro that is presented as soon as it is defined (DEFP MACRO).
     ShownMacro,
-    /// The code of a character.
+    /// The code of a character (DEF DRCS).
     Glyph,
-    /// Which mask is defined.
+    /// The mask that is defined (DEF TEXTURE).
     Mask,
-    /// How often a character is repeated.
+    /// The number of repetitions (REPEAT).
     Count,
 }
 
-/// A row of the tables of control codes.
+/// A row of the tables of controls (PROFILE.md, The C0 set and The C1 set).
 #[derive(Clone, Copy, PartialEq, Eq, Drop)]
 pub enum Row {
-    /// The byte is a whole code.
+    /// The byte is a complete code.
     Whole(Code),
-    /// Further bytes belong to the code.
+    /// The code has further bytes.
     More,
-    /// The code is left out of this profile.
+    /// The profile leaves the code out by name.
     Out(Left),
 }
 
 impl Argument {
-    /// The argument of this control, where it takes one.
+    /// Returns the meaning of the argument of a control that takes one.
     #[tactic(auto, unfolding(crate::specs::Front::argument_of))]
     pub(crate) fn of(control: u8) -> Argument
         ensures { result ≡ argument_of control }
@@ -107,7 +107,7 @@ impl Argument {
         }
     }
 
-    /// The code of the control with this argument, None where it is outside its range.
+    /// Returns the code with this argument byte, or `None` if it is outside its range.
     #[tactic(auto, unfolding(crate::specs::Front::with_argument, crate::specs::Tables::row_of, crate::specs::Tables::mask_rows))]
     pub(crate) fn code(self, byte: u8) -> Option<Code>
         ensures { result ≡ with_argument self byte }
@@ -132,7 +132,7 @@ impl Argument {
     }
 }
 
-/// The row of the C0 set at this byte, None from `20` on.
+/// Returns the row of the C0 set for a byte, or `None` from `20` on (PROFILE.md, The C0 set).
 #[tactic(auto, unfolding(crate::specs::Tables::row_of, crate::specs::Tables::control0_rows))]
 pub fn control0(byte: u8) -> Option<Row>
     ensures { result ≡ row_of control0_rows byte }
@@ -157,8 +157,8 @@ pub fn control0(byte: u8) -> Option<Row>
     Some(row)
 }
 
-/// The move of the active position that the byte is by itself, where it is one (format effectors of the C0 set). APS, which
-/// has two further bytes, is none.
+/// Returns the format effector that a single byte is, or `None`. APS isn't one, since it has two further bytes
+/// (PROFILE.md, The C0 set).
 #[inline]
 pub fn format_effector(byte: u8) -> Option<TextStep>
     ensures { result ≡ format_effector byte }
@@ -169,7 +169,7 @@ pub fn format_effector(byte: u8) -> Option<TextStep>
     }
 }
 
-/// The row of the C1 set at this byte behind ESC, None outside `40` to `5F`.
+/// Returns the row of the C1 set for the byte after ESC, or `None` outside `40` to `5F` (PROFILE.md, The C1 set).
 #[tactic(auto, unfolding(crate::specs::Tables::row_of, crate::specs::Tables::control1_rows))]
 pub fn control1(byte: u8) -> Option<Row>
     ensures { result ≡ row_of control1_rows byte }

@@ -1,53 +1,53 @@
-//! What holds of the definitions. Each function's contract is a law; the functions do nothing.
+//! Laws about the definitions of this crate. Each is the contract of a function that does nothing.
 
-ghost use Rattle.nap_codes.specs.Laws.{CodeRanges, EarlierUnfinished, FormatEffectorFront, FormatEffectorKnown, OneByteOpcode, OneByteOperand, RefusedIndex, RefusedStays, RefusedTaken, UnfinishedBefore, WholeLength, WholeStays, WholeTaken};
-ghost use Rattle.nap_codes.specs.Lexed.{StepsAreLexed};
+ghost use Rattle.nap_codes.specs.Laws.{CodeRanges, EarlierUnfinished, FormatEffectorFront, FormatEffectorKnown, OneByteOpcode, OneByteOperand, RefusedIndex, RefusedStays, RefusedByItsBytes, UnfinishedBefore, WholeLength, WholeStays, WholeByItsBytes};
+ghost use Rattle.nap_codes.specs.LexResults.{StepsGiveLexResult};
 ghost use Rattle.nap_codes.specs.SpellingLaws.{RefusedIsSpelled, UnfinishedIsPrefix, WholeIsSpelled};
 
-/// What stands at the front is what the bytes spell.
+/// The front of a list of bytes is a code, a refusal or unfinished exactly as the rules of spelling say.
 pub fn front_is_spelled()
     ensures whole { WholeIsSpelled }
     ensures refused { RefusedIsSpelled }
     ensures unfinished { UnfinishedIsPrefix }
 {}
 
-/// What stands at the front stays there where more bytes come.
+/// A front that is a code or a refusal is unchanged by further bytes.
 pub fn front_stays()
     ensures whole { WholeStays }
     ensures refused { RefusedStays }
 {}
 
-/// The bytes of what stands at the front: there are as many, and they are enough.
+/// A front that is a code or a refusal depends on its own bytes alone, and these are in the list.
 pub fn front_length()
     ensures whole { WholeLength }
     ensures refused { RefusedIndex }
-    ensures whole_taken { WholeTaken }
-    ensures refused_taken { RefusedTaken }
+    ensures whole_taken { WholeByItsBytes }
+    ensures refused_taken { RefusedByItsBytes }
 {}
 
-/// Fewer bytes than a code or a refusal has are unfinished.
+/// A front is unfinished if any of its bytes is missing.
 pub fn earlier_is_unfinished()
     ensures whole { EarlierUnfinished }
     ensures refused { UnfinishedBefore }
 {}
 
-/// The numbers in a code are in their ranges, and no opcode is one that is left out.
+/// The parameters of a code at the front are in range, and its opcode isn't one that is left out.
 pub fn code_ranges()
     ensures { CodeRanges }
 {}
 
-/// A code of the PDI set is one byte, and leaves the code sets.
+/// A code of the PDI set has one byte, and changes no code set.
 pub fn one_byte_of_pdi()
     ensures opcode { OneByteOpcode }
     ensures operand { OneByteOperand }
 {}
 
-/// The steps of a lexer at rest give the codes of the bytes, one after another, whatever pieces they come in.
-pub fn steps_are_lexed()
-    ensures { StepsAreLexed }
+/// The calls of `step`, one for each byte, give the same codes however the bytes are cut into pieces.
+pub fn steps_give_lex_result()
+    ensures { StepsGiveLexResult }
 {}
 
-/// A format effector is below the codes of the G sets, and a code by itself; there are six.
+/// Each of the six format effectors of one byte is below `20` and a complete code, and there are no others.
 pub fn format_effector_alone()
     ensures front { FormatEffectorFront }
     ensures known { FormatEffectorKnown }

@@ -1,4 +1,5 @@
-//! The codes of a stream: code sets, controls and opcodes.
+//! The codes of a stream: characters, controls, opcodes and operand words, and the lexer that finds them (PROFILE.md,
+//! Code sets and escapes).
 #![tactic(auto)]
 
 mod code;

@@ -1,83 +1,83 @@
-//! The opcodes of the PDI set, and the names of the codes that are left out.
+//! The opcodes of the PDI set (PROFILE.md, Opcodes), and the codes that the profile leaves out by name.
 
 ghost use Rattle.std.specs.Prelude.{◌≡◌};
 ghost use Rattle.nap_codes.specs.Tables.{left_out_opcode, opcode_rows, row_of};
 
 use std::fmt;
 
-/// The byte of the first opcode of the PDI set. The others follow in their order, each one byte further.
+/// The byte of the first opcode of the PDI set. The variants of `Opcode` are in the order of their bytes.
 pub const FIRST_OPCODE: u8 = 0x20;
 
-/// An opcode of the PDI set, by its name in the standard.
+/// An opcode of the PDI set, by its name in the standard (PROFILE.md, Opcodes).
 #[derive(Clone, Copy, PartialEq, Eq, Debug, Drop)]
 pub enum Opcode {
-    /// Puts parts of the drawing state back (RESET).
+    /// RESET: resets parts of the drawing state.
     Reset,
-    /// The lengths of operands, and the pel (DOMAIN).
+    /// DOMAIN: sets the operand lengths and the pel.
     Domain,
-    /// How characters look (TEXT).
+    /// TEXT: sets the text attributes.
     Text,
-    /// How lines and areas are filled in (TEXTURE).
+    /// TEXTURE: sets the texture of lines and areas.
     Texture,
-    /// The pen goes to points.
+    /// POINT SET ABS: moves the drawing point (pen) to points.
     PointSetAbs,
-    /// The pen goes on by displacements.
+    /// POINT SET REL: moves the drawing point (pen) by displacements.
     PointSetRel,
-    /// Points.
+    /// POINT ABS: draws points.
     PointAbs,
-    /// Points by displacements from the pen, each from the one before it.
+    /// POINT REL: draws points at displacements, each from the one before it.
     PointRel,
-    /// Lines from the pen to points in turn.
+    /// LINE ABS: draws lines from the drawing point (pen) to points, one after another.
     LineAbs,
-    /// Lines from the pen by displacements in turn.
+    /// LINE REL: draws lines by displacements, each from the end of the one before it.
     LineRel,
-    /// Lines from one point to another.
+    /// SET & LINE ABS: draws lines between pairs of points.
     SetLineAbs,
-    /// Lines from a point by a displacement.
+    /// SET & LINE REL: draws lines from a point by a displacement, for pairs of both.
     SetLineRel,
-    /// An arc from the pen.
+    /// ARC OUTLINED: draws an arc from the drawing point (pen).
     ArcOutlined,
-    /// A filled arc from the pen.
+    /// ARC FILLED: draws a filled arc from the drawing point (pen).
     ArcFilled,
-    /// An arc from a point.
+    /// SET & ARC OUTLINED: draws an arc from a point.
     SetArcOutlined,
-    /// A filled arc from a point.
+    /// SET & ARC FILLED: draws a filled arc from a point.
     SetArcFilled,
-    /// Rectangles from the pen.
+    /// RECT OUTLINED: draws rectangles from the drawing point (pen).
     RectOutlined,
-    /// Filled rectangles from the pen.
+    /// RECT FILLED: draws filled rectangles from the drawing point (pen).
     RectFilled,
-    /// Rectangles from a point each.
+    /// SET & RECT OUTLINED: draws rectangles, each from a point.
     SetRectOutlined,
-    /// Filled rectangles from a point each.
+    /// SET & RECT FILLED: draws filled rectangles, each from a point.
     SetRectFilled,
-    /// A polygon from the pen.
+    /// POLY OUTLINED: draws a polygon from the drawing point (pen).
     PolyOutlined,
-    /// A filled polygon from the pen.
+    /// POLY FILLED: draws a filled polygon from the drawing point (pen).
     PolyFilled,
-    /// A polygon from a point.
+    /// SET & POLY OUTLINED: draws a polygon from a point.
     SetPolyOutlined,
-    /// A filled polygon from a point.
+    /// SET & POLY FILLED: draws a filled polygon from a point.
     SetPolyFilled,
-    /// The active field (FIELD).
+    /// FIELD: sets the active field.
     Field,
-    /// Left out of this profile.
+    /// INCREMENTAL POINT, which the profile leaves out.
     IncrementalPoint,
-    /// Left out of this profile.
+    /// INCREMENTAL LINE, which the profile leaves out.
     IncrementalLine,
-    /// Left out of this profile.
+    /// INCREMENTAL POLY FILLED, which the profile leaves out.
     IncrementalPolyFilled,
-    /// A colour by its parts, to draw with or for the colour map (SET COLOR).
+    /// SET COLOR: sets the colour of mode 0, or an entry of the colour map.
     SetColor,
-    /// Pauses (WAIT).
+    /// WAIT: pauses, in tenths of a second.
     Wait,
-    /// The colour to draw with, by addresses of the colour map (SELECT COLOR).
+    /// SELECT COLOR: selects the colour mode, and addresses of the colour map.
     SelectColor,
-    /// Blink processes, or their end (BLINK).
+    /// BLINK: starts blink processes, or ends all.
     Blink,
 }
 
-/// A code that this profile leaves out by name.
+/// A code that the profile leaves out by name (PROFILE.md, Left out by name).
 #[derive(Clone, Copy, PartialEq, Eq, Debug, Drop)]
 pub enum Left {
     /// CAN of the C0 set.
@@ -107,7 +107,7 @@ pub enum Left {
 }
 
 impl Opcode {
-    /// The name of this opcode among the codes that are left out, None where it isn't.
+    /// Returns the name of an opcode that is left out, or `None` for the others.
     #[tactic(auto, unfolding(crate::specs::Tables::left_out_opcode))]
     pub(crate) fn left_out(self) -> Option<Left>
         ensures { result ≡ left_out_opcode self }
@@ -140,7 +140,7 @@ impl fmt::Display for Left {
     }
 }
 
-/// The opcode of the PDI set at this byte, None outside `20` to `3F`.
+/// Returns the opcode of the PDI set for a byte, or `None` outside `20` to `3F` (PROFILE.md, Opcodes).
 #[tactic(auto, unfolding(crate::specs::Tables::row_of, crate::specs::Tables::opcode_rows))]
 pub fn opcode_of(byte: u8) -> Option<Opcode>
     ensures { result ≡ row_of opcode_rows byte }

@@ -5,7 +5,7 @@ use Rattle.nap_list.specs.declared.count_sink.CountSink.{CountSink}
 use Rattle.nap_list.specs.declared.device.outlet.Outlet as outlet
 use Rattle.nap_list.specs.declared.entry.Entry.{Entry}
 use Rattle.nap_list.specs.declared.sink.Sink.{Ghosts}
-use Rattle.nap_list.specs.Counting.{Counts, Uncounted}
+use Rattle.nap_list.specs.Counting.{CountsEntries, Uncounted}
 use Rattle.nap_list.specs.Reading.{Reading, IsReadWhole}
 use Rattle.nap_reader.specs.declared.fault.Fault.{Fault}
 use Rattle.nap_reader.specs.declared.fault.Fault.TheVariants as fault
@@ -14,7 +14,7 @@ use Rattle.nap_reader.specs.Breaking.{cause_of, LacksWithin}
 use Rattle.nap_reader.specs.Stream.{means}
 use Rattle.nap_canon.specs.declared.page.PageText.{PageText}
 use Rattle.nap_canon.specs.PageTexts.{IsPageText, refusal_of_text}
-use Rattle.nap_canon.specs.Sinking.{Begun, Canonical, Took}
+use Rattle.nap_canon.specs.Sinking.{StartsText, Canonical, Took}
 use Rattle.nap_canon.specs.Streams.{list_of}
 use Rattle.nap_canon.specs.Text.{text}
 use Rattle.nap_canon.proofs.PublicLaws.{sink_writes_text}
@@ -32,7 +32,7 @@ use Rattle.nap_command.specs.Commands.{Denies, Fails, Finds, IsRefusal, LacksToC
 -- What is read of a page makes the answer of a command.
 
 -- A page was counted.
-module _ (g : Ghosts CountSink) (s : CountSink) (none : s.count ≡ 0) (took_is : (t : CountSink) (d : List Entry) → g.took s d t → Counts s d t)
+module _ (g : Ghosts CountSink) (s : CountSink) (none : s.count ≡ 0) (took_is : (t : CountSink) (d : List Entry) → g.took s d t → CountsEntries s d t)
     (wants_is : (d : List Entry) → g.wants s d → Uncounted s d) (sound : (t : CountSink) → g.failed t ≡ false) (c : Command) (p : List ℕ) (check : c.action ≡ action.Check) where
   refused : (f : Fault) (place : ℕ) → RefusedBy g s c.budget p (record { fault = f; place = place }) (cause_of f) → IsRefusal c p (record { fault = f; place = place })
   refused fault.Memory place h = record { refused = λ no. absurd (no refl); memory = λ _. h.0 }
@@ -80,7 +80,7 @@ prints_page c p canon (Ok t) (Err f) h is = rw is tt
 prints_page c p canon (Err r) result h is = rw is (λ other. let bad : ⊥ = cc (canon, other) in bad, record { refused = h.refused; memory = h.memory })
 
 -- The text of a page was taken, by an outlet that tells its bytes.
-module _ {O : Type 0} (o : outlet.Ghosts O) (w : O) (s : Canonical O) (begins : Begun o w s) (works : o.failed s.outlet ≡ false) (items : O → List ℕ)
+module _ {O : Type 0} (o : outlet.Ghosts O) (w : O) (s : Canonical O) (begins : StartsText o w s) (works : o.failed s.outlet ≡ false) (items : O → List ℕ)
     (tells : (u : O) → o.taken u ≡ Some (items u)) (empty : items w ≡ []) (g : Ghosts (Canonical O))
     (took_is : (t : Canonical O) (d : List Entry) → g.took s d t → Took o s d t) (c : Command) (p : List ℕ) (canon : c.action ≡ action.Canon) where
   text_is : (t : Canonical O) (d : List Entry) → Took o s d t → items t.outlet ≡ text d

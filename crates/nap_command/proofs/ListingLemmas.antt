@@ -8,12 +8,12 @@ use Rattle.nap_list.specs.declared.count_sink.CountSink.{CountSink}
 use Rattle.nap_list.specs.declared.device.outlet.Outlet as outlet
 use Rattle.nap_list.specs.declared.entry.Entry.{Entry}
 use Rattle.nap_list.specs.declared.sink.Sink.{Ghosts}
-use Rattle.nap_list.specs.Flushing.{FlushedOnce, flushed}
+use Rattle.nap_list.specs.Flushing.{FlushedOnce, flush_count}
 use Rattle.nap_list.specs.Reading.{Reading, IsReadWhole}
 use Rattle.nap_list.specs.State.{start}
 use Rattle.nap_list.specs.Sending.{Grows, grows_none, sending}
 use Rattle.nap_lines.specs.Listing.{lines, lines_join}
-use Rattle.nap_lines.specs.Printing.{Broke, Closes, Passes, Printing, Took, shown}
+use Rattle.nap_lines.specs.Printing.{Broke, Closes, SendsPart, Printing, Took, sending_of}
 use Rattle.nap_lines.specs.PrintingLaws.{passes_more}
 use Rattle.nap_reader.specs.declared.fault.Fault.{Fault}
 use Rattle.nap_reader.specs.declared.fault.Fault.TheVariants as fault
@@ -32,7 +32,7 @@ use Rattle.nap_command.specs.declared.failure.Failure.TheVariants as failure
 use Rattle.nap_command.specs.Commands.{EndsListed, EndsSo, ended_so, Fails, Finds, IsPartly, IsRefusal, IsStream}
 use Rattle.nap_command.specs.Devices.{Takes}
 
--- What `list` prints of a page that it reads twice.
+-- What `print_list` prints of a page that it reads twice.
 
 front_taken : (q left whole : List ℕ) → whole ≡ q ++ left → take (length q) whole ≡ q
 front_taken q left whole is = ap (take (length q)) is ∙ take-append_seam q left
@@ -102,7 +102,7 @@ module _ {O : Type 0} (o : outlet.Ghosts O) (w : O) (works : o.failed w ≡ fals
 
     all_printed : (t : CountSink) → Took o begun (list_of c.budget page) v → Closes o v u n → Leaves u n (Ok t)
     all_printed t took closes =
-        let all = passes_more (sending o w 0) (shown o v) (sending o u n) [] v.held closes.left (lines (list_of c.budget page)) [] took.passes closes.passes in
+        let all = passes_more (sending o w 0) (sending_of o v) (sending o u n) [] v.held closes.left (lines (list_of c.budget page)) [] took.passes closes.passes in
         let parts = sym (append-nil (lines (list_of c.budget page))) ∙ all.parts in
         record {
           q = all.sent;
@@ -118,7 +118,7 @@ module _ {O : Type 0} (o : outlet.Ghosts O) (w : O) (works : o.failed w ≡ fals
       refuses is p seen whole streams = list_refuses c p page seen r list whole streams (record { refused = λ no. absurd (no is); memory = λ _. place })
 
       -- a front of the lines went out
-      some_printed : (first rest : List Entry) (left : List ℕ) → list_of c.budget page ≡ first ++ rest → Passes (sending o w 0) [] (lines first) left (shown o v) →
+      some_printed : (first rest : List Entry) (left : List ℕ) → list_of c.budget page ≡ first ++ rest → SendsPart (sending o w 0) [] (lines first) left (sending_of o v) →
           (o.failed v.outlet ≡ false → r.fault ≡ fault.Memory) → Leaves u n (Err r)
       some_printed first rest left entries passes fault_is =
           let parts : lines (list_of c.budget page) ≡ passes.sent ++ (left ++ lines rest) =
@@ -175,8 +175,8 @@ module _ {O : Type 0} (o : outlet.Ghosts O) (w : O) (works : o.failed w ≡ fals
     ends = (out.q, Appends-kept (o.taken w) (o.taken u) (o.taken v) out.q out.grows.taken keeps, at (o.failed v) refl so)
 
   -- it was flushed once where no write failed
-  pub flushes_once : (u v : O) (n : ℕ) (found : Result CountSink Refusal) → Leaves u n found → o.write_failed w ≡ false → o.flushes v ≡ flushed (o.failed u) (o.flushes u) →
+  pub flushes_once : (u v : O) (n : ℕ) (found : Result CountSink Refusal) → Leaves u n found → o.write_failed w ≡ false → o.flushes v ≡ flush_count (o.failed u) (o.flushes u) →
       o.write_failed v ≡ o.write_failed u → FlushedOnce o w v
   flushes_once u v n found out none flushes wrote =
       let same : o.failed u ≡ o.write_failed u = out.grows.writes.failed ∙ ap (λ (b : Bool). b || out.grows.writes.fails) (works ∙ sym none) ∙ sym out.grows.writes.write_failed in
-      flushes ∙ ap (λ (b : Bool). flushed b (o.flushes u)) (same ∙ sym wrote) ∙ ap (flushed (o.write_failed v)) out.grows.writes.flushes
+      flushes ∙ ap (λ (b : Bool). flush_count b (o.flushes u)) (same ∙ sym wrote) ∙ ap (flush_count (o.write_failed v)) out.grows.writes.flushes

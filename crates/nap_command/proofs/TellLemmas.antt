@@ -5,8 +5,8 @@ use Rattle.std.specs.Io.KnownBytes.{Appends}
 use Rattle.nap_command.specs.declared.failure.Failure.{Failure}
 use Rattle.nap_command.specs.declared.failure.Failure.TheVariants as failure
 use Rattle.nap_command.specs.Devices.{Takes}
-use Rattle.nap_command.specs.Commands.{Tells}
-use Rattle.nap_command.specs.Failures.{status_of, told_text}
+use Rattle.nap_command.specs.Commands.{Reports}
+use Rattle.nap_command.specs.Failures.{status_of, reported_text}
 
 -- What standard error took of a line that was written.
 
@@ -16,15 +16,15 @@ front_of_front n xs h =
     subst (λ (m : ℕ). take m xs ≡ take n xs) (sym long) refl
 
 pub tells_written : (old new : Option (List ℕ)) (r : Result (Unit {0}) Failure) (was now : Bool) (f : Failure) (status : ℕ)
-    → Takes old new (told_text (Err f)) r → now ≡ (was || is_err r) → status ≡ status_of f → (e : List ℕ) × Appends old new e × Tells e now (Err f) status
+    → Takes old new (reported_text (Err f)) r → now ≡ (was || is_err r) → status ≡ status_of f → (e : List ℕ) × Appends old new e × Reports e now (Err f) status
 tells_written old new (Ok done) was now f status h flag is = (
-  told_text (Err f),
+  reported_text (Err f),
   h,
-  record { front = take_all (length (told_text (Err f))) (told_text (Err f)) (omega arith); all = λ _. refl; status_is = is },
+  record { front = take_all (length (reported_text (Err f))) (reported_text (Err f)) (omega arith); all = λ _. refl; status_is = is },
 )
 tells_written old new (Err (failure.Write n)) was now f status h flag is = (
-  take n (told_text (Err f)),
+  take n (reported_text (Err f)),
   h.1,
-  record { front = front_of_front n (told_text (Err f)) h.0; all = λ works. cc (or-true was); status_is = is },
+  record { front = front_of_front n (reported_text (Err f)) h.0; all = λ works. cc (or-true was); status_is = is },
 )
 tells_written old new _ was now f status h flag is = absurd h

@@ -15,14 +15,14 @@ use Rattle.nap_command.specs.declared.answer.Verdict.TheVariants as verdict
 use Rattle.nap_command.specs.declared.command.Action.{Action}
 use Rattle.nap_command.specs.declared.command.Action.TheVariants as action
 use Rattle.nap_command.specs.declared.command.Command.{Command}
-use Rattle.nap_list.specs.Flushing.{flushed}
+use Rattle.nap_list.specs.Flushing.{flush_count}
 use Rattle.nap_list.specs.Limits.{reads_limit}
 use Rattle.nap_list.specs.declared.device.inlet.Inlet as inlet
 use Rattle.nap_list.specs.Reading.{Reading, NoneFailed, IsCutOff, IsReadWhole}
 use Rattle.nap_command.specs.declared.failure.Failure.{Failure}
 use Rattle.nap_command.specs.declared.failure.Failure.TheVariants as failure
 use Rattle.nap_lines.specs.Listing.{lines}
-use Rattle.nap_command.specs.Failures.{exit_status, refusal_text, told_text}
+use Rattle.nap_command.specs.Failures.{exit_status, refusal_text, reported_text}
 use Rattle.nap_command.specs.Devices.{Devices, reading_of}
 
 -- The stream that a command reads.
@@ -31,41 +31,42 @@ use Rattle.nap_command.specs.Devices.{Devices, reading_of}
 abbrev pub is_blank : ℕ → Bool
 is_blank b = (b == 32) || (b == 9) || (b == 13) || (b == 10)
 
--- what hexadecimal text is without its blanks
-abbrev pub digits_of : List ℕ → List ℕ
-digits_of text = filter (λ b. not (is_blank b)) text
+-- hexadecimal text without its blanks
+abbrev pub hex_digits_of : List ℕ → List ℕ
+hex_digits_of text = filter (λ b. not (is_blank b)) text
 
--- the stream that the bytes of an input are: its bytes themselves, or those that its hexadecimal digits spell
+-- the stream of an input: its bytes, or those that its hexadecimal digits spell
 abbrev pub IsStream : Bool → List ℕ → List ℕ → Type 0
 IsStream false p stream = stream ≡ p
-IsStream true p stream = decode_of (digits_of p) ≡ Ok stream
+IsStream true p stream = decode_of (hex_digits_of p) ≡ Ok stream
 
 -- What a command prints.
 
 abbrev pub count_line : ℕ → List ℕ
 count_line n = codes "accepted " ++ decimal n ++ codes " entries" ++ 10 ∷ []
 
--- the canonical stream, as lower-case digits and the end of a line with hexadecimal text
+-- the canonical stream; with hexadecimal text as lower-case digits and LF
 abbrev pub canon_text : Bool → List ℕ → List ℕ
 canon_text false text = text
 canon_text true text = encode_lower text ++ 10 ∷ []
 
--- what is printed of a page that was counted
+-- what is printed of a page whose entries were counted
 abbrev pub PrintsCount : Result CountSink Refusal → List ℕ → Verdict → Type 0
 PrintsCount (Ok s) q verdict.Accepted = q ≡ count_line s.count
 PrintsCount (Err r) q verdict.Refused = q ≡ refusal_text r ++ 10 ∷ []
 PrintsCount found q v = ⊥
 
--- The refusal is that of the stream. One for want of memory has a place where an act of the stream can lack it.
+-- The refusal is that of the stream. One for lack of memory has a place where the reader or an act of the stream can
+-- lack it.
 pub record IsRefusal (c : Command) (stream : List ℕ) (r : Refusal) : Type 0 where
   pub refused : r.fault ≢ fault.Memory → (means c.budget stream).refusal ≡ Some r
   pub memory : r.fault ≡ fault.Memory → BreaksWithin c.budget stream r.place
 
--- Where there is no memory for a count, the reader itself lacks it, or 64 bits can't hold the number of the entries.
+-- A count lacks memory if the reader itself does, or if the number of entries exceeds 64 bits.
 abbrev pub LacksToCount : Command → List ℕ → Refusal → Type 0
 LacksToCount c stream r = r.fault ≡ fault.Memory → LacksWithin c.budget stream r.place ⊎ (2 ^ 64 ≤ length (means c.budget stream).entries)
 
--- what an action prints of a stream, with its verdict: only `check` prints a refusal
+-- what an action prints of a stream, with its verdict; only `check` prints a refusal
 abbrev pub PrintsBy : Action → Command → List ℕ → List ℕ → Verdict → Type 0
 PrintsBy action.List c stream q verdict.Accepted = IsAccepted c.budget stream × (q ≡ lines (list_of c.budget stream))
 PrintsBy action.Check c stream q verdict.Accepted = IsAccepted c.budget stream × (q ≡ count_line (length (list_of c.budget stream)))
@@ -77,13 +78,13 @@ PrintsBy _ c stream q verdict.Refused = ⊥
 abbrev pub Prints : Command → List ℕ → List ℕ → Verdict → Type 0
 Prints c p q v = (stream : List ℕ) × IsStream c.hex p stream × PrintsBy c.action c stream q v
 
--- why text is not taken as hexadecimal: it is none, or there was no memory
+-- why text isn't accepted as hexadecimal: it isn't, or memory ran out
 abbrev pub FailsToSpell : List ℕ → Failure → Type 0
-FailsToSpell text failure.Hex = IsErr (decode_of (digits_of text))
+FailsToSpell text failure.Hex = IsErr (decode_of (hex_digits_of text))
 FailsToSpell text failure.Memory = Unit {0}
 FailsToSpell text _ = ⊥
 
--- why a command prints nothing of a stream: `list` and `canon` refuse it, or there was no memory
+-- why a command prints nothing of a stream: `print_list` and `canon` refuse it, or memory ran out
 abbrev pub Denies : Command → List ℕ → Failure → Type 0
 Denies c stream (failure.Refused r) = (c.action ≢ action.Check) × IsRefusal c stream r
 Denies c stream failure.Memory = Unit {0}
@@ -91,7 +92,7 @@ Denies c stream _ = ⊥
 
 -- why a command prints nothing of the bytes p
 abbrev pub FailsOn : Command → List ℕ → Failure → Type 0
-FailsOn c p failure.Hex = (c.hex ≡ true) × IsErr (decode_of (digits_of p))
+FailsOn c p failure.Hex = (c.hex ≡ true) × IsErr (decode_of (hex_digits_of p))
 FailsOn c p (failure.Refused r) = (stream : List ℕ) × IsStream c.hex p stream × Denies c stream (failure.Refused r)
 FailsOn c p failure.Memory = Unit {0}
 FailsOn c p _ = ⊥
@@ -104,17 +105,17 @@ Fails c p input failure.Read = IsCutOff input p
 Fails c p input failure.Memory = NoneFailed input
 Fails c p input f = IsReadWhole input p × FailsOn c p f
 
--- a command found what it prints of the bytes p
+-- a command answers this for the bytes p
 abbrev pub Finds : Command → List ℕ → Reading → List ℕ → Verdict → Type 0
 Finds c p input q v = IsReadWhole input p × Prints c p q v
 
--- q is a front of what a command prints of the bytes p, which is nothing where it fails
+-- q is a prefix of what a command prints of the bytes p, which is nothing if it fails
 abbrev pub IsPartly : Command → List ℕ → Reading → List ℕ → Type 0
 IsPartly c p input q =
     ((whole : List ℕ) × (v : Verdict) × Finds c p input whole v × (take (length q) whole ≡ q)) ⊎ ((f : Failure) × Fails c p input f × (q ≡ []))
 
--- `check` or `canon` read the bytes p and printed q, and ended so. The output failed exactly where that is
--- how it ended.
+-- `check` or `canon` read the bytes p, printed q, and ended like this. The output failed exactly if that is how it
+-- ended.
 abbrev pub EndsWhole : Command → List ℕ → Reading → List ℕ → Bool → Result Verdict Failure → Type 0
 EndsWhole c p input q false (Ok v) = Finds c p input q v
 EndsWhole c p input q true (Ok v) = ⊥
@@ -122,13 +123,13 @@ EndsWhole c p input q false (Err f) = (q ≡ []) × Fails c p input f
 EndsWhole c p input q true (Err (failure.Write taken)) = (taken ≡ length q) × IsPartly c p input q
 EndsWhole c p input q true (Err _) = ⊥
 
--- Lines that are printed as they are made: where memory is wanting then, a front of them was.
+-- Lines that are printed as they are made: if memory runs out, a prefix of them is printed.
 abbrev pub PrintsPart : Command → List ℕ → Reading → List ℕ → Failure → Type 0
 PrintsPart c p input q (failure.Refused r) = (r.fault ≡ fault.Memory) × ((whole : List ℕ) × Finds c p input whole verdict.Accepted × (take (length q) whole ≡ q))
 PrintsPart c p input q _ = ⊥
 
--- `list` read the bytes p, and printed q once the whole page was accepted. Where it fails it prints nothing, but for memory
--- that is wanting as lines are made.
+-- `print_list` read the bytes p, and printed q once all of the page was accepted. If it fails it prints nothing, except where
+-- memory runs out as lines are made.
 abbrev pub EndsListed : Command → List ℕ → Reading → List ℕ → Bool → Result Verdict Failure → Type 0
 EndsListed c p input q false (Ok v) = Finds c p input q v
 EndsListed c p input q true (Ok v) = ⊥
@@ -136,7 +137,7 @@ EndsListed c p input q false (Err f) = Fails c p input f × ((q ≡ []) ⊎ Prin
 EndsListed c p input q true (Err (failure.Write taken)) = (taken ≡ count_of q) × IsPartly c p input q
 EndsListed c p input q true (Err _) = ⊥
 
--- how it ends whose page was read so, where the output took so many bytes and has failed or hasn't
+-- how a command ends after reading with this result, where the output took a number of bytes and has failed or hasn't
 abbrev pub ended_so : {S : Type 0} → Result S Refusal → Result Verdict Failure
 ended_so (Ok s) = Ok verdict.Accepted
 ended_so (Err r) = Err (failure.Refused r)
@@ -145,25 +146,25 @@ abbrev pub EndsSo : {S : Type 0} → Result S Refusal → ℕ → Bool → Resul
 EndsSo found n true ended = ended ≡ Err (failure.Write n)
 EndsSo found n false ended = ended ≡ ended_so found
 
--- a command that prints once it read all
+-- a command that prints once all of its input is read
 abbrev pub EndsByAction : Action → Command → List ℕ → Reading → List ℕ → Bool → Result Verdict Failure → Type 0
 EndsByAction action.List c p input q failed ended = EndsListed c p input q failed ended
 EndsByAction _ c p input q failed ended = EndsWhole c p input q failed ended
 
 -- how a command ends that converts a page
-abbrev pub ended_by : Result ℕ ConvertFault → Result Verdict Failure
-ended_by (Ok n) = Ok verdict.Accepted
-ended_by (Err (convert_fault.Refused r n)) = Err (failure.Refused r)
-ended_by (Err (convert_fault.Read n)) = Err failure.Read
-ended_by (Err (convert_fault.Write n)) = Err (failure.Write n)
+abbrev pub verdict_of_conversion : Result ℕ ConvertFault → Result Verdict Failure
+verdict_of_conversion (Ok n) = Ok verdict.Accepted
+verdict_of_conversion (Err (convert_fault.Refused r n)) = Err (failure.Refused r)
+verdict_of_conversion (Err (convert_fault.Read n)) = Err failure.Read
+verdict_of_conversion (Err (convert_fault.Write n)) = Err (failure.Write n)
 
--- A command that prints as it reads converted the bytes p to q, and ended so.
+-- A command that prints as it reads converted the bytes p to q, and ended like this.
 pub record EndsStreamed (c : Command) (p : List ℕ) (input : Reading) (q : List ℕ) (failed : Bool) (ended : Result Verdict Failure) : Type 0 where
   pub converted : Result ℕ ConvertFault
   pub converts : Converts c.budget p input q failed converted
-  pub ended_is : ended ≡ ended_by converted
+  pub ended_is : ended ≡ verdict_of_conversion converted
 
--- Hexadecimal text isn't converted: nothing was read, and nothing printed.
+-- Hexadecimal text isn't converted: nothing was read and nothing printed.
 pub record EndsExcluded (p : List ℕ) (input : Reading) (q : List ℕ) (failed : Bool) (ended : Result Verdict Failure) : Type 0 where
   pub nothing : p ≡ []
   pub unread : input.reads ≡ 0
@@ -178,33 +179,34 @@ EndsBy false hex c p input q failed ended = EndsByAction c.action c p input q fa
 EndsBy true false c p input q failed ended = EndsStreamed c p input q failed ended
 EndsBy true true c p input q failed ended = EndsExcluded p input q failed ended
 
--- a command read the bytes p and printed q, and ended so
+-- a command read the bytes p, printed q, and ended like this
 abbrev pub Ends : Command → List ℕ → Reading → List ℕ → Bool → Result Verdict Failure → Type 0
 Ends c p input q failed ended = EndsBy c.stream c.hex c p input q failed ended
 
--- A command that prints as it reads reads nothing behind a failed write or a refusal.
+-- A command that prints as it reads reads nothing after a failed write or a refusal.
 abbrev pub StreamsAtOnce : {I : Type 0} → inlet.Ghosts I → Command → List ℕ → I → I → List ℕ → Type 0
 StreamsAtOnce i c p start end q = c.stream ≡ true → c.hex ≡ false → StopsAtOnce i c.budget p start end q
 
--- how often an output was flushed, so often before, by a command with or without `--stream`, and with or without `--hex`:
--- once, where no write failed; and not at all where both exclude each other
+-- the number of flushes of an output after a command with or without `--stream` and `--hex`: one more if no write
+-- failed; none more if both options exclude each other
 abbrev pub flushed_by : Bool → Bool → Bool → ℕ → ℕ
-flushed_by false hex write_failed n = flushed write_failed n
-flushed_by true false write_failed n = flushed write_failed n
+flushed_by false hex write_failed n = flush_count write_failed n
+flushed_by true false write_failed n = flush_count write_failed n
 flushed_by true true write_failed n = n
 
--- Standard error took e where a command ended so: all of the line, unless it failed. The exit status says the same.
-pub record Tells (e : List ℕ) (failed : Bool) (ended : Result Verdict Failure) (status : ℕ) : Type 0 where
-  pub front : take (length e) (told_text ended) ≡ e
-  pub all : failed ≡ false → e ≡ told_text ended
+-- Standard error took e when a command ended like this: all of the line, unless standard error failed. The exit status
+-- says the same.
+pub record Reports (e : List ℕ) (failed : Bool) (ended : Result Verdict Failure) (status : ℕ) : Type 0 where
+  pub front : take (length e) (reported_text ended) ≡ e
+  pub all : failed ≡ false → e ≡ reported_text ended
   pub status_is : status ≡ exit_status ended
 
--- all that was printed was sent on, unless the output failed, or the command isn't done
+-- all that was printed was flushed, unless the output failed or the command isn't executed
 abbrev pub SendsOn : Result Verdict Failure → Bool → Bool → Type 0
 SendsOn ended failed sent = failed ≡ false → (sent ≡ true) ⊎ (ended ≡ Err failure.Excluded)
 
--- A command ran on an input, from the devices before to those after, with this exit status: it read the bytes p, printed q
--- and told e.
+-- A command ran on an input, from the devices before to those after, with this exit status: it read the bytes p,
+-- printed q and reported e.
 pub record Ran {I : Type 0} (i : inlet.Ghosts I) (c : Command) (start end : I) (before after : Devices) (status : ℕ) : Type 0 where
   pub p : List ℕ
   pub q : List ℕ
@@ -218,4 +220,4 @@ pub record Ran {I : Type 0} (i : inlet.Ghosts I) (c : Command) (start end : I) (
   pub stops : StreamsAtOnce i c p start end q
   pub sends : SendsOn ended after.output_failed after.sent
   pub flushes : after.flushes ≡ flushed_by c.stream c.hex after.write_failed before.flushes
-  pub tells : Tells e after.errors_failed ended status
+  pub tells : Reports e after.errors_failed ended status

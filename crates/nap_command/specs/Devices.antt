@@ -6,9 +6,9 @@ use Rattle.nap_list.specs.Reading.{Reading, NoneFailed, IsCutOff}
 use Rattle.nap_command.specs.declared.failure.Failure.{Failure}
 use Rattle.nap_command.specs.declared.failure.Failure.TheVariants as failure
 
--- What the three devices of a command show: the bytes left in the input, those that the output took and those that
--- standard error took, where they tell them; how often the input was read; whether the output was flushed behind its last
--- write, and how often it was flushed; which of them failed, and whether a write of the output did.
+-- The three devices of a command: the bytes left in the input, those that the output took and those that standard error
+-- took, if they tell them; the number of reads; whether the output was flushed after its last write, and the number of
+-- flushes; which devices have failed, and whether a write of the output has.
 pub record Devices : Type 0 where
   pub left : Option (List ℕ)
   pub reads : ℕ
@@ -43,13 +43,13 @@ reading_of before after = record {
   reads = after.reads - before.reads;
 }
 
--- why a reading of the bytes p came to no answer: it was cut off, or there was no memory
+-- why reading the bytes p gave no answer: the input was cut off, or memory ran out
 abbrev pub StopsReading : Reading → List ℕ → Failure → Type 0
 StopsReading r p failure.Read = IsCutOff r p
 StopsReading r p failure.Memory = NoneFailed r
 StopsReading r p _ = ⊥
 
--- an output that had these bytes took the whole text, or failed once it had taken so many bytes of it
+-- an output that had these bytes took all of the text, or failed after a number of bytes of it
 abbrev pub Takes : Option (List ℕ) → Option (List ℕ) → List ℕ → Result (Unit {0}) Failure → Type 0
 Takes old new text (Ok done) = Appends old new text
 Takes old new text (Err (failure.Write taken)) = (taken ≤ length text) × Appends old new (take taken text)

@@ -25,16 +25,16 @@ left_text left.IncrementalPoint = codes "INCREMENTAL-POINT"
 left_text left.IncrementalLine = codes "INCREMENTAL-LINE"
 left_text left.IncrementalPoly = codes "INCREMENTAL-POLY"
 
--- the name of a fault, and of what is left out
+-- the name of a fault, with the name of a code that is left out
 abbrev pub fault_text : Fault → List ℕ
 fault_text (fault.LeftOut left) = codes "LeftOut " ++ left_text left
 fault_text fault = name_of fault
 
--- the number, the name and the place
+-- the number, name and place of a refusal
 abbrev pub refusal_text : Refusal → List ℕ
 refusal_text r = codes "refused " ++ decimal (number_of r.fault) ++ codes " " ++ fault_text r.fault ++ codes " at " ++ decimal r.place
 
--- what standard error tells of a failure, without the end of the line
+-- what standard error reports of a failure, without LF
 abbrev pub failure_text : Failure → List ℕ
 failure_text failure.Excluded = codes "--hex and --stream exclude each other"
 failure_text failure.Read = codes "read fault"
@@ -46,7 +46,7 @@ failure_text (failure.Open number opening) = codes "line " ++ decimal number ++ 
 failure_text (failure.Write taken) = codes "write fault after " ++ decimal taken ++ codes " bytes"
 failure_text failure.Memory = codes "no memory"
 
--- the exit status
+-- the exit status of a failure
 abbrev pub status_of : Failure → ℕ
 status_of (failure.Refused r) = 1
 status_of (failure.Line number column) = 1
@@ -55,15 +55,15 @@ status_of (failure.Open number opening) = 1
 status_of failure.Excluded = 2
 status_of _ = 3
 
--- the exit status of an answer that was printed whole
+-- the exit status of an answer that was printed in full
 abbrev pub verdict_status : Verdict → ℕ
 verdict_status verdict.Accepted = 0
 verdict_status verdict.Refused = 1
 
--- what standard error tells of how a command ended
-abbrev pub told_text : Result Verdict Failure → List ℕ
-told_text (Ok v) = []
-told_text (Err f) = failure_text f ++ 10 ∷ []
+-- what standard error reports of how a command ended
+abbrev pub reported_text : Result Verdict Failure → List ℕ
+reported_text (Ok v) = []
+reported_text (Err f) = failure_text f ++ 10 ∷ []
 
 abbrev pub exit_status : Result Verdict Failure → ℕ
 exit_status (Ok v) = verdict_status v

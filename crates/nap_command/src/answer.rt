@@ -1,10 +1,10 @@
-//! What a command prints.
+//! What each command prints (PROFILE.md, The command).
 ghost use Rattle.std.specs.Prelude.{◌≡◌, ◌+◌, ◌<◌, ◌≤◌, ◌^◌, ◌++◌, ◌∷◌, [], ℕ, List, true, false, Err, IfOk, MatchResult};
 ghost use Rattle.std.specs.Io.KnownBytes.{Consumes};
 ghost use Rattle.nap_list.specs.Limits.{reads_limit};
 ghost use Rattle.nap_list.specs.Reading.{reading};
 ghost use Rattle.nap_canon.specs.PageTexts.{refusal_of_text};
-ghost use Rattle.nap_canon.specs.Sinking.{Begun};
+ghost use Rattle.nap_canon.specs.Sinking.{StartsText};
 ghost use Rattle.nap_command.specs.Failures.{refusal_text, verdict_status};
 ghost use Rattle.nap_command.specs.Commands.{Fails, FailsOn, FailsToSpell, Finds, Denies, IsStream, Prints, PrintsBy, PrintsCount, canon_text, count_line, is_blank};
 
@@ -18,26 +18,26 @@ use nap_list::{CountSink, Inlet, Outlet, Target};
 use nap_reader::{Refusal, read_input, read_stream};
 use std::alloc::{AllocError, Global};
 
-/// What a printed answer says of the stream.
+/// What a printed answer says about the stream.
 #[derive(Clone, Copy, PartialEq, Eq, Drop)]
 pub enum Verdict {
-    /// It was accepted.
+    /// The stream is accepted.
     Accepted,
-    /// It was refused.
+    /// The stream is refused.
     Refused,
 }
 
-/// What a command prints, and what that says of the stream.
+/// What a command prints, with what it says about the stream.
 #[derive(Drop)]
 pub struct Printout {
     /// The bytes to print.
     pub text: Vec<u8>,
-    /// What they say of the stream.
+    /// Whether the stream is accepted.
     pub verdict: Verdict,
 }
 
 impl Verdict {
-    /// The exit status.
+    /// Returns the exit status.
     pub fn status(self) -> u8
         ensures { result ≡ verdict_status self }
     {
@@ -48,15 +48,15 @@ impl Verdict {
     }
 }
 
-/// Whether the byte is dropped from hexadecimal text: a space, a tab, CR or LF.
+/// Whether hexadecimal text may have this byte between digits: a space, a tab, CR or LF.
 fn is_blank(byte: u8) -> bool
     ensures { result ≡ is_blank byte }
 {
     byte == b' ' || byte == b'\t' || byte == b'\r' || byte == b'\n'
 }
 
-/// The bytes that hexadecimal text spells, in digits of either case.
-pub(crate) fn bytes_of(alloc: Global, text: &[u8]) -> Result<Vec<u8>, Failure>
+/// Returns the bytes that hexadecimal text spells, in digits of either case.
+pub(crate) fn bytes_of_hex(alloc: Global, text: &[u8]) -> Result<Vec<u8>, Failure>
     ensures { MatchResult result (λ stream. IsStream true text.now stream.items) (FailsToSpell text.now) }
 {
     let digits: Vec<u8> = text
@@ -71,7 +71,7 @@ pub(crate) fn bytes_of(alloc: Global, text: &[u8]) -> Result<Vec<u8>, Failure>
     }
 }
 
-/// The line that says how many entries there are.
+/// Returns the line with the number of entries.
 pub fn count_line(alloc: Global, count: u64) -> Result<Vec<u8>, AllocError>
     ensures { IfOk result (λ text. text.items ≡ count_line count) }
 {
@@ -79,7 +79,7 @@ pub fn count_line(alloc: Global, count: u64) -> Result<Vec<u8>, AllocError>
     Ok(line.into_bytes())
 }
 
-/// The line of lower-case digits that spells a stream.
+/// Returns the line of lower-case hexadecimal digits that spells a stream.
 fn hex_line(alloc: Global, stream: &[u8]) -> Result<Vec<u8>, AllocError>
     ensures { IfOk result (λ text. text.items ≡ canon_text true stream.now) }
 {
@@ -88,7 +88,7 @@ fn hex_line(alloc: Global, stream: &[u8]) -> Result<Vec<u8>, AllocError>
     Ok(line.into_bytes())
 }
 
-/// The line of a refusal, with its end.
+/// Returns the line of a refusal, with LF.
 pub fn refusal_line(alloc: Global, refusal: Refusal) -> Result<Vec<u8>, AllocError>
     ensures { IfOk result (λ text. text.items ≡ refusal_text refusal ++ 10 ∷ []) }
 {
@@ -96,7 +96,7 @@ pub fn refusal_line(alloc: Global, refusal: Refusal) -> Result<Vec<u8>, AllocErr
     Vec::from_slice(alloc, line.as_bytes())
 }
 
-/// What `check` prints of a page that was counted.
+/// Returns what `check` prints of a page whose entries were counted.
 fn print_count(alloc: Global, found: Result<CountSink, Refusal>) -> Result<Printout, Failure>
     ensures { MatchResult result (λ a. PrintsCount found a.text.items a.verdict) (λ f. f ≡ Failure.Memory) }
 {
@@ -112,13 +112,13 @@ fn print_count(alloc: Global, found: Result<CountSink, Refusal>) -> Result<Print
     }
 }
 
-/// Takes the canonical text of a page.
+/// A sink of canonical text in memory.
 type TextSink = CanonSink<Target<Vec<u8>>>;
 
-/// A sink that has taken no entry, and the header of its text. An outlet in memory lacks that where it fails.
-fn begun<O: Outlet + Drop>(outlet: O) -> Result<CanonSink<O>, Failure>
+/// Returns a sink with the header of its text. A failed write to memory is lack of memory.
+fn begin_text<O: Outlet + Drop>(outlet: O) -> Result<CanonSink<O>, Failure>
     requires { O.failed outlet ≡ false }
-    ensures { MatchResult result (λ s. Begun O.Outlet outlet s × (O.failed s.outlet ≡ false)) (λ f. f ≡ Failure.Memory) }
+    ensures { MatchResult result (λ s. StartsText O.Outlet outlet s × (O.failed s.outlet ≡ false)) (λ f. f ≡ Failure.Memory) }
 {
     let sink = CanonSink::new(outlet);
     if sink.failed() {
@@ -127,7 +127,7 @@ fn begun<O: Outlet + Drop>(outlet: O) -> Result<CanonSink<O>, Failure>
     Ok(sink)
 }
 
-/// The text that `canon` prints: the canonical one, or a line of digits that spells it.
+/// Returns the text that `canon` prints: the canonical text, or the line of digits that spells it.
 fn canon_text(alloc: Global, hex: bool, text: Vec<u8>) -> Result<Vec<u8>, AllocError>
     ensures { IfOk result (λ printed. printed.items ≡ canon_text hex text.items) }
 {
@@ -137,7 +137,7 @@ fn canon_text(alloc: Global, hex: bool, text: Vec<u8>) -> Result<Vec<u8>, AllocE
     Ok(text)
 }
 
-/// What `canon` prints of a page whose text was made.
+/// Returns what `canon` prints of a page whose text was made.
 fn print_page(
     alloc: Global,
     hex: bool,
@@ -156,7 +156,7 @@ fn print_page(
     }
 }
 
-/// What `canon` prints of a page whose text was written to memory as the page was read from an input.
+/// Returns what `canon` prints of a page whose text was written to memory as it was read.
 fn print_text(found: Result<TextSink, Refusal>) -> Result<Printout, Failure>
     ensures { MatchResult found
         (λ s. MatchResult result (λ a. (a.text.items ≡ s.outlet.writer.items) × (a.verdict ≡ Verdict.Accepted)) (λ f. f ≡ Failure.Memory))
@@ -171,7 +171,7 @@ fn print_text(found: Result<TextSink, Refusal>) -> Result<Printout, Failure>
     }
 }
 
-/// What a command prints of a stream.
+/// Returns what a command prints of a stream.
 pub fn answer_stream(alloc: Global, command: &Command, stream: &[u8]) -> Result<Printout, Failure>
     ensures { MatchResult result (λ a. PrintsBy command.now.action command.now stream.now a.text.items a.verdict) (Denies command.now stream.now) }
 {
@@ -192,16 +192,16 @@ pub fn answer_stream(alloc: Global, command: &Command, stream: &[u8]) -> Result<
     }
 }
 
-/// What a command prints of hexadecimal text.
+/// Returns what a command prints of hexadecimal text.
 pub fn answer_text(alloc: Global, command: &Command, text: &[u8]) -> Result<Printout, Failure>
     requires { command.now.hex ≡ true }
     ensures { MatchResult result (λ a. Prints command.now text.now a.text.items a.verdict) (FailsOn command.now text.now) }
 {
-    let stream = bytes_of(alloc, text)?;
+    let stream = bytes_of_hex(alloc, text)?;
     answer_stream(alloc, command, stream.as_slice())
 }
 
-/// What a command prints of the bytes that an input gives, of which none is kept.
+/// Returns what a command prints of the bytes that an input gives, none of which is kept.
 pub fn answer_input<I: Inlet>(
     alloc: Global,
     command: &Command,
@@ -228,14 +228,19 @@ pub fn answer_input<I: Inlet>(
             print_count(alloc, found)
         }
         Action::Canon => {
-            let found = read_input(alloc, budget, input, begun(Target::new(Vec::new(alloc)))?)?;
+            let found = read_input(
+                alloc,
+                budget,
+                input,
+                begin_text(Target::new(Vec::new(alloc)))?,
+            )?;
             print_text(found)
         }
     }
 }
 
-/// What a command prints of its input.
-pub(crate) fn find<I: Inlet>(
+/// Returns what a command prints of its input.
+pub(crate) fn find_printout<I: Inlet>(
     alloc: Global,
     command: &Command,
     input: &mut I,

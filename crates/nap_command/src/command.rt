@@ -1,13 +1,13 @@
-//! The commands.
+//! The commands (PROFILE.md, The command).
 
 use nap_reader::Budget;
 
-/// What a command does with the stream that it reads.
+/// What a command does with a stream.
 #[derive(Clone, Copy, PartialEq, Eq, Drop)]
 pub enum Action {
     /// Prints a line for each entry.
     List,
-    /// Prints how many entries there are.
+    /// Prints the number of entries.
     Check,
     /// Prints the canonical stream.
     Canon,
@@ -18,10 +18,10 @@ pub enum Action {
 pub struct Command {
     /// What is done with the stream.
     pub action: Action,
-    /// Streams are hexadecimal text.
+    /// Whether streams are hexadecimal text (`--hex`).
     pub hex: bool,
-    /// How many bytes of macro bodies the stream may be charged with.
+    /// How many bytes of macro bodies may be charged (`--budget`).
     pub budget: Budget,
-    /// The canonical stream is printed as the page is read. `canon` alone has this option.
+    /// Whether the canonical stream is printed as the page is read (`--stream`, of `canon` alone).
     pub stream: bool,
 }

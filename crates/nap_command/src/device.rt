@@ -1,4 +1,4 @@
-//! Whole inputs and whole outputs.
+//! Reading of all of an input, and writing of all of a text.
 ghost use Rattle.std.specs.Prelude.{◌≡◌, ◌+◌, ◌^◌, ◌<◌, ◌≤◌, ◌||◌, ℕ, List, true, false, IfOk, is_err, length, MatchResult};
 ghost use Rattle.std.specs.Io.KnownBytes.{Consumes};
 ghost use Rattle.nap_list.specs.Flushing.{FlushedOnce};
@@ -10,10 +10,10 @@ use crate::failure::Failure;
 use nap_list::{Inlet, Outlet, READS};
 use std::alloc::Global;
 
-/// The most bytes of one read.
-const ROOM: usize = 65_536;
+/// The greatest number of bytes of one read.
+const READ_SIZE: usize = 65_536;
 
-/// Reads an input to its end.
+/// Reads an input to its end and returns its bytes.
 pub fn read_whole<I: Inlet>(alloc: Global, input: &mut I) -> Result<Vec<u8>, Failure>
     requires { I.calls input.old < 2 ^ 63 }
     ensures read { let seen = reading I.Inlet input.old input.new in
@@ -23,20 +23,20 @@ pub fn read_whole<I: Inlet>(alloc: Global, input: &mut I) -> Result<Vec<u8>, Fai
     ensures small { IfOk result (λ bytes. length bytes.items < 2 ^ 63) }
 {
     let mut bytes = Vec::new(alloc);
-    let mut room = [0; ROOM];
+    let mut buffer = [0; READ_SIZE];
     for _ in 0..READS {
-        let Ok(count) = input.read(&mut room) else {
+        let Ok(count) = input.read(&mut buffer) else {
             return Err(Failure::Read);
         };
         if count == 0 {
             return Ok(bytes);
         }
-        bytes.extend_from_slice(&room[..count])?;
+        bytes.extend_from_slice(&buffer[..count])?;
     }
     Err(Failure::Read)
 }
 
-/// Writes a whole text, and flushes the output.
+/// Writes all of a text, and flushes the output.
 pub fn write_whole<O: Outlet>(output: &mut O, text: &[u8]) -> Result<(), Failure>
     ensures takes { Takes (O.taken output.old) (O.taken output.new) text.now result }
     ensures failed { O.failed output.new ≡ (O.failed output.old || is_err result) }

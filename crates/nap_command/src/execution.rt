@@ -1,13 +1,13 @@
-//! A command on its input and its outputs.
+//! Execution of a command on its input and outputs (PROFILE.md, The command).
 ghost use Rattle.std.specs.Prelude.{◌≡◌, ◌+◌, ◌<◌, ◌≤◌, ◌^◌, ℕ, List, true, false, Err};
 ghost use Rattle.std.specs.Io.KnownBytes.{Appends, Consumes};
 ghost use Rattle.nap_list.specs.Flushing.{FlushedOnce};
 ghost use Rattle.nap_list.specs.Limits.{reads_limit};
 ghost use Rattle.nap_list.specs.Reading.{reading};
 ghost use Rattle.nap_command.specs.Devices.{devices};
-ghost use Rattle.nap_command.specs.Commands.{EndsWhole, Ran, Tells, ended_by};
+ghost use Rattle.nap_command.specs.Commands.{EndsWhole, Ran, Reports, verdict_of_conversion};
 
-use crate::answer::{Verdict, find};
+use crate::answer::{Verdict, find_printout};
 use crate::command::Command;
 use crate::device::write_whole;
 use crate::failure::Failure;
@@ -16,28 +16,28 @@ use nap_canon::{ConvertFault, convert};
 use nap_list::{Inlet, Outlet};
 use std::alloc::Global;
 
-/// Tells of a failure on standard error, and answers its exit status. Whether standard error takes it makes no difference.
-pub fn tell<E: Outlet>(failure: Failure, errors: &mut E) -> u8
-    ensures { (e : List ℕ) × Appends (E.taken errors.old) (E.taken errors.new) e × Tells e (E.failed errors.new) (Err failure) result }
+/// Reports a failure on standard error, and returns its exit status. A failed write to standard error changes nothing.
+pub fn report<E: Outlet>(failure: Failure, errors: &mut E) -> u8
+    ensures { (e : List ℕ) × Appends (E.taken errors.old) (E.taken errors.new) e × Reports e (E.failed errors.new) (Err failure) result }
 {
     let line = failure.line();
     let _ = write_whole(errors, line.as_bytes());
     failure.status()
 }
 
-/// Tells of a failure, if a command ended with one, and answers the exit status.
-pub(crate) fn conclude<E: Outlet>(ended: Result<Verdict, Failure>, errors: &mut E) -> u8
-    ensures { (e : List ℕ) × Appends (E.taken errors.old) (E.taken errors.new) e × Tells e (E.failed errors.new) ended result }
+/// Reports the failure of a command that ended with one, and returns the exit status.
+pub(crate) fn report_end<E: Outlet>(ended: Result<Verdict, Failure>, errors: &mut E) -> u8
+    ensures { (e : List ℕ) × Appends (E.taken errors.old) (E.taken errors.new) e × Reports e (E.failed errors.new) ended result }
 {
     match ended {
         Ok(verdict) => verdict.status(),
-        Err(failure) => tell(failure, errors),
+        Err(failure) => report(failure, errors),
     }
 }
 
-/// Prints what a command finds, and flushes the output also where that is nothing. A failing output takes the place of
-/// the failure before it.
-pub(crate) fn perform<I: Inlet, O: Outlet>(
+/// Prints what a command answers, and flushes the output, also if that is nothing. A failed output replaces an earlier
+/// failure.
+pub(crate) fn print_answer<I: Inlet, O: Outlet>(
     alloc: Global,
     command: &Command,
     input: &mut I,
@@ -52,7 +52,7 @@ pub(crate) fn perform<I: Inlet, O: Outlet>(
     ensures sends { O.failed output.new ≡ false → O.sent output.new ≡ true }
     ensures flushes { FlushedOnce O.Outlet output.old output.new }
 {
-    match find(alloc, command, input) {
+    match find_printout(alloc, command, input) {
         Ok(answer) => match write_whole(output, answer.text.as_slice()) {
             Ok(()) => Ok(answer.verdict),
             Err(fault) => Err(fault),
@@ -64,9 +64,9 @@ pub(crate) fn perform<I: Inlet, O: Outlet>(
     }
 }
 
-/// How a command ends that converts a page.
-fn ended_by(converted: Result<u64, ConvertFault>) -> Result<Verdict, Failure>
-    ensures { result ≡ ended_by converted }
+/// Returns how a command ends that converts a page.
+fn verdict_of_conversion(converted: Result<u64, ConvertFault>) -> Result<Verdict, Failure>
+    ensures { result ≡ verdict_of_conversion converted }
 {
     match converted {
         Ok(_) => Ok(Verdict::Accepted),
@@ -76,7 +76,7 @@ fn ended_by(converted: Result<u64, ConvertFault>) -> Result<Verdict, Failure>
     }
 }
 
-/// A command on its input: the output again, and the exit status.
+/// Executes a command on its input. Returns the output and the exit status (PROFILE.md, The command).
 pub fn execute<I: Inlet, O: Outlet + Drop, E: Outlet>(
     alloc: Global,
     command: &Command,
@@ -91,15 +91,15 @@ pub fn execute<I: Inlet, O: Outlet + Drop, E: Outlet>(
 {
     if !command.stream {
         let (output, ended) = print_once_read(alloc, command, input, output);
-        let status = conclude(ended, errors);
+        let status = report_end(ended, errors);
         return (output, status);
     }
     if command.hex {
-        let status = conclude(Err(Failure::Excluded), errors);
+        let status = report_end(Err(Failure::Excluded), errors);
         return (output, status);
     }
     let (output, converted) = convert(alloc, input, output, command.budget);
-    let ended = ended_by(converted);
-    let status = conclude(ended, errors);
+    let ended = verdict_of_conversion(converted);
+    let status = report_end(ended, errors);
     (output, status)
 }

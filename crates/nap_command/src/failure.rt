@@ -1,4 +1,4 @@
-//! Why a command fails.
+//! The failures of a command.
 ghost use Rattle.std.specs.Prelude.{◌≡◌, ◌≤◌, ◌+◌, ◌++◌, ◌∷◌, [], codes, decimal, length};
 ghost use Rattle.nap_command.specs.declared.failure.Failure.TheVariants.{Memory, Read, Refused, Write};
 ghost use Rattle.nap_command.specs.Failures.{failure_text, refusal_text, status_of};
@@ -9,29 +9,29 @@ use itoa::Buffer;
 use nap_reader::{ReadFault, Refusal};
 use std::alloc::AllocError;
 
-/// As many bytes as the line of a failure has at most, or more.
-pub const LINE: usize = 96;
+/// The greatest number of bytes of the line of a failure, rounded up.
+pub const FAILURE_LINE_SIZE: usize = 96;
 
 /// Why a command fails.
 #[derive(Clone, Copy, PartialEq, Eq, Drop)]
 pub enum Failure {
-    /// `--hex` and `--stream` were given both.
+    /// `--hex` and `--stream` were both given.
     Excluded,
-    /// The input failed, or was read too often.
+    /// A read failed, or there were as many reads as one input may have.
     Read,
     /// The input isn't hexadecimal text.
     Hex,
-    /// The stream was refused.
+    /// The stream is refused.
     Refused(Refusal),
-    /// The line of this number is no line of a list, from this column on.
+    /// No entry has the line of this number; the column before which it begins the line of one.
     Line(u64, u64),
-    /// The entry of the line with this number can't come there.
+    /// The entry of the line with this number doesn't fit.
     Misfit(u64),
-    /// The lines end with this number, and the definition of the second isn't ended.
+    /// The lines end with the first number, inside the definition that the line of the second opens.
     Open(u64, u64),
-    /// The output failed once it had taken this many bytes.
+    /// The output failed after it had taken this many bytes.
     Write(u64),
-    /// A growth was refused, other than in a reading.
+    /// Memory ran out, but not in reading the stream.
     Memory,
 }
 
@@ -60,7 +60,7 @@ impl From<Refusal> for Failure {
 }
 
 impl Failure {
-    /// The exit status.
+    /// Returns the exit status.
     pub fn status(self) -> u8
         ensures { result ≡ status_of self }
     {
@@ -72,8 +72,8 @@ impl Failure {
         }
     }
 
-    /// The line that tells of it, with its end. It takes no memory.
-    pub fn line(self) -> ArrayString<LINE>
+    /// Returns the line that reports the failure, with LF. Takes no memory.
+    pub fn line(self) -> ArrayString<FAILURE_LINE_SIZE>
         ensures { result.bytes ≡ failure_text self ++ 10 ∷ [] }
     {
         let mut line = ArrayString::new();
@@ -105,8 +105,8 @@ impl Failure {
     }
 }
 
-/// The decimal digits of a number, behind what a line has.
-fn push_number(line: &mut ArrayString<LINE>, number: u64)
+/// Appends the decimal digits of a number to a line.
+fn push_number(line: &mut ArrayString<FAILURE_LINE_SIZE>, number: u64)
     requires { length line.old.bytes + 20 ≤ 96 }
     ensures bytes { line.new.bytes ≡ line.old.bytes ++ decimal number }
     ensures most { length line.new.bytes ≤ length line.old.bytes + 20 }
@@ -115,8 +115,8 @@ fn push_number(line: &mut ArrayString<LINE>, number: u64)
     line.push_str(digits.format(number));
 }
 
-/// The number, the name and the place of a refusal.
-fn push_refusal(line: &mut ArrayString<LINE>, refusal: Refusal)
+/// Appends the number, name and place of a refusal.
+fn push_refusal(line: &mut ArrayString<FAILURE_LINE_SIZE>, refusal: Refusal)
     requires { line.old.bytes ≡ [] }
     ensures text { line.new.bytes ≡ refusal_text refusal }
     ensures short { length line.new.bytes ≤ 90 }
@@ -129,8 +129,8 @@ fn push_refusal(line: &mut ArrayString<LINE>, refusal: Refusal)
     push_number(line, refusal.place);
 }
 
-/// How many bytes an output took before it failed.
-fn push_write(line: &mut ArrayString<LINE>, taken: u64)
+/// Appends how many bytes an output took before it failed.
+fn push_write(line: &mut ArrayString<FAILURE_LINE_SIZE>, taken: u64)
     requires { line.old.bytes ≡ [] }
     ensures text { line.new.bytes ≡ failure_text (Write taken) }
     ensures short { length line.new.bytes ≤ 90 }
@@ -140,8 +140,8 @@ fn push_write(line: &mut ArrayString<LINE>, taken: u64)
     line.push_str(" bytes");
 }
 
-/// How a line of a list begins that is told of.
-fn numbered(number: u64) -> ArrayString<LINE>
+/// Returns the beginning of the report of a line of a list.
+fn numbered(number: u64) -> ArrayString<FAILURE_LINE_SIZE>
     ensures text { result.bytes ≡ codes "line " ++ decimal number }
     ensures few { length result.bytes ≤ 25 }
 {

@@ -1,4 +1,4 @@
-//! The commands of the program: what each reads, prints and tells, and its exit status.
+//! The commands of the program: what each reads, prints and reports, and its exit status (PROFILE.md, The command).
 #![tactic(auto)]
 
 mod answer;
@@ -17,7 +17,7 @@ pub use answer::{
 };
 pub use command::{Action, Command};
 pub use device::{read_whole, write_whole};
-pub use execution::{execute, tell};
-pub use failure::{Failure, LINE};
+pub use execution::{execute, report};
+pub use failure::{FAILURE_LINE_SIZE, Failure};
 pub use make::{execute_make, lines_failure};
 pub use name::fault_name;

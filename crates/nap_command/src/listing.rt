@@ -1,7 +1,7 @@
-//! `list` on its input and its output.
+//! `print_list` on its input and its output.
 ghost use Rattle.std.specs.Prelude.{◌≡◌, ◌+◌, ◌<◌, ◌≤◌, ◌^◌, ℕ, List, false, true, MatchResult};
 ghost use Rattle.std.specs.Io.KnownBytes.{Appends, Consumes, Keeps};
-ghost use Rattle.nap_list.specs.Flushing.{FlushedOnce, flushed};
+ghost use Rattle.nap_list.specs.Flushing.{FlushedOnce, flush_count};
 ghost use Rattle.nap_list.specs.Limits.{reads_limit};
 ghost use Rattle.nap_list.specs.Reading.{IsReadWhole, Reading, reading};
 ghost use Rattle.nap_lines.specs.Printing.{Closes};
@@ -11,14 +11,14 @@ use crate::answer::Verdict;
 use crate::command::{Action, Command};
 use crate::device::write_whole;
 use crate::failure::Failure;
-use crate::keeping::{Kept, keep};
+use crate::keeping::{KeptPage, read_page};
 use nap_lines::LinePrinter;
 use nap_list::{CountSink, Inlet, Outlet};
 use nap_reader::{Refusal, read_twice};
 use std::alloc::Global;
 
-/// How `list` ends whose output took so many bytes: it is flushed, unless a write has failed.
-fn ended<O: Outlet>(
+/// Flushes the output of `print_list`, unless a write has failed, and returns how the command ends.
+fn end_list<O: Outlet>(
     output: &mut O,
     written: u64,
     read: Result<CountSink, Refusal>,
@@ -26,7 +26,7 @@ fn ended<O: Outlet>(
     ensures taken { Keeps (O.taken output.old) (O.taken output.new) }
     ensures failed { O.failed output.old ≡ true → O.failed output.new ≡ true }
     ensures sent { O.failed output.new ≡ false → O.sent output.new ≡ true }
-    ensures flushes { O.flushes output.new ≡ flushed (O.failed output.old) (O.flushes output.old) }
+    ensures flushes { O.flushes output.new ≡ flush_count (O.failed output.old) (O.flushes output.old) }
     ensures write_failed { O.write_failed output.new ≡ O.write_failed output.old }
     ensures answer { EndsSo read written (O.failed output.new) result }
 {
@@ -56,7 +56,7 @@ fn finished<O: Outlet + Drop>(
 fn print_lines<O: Outlet + Drop>(
     alloc: Global,
     command: &Command,
-    kept: Kept,
+    kept: KeptPage,
     output: O,
 ) -> (O, Result<Verdict, Failure>)
     requires list { command.now.action ≡ Action.List }
@@ -66,7 +66,7 @@ fn print_lines<O: Outlet + Drop>(
     ensures sends { O.failed result.0 ≡ false → O.sent result.0 ≡ true }
     ensures flushes { FlushedOnce O.Outlet output result.0 }
 {
-    let Kept { page, memory } = kept;
+    let KeptPage { page, memory } = kept;
     let printer = LinePrinter::new(memory, output);
     let (printer, read) = read_twice(
         alloc,
@@ -76,13 +76,13 @@ fn print_lines<O: Outlet + Drop>(
         printer,
     );
     let (mut output, written) = finished(printer, &read);
-    let answer = ended(&mut output, written, read);
+    let answer = end_list(&mut output, written, read);
     (output, answer)
 }
 
-/// Prints the lines of the page that the input gives, and flushes the output also where that is nothing: once the whole page
-/// is accepted, as they are made. A failing output takes the place of the failure before it.
-pub(crate) fn list<I: Inlet, O: Outlet + Drop>(
+/// Prints the lines of the page that the input gives: once all of it is accepted, as they are made. Flushes the output,
+/// also if nothing is printed. A failed output replaces an earlier failure.
+pub(crate) fn print_list<I: Inlet, O: Outlet + Drop>(
     alloc: Global,
     command: &Command,
     input: &mut I,
@@ -98,7 +98,7 @@ pub(crate) fn list<I: Inlet, O: Outlet + Drop>(
     ensures sends { O.failed result.0 ≡ false → O.sent result.0 ≡ true }
     ensures flushes { FlushedOnce O.Outlet output result.0 }
 {
-    match keep(alloc, command, input) {
+    match read_page(alloc, command, input) {
         Ok(kept) => print_lines(alloc, command, kept, output),
         Err(failure) => {
             let mut output = output;

@@ -1,22 +1,22 @@
-//! `make` on its input and its outputs.
+//! `make` on its input and its outputs (PROFILE.md, Lines that make a page).
 ghost use Rattle.std.specs.Prelude.{◌≡◌, ◌+◌, ◌<◌, ◌≤◌, ◌^◌, ℕ, List, true, false, MatchResult};
 ghost use Rattle.std.specs.Io.KnownBytes.{Appends, Consumes};
 ghost use Rattle.nap_list.specs.Flushing.{FlushedOnce};
 ghost use Rattle.nap_list.specs.Limits.{reads_limit};
 ghost use Rattle.nap_list.specs.Reading.{reading};
 ghost use Rattle.nap_command.specs.Devices.{devices};
-ghost use Rattle.nap_command.specs.Making.{EndsMadeWhole, FailsToMake, FindsPage, Made, failure_of, made_by};
+ghost use Rattle.nap_command.specs.Making.{EndsMadeWhole, FailsToMake, FindsPage, Made, failure_of, verdict_of_page};
 
 use crate::answer::Verdict;
 use crate::device::write_whole;
-use crate::execution::conclude;
+use crate::execution::report_end;
 use crate::failure::Failure;
 use nap_line_reader::MakeFault;
 use nap_list::{Inlet, Outlet, Target};
 use nap_maker::{PageFault, make_page};
 use std::alloc::Global;
 
-/// Why `make` fails whose lines make no page. An output in memory fails where that runs out.
+/// Returns the failure of `make` whose lines make no page. A failed write to memory is lack of memory.
 pub fn lines_failure(fault: MakeFault) -> Failure
     ensures { result ≡ failure_of fault }
 {
@@ -29,7 +29,7 @@ pub fn lines_failure(fault: MakeFault) -> Failure
     }
 }
 
-/// The page that the lines of an input make.
+/// Returns the page that the lines of an input make.
 fn find_page<I: Inlet>(alloc: Global, input: &mut I) -> Result<Vec<u8>, Failure>
     requires { I.calls input.old < 2 ^ 63 }
     ensures few { I.calls input.new ≤ I.calls input.old + reads_limit }
@@ -46,8 +46,8 @@ fn find_page<I: Inlet>(alloc: Global, input: &mut I) -> Result<Vec<u8>, Failure>
     }
 }
 
-/// Prints the page that the lines of an input make, and flushes the output also where that is nothing. A failing output
-/// takes the place of the failure before it.
+/// Prints the page that the lines of an input make, and flushes the output, also if nothing is printed. A failed output
+/// replaces an earlier failure.
 fn print_page<I: Inlet, O: Outlet>(
     alloc: Global,
     input: &mut I,
@@ -73,9 +73,9 @@ fn print_page<I: Inlet, O: Outlet>(
     }
 }
 
-/// How `make` ends that prints as it reads.
-fn made_by(made: Result<u64, PageFault>) -> Result<Verdict, Failure>
-    ensures { result ≡ made_by made }
+/// Returns how `make` ends that prints as it reads.
+fn verdict_of_page(made: Result<u64, PageFault>) -> Result<Verdict, Failure>
+    ensures { result ≡ verdict_of_page made }
 {
     match made {
         Ok(_) => Ok(Verdict::Accepted),
@@ -85,7 +85,7 @@ fn made_by(made: Result<u64, PageFault>) -> Result<Verdict, Failure>
     }
 }
 
-/// `make` on its input, printing as it reads or at the end: the output again, and the exit status.
+/// Executes `make` on its input, printing as it reads or at the end. Returns the output and the exit status.
 pub fn execute_make<I: Inlet, O: Outlet + Drop, E: Outlet>(
     alloc: Global,
     stream: bool,
@@ -100,11 +100,11 @@ pub fn execute_make<I: Inlet, O: Outlet + Drop, E: Outlet>(
 {
     if stream {
         let (output, made) = make_page(alloc, input, output);
-        let status = conclude(made_by(made), errors);
+        let status = report_end(verdict_of_page(made), errors);
         return (output, status);
     }
     let mut output = output;
     let ended = print_page(alloc, input, &mut output);
-    let status = conclude(ended, errors);
+    let status = report_end(ended, errors);
     (output, status)
 }

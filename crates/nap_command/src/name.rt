@@ -5,7 +5,7 @@ ghost use Rattle.nap_command.specs.Failures.{fault_text, left_text};
 use nap_codes::Left;
 use nap_reader::Fault;
 
-/// The name of what is left out, after that of its refusal.
+/// Returns the name of a code that is left out, after that of its refusal.
 fn left_name(left: Left) -> &'static str
     ensures name { result.now ≡ codes "LeftOut " ++ left_text left }
     ensures short { length result.now < 32 }
@@ -26,7 +26,7 @@ fn left_name(left: Left) -> &'static str
     }
 }
 
-/// The name of a refusal, and of what is left out, as the program prints it.
+/// Returns the name of a refusal as the program prints it, with the name of a code that is left out.
 pub fn fault_name(fault: Fault) -> &'static str
     ensures name { result.now ≡ fault_text fault }
     ensures short { length result.now < 32 }

@@ -1,4 +1,4 @@
-//! What a command prints once it has read all of its input.
+//! Commands that print once all of the input is read.
 ghost use Rattle.std.specs.Prelude.{◌≡◌, ◌+◌, ◌<◌, ◌≤◌, ◌^◌, ℕ, List, true, false};
 ghost use Rattle.std.specs.Io.KnownBytes.{Appends, Consumes};
 ghost use Rattle.nap_list.specs.Flushing.{FlushedOnce};
@@ -8,13 +8,13 @@ ghost use Rattle.nap_command.specs.Commands.{EndsByAction};
 
 use crate::answer::Verdict;
 use crate::command::{Action, Command};
-use crate::execution::perform;
+use crate::execution::print_answer;
 use crate::failure::Failure;
-use crate::listing::list;
+use crate::listing::print_list;
 use nap_list::{Inlet, Outlet};
 use std::alloc::Global;
 
-/// A command that prints once it has read all of its input.
+/// Executes a command that prints once all of its input is read.
 pub(crate) fn print_once_read<I: Inlet, O: Outlet + Drop>(
     alloc: Global,
     command: &Command,
@@ -31,10 +31,10 @@ pub(crate) fn print_once_read<I: Inlet, O: Outlet + Drop>(
     ensures flushes { FlushedOnce O.Outlet output result.0 }
 {
     match command.action {
-        Action::List => list(alloc, command, input, output),
+        Action::List => print_list(alloc, command, input, output),
         Action::Check | Action::Canon => {
             let mut output = output;
-            let ended = perform(alloc, command, input, &mut output);
+            let ended = print_answer(alloc, command, input, &mut output);
             (output, ended)
         }
     }

@@ -9,14 +9,14 @@ use Rattle.nap_list.specs.declared.entry.Entry.TheVariants as entries
 use Rattle.nap_list.specs.declared.state.Drawing.{Drawing}
 use Rattle.nap_list.specs.declared.state.State.{State}
 use Rattle.nap_list.specs.declared.known.MapColour.{MapColour}
-use Rattle.nap_list.specs.Known.{is_known, setting, reset_known}
+use Rattle.nap_list.specs.Known.{is_known, with_known_colour, known_after_reset}
 use Rattle.nap_list.specs.State.{reset, walk}
-use Rattle.nap_list.specs.Agreement.{InMode}
+use Rattle.nap_list.specs.Agreement.{ModeZeroIsBase}
 use Rattle.nap_draw.proofs.Walks.{left_by}
 use Rattle.nap_draw.specs.declared.fault.DrawFault.TheVariants as faults
 use Rattle.nap_draw.specs.declared.work.Work.{Work}
 use Rattle.nap_draw.specs.Operands.{operands}
-use Rattle.nap_draw.specs.Rule.{start_domain, reset_rule, drawn, maps, colours_as, set_color_rule, blink, blinks, blink_rule}
+use Rattle.nap_draw.specs.Rule.{start_domain, reset_rule, rule_result, map_rule, set_color_under, set_color_rule, blink, blinks, blink_rule}
 use Rattle.nap_draw.proofs.Cuts.{operands-front, operands_none}
 use Rattle.nap_draw.proofs.Still.{walk_stays, wait_stays, blink_stays}
 
@@ -37,31 +37,31 @@ set_many work k run some many =
     ap (set_color_rule work) (one ∙ ap (λ (os : List (List ℕ)). take n run ∷ os) two)
 
 pub set_one : (work : Work) (k : ℕ) (run : List ℕ) → 1 ≤ k → 0 < length run → length run ≤ k →
-    set_color_rule work (operands k run) ≡ colours_as work work.state.drawing.colour (colour_of run)
+    set_color_rule work (operands k run) ≡ set_color_under work work.state.drawing.colour (colour_of run)
 set_one work k run some more few =
     let n = min k (length run) in
     let rest : length (drop n run) ≡ 0 = omega (arith, length-drop n run) in
     let one = operands-front k run some more in
     let whole : take n run ≡ run = take_all n run (omega arith) in
-    ap (set_color_rule work) (one ∙ ap (λ (os : List (List ℕ)). take n run ∷ os) (operands_none k (drop n run) rest)) ∙ ap (λ (o : List ℕ). colours_as work work.state.drawing.colour (colour_of o)) whole
+    ap (set_color_rule work) (one ∙ ap (λ (os : List (List ℕ)). take n run ∷ os) (operands_none k (drop n run) rest)) ∙ ap (λ (o : List ℕ). set_color_under work work.state.drawing.colour (colour_of o)) whole
 
 -- a colour at an address
 
-pub known_colour : (work : Work) (a : ℕ) (grb : Components) → is_known a grb work.state.known ≡ true → maps work a grb ≡ Ok (drawn work [])
+pub known_colour : (work : Work) (a : ℕ) (grb : Components) → is_known a grb work.state.known ≡ true → map_rule work a grb ≡ Ok (rule_result work [])
 known_colour work a grb is = rw is refl
 
-pub new_colour : (work : Work) (a : ℕ) (grb : Components) (known : List MapColour) → is_known a grb work.state.known ≡ false → known ≡ setting a grb work.state.known →
-    maps work a grb ≡ Ok (record { entries = entries.Map a grb ∷ []; work = record work { state = record work.state { last = None; known = known } }; clears = false })
+pub new_colour : (work : Work) (a : ℕ) (grb : Components) (known : List MapColour) → is_known a grb work.state.known ≡ false → known ≡ with_known_colour a grb work.state.known →
+    map_rule work a grb ≡ Ok (record { entries = entries.Map a grb ∷ []; work = record work { state = record work.state { last = None; known = known } }; clears = false })
 new_colour work a grb known is learns = rw (is, learns) refl
 
 -- WAIT
 
-pub wait_none : (work : Work) (run : List ℕ) → length run ≡ 0 → drawn work (map entries.Wait run) ≡ drawn work []
+pub wait_none : (work : Work) (run : List ℕ) → length run ≡ 0 → rule_result work (map entries.Wait run) ≡ rule_result work []
 wait_none work [] none = refl
 wait_none work (word ∷ words) none = absurd (omega arith)
 
 pub wait_some : (work : Work) (run : List ℕ) → length run ≢ 0 →
-    drawn work (map entries.Wait run) ≡ record { entries = map entries.Wait run; work = record work { state = record work.state { last = None } }; clears = false }
+    rule_result work (map entries.Wait run) ≡ record { entries = map entries.Wait run; work = record work { state = record work.state { last = None } }; clears = false }
 wait_some work [] more = absurd (more refl)
 wait_some work (word ∷ words) more =
     let d = work.state.drawing in
@@ -70,23 +70,23 @@ wait_some work (word ∷ words) more =
 
 -- BLINK
 
-pub blink_none : (work : Work) (run : List ℕ) → length run ≡ 0 → blink_rule work run ≡ Ok (drawn work (entries.BlinkEnd work.state.drawing.colour ∷ []))
+pub blink_none : (work : Work) (run : List ℕ) → length run ≡ 0 → blink_rule work run ≡ Ok (rule_result work (entries.BlinkEnd work.state.drawing.colour ∷ []))
 blink_none work run none =
     let k = work.domain.single in
-    ap (λ (groups : List (List ℕ)). Ok (drawn work (blinks k work.state.drawing.colour groups))) (operands_none (k + 3) run none)
+    ap (λ (groups : List (List ℕ)). Ok (rule_result work (blinks k work.state.drawing.colour groups))) (operands_none (k + 3) run none)
 
-groups_some : (work : Work) (groups rest : List (List ℕ)) (group : List ℕ) → InMode work.state.drawing.base work.state.drawing.colour → groups ≡ group ∷ rest →
-    drawn work (blinks work.domain.single work.state.drawing.colour groups)
+groups_some : (work : Work) (groups rest : List (List ℕ)) (group : List ℕ) → ModeZeroIsBase work.state.drawing.base work.state.drawing.colour → groups ≡ group ∷ rest →
+    rule_result work (blinks work.domain.single work.state.drawing.colour groups)
     ≡ record { entries = map (blink work.domain.single work.state.drawing.colour) groups; work = record work { state = record work.state { last = None } }; clears = false }
 groups_some work groups rest group mode is =
     let d = work.state.drawing in
     let k = work.domain.single in
     let there = walk_stays d (blink k d.colour) (blink_stays d k mode) work.state work.state.last group rest in
-    let made : drawn work (blinks k d.colour (group ∷ rest)) ≡ record { entries = map (blink k d.colour) (group ∷ rest); work = record work { state = record work.state { last = None } }; clears = false }
+    let made : rule_result work (blinks k d.colour (group ∷ rest)) ≡ record { entries = map (blink k d.colour) (group ∷ rest); work = record work { state = record work.state { last = None } }; clears = false }
     = ap (λ s. record { entries = map (blink k d.colour) (group ∷ rest); work = record work { state = s }; clears = false }) there in
     rw is made
 
-pub blink_some : (work : Work) (run : List ℕ) → InMode work.state.drawing.base work.state.drawing.colour → 0 < length run →
+pub blink_some : (work : Work) (run : List ℕ) → ModeZeroIsBase work.state.drawing.base work.state.drawing.colour → 0 < length run →
     blink_rule work run ≡ Ok (record {
       entries = map (blink work.domain.single work.state.drawing.colour) (operands (work.domain.single + 3) run);
       work = record work { state = record work.state { last = None } };
@@ -98,9 +98,9 @@ blink_some work run mode more =
 
 -- RESET
 
-pub reset_is : (w : Work) (run : List ℕ) (first second bits : ℕ) (pen : Pen) (domain : OperandLengths) (d : Drawing) (known : List MapColour) → InMode w.state.drawing.base w.state.drawing.colour →
+pub reset_is : (w : Work) (run : List ℕ) (first second bits : ℕ) (pen : Pen) (domain : OperandLengths) (d : Drawing) (known : List MapColour) → ModeZeroIsBase w.state.drawing.base w.state.drawing.colour →
     first ≡ slice_index run 0 → second ≡ slice_index run 1 → pen ≡ w.state.drawing.pen → domain ≡ cond (eqb (first % 2) 1) start_domain w.domain → bits ≡ second →
-    d ≡ reset first second w.state.drawing → known ≡ reset_known first w.state.known → reset_rule w (slice_index run 0) (slice_index run 1) ≡ Ok (record {
+    d ≡ reset first second w.state.drawing → known ≡ known_after_reset first w.state.known → reset_rule w (slice_index run 0) (slice_index run 1) ≡ Ok (record {
       entries = entries.Reset first second pen ∷ [];
       work = record w { domain = domain; state = record w.state { drawing = d; last = None; known = known } };
       clears = eqb (bits / 16 % 2) 1;

@@ -8,16 +8,16 @@ use Rattle.nap_list.specs.declared.attribute.TextLook.{TextLook}
 use Rattle.nap_list.specs.declared.entry.Entry.{Entry}
 use Rattle.nap_list.specs.declared.entry.Entry.TheVariants as entries
 use Rattle.nap_list.specs.declared.state.LastChar.{LastChar}
-use Rattle.nap_list.specs.declared.state.Opened.{Opened}
+use Rattle.nap_list.specs.declared.state.OpenDefinition.{OpenDefinition}
 use Rattle.nap_list.specs.declared.state.State.{State}
 use Rattle.nap_list.specs.Entry.{IsCode, StepMade}
 use Rattle.nap_list.specs.State.{after}
 use Rattle.nap_list.specs.Range.{IsByte, TextInRange, HandInRange, StepInRange, InRange, AllInRange, StateInRange}
 use Rattle.nap_draw.specs.declared.work.Work.{Work}
 use Rattle.nap_draw.specs.declared.fault.DrawFault.{DrawFault}
-use Rattle.nap_draw.specs.Rule.{Drawn}
+use Rattle.nap_draw.specs.Rule.{RuleResult}
 use Rattle.nap_list.specs.State.{hand_of}
-use Rattle.nap_draw.specs.Codes.{IsMade, char_on, copies, ended, ended_by, opens, looks, with_last, code_rule}
+use Rattle.nap_draw.specs.Codes.{IsMade, char_on, repeated_chars, definition_ended, definition_ended_by, definition_result, look_result, with_last, code_rule}
 use Rattle.nap_draw.specs.Laws.{CodeValuesAreInRange}
 use Rattle.nap_draw.proofs.WalkRanges.{after_ranged, walk_ranged}
 use Rattle.nap_draw.proofs.RangeLemmas.{Ranged, silent_ranged, list_ranged, one_ranged}
@@ -34,36 +34,36 @@ step_ranged _ made = tt
 hand_ranged : (s : State) → StateInRange s → HandInRange (hand_of s.drawing)
 hand_ranged s r = record { pen = r.drawing.pen; colour = r.drawing.colour; text = r.drawing.text }
 
-copies_ranged : (s : State) (last : LastChar) (n : ℕ) → StateInRange s → IsByte last.code → AllInRange (copies s last n)
-unfolding copies
+copies_ranged : (s : State) (last : LastChar) (n : ℕ) → StateInRange s → IsByte last.code → AllInRange (repeated_chars s last n)
+unfolding repeated_chars
 copies_ranged s last zero r code = All-nil InRange
 copies_ranged s last (suc n) r code =
     let e = char_on s.drawing last in
     let here : InRange e = (code, hand_ranged s r) in
-    All-cons InRange e (copies (after s e) last n) here (copies_ranged (after s e) last n (after_ranged s e r here) code)
+    All-cons InRange e (repeated_chars (after s e) last n) here (copies_ranged (after s e) last n (after_ranged s e r here) code)
 
 module _ (work : Work) (r : StateInRange work.state) where
-  looks_ranged : (look : TextLook) → TextInRange look → Ranged (looks work look)
+  looks_ranged : (look : TextLook) → TextInRange look → Ranged (look_result work look)
   looks_ranged look text =
       silent_ranged work _ r (record { pen = r.drawing.pen; pel = r.drawing.pel; base = r.drawing.base; colour = r.drawing.colour; texture = r.drawing.texture; text = text })
 
-  last_ranged : (o : Option LastChar) (next : LastChar → Result Drawn DrawFault) → IfSome o (λ last. IsByte last.code) → ((last : LastChar) → IsByte last.code → Ranged (next last)) →
+  last_ranged : (o : Option LastChar) (next : LastChar → Result RuleResult DrawFault) → IfSome o (λ last. IsByte last.code) → ((last : LastChar) → IsByte last.code → Ranged (next last)) →
       Ranged (with_last o next)
   last_ranged None next code each = tt
   last_ranged (Some last) next code each = each last code
 
-  flags_ranged : (reverse underline wrap scroll : Bool) → Ranged (looks work (record work.state.drawing.text { reverse = reverse; underline = underline; wrap = wrap; scroll = scroll }))
+  flags_ranged : (reverse underline wrap scroll : Bool) → Ranged (look_result work (record work.state.drawing.text { reverse = reverse; underline = underline; wrap = wrap; scroll = scroll }))
   flags_ranged reverse underline wrap scroll = looks_ranged _ (record { first = r.drawing.text.first; second = r.drawing.text.second; size = r.drawing.text.size })
 
-  ended_ranged : (o : Option Opened) → Ranged (Ok (ended_by work o))
+  ended_ranged : (o : Option OpenDefinition) → Ranged (Ok (definition_ended_by work o))
   ended_ranged None = list_ranged work r [] (All-nil InRange)
   ended_ranged (Some opened) = one_ranged work r entries.DefEnd tt
 
-  opens_ranged : (e : Entry) → InRange e → Ranged (opens work e)
+  opens_ranged : (e : Entry) → InRange e → Ranged (definition_result work e)
   opens_ranged e here =
       let before = ended_ranged work.state.definition in
       let one = All-cons InRange e [] here (All-nil InRange) in
-      (All-append InRange (ended work).entries (e ∷ []) before.0 one, walk_ranged (ended work).work.state (e ∷ []) before.1 one)
+      (All-append InRange (definition_ended work).entries (e ∷ []) before.0 one, walk_ranged (definition_ended work).work.state (e ∷ []) before.1 one)
 
   code_ranged : (code : Code) → IsMade code → Ranged (code_rule work code)
   code_ranged (codes.Char set code) made = one_ranged work r _ (byte code made, hand_ranged work.state r)

@@ -9,13 +9,13 @@ use Rattle.nap_list.specs.declared.attribute.Pen.TheVariants as pens
 use Rattle.nap_list.specs.declared.entry.Entry.{Entry}
 use Rattle.nap_list.specs.declared.state.LastChar.{LastChar}
 use Rattle.nap_list.specs.declared.state.State.{State}
-use Rattle.nap_list.specs.Entry.{held, IsCode}
-use Rattle.nap_list.specs.Batches.{IsTyped, typed}
+use Rattle.nap_list.specs.Entry.{attributes, IsCode}
+use Rattle.nap_list.specs.Batches.{IsTextByte, text_entry}
 use Rattle.nap_list.specs.State.{AllFit, after, walk, with_pen, hand_of}
-use Rattle.nap_list.specs.Agreement.{InMode, StatesAgree, Holds}
+use Rattle.nap_list.specs.Agreement.{ModeZeroIsBase, StatesAgree, EqualCurrent}
 use Rattle.nap_draw.specs.declared.work.Work.{Work}
-use Rattle.nap_draw.specs.Codes.{char_on, copies, text, with_last, code_rule}
-use Rattle.nap_draw.specs.Rule.{drawn}
+use Rattle.nap_draw.specs.Codes.{char_on, repeated_chars, text, with_last, code_rule}
+use Rattle.nap_draw.specs.Rule.{rule_result}
 use Rattle.nap_draw.proofs.Texts.{text_fits}
 use Rattle.nap_draw.proofs.Walks.{left_by}
 
@@ -34,26 +34,26 @@ code_stays code made = by (format_effector code) refl
     by None is = refl
 
 module _ (last : LastChar) where
-  pub char_holds : (s : State) → Holds (held (char_on s.drawing last)) s.drawing
+  pub char_holds : (s : State) → EqualCurrent (attributes (char_on s.drawing last)) s.drawing
   char_holds s = record { pen = refl; pel = tt; colour = refl; texture = tt; text = refl }
 
-  pub char_left : (s : State) → InMode s.drawing.base s.drawing.colour → after s (char_on s.drawing last) ≡ record s { drawing = with_pen pens.After s.drawing; last = Some last }
+  pub char_left : (s : State) → ModeZeroIsBase s.drawing.base s.drawing.colour → after s (char_on s.drawing last) ≡ record s { drawing = with_pen pens.After s.drawing; last = Some last }
   char_left s mode = left_by s (char_on s.drawing last) (char_holds s) mode
 
   -- the copies are a text of that code alone
-  copies_are : (s : State) (n : ℕ) → IsCode last.code → copies s last n ≡ text s last.set (replicate n last.code)
-  unfolding copies text
+  copies_are : (s : State) (n : ℕ) → IsCode last.code → repeated_chars s last n ≡ text s last.set (replicate n last.code)
+  unfolding repeated_chars text
   copies_are s zero made = refl
   copies_are s (suc n) made =
       let e = char_on s.drawing last in
-      let here : typed last.set (hand_of s.drawing) last.code ≡ e = rw (code_stays last.code made) refl in
+      let here : text_entry last.set (hand_of s.drawing) last.code ≡ e = rw (code_stays last.code made) refl in
       rw here (ap (λ (list : List Entry). e ∷ list) (copies_are (after s e) n made))
 
-  copies_typed : (n : ℕ) → IsCode last.code → All IsTyped (replicate n last.code)
-  copies_typed n made = All-replicate IsTyped n last.code (λ _. made)
+  copies_typed : (n : ℕ) → IsCode last.code → All IsTextByte (replicate n last.code)
+  copies_typed n made = All-replicate IsTextByte n last.code (λ _. made)
 
   pub copies_fit : (s shown : State) (n : ℕ) → StatesAgree s shown → IsCode last.code →
-      AllFit shown (copies s last n) × StatesAgree (walk s (copies s last n)) (walk shown (copies s last n))
+      AllFit shown (repeated_chars s last n) × StatesAgree (walk s (repeated_chars s last n)) (walk shown (repeated_chars s last n))
   copies_fit s shown n agrees made = rw (copies_are s n made) (text_fits s shown last.set (replicate n last.code) agrees (copies_typed n made))
 
   copies_some : (s : State) (n : ℕ) → 0 < n → text s last.set (replicate n last.code) ≢ []
@@ -67,7 +67,7 @@ module _ (last : LastChar) where
     front_is : take count (replicate 63 last.code) ≡ replicate n last.code
     front_is = rw same (take-replicate n 63 last.code (omega (arith, few)))
 
-    pub front_typed : IsCode last.code → All IsTyped (take count (replicate 63 last.code))
+    pub front_typed : IsCode last.code → All IsTextByte (take count (replicate 63 last.code))
     front_typed made = rw front_is (copies_typed n made)
 
     pub front_some : (s : State) → 0 < n → text s last.set (take count (replicate 63 last.code)) ≢ []
@@ -75,7 +75,7 @@ module _ (last : LastChar) where
 
     -- the rule of REPEAT, where there is a character
     pub repeat_is : (work : Work) → work.state.last ≡ Some last → IsCode last.code →
-        code_rule work (codes.Repeat n) ≡ Ok (drawn work (text work.state last.set (take count (replicate 63 last.code))))
+        code_rule work (codes.Repeat n) ≡ Ok (rule_result work (text work.state last.set (take count (replicate 63 last.code))))
     repeat_is work is made =
-        let here = ap (λ (o : Option LastChar). with_last o (λ last. Ok (drawn work (copies work.state last n)))) is in
-        rw front_is (here ∙ ap (λ (list : List Entry). Ok (drawn work list)) (copies_are work.state n made))
+        let here = ap (λ (o : Option LastChar). with_last o (λ last. Ok (rule_result work (repeated_chars work.state last n)))) is in
+        rw front_is (here ∙ ap (λ (list : List Entry). Ok (rule_result work list)) (copies_are work.state n made))

@@ -6,7 +6,7 @@ use Rattle.nap_list.specs.State.{corner}
 use Rattle.nap_draw.specs.declared.fault.DrawFault.{DrawFault}
 use Rattle.nap_draw.specs.declared.fault.DrawFault.TheVariants.{Memory}
 use Rattle.nap_draw.specs.declared.spans.Span.{Span}
-use Rattle.nap_draw.specs.Doing.{Fills, Filling, crossed, flat, paired}
+use Rattle.nap_draw.specs.Execution.{Fills, Filling, rect_spans, span_ends, pair_spans}
 
 -- Decoding of a run, operand by operand.
 
@@ -54,38 +54,38 @@ pushed (Err why) false failed old new x is fails e = let bad : ⊥ = cc in absur
 
 -- corners that were kept
 
-pub crossed_more : (start at to : Coordinates) (room room' : List Coordinates) (front : List Span) → room' ≡ room ++ to ∷ [] →
-    ((qs : List Coordinates) → crossed start (room ++ qs) ≡ front ++ crossed at qs) → (qs : List Coordinates) →
-    crossed start (room' ++ qs) ≡ (front ++ record { from = at; to = to } ∷ []) ++ crossed (corner at to) qs
-unfolding crossed
-crossed_more start at to room room' front is kept qs =
-    ap (λ (ps : List Coordinates). crossed start (ps ++ qs)) is ∙ (ap (crossed start) (append_assoc room (to ∷ []) qs) ∙ (kept (to ∷ qs) ∙ sym (append_assoc front (record { from = at; to = to } ∷ []) (crossed (corner at to) qs))))
+pub crossed_more : (start at to : Coordinates) (scratch room' : List Coordinates) (front : List Span) → room' ≡ scratch ++ to ∷ [] →
+    ((qs : List Coordinates) → rect_spans start (scratch ++ qs) ≡ front ++ rect_spans at qs) → (qs : List Coordinates) →
+    rect_spans start (room' ++ qs) ≡ (front ++ record { from = at; to = to } ∷ []) ++ rect_spans (corner at to) qs
+unfolding rect_spans
+crossed_more start at to scratch room' front is kept qs =
+    ap (λ (ps : List Coordinates). rect_spans start (ps ++ qs)) is ∙ (ap (rect_spans start) (append_assoc scratch (to ∷ []) qs) ∙ (kept (to ∷ qs) ∙ sym (append_assoc front (record { from = at; to = to } ∷ []) (rect_spans (corner at to) qs))))
 
-pub crossed_all : (start at : Coordinates) (room : List Coordinates) (front : List Span) →
-    ((qs : List Coordinates) → crossed start (room ++ qs) ≡ front ++ crossed at qs) → crossed start room ≡ front
-unfolding crossed
-crossed_all start at room front kept = ap (crossed start) (sym (append-nil room)) ∙ (kept [] ∙ append-nil front)
+pub crossed_all : (start at : Coordinates) (scratch : List Coordinates) (front : List Span) →
+    ((qs : List Coordinates) → rect_spans start (scratch ++ qs) ≡ front ++ rect_spans at qs) → rect_spans start scratch ≡ front
+unfolding rect_spans
+crossed_all start at scratch front kept = ap (rect_spans start) (sym (append-nil scratch)) ∙ (kept [] ∙ append-nil front)
 
 -- pairs that were kept
 
-flat_more : (front : List Span) (s : Span) → flat (front ++ s ∷ []) ≡ flat front ++ s.from ∷ s.to ∷ []
-unfolding flat
+flat_more : (front : List Span) (s : Span) → span_ends (front ++ s ∷ []) ≡ span_ends front ++ s.from ∷ s.to ∷ []
+unfolding span_ends
 flat_more [] s = refl
 flat_more (t ∷ ts) s = ap (λ (ps : List Coordinates). t.from ∷ t.to ∷ ps) (flat_more ts s)
 
-pub flat_kept : (front : List Span) (s : Span) (room room' room'' : List Coordinates) → room' ≡ room ++ s.from ∷ [] → room'' ≡ room' ++ s.to ∷ [] → room ≡ flat front →
-    room'' ≡ flat (front ++ s ∷ [])
-flat_kept front s room room' room'' first second kept =
-    second ∙ (ap (λ (ps : List Coordinates). ps ++ s.to ∷ []) first ∙ (append_assoc room (s.from ∷ []) (s.to ∷ []) ∙ (ap (λ (ps : List Coordinates). ps ++ s.from ∷ s.to ∷ []) kept ∙ sym (flat_more front s))))
+pub flat_kept : (front : List Span) (s : Span) (scratch room' room'' : List Coordinates) → room' ≡ scratch ++ s.from ∷ [] → room'' ≡ room' ++ s.to ∷ [] → scratch ≡ span_ends front →
+    room'' ≡ span_ends (front ++ s ∷ [])
+flat_kept front s scratch room' room'' first second kept =
+    second ∙ (ap (λ (ps : List Coordinates). ps ++ s.to ∷ []) first ∙ (append_assoc scratch (s.from ∷ []) (s.to ∷ []) ∙ (ap (λ (ps : List Coordinates). ps ++ s.from ∷ s.to ∷ []) kept ∙ sym (flat_more front s))))
 
-pub paired_flat : (room : List Coordinates) (front : List Span) → room ≡ flat front → paired room ≡ front
-unfolding paired flat
-paired_flat room [] is = ap paired is
-paired_flat room (s ∷ ss) is = ap paired is ∙ ap (λ (ts : List Span). s ∷ ts) (paired_flat (flat ss) ss refl)
+pub paired_flat : (scratch : List Coordinates) (front : List Span) → scratch ≡ span_ends front → pair_spans scratch ≡ front
+unfolding pair_spans span_ends
+paired_flat scratch [] is = ap pair_spans is
+paired_flat scratch (s ∷ ss) is = ap pair_spans is ∙ ap (λ (ts : List Span). s ∷ ts) (paired_flat (span_ends ss) ss refl)
 
-pub flat_none : (room : List Coordinates) → room ≡ [] → room ≡ flat []
-unfolding flat
-flat_none room is = is
+pub flat_none : (scratch : List Coordinates) → scratch ≡ [] → scratch ≡ span_ends []
+unfolding span_ends
+flat_none scratch is = is
 
 nothing_before : {A : Type 0} (left : Option (List A)) → left ≡ option_map (λ xs. [] ++ xs) left
 nothing_before None = refl

@@ -8,11 +8,11 @@ use Rattle.nap_list.specs.State.{walk}
 use Rattle.nap_draw.specs.declared.work.Work.{Work}
 use Rattle.nap_draw.specs.declared.fault.DrawFault.{DrawFault}
 use Rattle.nap_draw.specs.Operands.{moves}
-use Rattle.nap_draw.specs.Rule.{Drawn, with_drawing, domain_in, domain_rule}
+use Rattle.nap_draw.specs.Rule.{RuleResult, with_drawing, domain_in, domain_rule}
 
 -- What DOMAIN gives.
 
-with_pel : Work → OperandLengths → Option Displacement → Result Drawn DrawFault
+with_pel : Work → OperandLengths → Option Displacement → Result RuleResult DrawFault
 with_pel work domain pel = Ok (record {
   entries = [];
   work = with_drawing (record work { domain = domain }) (record work.state.drawing { pel = unwrap_or pel work.state.drawing.pel });

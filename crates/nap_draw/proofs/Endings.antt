@@ -1,5 +1,5 @@
 use Rattle.std.proofs.Common.{◌≡◌, ◌≢◌, List, [], ◌∷◌, ◌++◌, true, false, Option, Some, None, is_some, refl, sym, ◌∙◌, ap}
-use Rattle.nap_list.specs.declared.state.Opened.{Opened}
+use Rattle.nap_list.specs.declared.state.OpenDefinition.{OpenDefinition}
 use Rattle.nap_list.specs.declared.entry.Entry.{Entry}
 use Rattle.nap_list.specs.declared.entry.Entry.TheVariants as entries
 use Rattle.nap_list.specs.declared.state.Definition.{Definition}
@@ -7,39 +7,39 @@ use Rattle.nap_list.specs.declared.state.Definition.TheVariants as definitions
 use Rattle.nap_list.specs.Entry.{WellMade}
 use Rattle.nap_list.specs.State.{Fits, walk}
 use Rattle.nap_draw.specs.declared.work.Work.{Work}
-use Rattle.nap_draw.specs.Codes.{ended, ended_by}
-use Rattle.nap_draw.specs.Rule.{Drawn, drawn}
-use Rattle.nap_draw.specs.Doing.{start_of}
+use Rattle.nap_draw.specs.Codes.{definition_ended, definition_ended_by}
+use Rattle.nap_draw.specs.Rule.{RuleResult, rule_result}
+use Rattle.nap_draw.specs.Execution.{definition_start}
 
 -- What the end of a definition is, by whether one is open.
 
-pub not_ended : (work : Work) (o : Option Opened) → is_some o ≡ false → ended_by work o ≡ drawn work []
+pub not_ended : (work : Work) (o : Option OpenDefinition) → is_some o ≡ false → definition_ended_by work o ≡ rule_result work []
 not_ended work None none = refl
 not_ended work (Some opened) none = let bad : ⊥ = cc in absurd bad
 
 -- it puts the values and the lengths of operands back
-abbrev pub back : Work → Drawn
+abbrev pub back : Work → RuleResult
 back work = record {
   entries = entries.DefEnd ∷ [];
   work = record work { domain = work.saved; state = walk work.state (entries.DefEnd ∷ []) };
   clears = false;
 }
 
-pub is_ended : (work : Work) (o : Option Opened) → is_some o ≡ true → ended_by work o ≡ back work
+pub is_ended : (work : Work) (o : Option OpenDefinition) → is_some o ≡ true → definition_ended_by work o ≡ back work
 is_ended work None some = let bad : ⊥ = cc in absurd bad
 is_ended work (Some opened) some = refl
 
-pub with_end : (work : Work) (e start : Entry) → is_some work.state.definition ≡ true → e ≡ start → entries.DefEnd ∷ e ∷ [] ≡ (ended work).entries ++ start ∷ []
+pub with_end : (work : Work) (e start : Entry) → is_some work.state.definition ≡ true → e ≡ start → entries.DefEnd ∷ e ∷ [] ≡ (definition_ended work).entries ++ start ∷ []
 with_end work e start some is =
-    ap (λ (x : Entry). entries.DefEnd ∷ x ∷ []) is ∙ ap (λ (d : Drawn). d.entries ++ start ∷ []) (sym (is_ended work work.state.definition some))
+    ap (λ (x : Entry). entries.DefEnd ∷ x ∷ []) is ∙ ap (λ (d : RuleResult). d.entries ++ start ∷ []) (sym (is_ended work work.state.definition some))
 
-pub ended_closed : (work : Work) (o : Option Opened) → work.state.definition ≡ o → (ended_by work o).work.state.definition ≡ None
+pub ended_closed : (work : Work) (o : Option OpenDefinition) → work.state.definition ≡ o → (definition_ended_by work o).work.state.definition ≡ None
 unfolding walk
 ended_closed work None is = is
 ended_closed work (Some opened) is = refl
 
 -- another may begin behind it
-pub start_fits : (work : Work) (what : Definition) → WellMade (start_of what) → Fits (ended work).work.state (start_of what)
+pub start_fits : (work : Work) (what : Definition) → WellMade (definition_start what) → Fits (definition_ended work).work.state (definition_start what)
 start_fits work (definitions.Glyph code) made = record { values = record { pen = tt; colour = tt; texture = tt }; made = made; comes = ended_closed work work.state.definition refl }
 start_fits work (definitions.Mask mask) made = record { values = record { pen = tt; colour = tt; texture = tt }; made = made; comes = ended_closed work work.state.definition refl }
 

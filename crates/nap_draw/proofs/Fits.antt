@@ -19,28 +19,28 @@ use Rattle.nap_list.specs.declared.entry.Entry.TheVariants as entries
 use Rattle.nap_list.specs.declared.entry.Entry.{Entry}
 use Rattle.nap_list.specs.declared.state.Definition.{Definition}
 use Rattle.nap_list.specs.declared.state.Definition.TheVariants as definitions
-use Rattle.nap_list.specs.declared.state.Opened.{Opened}
+use Rattle.nap_list.specs.declared.state.OpenDefinition.{OpenDefinition}
 use Rattle.nap_list.specs.declared.state.Drawing.{Drawing}
 use Rattle.nap_list.specs.declared.state.State.{State}
 use Rattle.nap_list.specs.declared.state.LastChar.{LastChar}
 use Rattle.nap_codes.specs.declared.code.Code.{Code}
 use Rattle.nap_codes.specs.declared.code.Code.TheVariants as codes
-use Rattle.nap_list.specs.Entry.{held, hand_values, nothing, WellMade}
-use Rattle.nap_list.specs.Known.{is_known, setting}
-use Rattle.nap_list.specs.State.{AllFit, Comes, TextureFits, MaskFits, with_colour, after, walk, with_pen_at}
-use Rattle.nap_list.specs.Agreement.{Agrees, ColourAgrees, InMode, Holds, StatesAgree}
+use Rattle.nap_list.specs.Entry.{attributes, hand_attributes, no_attributes, WellMade}
+use Rattle.nap_list.specs.Known.{is_known, with_known_colour}
+use Rattle.nap_list.specs.State.{AllFit, MayCome, TextureFits, MaskFits, with_colour, after, walk, with_pen_at}
+use Rattle.nap_list.specs.Agreement.{Agrees, ColourAgrees, ModeZeroIsBase, EqualCurrent, StatesAgree}
 use Rattle.nap_list.proofs.PublicLaws.{agreeing_fits, fits_join, walks_join}
 use Rattle.nap_draw.specs.declared.work.Work.{Work}
 use Rattle.std.proofs.lemmas.Bool.Decides.{nat_tests}
 use Rattle.nap_draw.specs.declared.fault.DrawFault.{DrawFault}
 use Rattle.nap_draw.specs.declared.fault.DrawFault.TheVariants as faults
-use Rattle.nap_draw.specs.Geometry.{end_of, points_at, reached, joined, between, away, across}
-use Rattle.nap_list.specs.Batches.{point_on}
-use Rattle.nap_draw.specs.Rule.{Drawn, and_then, some_of, first_of, few_of, moves_of, pen_point, drawn, mapped, draws, draws_one, goes, with_drawing, domain_rule, domain_in, with_domain, shape_from_pen, shape_from_point, area_of, field_rule, line_on, rect_on, field_on, reset_rule, colour_of_base, selected, maps, colours_as, set_color_rule, blink, blinks, rule}
+use Rattle.nap_draw.specs.Geometry.{last_or, points_at, points_reached, polyline_spans, absolute_spans, relative_spans, rect_chain_spans}
+use Rattle.nap_list.specs.Batches.{point_entry}
+use Rattle.nap_draw.specs.Rule.{RuleResult, and_then, at_least_one, first_and_more, at_most_limit, moves_of, pen_point, rule_result, with_map_colour, entries_result, entry_result, pen_result, with_drawing, domain_rule, domain_in, with_domain, shape_from_pen, shape_from_point, area_of, field_rule, span_line_entry, rect_on, field_on, reset_rule, colour_of_base, selected_colour, map_rule, set_color_under, set_color_rule, blink, blinks, rule}
 use Rattle.nap_list.specs.State.{hand_of}
-use Rattle.nap_draw.specs.Codes.{IsMade, copies, ended, ended_by, opened_by, opens, puts, with_last, code_rule}
+use Rattle.nap_draw.specs.Codes.{IsMade, repeated_chars, definition_ended, definition_ended_by, definition_opened, definition_result, one_entry_result, with_last, code_rule}
 use Rattle.nap_draw.specs.Laws.{RuleFits, CodeFits}
-use Rattle.nap_draw.specs.Doing.{MayFollow, landed, shape_points, start_of}
+use Rattle.nap_draw.specs.Execution.{MayFollow, with_pen_moved_to, shape_points, definition_start}
 use Rattle.nap_draw.proofs.Copies.{copies_fit, last_is_code}
 use Rattle.nap_draw.proofs.Endings.{ended_closed}
 use Rattle.nap_draw.proofs.Walks.{Lands, one, point_lands, line_lands, rect_lands}
@@ -52,10 +52,10 @@ use Rattle.nap_draw.proofs.Outlines.{arc_made, poly_made, holds_shape, shape_com
 -- The entries that a rule gives fit.
 
 -- from agreeing states the entries fit one after another, and the states agree again
-Fitting : Work → Drawn → Type 0
+Fitting : Work → RuleResult → Type 0
 Fitting work d = (shown : State) → StatesAgree work.state shown → AllFit shown d.entries × StatesAgree d.work.state (walk shown d.entries)
 
-IsFitting : Work → Result Drawn DrawFault → Type 0
+IsFitting : Work → Result RuleResult DrawFault → Type 0
 IsFitting work (Ok d) = Fitting work d
 IsFitting work (Err fault) = Unit {0}
 
@@ -63,17 +63,17 @@ fault_fits : (work : Work) (fault : DrawFault) → IsFitting work (Err fault)
 unfolding IsFitting
 fault_fits work fault = tt
 
-each_fits : {A : Type 0} (work : Work) (r : Result A DrawFault) (f : A → Result Drawn DrawFault) → ((x : A) → IsFitting work (f x)) → IsFitting work (and_then r f)
+each_fits : {A : Type 0} (work : Work) (r : Result A DrawFault) (f : A → Result RuleResult DrawFault) → ((x : A) → IsFitting work (f x)) → IsFitting work (and_then r f)
 unfolding IsFitting
 each_fits work (Ok x) f each = each x
 each_fits work (Err fault) f each = tt
 
-cond_fits : (work : Work) (b : Bool) (x y : Result Drawn DrawFault) → IsFitting work x → IsFitting work y → IsFitting work (cond b x y)
+cond_fits : (work : Work) (b : Bool) (x y : Result RuleResult DrawFault) → IsFitting work x → IsFitting work y → IsFitting work (cond b x y)
 cond_fits work true x y a b = a
 cond_fits work false x y a b = b
 
 -- nothing is put, and the pen or the pel changes
-silent_fits : (work w : Work) → ((shown : State) → StatesAgree work.state shown → StatesAgree w.state shown) → Fitting work (drawn w [])
+silent_fits : (work w : Work) → ((shown : State) → StatesAgree work.state shown → StatesAgree w.state shown) → Fitting work (rule_result w [])
 unfolding Fitting AllFit walk
 silent_fits work w agrees shown a = (tt, agrees shown a)
 
@@ -90,64 +90,64 @@ pen_agrees s (Some p) shown a =
     values_agree s _ shown a (record { pen = tt; base = a.drawing.base; colour = a.drawing.colour; mode = a.drawing.mode; texture = a.drawing.texture })
 
 module _ {A : Type 0} (entry : Drawing → A → Entry) (at : A → Coordinates) (by : Lands entry at) where
-  holds_now : (s : State) (o : Option A) (x : A) → Holds (held (entry s.drawing x)) (landed s (option_map at o)).drawing
+  holds_now : (s : State) (o : Option A) (x : A) → EqualCurrent (attributes (entry s.drawing x)) (with_pen_moved_to s (option_map at o)).drawing
   holds_now s None x = by.holds s.drawing.pen s.drawing x
   holds_now s (Some y) x = by.holds (pens.At (at y)) s.drawing x
 
-  in_mode : (s : State) (o : Option A) (shown : State) → StatesAgree (landed s (option_map at o)) shown → InMode s.drawing.base s.drawing.colour
+  in_mode : (s : State) (o : Option A) (shown : State) → StatesAgree (with_pen_moved_to s (option_map at o)) shown → ModeZeroIsBase s.drawing.base s.drawing.colour
   in_mode s None shown a = a.drawing.mode
   in_mode s (Some y) shown a = a.drawing.mode
 
-  pub all_fit : (s : State) (o : Option A) (xs : List A) (shown : State) → StatesAgree (landed s (option_map at o)) shown →
-      AllFit shown (map (entry s.drawing) xs) × StatesAgree (walk (landed s (option_map at o)) (map (entry s.drawing) xs)) (walk shown (map (entry s.drawing) xs))
+  pub all_fit : (s : State) (o : Option A) (xs : List A) (shown : State) → StatesAgree (with_pen_moved_to s (option_map at o)) shown →
+      AllFit shown (map (entry s.drawing) xs) × StatesAgree (walk (with_pen_moved_to s (option_map at o)) (map (entry s.drawing) xs)) (walk shown (map (entry s.drawing) xs))
   unfolding AllFit walk
   all_fit s o [] shown a = (tt, a)
   all_fit s o (x ∷ xs) shown a =
       let e = entry s.drawing x in
-      let t = landed s (option_map at o) in
+      let t = with_pen_moved_to s (option_map at o) in
       let here = agreeing_fits t shown e a (holds_now s o x) (by.made s.drawing x) (by.comes t s.drawing x) in
-      let there : after t e ≡ landed s (Some (at x)) = one entry at by s o x (in_mode s o shown a) in
+      let there : after t e ≡ with_pen_moved_to s (Some (at x)) = one entry at by s o x (in_mode s o shown a) in
       let then = all_fit s (Some x) xs (after shown e) (subst (λ (u : State). StatesAgree u (after shown e)) there here.1) in
       ((here.0, then.0), subst (λ (u : State). StatesAgree (walk u (map (entry s.drawing) xs)) (walk (after shown e) (map (entry s.drawing) xs))) (sym there) then.1)
 
-  draws_fit : (work : Work) (xs : Option (List A)) → IsFitting work (draws work entry xs)
+  draws_fit : (work : Work) (xs : Option (List A)) → IsFitting work (entries_result work entry xs)
   unfolding IsFitting Fitting
   draws_fit work None = tt
   draws_fit work (Some xs) = λ shown a. all_fit work.state None xs shown a
 
-goes_fits : (work : Work) (ps : Option (List Coordinates)) → IsFitting work (goes work ps)
+goes_fits : (work : Work) (ps : Option (List Coordinates)) → IsFitting work (pen_result work ps)
 unfolding IsFitting
 goes_fits work None = tt
 goes_fits work (Some ps) =
-    silent_fits work (with_drawing work (with_pen_at (end_of None ps) work.state.drawing)) (pen_agrees work.state (end_of None ps))
+    silent_fits work (with_drawing work (with_pen_at (last_or None ps) work.state.drawing)) (pen_agrees work.state (last_or None ps))
 
 domain_fits : (work : Work) (run : List ℕ) → IsFitting work (domain_rule work run)
 unfolding IsFitting
 domain_fits work [] = tt
 domain_fits work (word ∷ words) =
-    cond_fits work (eqb (word / 32) 1) _ (Ok (drawn (with_domain work (domain_in word) words) [])) tt
+    cond_fits work (eqb (word / 32) 1) _ (Ok (rule_result (with_domain work (domain_in word) words) [])) tt
     (silent_fits work (with_domain work (domain_in word) words) (pel_agrees work.state _))
 
-pen_fits : (work : Work) (run : List ℕ) (f : Coordinates → List Displacement → Result Drawn DrawFault) →
+pen_fits : (work : Work) (run : List ℕ) (f : Coordinates → List Displacement → Result RuleResult DrawFault) →
     ((p : Coordinates) (ms : List Displacement) → IsFitting work (f p ms)) →
-    IsFitting work (and_then (some_of (moves_of work run)) (λ ms. and_then (pen_point work.state.drawing.pen) (λ p. f p ms)))
-pen_fits work run f each = each_fits work (some_of (moves_of work run)) _ (λ ms. each_fits work (pen_point work.state.drawing.pen) (λ p. f p ms) (λ p. each p ms))
+    IsFitting work (and_then (at_least_one (moves_of work run)) (λ ms. and_then (pen_point work.state.drawing.pen) (λ p. f p ms)))
+pen_fits work run f each = each_fits work (at_least_one (moves_of work run)) _ (λ ms. each_fits work (pen_point work.state.drawing.pen) (λ p. f p ms) (λ p. each p ms))
 
 -- one entry that holds the values that stand
-single_fits : (work : Work) (e : Entry) → Holds (held e) work.state.drawing → WellMade e → Comes work.state e → Fitting work (drawn work (e ∷ []))
+single_fits : (work : Work) (e : Entry) → EqualCurrent (attributes e) work.state.drawing → WellMade e → MayCome work.state e → Fitting work (rule_result work (e ∷ []))
 unfolding Fitting AllFit walk
 single_fits work e holds made comes shown a =
     let fits = agreeing_fits work.state shown e a holds made comes in ((fits.0, tt), fits.1)
 
 -- the continuation gets a list that isn't empty
-some_fit : (work : Work) (xs : List Displacement) (f : List Displacement → Result Drawn DrawFault) → ((ms : List Displacement) → 0 < length ms → IsFitting work (f ms)) →
-    IsFitting work (and_then (some_of xs) f)
+some_fit : (work : Work) (xs : List Displacement) (f : List Displacement → Result RuleResult DrawFault) → ((ms : List Displacement) → 0 < length ms → IsFitting work (f ms)) →
+    IsFitting work (and_then (at_least_one xs) f)
 some_fit work [] f each = fault_fits work faults.Missing
 some_fit work (x ∷ xs) f each = each (x ∷ xs) (omega arith)
 
 -- and one that isn't too long
-few_fit : (work : Work) (ms : List Displacement) (f : List Displacement → Result Drawn DrawFault) → (length ms ≤ steps_limit → IsFitting work (f ms)) →
-    IsFitting work (and_then (few_of ms) f)
+few_fit : (work : Work) (ms : List Displacement) (f : List Displacement → Result RuleResult DrawFault) → (length ms ≤ steps_limit → IsFitting work (f ms)) →
+    IsFitting work (and_then (at_most_limit ms) f)
 few_fit work ms f each = at (ltb steps_limit (length ms)) refl
   where
     at : (b : Bool) → ltb steps_limit (length ms) ≡ b → IsFitting work (and_then (cond b (Err faults.ManyPoints) (Ok ms)) f)
@@ -155,7 +155,7 @@ few_fit work ms f each = at (ltb steps_limit (length ms)) refl
     at false few = each (grind (arith, nat_tests))
 
 one_fits : {A : Type 0} (work : Work) (entry : Drawing → A → Entry) (o : Option A) →
-    ((x : A) → o ≡ Some x → Fitting work (drawn work (entry work.state.drawing x ∷ []))) → IsFitting work (draws_one work entry o)
+    ((x : A) → o ≡ Some x → Fitting work (rule_result work (entry work.state.drawing x ∷ []))) → IsFitting work (entry_result work entry o)
 unfolding IsFitting
 one_fits work entry None fits = tt
 one_fits work entry (Some x) fits = fits x refl
@@ -166,7 +166,7 @@ shape_is_made kinds.Arc filled d p ms ps some few is = arc_made p ms ps some few
 shape_is_made kinds.Poly filled d p ms ps some few is = poly_made p ms ps some few is
 
 module _ (work : Work) (kind : ShapeKind) (filled : Bool) where
-  shape_fits : (p : Coordinates) (ms : List Displacement) → 0 < length ms → length ms ≤ steps_limit → IsFitting work (draws_one work (shape_on kind filled) (shape_points kind p ms))
+  shape_fits : (p : Coordinates) (ms : List Displacement) → 0 < length ms → length ms ≤ steps_limit → IsFitting work (entry_result work (shape_on kind filled) (shape_points kind p ms))
   shape_fits p ms some few =
       let d = work.state.drawing in
       one_fits work (shape_on kind filled) (shape_points kind p ms) (λ ps is.
@@ -177,12 +177,12 @@ module _ (work : Work) (kind : ShapeKind) (filled : Bool) where
       some_fit work (moves_of work run) _ (λ ms some. few_fit work ms _ (λ few. each_fits work (pen_point work.state.drawing.pen) _ (λ p. shape_fits p ms some few)))
 
   point_fits : (o : Option Coordinates) (ms : List Displacement) → 0 < length ms → length ms ≤ steps_limit →
-      IsFitting work (draws_one work (shape_on kind filled) (option_and_then (λ p. shape_points kind p ms) o))
+      IsFitting work (entry_result work (shape_on kind filled) (option_and_then (λ p. shape_points kind p ms) o))
   point_fits None ms some few = fault_fits work faults.Outside
   point_fits (Some p) ms some few = shape_fits p ms some few
 
   first_fits : (xs : List Displacement) →
-      IsFitting work (and_then (first_of xs) (λ (m, ms). and_then (few_of ms) (λ ms. draws_one work (shape_on kind filled) (option_and_then (λ p. shape_points kind p ms) (point_at m)))))
+      IsFitting work (and_then (first_and_more xs) (λ (m, ms). and_then (at_most_limit ms) (λ ms. entry_result work (shape_on kind filled) (option_and_then (λ p. shape_points kind p ms) (point_at m)))))
   first_fits [] = fault_fits work faults.Missing
   first_fits (m ∷ []) = fault_fits work faults.Missing
   first_fits (m ∷ n ∷ ms) = few_fit work (n ∷ ms) _ (λ few. point_fits (point_at m) (n ∷ ms) (omega arith) few)
@@ -194,12 +194,12 @@ field_fits : (work : Work) (ms : List Displacement) → IsFitting work (field_ru
 field_fits work ms = each_fits work (area_of work ms) _ (λ area. one_fits work field_on (Some area) (λ a is.
     single_fits work (field_on work.state.drawing a) (record { pen = refl; pel = tt; colour = tt; texture = tt; text = tt }) tt tt))
 
-stay_fits : {A : Type 0} (work : Work) (entry : A → Entry) → (InMode work.state.drawing.base work.state.drawing.colour → Stays work.state.drawing entry) → (xs : List A) →
-    Fitting work (drawn work (map entry xs))
+stay_fits : {A : Type 0} (work : Work) (entry : A → Entry) → (ModeZeroIsBase work.state.drawing.base work.state.drawing.colour → Stays work.state.drawing entry) → (xs : List A) →
+    Fitting work (rule_result work (map entry xs))
 unfolding Fitting
 stay_fits work entry stays xs shown a = stays_fit work.state.drawing entry (stays a.drawing.mode) work.state work.state.last xs shown a
 
-blink_fits : (work : Work) (k : ℕ) (groups : List (List ℕ)) → Fitting work (drawn work (blinks k work.state.drawing.colour groups))
+blink_fits : (work : Work) (k : ℕ) (groups : List (List ℕ)) → Fitting work (rule_result work (blinks k work.state.drawing.colour groups))
 blink_fits work k [] = single_fits work (entries.BlinkEnd work.state.drawing.colour) (record { pen = tt; pel = tt; colour = refl; texture = tt; text = tt }) tt tt
 blink_fits work k (group ∷ groups) = stay_fits work (blink k work.state.drawing.colour) (blink_stays work.state.drawing k) (group ∷ groups)
 
@@ -221,7 +221,7 @@ texture_agrees : (s : State) (word : ℕ) (mask : Option Displacement) (shown : 
 texture_agrees s word mask shown a =
     values_agree s _ shown a (record { pen = a.drawing.pen; base = a.drawing.base; colour = a.drawing.colour; mode = a.drawing.mode; texture = mask_agrees s.drawing.texture mask shown.drawing.texture a.drawing.texture })
 
-base_mode : (base : Base) → InMode base (colour_of_base base)
+base_mode : (base : Base) → ModeZeroIsBase base (colour_of_base base)
 base_mode (bases.Own origin) = refl
 base_mode (bases.Direct grb) = refl
 
@@ -229,7 +229,7 @@ base_agrees : (base : Base) (shown : Colour) → ColourAgrees (colour_of_base ba
 base_agrees (bases.Own origin) shown = tt
 base_agrees (bases.Direct grb) shown = tt
 
-select_agrees : (s : State) (addresses : List ℕ) (shown : State) → StatesAgree s shown → StatesAgree (record s { drawing = with_colour (selected s.drawing.base addresses) s.drawing }) shown
+select_agrees : (s : State) (addresses : List ℕ) (shown : State) → StatesAgree s shown → StatesAgree (record s { drawing = with_colour (selected_colour s.drawing.base addresses) s.drawing }) shown
 select_agrees s [] shown a =
     values_agree s _ shown a (record { pen = a.drawing.pen; base = a.drawing.base; colour = base_agrees s.drawing.base shown.drawing.colour; mode = base_mode s.drawing.base; texture = a.drawing.texture })
 select_agrees s (x ∷ []) shown a =
@@ -249,16 +249,16 @@ ColourIsMapped (colours.Pair a b) = Unit {0}
 ColourIsMapped _ = ⊥
 
 mapped_agrees : (colour shown : Colour) → ColourIsMapped colour → ColourAgrees colour shown
-mapped_agrees (colours.Front a) shown mapped = tt
-mapped_agrees (colours.Pair a b) shown mapped = tt
-mapped_agrees _ shown mapped = absurd mapped
+mapped_agrees (colours.Front a) shown with_map_colour = tt
+mapped_agrees (colours.Pair a b) shown with_map_colour = tt
+mapped_agrees _ shown with_map_colour = absurd with_map_colour
 
-attribute_fits : (work w : Work) → ((shown : State) → StatesAgree work.state shown → StatesAgree w.state shown) → IsFitting work (Ok (drawn w []))
+attribute_fits : (work w : Work) → ((shown : State) → StatesAgree work.state shown → StatesAgree w.state shown) → IsFitting work (Ok (rule_result w []))
 unfolding IsFitting
 attribute_fits work w agrees = silent_fits work w agrees
 
 new_fits : (work : Work) (a : ℕ) (grb : Components) → ColourIsMapped work.state.drawing.colour → is_known a grb work.state.known ≡ false →
-    IsFitting work (Ok (record { entries = entries.Map a grb ∷ []; work = record work { state = mapped work.state a grb }; clears = false }))
+    IsFitting work (Ok (record { entries = entries.Map a grb ∷ []; work = record work { state = with_map_colour work.state a grb }; clears = false }))
 unfolding IsFitting Fitting AllFit walk
 new_fits work a grb chosen new shown agrees = (
   (record { values = record { pen = tt; colour = tt; texture = tt }; made = tt; comes = ap (is_known a grb) (sym agrees.known) ∙ new }, tt),
@@ -272,19 +272,19 @@ new_fits work a grb chosen new shown agrees = (
     };
     definition = agrees.definition;
     last = refl;
-    known = ap (setting a grb) agrees.known;
+    known = ap (with_known_colour a grb) agrees.known;
     made = tt;
   },
 )
 
-map_fits : (work : Work) (a : ℕ) (grb : Components) → ColourIsMapped work.state.drawing.colour → IsFitting work (maps work a grb)
+map_fits : (work : Work) (a : ℕ) (grb : Components) → ColourIsMapped work.state.drawing.colour → IsFitting work (map_rule work a grb)
 map_fits work a grb chosen = by (is_known a grb work.state.known) refl
   where
-    by : (known : Bool) → is_known a grb work.state.known ≡ known → IsFitting work (maps work a grb)
+    by : (known : Bool) → is_known a grb work.state.known ≡ known → IsFitting work (map_rule work a grb)
     by true is = rw is (attribute_fits work work (λ shown agrees. agrees))
     by false is = rw is (new_fits work a grb chosen is)
 
-colours_fit : (work : Work) (colour : Colour) (grb : Components) → work.state.drawing.colour ≡ colour → IsFitting work (colours_as work colour grb)
+colours_fit : (work : Work) (colour : Colour) (grb : Components) → work.state.drawing.colour ≡ colour → IsFitting work (set_color_under work colour grb)
 colours_fit work (colours.Own origin) grb is = attribute_fits work _ (direct_agrees work.state grb)
 colours_fit work (colours.Direct old) grb is = attribute_fits work _ (direct_agrees work.state grb)
 colours_fit work (colours.Front a) grb is = map_fits work a grb (subst (λ (c : Colour). ColourIsMapped c) (sym is) tt)
@@ -296,28 +296,28 @@ set_color_fits work [] = fault_fits work faults.Missing
 set_color_fits work (operand ∷ []) = colours_fit work work.state.drawing.colour (colour_of operand) refl
 set_color_fits work (operand ∷ other ∷ more) = fault_fits work faults.ManyColours
 
-list_fits : (work : Work) (list : List Entry) → Fitting work (drawn work list) → IsFitting work (Ok (drawn work list))
+list_fits : (work : Work) (list : List Entry) → Fitting work (rule_result work list) → IsFitting work (Ok (rule_result work list))
 unfolding IsFitting
 list_fits work list fits = fits
 
 rule_is_fitting : (work : Work) (op : Opcode) (run : List ℕ) → IsFitting work (rule work op run)
 rule_is_fitting work opcodes.Domain run = domain_fits work run
 rule_is_fitting work opcodes.PointSetAbs run = each_fits work _ _ (λ ms. goes_fits work (points_at ms))
-rule_is_fitting work opcodes.PointSetRel run = pen_fits work run _ (λ p ms. goes_fits work (reached p ms))
-rule_is_fitting work opcodes.PointAbs run = each_fits work _ _ (λ ms. draws_fit point_on _ point_lands work (points_at ms))
-rule_is_fitting work opcodes.PointRel run = pen_fits work run _ (λ p ms. draws_fit point_on _ point_lands work (reached p ms))
-rule_is_fitting work opcodes.LineAbs run = pen_fits work run _ (λ p ms. draws_fit line_on _ line_lands work (option_map (joined p) (points_at ms)))
-rule_is_fitting work opcodes.LineRel run = pen_fits work run _ (λ p ms. draws_fit line_on _ line_lands work (option_map (joined p) (reached p ms)))
-rule_is_fitting work opcodes.SetLineAbs run = each_fits work _ _ (λ ms. draws_fit line_on _ line_lands work (between ms))
-rule_is_fitting work opcodes.SetLineRel run = each_fits work _ _ (λ ms. draws_fit line_on _ line_lands work (away ms))
+rule_is_fitting work opcodes.PointSetRel run = pen_fits work run _ (λ p ms. goes_fits work (points_reached p ms))
+rule_is_fitting work opcodes.PointAbs run = each_fits work _ _ (λ ms. draws_fit point_entry _ point_lands work (points_at ms))
+rule_is_fitting work opcodes.PointRel run = pen_fits work run _ (λ p ms. draws_fit point_entry _ point_lands work (points_reached p ms))
+rule_is_fitting work opcodes.LineAbs run = pen_fits work run _ (λ p ms. draws_fit span_line_entry _ line_lands work (option_map (polyline_spans p) (points_at ms)))
+rule_is_fitting work opcodes.LineRel run = pen_fits work run _ (λ p ms. draws_fit span_line_entry _ line_lands work (option_map (polyline_spans p) (points_reached p ms)))
+rule_is_fitting work opcodes.SetLineAbs run = each_fits work _ _ (λ ms. draws_fit span_line_entry _ line_lands work (absolute_spans ms))
+rule_is_fitting work opcodes.SetLineRel run = each_fits work _ _ (λ ms. draws_fit span_line_entry _ line_lands work (relative_spans ms))
 rule_is_fitting work opcodes.ArcOutlined run = shape_pen_fits work kinds.Arc false run
 rule_is_fitting work opcodes.ArcFilled run = shape_pen_fits work kinds.Arc true run
 rule_is_fitting work opcodes.SetArcOutlined run = shape_point_fits work kinds.Arc false run
 rule_is_fitting work opcodes.SetArcFilled run = shape_point_fits work kinds.Arc true run
-rule_is_fitting work opcodes.RectOutlined run = pen_fits work run _ (λ p ms. draws_fit (rect_on false) _ (rect_lands false) work (across p ms))
-rule_is_fitting work opcodes.RectFilled run = pen_fits work run _ (λ p ms. draws_fit (rect_on true) _ (rect_lands true) work (across p ms))
-rule_is_fitting work opcodes.SetRectOutlined run = each_fits work _ _ (λ ms. draws_fit (rect_on false) _ (rect_lands false) work (away ms))
-rule_is_fitting work opcodes.SetRectFilled run = each_fits work _ _ (λ ms. draws_fit (rect_on true) _ (rect_lands true) work (away ms))
+rule_is_fitting work opcodes.RectOutlined run = pen_fits work run _ (λ p ms. draws_fit (rect_on false) _ (rect_lands false) work (rect_chain_spans p ms))
+rule_is_fitting work opcodes.RectFilled run = pen_fits work run _ (λ p ms. draws_fit (rect_on true) _ (rect_lands true) work (rect_chain_spans p ms))
+rule_is_fitting work opcodes.SetRectOutlined run = each_fits work _ _ (λ ms. draws_fit (rect_on false) _ (rect_lands false) work (relative_spans ms))
+rule_is_fitting work opcodes.SetRectFilled run = each_fits work _ _ (λ ms. draws_fit (rect_on true) _ (rect_lands true) work (relative_spans ms))
 rule_is_fitting work opcodes.PolyOutlined run = shape_pen_fits work kinds.Poly false run
 rule_is_fitting work opcodes.PolyFilled run = shape_pen_fits work kinds.Poly true run
 rule_is_fitting work opcodes.SetPolyOutlined run = shape_point_fits work kinds.Poly false run
@@ -332,9 +332,9 @@ rule_is_fitting work opcodes.Wait run = list_fits work _ (stay_fits work entries
 rule_is_fitting work opcodes.Blink run = list_fits work _ (blink_fits work work.domain.single (operands (work.domain.single + 3) run))
 rule_is_fitting work _ run = attribute_fits work work (λ shown agrees. agrees)
 
-fits_as : (work : Work) (r : Result Drawn DrawFault) (d : Drawn) → r ≡ Ok d → IsFitting work r → Fitting work d
+fits_as : (work : Work) (r : Result RuleResult DrawFault) (d : RuleResult) → r ≡ Ok d → IsFitting work r → Fitting work d
 unfolding IsFitting
-fits_as work r d is fits = subst (λ (r : Result Drawn DrawFault). IsFitting work r) is fits
+fits_as work r d is fits = subst (λ (r : Result RuleResult DrawFault). IsFitting work r) is fits
 
 pub rule_fits : RuleFits
 unfolding Fitting
@@ -342,30 +342,30 @@ rule_fits work op run shown d is agrees = fits_as work (rule work op run) d is (
 
 -- a character or a control
 
-last_fits : (work : Work) (o : Option LastChar) (next : LastChar → Result Drawn DrawFault) → work.state.last ≡ o → ((last : LastChar) → work.state.last ≡ Some last → IsFitting work (next last)) →
+last_fits : (work : Work) (o : Option LastChar) (next : LastChar → Result RuleResult DrawFault) → work.state.last ≡ o → ((last : LastChar) → work.state.last ≡ Some last → IsFitting work (next last)) →
     IsFitting work (with_last o next)
 last_fits work None next is each = fault_fits work faults.NothingToRepeat
 last_fits work (Some last) next is each = each last is
 
-copies_are_fitting : (work : Work) (last : LastChar) (n : ℕ) → work.state.last ≡ Some last → Fitting work (drawn work (copies work.state last n))
+copies_are_fitting : (work : Work) (last : LastChar) (n : ℕ) → work.state.last ≡ Some last → Fitting work (rule_result work (repeated_chars work.state last n))
 unfolding Fitting
 copies_are_fitting work last n is shown a = copies_fit last work.state shown n a (last_is_code work.state shown last a is)
 
-hand_holds : (d : Drawing) → Holds (hand_values (hand_of d)) d
+hand_holds : (d : Drawing) → EqualCurrent (hand_attributes (hand_of d)) d
 hand_holds d = record { pen = refl; pel = tt; colour = refl; texture = tt; text = refl }
 
-nothing_holds : (d : Drawing) → Holds nothing d
+nothing_holds : (d : Drawing) → EqualCurrent no_attributes d
 nothing_holds d = record { pen = tt; pel = tt; colour = tt; texture = tt; text = tt }
 
-entry_fits : (work : Work) (e : Entry) → MayFollow work.state e → IsFitting work (puts work e)
+entry_fits : (work : Work) (e : Entry) → MayFollow work.state e → IsFitting work (one_entry_result work e)
 entry_fits work e follows = list_fits work (e ∷ []) (single_fits work e follows.holds follows.made follows.comes)
 
 -- the definition that is open ends
 
-end_follows : (s : State) (opened : Opened) → s.definition ≡ Some opened → MayFollow s entries.DefEnd
-end_follows s opened is = record { holds = nothing_holds s.drawing; made = tt; comes = subst (λ (o : Option Opened). IsSome o) (sym is) refl }
+end_follows : (s : State) (opened : OpenDefinition) → s.definition ≡ Some opened → MayFollow s entries.DefEnd
+end_follows s opened is = record { holds = nothing_holds s.drawing; made = tt; comes = subst (λ (o : Option OpenDefinition). IsSome o) (sym is) refl }
 
-ended_fits : (work : Work) (o : Option Opened) → work.state.definition ≡ o → Fitting work (ended_by work o)
+ended_fits : (work : Work) (o : Option OpenDefinition) → work.state.definition ≡ o → Fitting work (definition_ended_by work o)
 unfolding Fitting AllFit walk
 ended_fits work None is shown a = (tt, a)
 ended_fits work (Some opened) is shown a =
@@ -374,16 +374,16 @@ ended_fits work (Some opened) is shown a =
 
 -- and another begins
 
-start_follows : (work : Work) (what : Definition) → WellMade (start_of what) → MayFollow (ended work).work.state (start_of what)
+start_follows : (work : Work) (what : Definition) → WellMade (definition_start what) → MayFollow (definition_ended work).work.state (definition_start what)
 start_follows work (definitions.Glyph code) made = record { holds = nothing_holds _; made = made; comes = ended_closed work work.state.definition refl }
 start_follows work (definitions.Mask mask) made = record { holds = nothing_holds _; made = made; comes = ended_closed work work.state.definition refl }
 
-pub opened_fits : (work : Work) (what : Definition) → WellMade (start_of what) → (shown : State) → StatesAgree work.state shown →
-    AllFit shown ((ended work).entries ++ start_of what ∷ []) × StatesAgree (opened_by (ended work) (start_of what)).work.state (walk shown ((ended work).entries ++ start_of what ∷ []))
+pub opened_fits : (work : Work) (what : Definition) → WellMade (definition_start what) → (shown : State) → StatesAgree work.state shown →
+    AllFit shown ((definition_ended work).entries ++ definition_start what ∷ []) × StatesAgree (definition_opened (definition_ended work) (definition_start what)).work.state (walk shown ((definition_ended work).entries ++ definition_start what ∷ []))
 unfolding Fitting AllFit walk
 opened_fits work what made shown a =
-    let d = ended work in
-    let e = start_of what in
+    let d = definition_ended work in
+    let e = definition_start what in
     let before = ended_fits work work.state.definition refl shown a in
     let follows = start_follows work what made in
     let here = agreeing_fits d.work.state (walk shown d.entries) e before.1 follows.holds follows.made follows.comes in (
@@ -391,11 +391,11 @@ opened_fits work what made shown a =
       subst (λ (t : State). StatesAgree (after d.work.state e) t) (sym (walks_join shown d.entries (e ∷ []))) here.1,
     )
 
-ends_fit : (work : Work) → IsFitting work (Ok (ended work))
+ends_fit : (work : Work) → IsFitting work (Ok (definition_ended work))
 unfolding IsFitting
 ends_fit work = ended_fits work work.state.definition refl
 
-opens_fit : (work : Work) (what : Definition) → WellMade (start_of what) → IsFitting work (opens work (start_of what))
+opens_fit : (work : Work) (what : Definition) → WellMade (definition_start what) → IsFitting work (definition_result work (definition_start what))
 unfolding IsFitting Fitting
 opens_fit work what made = opened_fits work what made
 

@@ -1,6 +1,6 @@
 use Rattle.std.proofs.Common.{◌≡◌, ◌≢◌, ℕ, List, [], ◌∷◌, ◌++◌, false, Option, Some, None, Result, Ok, Err, refl, sym, ◌∙◌, ap}
 use Rattle.std.specs.Option.{option_map}
-use Rattle.nap_values.specs.Coordinates.{Coordinates, Displacement, moved, point_at}
+use Rattle.nap_values.specs.Coordinates.{Coordinates, Displacement, displaced_point, point_at}
 use Rattle.nap_list.specs.declared.attribute.Pen.{Pen}
 use Rattle.nap_list.specs.declared.attribute.Pen.TheVariants as pens
 use Rattle.nap_list.specs.declared.state.Drawing.{Drawing}
@@ -8,34 +8,34 @@ use Rattle.nap_list.specs.State.{with_pen, with_pen_at, walk}
 use Rattle.nap_draw.specs.declared.work.Work.{Work}
 use Rattle.nap_draw.specs.declared.fault.DrawFault.{DrawFault}
 use Rattle.nap_draw.specs.declared.fault.DrawFault.TheVariants.{Missing}
-use Rattle.nap_draw.specs.Geometry.{onward, end_of, reached, points_at}
-use Rattle.nap_draw.specs.Rule.{Drawn, with_drawing, and_then, some_of, pen_point, from_pen, goes, moves_of, with_operands}
+use Rattle.nap_draw.specs.Geometry.{cons_if_all, last_or, points_reached, points_at}
+use Rattle.nap_draw.specs.Rule.{RuleResult, with_drawing, and_then, at_least_one, pen_point, from_pen, pen_result, moves_of, with_operands}
 
 -- Where a pen goes without drawing.
 
 -- it comes to the last of the points
-pub goes_end : (work : Work) (ps : List Coordinates) (d : Drawing) → d ≡ with_pen_at (end_of None ps) work.state.drawing →
-    goes work (Some ps) ≡ Ok (record { entries = []; work = with_drawing work d; clears = false })
+pub goes_end : (work : Work) (ps : List Coordinates) (d : Drawing) → d ≡ with_pen_at (last_or None ps) work.state.drawing →
+    pen_result work (Some ps) ≡ Ok (record { entries = []; work = with_drawing work d; clears = false })
 unfolding walk
 goes_end work ps d is = ap (λ (d : Drawing). Ok (record { entries = []; work = with_drawing work d; clears = false })) (sym is)
 
 -- the last is the one that came last
-pub end_behind : {A : Type 0} (o : Option A) (xs : List A) (x : A) → end_of o (xs ++ x ∷ []) ≡ Some x
-unfolding end_of
+pub end_behind : {A : Type 0} (o : Option A) (xs : List A) (x : A) → last_or o (xs ++ x ∷ []) ≡ Some x
+unfolding last_or
 end_behind o [] x = refl
 end_behind o (y ∷ ys) x = end_behind (Some y) ys x
 
 -- no point yet
-pub pen_before : (d : Drawing) (pen : Pen) → pen ≡ d.pen → with_pen pen d ≡ with_pen_at (end_of None []) d
-unfolding end_of
+pub pen_before : (d : Drawing) (pen : Pen) → pen ≡ d.pen → with_pen pen d ≡ with_pen_at (last_or None []) d
+unfolding last_or
 pen_before d pen is = ap (λ (pen : Pen). with_pen pen d) is
 
 -- one point more
-pub pen_behind : (d : Drawing) (front : List Coordinates) (p : Coordinates) → with_pen (pens.At p) d ≡ with_pen_at (end_of None (front ++ p ∷ [])) d
+pub pen_behind : (d : Drawing) (front : List Coordinates) (p : Coordinates) → with_pen (pens.At p) d ≡ with_pen_at (last_or None (front ++ p ∷ [])) d
 pen_behind d front p = ap (λ o. with_pen_at o d) (sym (end_behind None front p))
 
 -- what goes on from something is not nothing
-onward_some : {A : Type 0} (x : Option A) (next : A → Option (List A)) → onward x next ≢ Some []
+onward_some : {A : Type 0} (x : Option A) (next : A → Option (List A)) → cons_if_all x next ≢ Some []
 onward_some None next is = let bad : ⊥ = cc in absurd bad
 onward_some {A} (Some x) next is = behind (next x) is
   where
@@ -45,30 +45,30 @@ onward_some {A} (Some x) next is = behind (next x) is
 
 -- where a run starts from the pen, it has an operand
 starts_some : (work : Work) (run : List ℕ) (from : Coordinates) →
-    ((f : Coordinates → List Displacement → Result Drawn DrawFault) → from_pen work run f ≡ f from (moves_of work run)) → moves_of work run ≢ []
+    ((f : Coordinates → List Displacement → Result RuleResult DrawFault) → from_pen work run f ≡ f from (moves_of work run)) → moves_of work run ≢ []
 starts_some work run from starts none =
-    let d : Drawn = record { entries = []; work = work; clears = false } in
+    let d : RuleResult = record { entries = []; work = work; clears = false } in
     let missing : from_pen work run (λ p ms. Ok d) ≡ Err Missing =
-    ap (λ (ms : List Displacement). and_then (some_of ms) (λ ms. and_then (pen_point work.state.drawing.pen) (λ p. Ok d))) none
+    ap (λ (ms : List Displacement). and_then (at_least_one ms) (λ ms. and_then (pen_point work.state.drawing.pen) (λ p. Ok d))) none
     in
     let bad : ⊥ = cc (missing, starts (λ p ms. Ok d)) in absurd bad
 
-ends_alike : (p at : Coordinates) (ms : List Displacement) (ps : List Coordinates) → ms ≢ [] → reached p ms ≡ Some ps → end_of (Some p) ps ≡ Some at → end_of None ps ≡ Some at
-unfolding end_of reached
+ends_alike : (p at : Coordinates) (ms : List Displacement) (ps : List Coordinates) → ms ≢ [] → points_reached p ms ≡ Some ps → last_or (Some p) ps ≡ Some at → last_or None ps ≡ Some at
+unfolding last_or points_reached
 ends_alike p at ms (q ∷ qs) some is end = end
 ends_alike p at [] [] some is end = absurd (some refl)
-ends_alike p at (m ∷ ms) [] some is end = absurd (onward_some (moved p m) (λ q. reached q ms) is)
+ends_alike p at (m ∷ ms) [] some is end = absurd (onward_some (displaced_point p m) (λ q. points_reached q ms) is)
 
 -- the point that all operands reached
 pub pen_reached : (work : Work) (run : List ℕ) (from at : Coordinates) (ps : List Coordinates) →
-    ((f : Coordinates → List Displacement → Result Drawn DrawFault) → from_pen work run f ≡ f from (moves_of work run)) →
-    reached from (moves_of work run) ≡ Some ps → end_of (Some from) ps ≡ Some at → with_pen (pens.At at) work.state.drawing ≡ with_pen_at (end_of None ps) work.state.drawing
+    ((f : Coordinates → List Displacement → Result RuleResult DrawFault) → from_pen work run f ≡ f from (moves_of work run)) →
+    points_reached from (moves_of work run) ≡ Some ps → last_or (Some from) ps ≡ Some at → with_pen (pens.At at) work.state.drawing ≡ with_pen_at (last_or None ps) work.state.drawing
 pen_reached work run from at ps starts is end =
     ap (λ o. with_pen_at o work.state.drawing) (sym (ends_alike from at (moves_of work run) ps (starts_some work run from starts) is end))
 
 -- a run of one operand sets the pen to its point
 pub sets_once : (work : Work) (run : List ℕ) (m : Displacement) (o : Option Coordinates) → moves_of work run ≡ m ∷ [] → point_at m ≡ o →
-    with_operands work run (λ ms. goes work (points_at ms)) ≡ goes work (option_map (λ p. p ∷ []) o)
+    with_operands work run (λ ms. pen_result work (points_at ms)) ≡ pen_result work (option_map (λ p. p ∷ []) o)
 unfolding points_at
-sets_once work run m None is at = ap (λ ms. and_then (some_of ms) (λ ms. goes work (points_at ms))) is ∙ ap (λ o. goes work (onward o (λ _. Some []))) at
-sets_once work run m (Some p) is at = ap (λ ms. and_then (some_of ms) (λ ms. goes work (points_at ms))) is ∙ ap (λ o. goes work (onward o (λ _. Some []))) at
+sets_once work run m None is at = ap (λ ms. and_then (at_least_one ms) (λ ms. pen_result work (points_at ms))) is ∙ ap (λ o. pen_result work (cons_if_all o (λ _. Some []))) at
+sets_once work run m (Some p) is at = ap (λ ms. and_then (at_least_one ms) (λ ms. pen_result work (points_at ms))) is ∙ ap (λ o. pen_result work (cons_if_all o (λ _. Some []))) at

@@ -17,9 +17,9 @@ use Rattle.nap_draw.specs.declared.fault.DrawFault.TheVariants.{Missing}
 use Rattle.nap_draw.specs.declared.spans.Span.{Span}
 use Rattle.nap_draw.specs.declared.work.Work.{Work}
 use Rattle.nap_draw.specs.Operands.{operands, moves}
-use Rattle.nap_draw.specs.Geometry.{onward, points_at, joined, span, span_by, between, away}
+use Rattle.nap_draw.specs.Geometry.{cons_if_all, points_at, polyline_spans, span, span_by, absolute_spans, relative_spans}
 use Rattle.nap_list.specs.State.{ink_of}
-use Rattle.nap_draw.specs.Rule.{Drawn, and_then, drawn, draws, moves_of, some_of, pairs_of, pen_point}
+use Rattle.nap_draw.specs.Rule.{RuleResult, and_then, rule_result, entries_result, moves_of, at_least_one, complete_pairs, pen_point}
 use Rattle.nap_draw.specs.Joining.{IsWhole, RunsJoin}
 use Rattle.nap_draw.proofs.Cuts.{moves_chunk}
 use Rattle.nap_draw.proofs.Outlines.{mapped_some}
@@ -54,14 +54,14 @@ record Gate (gate : List Displacement → Result (List Displacement) DrawFault) 
   same : (ms passed : List Displacement) → gate ms ≡ Ok passed → passed ≡ ms
   both : (ms ns : List Displacement) → gate ms ≡ Ok ms → gate ns ≡ Ok ns → gate (ms ++ ns) ≡ Ok (ms ++ ns)
 
-some_gate : Gate some_of
+some_gate : Gate at_least_one
 some_gate = record { same = same; both = both }
   where
-    same : (ms passed : List Displacement) → some_of ms ≡ Ok passed → passed ≡ ms
+    same : (ms passed : List Displacement) → at_least_one ms ≡ Ok passed → passed ≡ ms
     same [] passed is = cc
     same (m ∷ ms) passed is = cc
 
-    both : (ms ns : List Displacement) → some_of ms ≡ Ok ms → some_of ns ≡ Ok ns → some_of (ms ++ ns) ≡ Ok (ms ++ ns)
+    both : (ms ns : List Displacement) → at_least_one ms ≡ Ok ms → at_least_one ns ≡ Ok ns → at_least_one (ms ++ ns) ≡ Ok (ms ++ ns)
     both [] ns a b = b
     both (m ∷ ms) ns a b = refl
 
@@ -69,14 +69,14 @@ cond_ok : {A : Type 0} (b : Bool) (x y : A) (fault : DrawFault) → cond b (Ok x
 cond_ok true x y fault is = let e : y ≡ x = cc in (refl, e)
 cond_ok false x y fault is = let bad : ⊥ = cc in absurd bad
 
-pairs_gate : Gate pairs_of
+pairs_gate : Gate complete_pairs
 pairs_gate = record { same = same; both = both }
   where
-    same : (ms passed : List Displacement) → pairs_of ms ≡ Ok passed → passed ≡ ms
+    same : (ms passed : List Displacement) → complete_pairs ms ≡ Ok passed → passed ≡ ms
     same [] passed is = cc
     same (m ∷ ms) passed is = (cond_ok (eqb (length ms % 2) 1) (m ∷ ms) passed Missing is).1
 
-    both : (ms ns : List Displacement) → pairs_of ms ≡ Ok ms → pairs_of ns ≡ Ok ns → pairs_of (ms ++ ns) ≡ Ok (ms ++ ns)
+    both : (ms ns : List Displacement) → complete_pairs ms ≡ Ok ms → complete_pairs ns ≡ Ok ns → complete_pairs (ms ++ ns) ≡ Ok (ms ++ ns)
     both [] ns a b = b
     both (m ∷ ms) [] a b = cc
     both (m ∷ ms) (n ∷ ns) a b =
@@ -88,8 +88,8 @@ pairs_gate = record { same = same; both = both }
 
 -- where two lists of operands lead, both as one lead to the places of the first and then to those of the second
 
-onward_join : {A : Type 0} (o : Option A) (f g : A → Option (List A)) (xs ys : List A) → onward o f ≡ Some xs →
-    ((x : A) (zs : List A) → f x ≡ Some zs → g x ≡ Some (zs ++ ys)) → onward o g ≡ Some (xs ++ ys)
+onward_join : {A : Type 0} (o : Option A) (f g : A → Option (List A)) (xs ys : List A) → cons_if_all o f ≡ Some xs →
+    ((x : A) (zs : List A) → f x ≡ Some zs → g x ≡ Some (zs ++ ys)) → cons_if_all o g ≡ Some (xs ++ ys)
 onward_join {A = A} None f g xs ys is next = cc
 onward_join {A = A} (Some x) f g xs ys is next =
     let there = mapped_some (λ (zs : List A). x ∷ zs) (f x) xs is in
@@ -100,22 +100,22 @@ unfolding points_at
 points_join [] ns ps qs a b = let e : [] ≡ ps = cc in b ∙ ap (λ (l : List Coordinates). Some (l ++ qs)) e
 points_join (m ∷ ms) ns ps qs a b = onward_join (point_at m) (λ _. points_at ms) (λ _. points_at (ms ++ ns)) ps qs a (λ p rs is. points_join ms ns rs qs is b)
 
-between_join : (ms ns : List Displacement) (xs ys : List Span) → between ms ≡ Some xs → between ns ≡ Some ys → between (ms ++ ns) ≡ Some (xs ++ ys)
-unfolding between
+between_join : (ms ns : List Displacement) (xs ys : List Span) → absolute_spans ms ≡ Some xs → absolute_spans ns ≡ Some ys → absolute_spans (ms ++ ns) ≡ Some (xs ++ ys)
+unfolding absolute_spans
 between_join [] ns xs ys a b = let e : [] ≡ xs = cc in b ∙ ap (λ (l : List Span). Some (l ++ ys)) e
 between_join (m ∷ []) ns xs ys a b = cc
 between_join (m ∷ n ∷ ms) ns xs ys a b =
-    onward_join (span (point_at m) (point_at n)) (λ _. between ms) (λ _. between (ms ++ ns)) xs ys a (λ s zs is. between_join ms ns zs ys is b)
+    onward_join (span (point_at m) (point_at n)) (λ _. absolute_spans ms) (λ _. absolute_spans (ms ++ ns)) xs ys a (λ s zs is. between_join ms ns zs ys is b)
 
-away_join : (ms ns : List Displacement) (xs ys : List Span) → away ms ≡ Some xs → away ns ≡ Some ys → away (ms ++ ns) ≡ Some (xs ++ ys)
-unfolding away
+away_join : (ms ns : List Displacement) (xs ys : List Span) → relative_spans ms ≡ Some xs → relative_spans ns ≡ Some ys → relative_spans (ms ++ ns) ≡ Some (xs ++ ys)
+unfolding relative_spans
 away_join [] ns xs ys a b = let e : [] ≡ xs = cc in b ∙ ap (λ (l : List Span). Some (l ++ ys)) e
 away_join (m ∷ []) ns xs ys a b = cc
 away_join (m ∷ n ∷ ms) ns xs ys a b =
-    onward_join (span_by (point_at m) n) (λ _. away ms) (λ _. away (ms ++ ns)) xs ys a (λ s zs is. away_join ms ns zs ys is b)
+    onward_join (span_by (point_at m) n) (λ _. relative_spans ms) (λ _. relative_spans (ms ++ ns)) xs ys a (λ s zs is. away_join ms ns zs ys is b)
 
 -- what is drawn first and what is drawn second, as one
-abbrev as_one : Drawn → Drawn → Drawn
+abbrev as_one : RuleResult → RuleResult → RuleResult
 as_one first second = record { entries = first.entries ++ second.entries; work = second.work; clears = false }
 
 -- entries drawn with the pel, the colour and the texture that stand leave these as they are
@@ -128,13 +128,13 @@ module _ {A : Type 0} (entry : Ink → A → Entry) (keeps : Keeps entry) where
   walk_keeps s ink [] is = is
   walk_keeps s ink (x ∷ xs) is = walk_keeps (after s (entry ink x)) ink xs (keeps s ink x is)
 
-  abbrev of_shapes : Work → List A → Drawn
-  of_shapes work xs = drawn work (map (entry (ink_of work.state.drawing)) xs)
+  abbrev of_shapes : Work → List A → RuleResult
+  of_shapes work xs = rule_result work (map (entry (ink_of work.state.drawing)) xs)
 
-  abbrev of_some : Work → Option (List A) → Result Drawn DrawFault
-  of_some work o = draws work (λ d. entry (ink_of d)) o
+  abbrev of_some : Work → Option (List A) → Result RuleResult DrawFault
+  of_some work o = entries_result work (λ d. entry (ink_of d)) o
 
-  list_ok : (work : Work) (o : Option (List A)) (d : Drawn) → of_some work o ≡ Ok d → (xs : List A) × (o ≡ Some xs) × (of_shapes work xs ≡ d)
+  list_ok : (work : Work) (o : Option (List A)) (d : RuleResult) → of_some work o ≡ Ok d → (xs : List A) × (o ≡ Some xs) × (of_shapes work xs ≡ d)
   list_ok work None d is = let bad : ⊥ = cc in absurd bad
   list_ok work (Some xs) d is = let e : of_shapes work xs ≡ d = cc in (xs, refl, e)
 
@@ -149,14 +149,14 @@ module _ {A : Type 0} (entry : Ink → A → Entry) (keeps : Keeps entry) where
       (begin : Pen → Result B DrawFault) (shapes : B → List Displacement → Option (List A))
       (onto : (s : State) (b c : B) (ms ns : List Displacement) (xs ys : List A) → begin s.drawing.pen ≡ Ok b → shapes b ms ≡ Some xs →
       begin (walk s (map (entry (ink_of s.drawing)) xs)).drawing.pen ≡ Ok c → shapes c ns ≡ Some ys → shapes b (ms ++ ns) ≡ Some (xs ++ ys)) where
-    abbrev begun : Work → List Displacement → Result Drawn DrawFault
+    abbrev begun : Work → List Displacement → Result RuleResult DrawFault
     begun work ms = and_then (begin work.state.drawing.pen) (λ b. of_some work (shapes b ms))
 
-    abbrev of_run : Work → List ℕ → Result Drawn DrawFault
+    abbrev of_run : Work → List ℕ → Result RuleResult DrawFault
     of_run work run = and_then (gate (moves_of work run)) (begun work)
 
     -- what an opcode that drew this had before it
-    record Gave (work : Work) (ms : List Displacement) (d : Drawn) : Type 0 where
+    record Gave (work : Work) (ms : List Displacement) (d : RuleResult) : Type 0 where
       passed : gate ms ≡ Ok ms
       start : B
       begins : begin work.state.drawing.pen ≡ Ok start
@@ -164,7 +164,7 @@ module _ {A : Type 0} (entry : Ink → A → Entry) (keeps : Keeps entry) where
       leads : shapes start ms ≡ Some list
       gives : of_shapes work list ≡ d
 
-    gave : (work : Work) (run : List ℕ) (d : Drawn) → of_run work run ≡ Ok d → Gave work (moves_of work run) d
+    gave : (work : Work) (run : List ℕ) (d : RuleResult) → of_run work run ≡ Ok d → Gave work (moves_of work run) d
     gave work run d is =
         let ms : List Displacement = moves_of work run in
         let first = and_ok (gate ms) (begun work) d is in
@@ -174,11 +174,11 @@ module _ {A : Type 0} (entry : Ink → A → Entry) (keeps : Keeps entry) where
         let leads : shapes then_.0 ms ≡ Some last.0 = ap (shapes then_.0) (sym same) ∙ last.1 in
         record { passed = first.1 ∙ ap Ok same; start = then_.0; begins = then_.1; list = last.0; leads = leads; gives = last.2 }
 
-    rule_joins : (work : Work) (run more : List ℕ) (first second : Drawn) → IsWhole work.domain.multi run →
+    rule_joins : (work : Work) (run more : List ℕ) (first second : RuleResult) → IsWhole work.domain.multi run →
         of_run work run ≡ Ok first → of_run first.work more ≡ Ok second → of_run work (run ++ more) ≡ Ok (as_one first second)
     rule_joins work run more first second whole is then_ =
         let one = gave work run first is in
-        let two = gave (of_shapes work one.list).work more second (subst (λ (d : Drawn). of_run d.work more ≡ Ok second) (sym one.gives) then_) in
+        let two = gave (of_shapes work one.list).work more second (subst (λ (d : RuleResult). of_run d.work more ≡ Ok second) (sym one.gives) then_) in
         let moved = moves_join work.domain.multi whole.0 run more whole.1 in
         let passed = by.both (moves_of work run) (moves_of work more) one.passed two.passed in
         let led = onto work.state one.start two.start (moves_of work run) (moves_of work more) one.list two.list one.begins one.leads two.begins two.leads in
@@ -204,42 +204,42 @@ last_of : Coordinates → List Coordinates → Coordinates
 last_of p [] = p
 last_of p (q ∷ qs) = last_of q qs
 
-joined_join : (p : Coordinates) (ps qs : List Coordinates) → joined p (ps ++ qs) ≡ joined p ps ++ joined (last_of p ps) qs
-unfolding joined last_of
+joined_join : (p : Coordinates) (ps qs : List Coordinates) → polyline_spans p (ps ++ qs) ≡ polyline_spans p ps ++ polyline_spans (last_of p ps) qs
+unfolding polyline_spans last_of
 joined_join p [] qs = refl
 joined_join p (r ∷ ps) qs = ap (λ (l : List Span). record { from = p; to = r } ∷ l) (joined_join r ps qs)
 
 pen_at_last : (s : State) (ink : Ink) (p : Coordinates) (ps : List Coordinates) → pen_point s.drawing.pen ≡ Ok p →
-    pen_point (walk s (map (line_with ink) (joined p ps))).drawing.pen ≡ Ok (last_of p ps)
-unfolding joined last_of walk
+    pen_point (walk s (map (line_with ink) (polyline_spans p ps))).drawing.pen ≡ Ok (last_of p ps)
+unfolding polyline_spans last_of walk
 pen_at_last s ink p [] is = is
 pen_at_last s ink p (q ∷ qs) is = pen_at_last (after s (line_with ink (record { from = p; to = q }))) ink q qs refl
 
-lines_on : (s : State) (p q : Coordinates) (ms ns : List Displacement) (xs ys : List Span) → pen_point s.drawing.pen ≡ Ok p → option_map (joined p) (points_at ms) ≡ Some xs →
-    pen_point (walk s (map (line_with (ink_of s.drawing)) xs)).drawing.pen ≡ Ok q → option_map (joined q) (points_at ns) ≡ Some ys →
-    option_map (joined p) (points_at (ms ++ ns)) ≡ Some (xs ++ ys)
+lines_on : (s : State) (p q : Coordinates) (ms ns : List Displacement) (xs ys : List Span) → pen_point s.drawing.pen ≡ Ok p → option_map (polyline_spans p) (points_at ms) ≡ Some xs →
+    pen_point (walk s (map (line_with (ink_of s.drawing)) xs)).drawing.pen ≡ Ok q → option_map (polyline_spans q) (points_at ns) ≡ Some ys →
+    option_map (polyline_spans p) (points_at (ms ++ ns)) ≡ Some (xs ++ ys)
 lines_on s p q ms ns xs ys begins leads then_ more =
-    let one = mapped_some (joined p) (points_at ms) xs leads in
-    let two = mapped_some (joined q) (points_at ns) ys more in
+    let one = mapped_some (polyline_spans p) (points_at ms) xs leads in
+    let two = mapped_some (polyline_spans q) (points_at ns) ys more in
     let last : last_of p one.0 ≡ q = cc (pen_at_last s (ink_of s.drawing) p one.0 begins) in
-    ap (option_map (joined p)) (points_join ms ns one.0 two.0 one.1 two.1) ∙ cc (joined_join p one.0 two.0)
+    ap (option_map (polyline_spans p)) (points_join ms ns one.0 two.0 one.1 two.1) ∙ cc (joined_join p one.0 two.0)
 
 -- the rule of an opcode that doesn't go on from the pen
 module _ {A : Type 0} (entry : Ink → A → Entry) (keeps : Keeps entry) (gate : List Displacement → Result (List Displacement) DrawFault) (by : Gate gate)
     (shapes : List Displacement → Option (List A))
     (onto : (ms ns : List Displacement) (xs ys : List A) → shapes ms ≡ Some xs → shapes ns ≡ Some ys → shapes (ms ++ ns) ≡ Some (xs ++ ys)) where
-  abbrev of_run_alone : Work → List ℕ → Result Drawn DrawFault
-  of_run_alone work run = and_then (gate (moves_of work run)) (λ ms. draws work (λ d. entry (ink_of d)) (shapes ms))
+  abbrev of_run_alone : Work → List ℕ → Result RuleResult DrawFault
+  of_run_alone work run = and_then (gate (moves_of work run)) (λ ms. entries_result work (λ d. entry (ink_of d)) (shapes ms))
 
-  alone : (work : Work) (run more : List ℕ) (first second : Drawn) → IsWhole work.domain.multi run →
+  alone : (work : Work) (run more : List ℕ) (first second : RuleResult) → IsWhole work.domain.multi run →
       of_run_alone work run ≡ Ok first → of_run_alone first.work more ≡ Ok second → of_run_alone work (run ++ more) ≡ Ok (as_one first second)
   alone = rule_joins entry keeps {B = Unit {0}} gate by (λ pen. Ok tt) (λ b ms. shapes ms) (λ s b c ms ns xs ys begins leads then_ more. onto ms ns xs ys leads more)
 
 pub runs_join : RunsJoin
-runs_join work opcodes.PointAbs run more first second joins whole = alone point_with point_keeps some_of some_gate points_at points_join work run more first second whole
+runs_join work opcodes.PointAbs run more first second joins whole = alone point_with point_keeps at_least_one some_gate points_at points_join work run more first second whole
 runs_join work opcodes.LineAbs run more first second joins whole =
-    rule_joins line_with (λ s ink x is. refl) some_of some_gate pen_point (λ p ms. option_map (joined p) (points_at ms)) lines_on work run more first second whole
-runs_join work opcodes.SetLineAbs run more first second joins whole = alone line_with (λ s ink x is. refl) pairs_of pairs_gate between between_join work run more first second whole
-runs_join work opcodes.SetRectOutlined run more first second joins whole = alone (rect_with false) (λ s ink x is. refl) pairs_of pairs_gate away away_join work run more first second whole
-runs_join work opcodes.SetRectFilled run more first second joins whole = alone (rect_with true) (λ s ink x is. refl) pairs_of pairs_gate away away_join work run more first second whole
+    rule_joins line_with (λ s ink x is. refl) at_least_one some_gate pen_point (λ p ms. option_map (polyline_spans p) (points_at ms)) lines_on work run more first second whole
+runs_join work opcodes.SetLineAbs run more first second joins whole = alone line_with (λ s ink x is. refl) complete_pairs pairs_gate absolute_spans between_join work run more first second whole
+runs_join work opcodes.SetRectOutlined run more first second joins whole = alone (rect_with false) (λ s ink x is. refl) complete_pairs pairs_gate relative_spans away_join work run more first second whole
+runs_join work opcodes.SetRectFilled run more first second joins whole = alone (rect_with true) (λ s ink x is. refl) complete_pairs pairs_gate relative_spans away_join work run more first second whole
 runs_join work _ run more first second joins whole = absurd joins

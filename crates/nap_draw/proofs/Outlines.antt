@@ -1,33 +1,33 @@
 use Rattle.std.proofs.Common.{◌-◌, ℕ, true, ◌≡◌, suc, ◌<◌, ◌≤◌, min, List, [], ◌∷◌, length, take, drop, Bool, false, ltb, Option, Some, None, Result, Ok, Err, refl, sym, ◌∙◌, ap, arith}
 use Rattle.std.specs.Option.{option_map, option_and_then, unwrap_or}
-use Rattle.nap_values.specs.Coordinates.{Coordinates, Displacement, moved, point_at}
+use Rattle.nap_values.specs.Coordinates.{Coordinates, Displacement, displaced_point, point_at}
 use Rattle.std.proofs.lemmas.Bool.Decides.{nat_tests}
 use Rattle.nap_list.specs.declared.entry.Entry.{Entry}
 use Rattle.nap_list.specs.declared.state.Drawing.{Drawing}
 use Rattle.nap_list.specs.declared.state.State.{State}
-use Rattle.nap_list.specs.Entry.{held, WellMade}
-use Rattle.nap_list.specs.State.{Comes, after, with_pen, with_pen_at}
-use Rattle.nap_list.specs.Agreement.{Holds, InMode}
+use Rattle.nap_list.specs.Entry.{attributes, WellMade}
+use Rattle.nap_list.specs.State.{MayCome, after, with_pen, with_pen_at}
+use Rattle.nap_list.specs.Agreement.{EqualCurrent, ModeZeroIsBase}
 use Rattle.nap_list.specs.declared.attribute.Pen.TheVariants as pens
 use Rattle.std.specs.List.{slice_get}
 use Rattle.nap_draw.proofs.Walks.{left_by}
 use Rattle.nap_draw.specs.declared.fault.DrawFault.TheVariants.{Missing, ManyPoints}
 use Rattle.nap_list.specs.declared.shape.ShapeKind.{ShapeKind}
 use Rattle.nap_list.specs.declared.shape.ShapeKind.TheVariants as kinds
-use Rattle.nap_list.specs.Shapes.{outline, round, shape_end, shape_on}
+use Rattle.nap_list.specs.Shapes.{outline, circle_closed, shape_end, shape_on}
 use Rattle.nap_draw.specs.declared.work.Work.{Work}
-use Rattle.nap_draw.specs.Rule.{Drawn, moves_of, and_then, some_of, few_of, first_of, pen_point, draws_one}
+use Rattle.nap_draw.specs.Rule.{RuleResult, moves_of, and_then, at_least_one, at_most_limit, first_and_more, pen_point, entry_result}
 use Rattle.nap_draw.proofs.Cuts.{moves_turn, run_some, one_at_most}
-use Rattle.nap_draw.specs.Doing.{drawn_from, pen_moved, shape_points}
+use Rattle.nap_draw.specs.Execution.{shape_result, with_pen_moved, shape_points}
 use Rattle.nap_list.specs.Limits.{points_limit, steps_limit}
-use Rattle.nap_draw.specs.Geometry.{onward, reached, arc_points, poly_points}
+use Rattle.nap_draw.specs.Geometry.{cons_if_all, points_reached, arc_points, poly_points}
 use Rattle.nap_values.specs.Operands.{multi_of}
 use Rattle.nap_draw.specs.declared.fault.DrawFault.{DrawFault}
 
 -- The points of arcs and polygons, and the rules that draw them.
 
 -- all of it is there
-onward_some : {A : Type 0} (x : Option A) (next : A → Option (List A)) (l : List A) → onward x next ≡ Some l → (y : A) × (ys : List A) × (next y ≡ Some ys) × (l ≡ y ∷ ys)
+onward_some : {A : Type 0} (x : Option A) (next : A → Option (List A)) (l : List A) → cons_if_all x next ≡ Some l → (y : A) × (ys : List A) × (next y ≡ Some ys) × (l ≡ y ∷ ys)
 onward_some None next l is = let bad : ⊥ = cc in absurd bad
 onward_some {A} (Some y) next l is = at (next y) refl
   where
@@ -35,11 +35,11 @@ onward_some {A} (Some y) next l is = at (next y) refl
     at None h = let bad : ⊥ = cc in absurd bad
     at (Some ys) h = (y, ys, h, cc)
 
-pub reached_length : (p : Coordinates) (ms : List Displacement) (qs : List Coordinates) → reached p ms ≡ Some qs → length qs ≡ length ms
-unfolding reached
+pub reached_length : (p : Coordinates) (ms : List Displacement) (qs : List Coordinates) → points_reached p ms ≡ Some qs → length qs ≡ length ms
+unfolding points_reached
 reached_length p [] qs is = let e : [] ≡ qs = cc in sym (ap length e)
 reached_length p (m ∷ ms) qs is =
-    let all = onward_some (moved p m) (λ q. reached q ms) qs is in
+    let all = onward_some (displaced_point p m) (λ q. points_reached q ms) qs is in
     ap length all.3 ∙ ap suc (reached_length all.0 ms all.1 all.2)
 
 pub mapped_some : {A B : Type 0} (f : A → B) (o : Option A) (y : B) → option_map f o ≡ Some y → (x : A) × (o ≡ Some x) × (f x ≡ y)
@@ -49,12 +49,12 @@ mapped_some f (Some x) y is = let e : f x ≡ y = cc in (x, refl, e)
 pub poly_made : (p : Coordinates) (ms : List Displacement) (ps : List Coordinates) → 0 < length ms → length ms ≤ steps_limit → poly_points p ms ≡ Some ps →
     (2 ≤ length ps) × (length ps ≤ points_limit)
 poly_made p ms ps some few is =
-    let made = mapped_some (λ qs. p ∷ qs) (reached p ms) ps is in
+    let made = mapped_some (λ qs. p ∷ qs) (points_reached p ms) ps is in
     let n = reached_length p ms made.0 made.1 in
     let l = ap length made.2 in
     (omega (arith, n, l), omega (arith, n, l))
 
-pub round_length : (p : Coordinates) (qs : List Coordinates) → 0 < length qs → length qs ≤ steps_limit → (3 ≤ length (round (p ∷ qs))) × (length (round (p ∷ qs)) ≤ points_limit)
+pub round_length : (p : Coordinates) (qs : List Coordinates) → 0 < length qs → length qs ≤ steps_limit → (3 ≤ length (circle_closed (p ∷ qs))) × (length (circle_closed (p ∷ qs)) ≤ points_limit)
 round_length p [] some few = absurd (omega arith)
 round_length p (q ∷ []) some few = (omega arith, omega arith)
 round_length p (q ∷ r ∷ qs) some few = (omega arith, omega arith)
@@ -62,13 +62,13 @@ round_length p (q ∷ r ∷ qs) some few = (omega arith, omega arith)
 pub arc_made : (p : Coordinates) (ms : List Displacement) (ps : List Coordinates) → 0 < length ms → length ms ≤ steps_limit → arc_points p ms ≡ Some ps →
     (3 ≤ length ps) × (length ps ≤ points_limit)
 arc_made p ms ps some few is =
-    let made = mapped_some (λ qs. round (p ∷ qs)) (reached p ms) ps is in
+    let made = mapped_some (λ qs. circle_closed (p ∷ qs)) (points_reached p ms) ps is in
     let n = reached_length p ms made.0 made.1 in
     let l = ap length made.2 in
     let r = round_length p made.0 (omega arith) (omega arith) in
     (omega (arith, r.0, l), omega (arith, r.1, l))
 
-pub holds_shape : (kind : ShapeKind) (filled : Bool) (d : Drawing) (ps : List Coordinates) → Holds (held (shape_on kind filled d ps)) d
+pub holds_shape : (kind : ShapeKind) (filled : Bool) (d : Drawing) (ps : List Coordinates) → EqualCurrent (attributes (shape_on kind filled d ps)) d
 holds_shape kinds.Arc filled d ps = record { pen = tt; pel = refl; colour = refl; texture = refl; text = tt }
 holds_shape kinds.Poly filled d ps = record { pen = tt; pel = refl; colour = refl; texture = refl; text = tt }
 
@@ -78,7 +78,7 @@ pub shape_made : (kind : ShapeKind) (filled : Bool) (d : Drawing) (p : Coordinat
 shape_made kinds.Arc filled d p ps some few = round_length p ps some few
 shape_made kinds.Poly filled d p ps some few = (omega arith, omega arith)
 
-pub shape_comes : (kind : ShapeKind) (filled : Bool) (d : Drawing) (ps : List Coordinates) (t : State) → Comes t (shape_on kind filled d ps)
+pub shape_comes : (kind : ShapeKind) (filled : Bool) (d : Drawing) (ps : List Coordinates) (t : State) → MayCome t (shape_on kind filled d ps)
 shape_comes kinds.Arc filled d ps t = tt
 shape_comes kinds.Poly filled d ps t = tt
 
@@ -95,27 +95,27 @@ last_there p ps d q =
     rw is refl
 
 -- what a shape through these points leaves
-pub shape_leaves : (kind : ShapeKind) (filled : Bool) (s : State) (p : Coordinates) (ps : List Coordinates) → InMode s.drawing.base s.drawing.colour →
-    after s (shape_on kind filled s.drawing (outline kind (p ∷ ps))) ≡ pen_moved s (pens.At (shape_end kind p (outline kind (p ∷ ps))))
+pub shape_leaves : (kind : ShapeKind) (filled : Bool) (s : State) (p : Coordinates) (ps : List Coordinates) → ModeZeroIsBase s.drawing.base s.drawing.colour →
+    after s (shape_on kind filled s.drawing (outline kind (p ∷ ps))) ≡ with_pen_moved s (pens.At (shape_end kind p (outline kind (p ∷ ps))))
 shape_leaves kinds.Arc filled s p ps mode =
-    left_by s (shape_on kinds.Arc filled s.drawing (round (p ∷ ps))) (holds_shape kinds.Arc filled s.drawing (round (p ∷ ps))) mode ∙ ap (λ (d : Drawing). record s { drawing = d; last = None }) (round_there p ps)
+    left_by s (shape_on kinds.Arc filled s.drawing (circle_closed (p ∷ ps))) (holds_shape kinds.Arc filled s.drawing (circle_closed (p ∷ ps))) mode ∙ ap (λ (d : Drawing). record s { drawing = d; last = None }) (round_there p ps)
   where
     round_there : (p : Coordinates) (ps : List Coordinates) →
-        with_pen_at (slice_get (round (p ∷ ps)) (length (round (p ∷ ps)) - 1)) s.drawing ≡ with_pen (pens.At (shape_end kinds.Arc p (round (p ∷ ps)))) s.drawing
+        with_pen_at (slice_get (circle_closed (p ∷ ps)) (length (circle_closed (p ∷ ps)) - 1)) s.drawing ≡ with_pen (pens.At (shape_end kinds.Arc p (circle_closed (p ∷ ps)))) s.drawing
     round_there p [] = last_there p [] s.drawing p
     round_there p (q ∷ []) = last_there p (q ∷ p ∷ []) s.drawing p
     round_there p (q ∷ r ∷ rs) = last_there p (q ∷ r ∷ rs) s.drawing p
 shape_leaves kinds.Poly filled s p ps mode = left_by s (shape_on kinds.Poly filled s.drawing (p ∷ ps)) (holds_shape kinds.Poly filled s.drawing (p ∷ ps)) mode
 
-few_ok : (ms : List Displacement) → length ms ≤ steps_limit → few_of ms ≡ Ok ms
+few_ok : (ms : List Displacement) → length ms ≤ steps_limit → at_most_limit ms ≡ Ok ms
 few_ok ms few = let test : ltb steps_limit (length ms) ≡ false = grind (arith, nat_tests) in rw test refl
 
-few_not : (ms : List Displacement) → steps_limit < length ms → few_of ms ≡ Err ManyPoints
+few_not : (ms : List Displacement) → steps_limit < length ms → at_most_limit ms ≡ Err ManyPoints
 few_not ms many = let test : ltb steps_limit (length ms) ≡ true = grind (arith, nat_tests) in rw test refl
 
 -- the points of a shape, by those that follow the first
 
-pub outlined : (kind : ShapeKind) (p : Coordinates) (ms : List Displacement) → shape_points kind p ms ≡ option_map (λ qs. outline kind (p ∷ qs)) (reached p ms)
+pub outlined : (kind : ShapeKind) (p : Coordinates) (ms : List Displacement) → shape_points kind p ms ≡ option_map (λ qs. outline kind (p ∷ qs)) (points_reached p ms)
 outlined kinds.Arc p ms = refl
 outlined kinds.Poly p ms = refl
 
@@ -125,11 +125,11 @@ module _ (work : Work) (kind : ShapeKind) (filled : Bool) where
   abbrev on : Drawing → List Coordinates → Entry
   on = shape_on kind filled
 
-  abbrev from_pen : List Displacement → Result Drawn DrawFault
-  from_pen ms = and_then (pen_point work.state.drawing.pen) (λ p. draws_one work on (shape_points kind p ms))
+  abbrev from_pen : List Displacement → Result RuleResult DrawFault
+  from_pen ms = and_then (pen_point work.state.drawing.pen) (λ p. entry_result work on (shape_points kind p ms))
 
-  abbrev checked : List Displacement → Result Drawn DrawFault
-  checked xs = and_then (some_of xs) (λ ms. and_then (few_of ms) from_pen)
+  abbrev checked : List Displacement → Result RuleResult DrawFault
+  checked xs = and_then (at_least_one xs) (λ ms. and_then (at_most_limit ms) from_pen)
 
   pub pen_none : (ms : List Displacement) → length ms ≡ 0 → checked ms ≡ Err Missing
   pen_none [] none = refl
@@ -144,21 +144,21 @@ module _ (work : Work) (kind : ShapeKind) (filled : Bool) where
   pen_few (m ∷ ms) some few = ap (λ r. and_then r from_pen) (few_ok (m ∷ ms) few)
 
   pub pen_lost : (ms : List Displacement) (fault : DrawFault) → 0 < length ms → length ms ≤ steps_limit → Err fault ≡ pen_point work.state.drawing.pen → checked ms ≡ Err fault
-  pen_lost ms fault some few is = pen_few ms some few ∙ ap (λ r. and_then r (λ p. draws_one work on (shape_points kind p ms))) (sym is)
+  pen_lost ms fault some few is = pen_few ms some few ∙ ap (λ r. and_then r (λ p. entry_result work on (shape_points kind p ms))) (sym is)
 
-  pub pen_goes : (ms : List Displacement) (p : Coordinates) → 0 < length ms → length ms ≤ steps_limit → Ok p ≡ pen_point work.state.drawing.pen → checked ms ≡ drawn_from work kind filled p (reached p ms)
+  pub pen_goes : (ms : List Displacement) (p : Coordinates) → 0 < length ms → length ms ≤ steps_limit → Ok p ≡ pen_point work.state.drawing.pen → checked ms ≡ shape_result work kind filled p (points_reached p ms)
   pen_goes ms p some few is =
-      pen_few ms some few ∙ (ap (λ r. and_then r (λ p. draws_one work on (shape_points kind p ms))) (sym is) ∙ ap (draws_one work on) (outlined kind p ms))
+      pen_few ms some few ∙ (ap (λ r. and_then r (λ p. entry_result work on (shape_points kind p ms))) (sym is) ∙ ap (entry_result work on) (outlined kind p ms))
 
   -- the same from the point that the first operand is, where the run is cut behind it
 
-  abbrev from_first : Displacement → List Displacement → Result Drawn DrawFault
-  from_first m ms = draws_one work on (option_and_then (λ p. shape_points kind p ms) (point_at m))
+  abbrev from_first : Displacement → List Displacement → Result RuleResult DrawFault
+  from_first m ms = entry_result work on (option_and_then (λ p. shape_points kind p ms) (point_at m))
 
-  abbrev rest_checked : List Displacement → Result Drawn DrawFault
-  rest_checked xs = and_then (first_of xs) (λ (m, ms). and_then (few_of ms) (from_first m))
+  abbrev rest_checked : List Displacement → Result RuleResult DrawFault
+  rest_checked xs = and_then (first_and_more xs) (λ (m, ms). and_then (at_most_limit ms) (from_first m))
 
-  few_first : (xs ms : List Displacement) (m : Displacement) → xs ≡ m ∷ ms → 0 < length ms → rest_checked xs ≡ and_then (few_of ms) (from_first m)
+  few_first : (xs ms : List Displacement) (m : Displacement) → xs ≡ m ∷ ms → 0 < length ms → rest_checked xs ≡ and_then (at_most_limit ms) (from_first m)
   few_first xs [] m is some = absurd (omega arith)
   few_first xs (n ∷ ms) m is some = ap rest_checked is
 
@@ -172,7 +172,7 @@ module _ (work : Work) (kind : ShapeKind) (filled : Bool) where
     pub point_missing : length (moves_of work after) ≡ 0 → rest_checked (moves_of work run) ≡ Err Missing
     point_missing none = none_first (moves_of work run) (one_at_most work.domain.multi n run front after (omega arith) (omega arith) first rest none)
 
-    cut : 0 < length (moves_of work after) → rest_checked (moves_of work run) ≡ and_then (few_of (moves_of work after)) (from_first (multi_of front))
+    cut : 0 < length (moves_of work after) → rest_checked (moves_of work run) ≡ and_then (at_most_limit (moves_of work after)) (from_first (multi_of front))
     cut some =
         let more = run_some work.domain.multi n run after rest some in
         few_first (moves_of work run) (moves_of work after) (multi_of front) (moves_turn work.domain.multi n run front after (omega arith) more (omega arith) first rest) some
@@ -181,11 +181,11 @@ module _ (work : Work) (kind : ShapeKind) (filled : Bool) where
     point_many many = cut (omega arith) ∙ ap (λ r. and_then r (from_first (multi_of front))) (few_not (moves_of work after) many)
 
     pub point_few : (o : Option Coordinates) → 0 < length (moves_of work after) → length (moves_of work after) ≤ steps_limit → point_at (multi_of front) ≡ o →
-        rest_checked (moves_of work run) ≡ draws_one work on (option_and_then (λ p. shape_points kind p (moves_of work after)) o)
+        rest_checked (moves_of work run) ≡ entry_result work on (option_and_then (λ p. shape_points kind p (moves_of work after)) o)
     point_few o some few at =
         cut some ∙ (ap (λ r. and_then r (from_first (multi_of front))) (few_ok (moves_of work after) few)
-        ∙ ap (λ o. draws_one work on (option_and_then (λ p. shape_points kind p (moves_of work after)) o)) at)
+        ∙ ap (λ o. entry_result work on (option_and_then (λ p. shape_points kind p (moves_of work after)) o)) at)
 
     pub point_goes : (p : Coordinates) → 0 < length (moves_of work after) → length (moves_of work after) ≤ steps_limit → point_at (multi_of front) ≡ Some p →
-        rest_checked (moves_of work run) ≡ drawn_from work kind filled p (reached p (moves_of work after))
-    point_goes p some few at = point_few (Some p) some few at ∙ ap (draws_one work on) (outlined kind p (moves_of work after))
+        rest_checked (moves_of work run) ≡ shape_result work kind filled p (points_reached p (moves_of work after))
+    point_goes p some few at = point_few (Some p) some few at ∙ ap (entry_result work on) (outlined kind p (moves_of work after))

@@ -2,7 +2,7 @@ use Rattle.std.proofs.Common.{◌++◌, refl, arith, length-append}
 use Rattle.nap_codes.specs.declared.opcode.Opcode.TheVariants as opcodes
 use Rattle.nap_codes.specs.Tables.{left_out_opcode}
 use Rattle.nap_draw.specs.Operands.{operands}
-use Rattle.nap_draw.specs.Laws.{RuleFits, CodeFits, CodeValuesAreInRange, DrawnValuesAreInRange, OpcodesAreDrawn, WholeOperandFirst, NoOperands, TypedRule}
+use Rattle.nap_draw.specs.Laws.{RuleFits, CodeFits, CodeValuesAreInRange, DrawnValuesAreInRange, OpcodesAreDrawn, WholeOperandFirst, NoOperands, TextByteRule}
 use Rattle.nap_draw.specs.Joining.{RunsJoin}
 use Rattle.nap_draw.proofs.Cuts.{operands_chunk}
 use Rattle.nap_draw.proofs.Fits as fits
@@ -43,5 +43,5 @@ no_operands k = refl
 pub runs_join : RunsJoin
 runs_join = joined_runs.runs_join
 
-pub typed_rule : TypedRule
+pub typed_rule : TextByteRule
 typed_rule = texts.typed_rule

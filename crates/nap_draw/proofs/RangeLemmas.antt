@@ -3,7 +3,7 @@ use Rattle.std.specs.Option.{option_and_then, option_or}
 use Rattle.std.specs.Prelude.{slice_get, slice_index, unwrap_or, ok_or}
 use Rattle.std.proofs.lemmas.Bool.{cond_both}
 use Rattle.std.proofs.lemmas.List.Elements.{All-nil, All-cons, All-head, All-tail, All-map, All-append, All-take, All-drop, All-weaker}
-use Rattle.nap_values.specs.Coordinates.{Coordinates, Displacement, IsInSquare, IsInRange, point_at, moved}
+use Rattle.nap_values.specs.Coordinates.{Coordinates, Displacement, IsInSquare, IsInRange, point_at, displaced_point}
 use Rattle.nap_values.specs.Colours.{Components, HasSixteenBitParts}
 use Rattle.nap_values.specs.Operands.{multi_of, single_of, colour_of}
 use Rattle.nap_values.specs.Laws.{IsWord}
@@ -29,12 +29,12 @@ use Rattle.nap_draw.specs.declared.spans.Span.{Span}
 use Rattle.nap_draw.specs.declared.work.Work.{Work}
 use Rattle.nap_draw.specs.declared.fault.DrawFault.{DrawFault}
 use Rattle.nap_draw.specs.declared.fault.DrawFault.TheVariants as faults
-use Rattle.nap_draw.specs.Operands.{cut, operands, moves, addresses}
-use Rattle.nap_draw.specs.Geometry.{onward, end_of, points_at, reached, joined, span, span_by, between, away, across, arc_points, poly_points}
-use Rattle.nap_list.specs.Shapes.{round}
+use Rattle.nap_draw.specs.Operands.{cut_operands, operands, moves, addresses}
+use Rattle.nap_draw.specs.Geometry.{cons_if_all, last_or, points_at, points_reached, polyline_spans, span, span_by, absolute_spans, relative_spans, rect_chain_spans, arc_points, poly_points}
+use Rattle.nap_list.specs.Shapes.{circle_closed}
 use Rattle.nap_list.specs.State.{ink_of}
-use Rattle.nap_list.specs.Batches.{point_on}
-use Rattle.nap_draw.specs.Rule.{Drawn, rule, drawn, with_drawing, draws, draws_one, goes, and_then, some_of, moves_of, first_move, pen_point, first_of, few_of, from_pen, shape_from_pen, shape_from_point, domain_in, domain_rule, part, area_of, field_rule, text_rule, texture_rule, colour_of_base, selected, select_rule, maps, colours_as, set_color_rule, blink, blinks, blink_rule, line_on, rect_on, arc_on, poly_on, field_on}
+use Rattle.nap_list.specs.Batches.{point_entry}
+use Rattle.nap_draw.specs.Rule.{RuleResult, rule, rule_result, with_drawing, entries_result, entry_result, pen_result, and_then, at_least_one, moves_of, first_move, pen_point, first_and_more, at_most_limit, from_pen, shape_from_pen, shape_from_point, domain_in, domain_rule, area_part, area_of, field_rule, text_rule, texture_rule, colour_of_base, selected_colour, select_rule, map_rule, set_color_under, set_color_rule, blink, blinks, blink_rule, span_line_entry, rect_on, arc_on, poly_on, field_on}
 use Rattle.nap_draw.specs.Laws.{DrawnValuesAreInRange}
 use Rattle.nap_draw.proofs.WalkRanges.{setting_ranged, unwrap_ranged, with_pen_at_ranged, with_colour_ranged, at_ranged, walk_ranged}
 
@@ -42,14 +42,14 @@ use Rattle.nap_draw.proofs.WalkRanges.{setting_ranged, unwrap_ranged, with_pen_a
 
 -- the words of operands
 
-cut_ranged : (k room : ℕ) (operand words : List ℕ) → All IsWord operand → All IsWord words → All (All IsWord) (cut k room operand words)
-unfolding cut
-cut_ranged k room operand [] front all = All-cons (All IsWord) operand [] front (All-nil (All IsWord))
+cut_ranged : (k scratch : ℕ) (operand words : List ℕ) → All IsWord operand → All IsWord words → All (All IsWord) (cut_operands k scratch operand words)
+unfolding cut_operands
+cut_ranged k scratch operand [] front all = All-cons (All IsWord) operand [] front (All-nil (All IsWord))
 cut_ranged k zero operand (word ∷ words) front all =
-    All-cons (All IsWord) operand (cut k (k - 1) (word ∷ []) words) front
+    All-cons (All IsWord) operand (cut_operands k (k - 1) (word ∷ []) words) front
     (cut_ranged k (k - 1) (word ∷ []) words (All-cons IsWord word [] (All-head IsWord word words all) (All-nil IsWord)) (All-tail IsWord word words all))
-cut_ranged k (suc room) operand (word ∷ words) front all =
-    cut_ranged k room (operand ++ word ∷ []) words
+cut_ranged k (suc scratch) operand (word ∷ words) front all =
+    cut_ranged k scratch (operand ++ word ∷ []) words
     (All-append IsWord operand (word ∷ []) front (All-cons IsWord word [] (All-head IsWord word words all) (All-nil IsWord))) (All-tail IsWord word words all)
 
 operands_ranged : (k : ℕ) (run : List ℕ) → All IsWord run → All (All IsWord) (operands k run)
@@ -82,10 +82,10 @@ point_at_ranged m = at (point_at m) refl
     at None is = tt
     at (Some p) is = (points_are_inside m p is).0
 
-moved_ranged : (p : Coordinates) (m : Displacement) → IfSome (moved p m) IsInSquare
-moved_ranged p m = at (moved p m) refl
+moved_ranged : (p : Coordinates) (m : Displacement) → IfSome (displaced_point p m) IsInSquare
+moved_ranged p m = at (displaced_point p m) refl
   where
-    at : (o : Option Coordinates) → moved p m ≡ o → IfSome o IsInSquare
+    at : (o : Option Coordinates) → displaced_point p m ≡ o → IfSome o IsInSquare
     at None is = tt
     at (Some q) is = (displacements_are_unique p q m is).0
 
@@ -94,7 +94,7 @@ module _ {A : Type 0} (P : A → Type 0) where
   one_more x None first rest = tt
   one_more x (Some xs) first rest = All-cons P x xs first rest
 
-  goes_on : (o : Option A) (next : A → Option (List A)) → IfSome o P → ((x : A) → P x → IfSome (next x) (All P)) → IfSome (onward o next) (All P)
+  goes_on : (o : Option A) (next : A → Option (List A)) → IfSome o P → ((x : A) → P x → IfSome (next x) (All P)) → IfSome (cons_if_all o next) (All P)
   goes_on None next first rest = tt
   goes_on (Some x) next first rest = one_more x (next x) first (rest x first)
 
@@ -103,22 +103,22 @@ unfolding points_at
 points_at_ranged [] = All-nil IsInSquare
 points_at_ranged (m ∷ ms) = goes_on IsInSquare (point_at m) (λ _. points_at ms) (point_at_ranged m) (λ _ _. points_at_ranged ms)
 
-reached_ranged : (p : Coordinates) (ms : List Displacement) → IfSome (reached p ms) (All IsInSquare)
-unfolding reached
+reached_ranged : (p : Coordinates) (ms : List Displacement) → IfSome (points_reached p ms) (All IsInSquare)
+unfolding points_reached
 reached_ranged p [] = All-nil IsInSquare
-reached_ranged p (m ∷ ms) = goes_on IsInSquare (moved p m) (λ q. reached q ms) (moved_ranged p m) (λ q _. reached_ranged q ms)
+reached_ranged p (m ∷ ms) = goes_on IsInSquare (displaced_point p m) (λ q. points_reached q ms) (moved_ranged p m) (λ q _. reached_ranged q ms)
 
 abbrev SpanInRange : Span → Type 0
 SpanInRange s = IsInSquare s.from × IsInSquare s.to
 
-joined_ranged : (p : Coordinates) (qs : List Coordinates) → IsInSquare p → All IsInSquare qs → All SpanInRange (joined p qs)
-unfolding joined
+joined_ranged : (p : Coordinates) (qs : List Coordinates) → IsInSquare p → All IsInSquare qs → All SpanInRange (polyline_spans p qs)
+unfolding polyline_spans
 joined_ranged p [] from all = All-nil SpanInRange
 joined_ranged p (q ∷ qs) from all =
-    All-cons SpanInRange (record { from = p; to = q }) (joined q qs) (from, All-head IsInSquare q qs all)
+    All-cons SpanInRange (record { from = p; to = q }) (polyline_spans q qs) (from, All-head IsInSquare q qs all)
     (joined_ranged q qs (All-head IsInSquare q qs all) (All-tail IsInSquare q qs all))
 
-lines_ranged : (p : Coordinates) (o : Option (List Coordinates)) → IsInSquare p → IfSome o (All IsInSquare) → IfSome (option_map (joined p) o) (All SpanInRange)
+lines_ranged : (p : Coordinates) (o : Option (List Coordinates)) → IsInSquare p → IfSome o (All IsInSquare) → IfSome (option_map (polyline_spans p) o) (All SpanInRange)
 lines_ranged p None from all = tt
 lines_ranged p (Some qs) from all = joined_ranged p qs from all
 
@@ -129,62 +129,62 @@ span_ranged (Some p) (Some q) from to = (from, to)
 
 span_by_ranged : (o : Option Coordinates) (m : Displacement) → IfSome o IsInSquare → IfSome (span_by o m) SpanInRange
 span_by_ranged None m from = tt
-span_by_ranged (Some p) m from = span_ranged (Some p) (moved p m) from (moved_ranged p m)
+span_by_ranged (Some p) m from = span_ranged (Some p) (displaced_point p m) from (moved_ranged p m)
 
-between_ranged : (ms : List Displacement) → IfSome (between ms) (All SpanInRange)
-unfolding between
+between_ranged : (ms : List Displacement) → IfSome (absolute_spans ms) (All SpanInRange)
+unfolding absolute_spans
 between_ranged [] = All-nil SpanInRange
 between_ranged (m ∷ []) = tt
 between_ranged (m ∷ n ∷ ms) =
-    goes_on SpanInRange (span (point_at m) (point_at n)) (λ _. between ms)
+    goes_on SpanInRange (span (point_at m) (point_at n)) (λ _. absolute_spans ms)
     (span_ranged (point_at m) (point_at n) (point_at_ranged m) (point_at_ranged n)) (λ _ _. between_ranged ms)
 
-away_ranged : (ms : List Displacement) → IfSome (away ms) (All SpanInRange)
-unfolding away
+away_ranged : (ms : List Displacement) → IfSome (relative_spans ms) (All SpanInRange)
+unfolding relative_spans
 away_ranged [] = All-nil SpanInRange
 away_ranged (m ∷ []) = tt
 away_ranged (m ∷ n ∷ ms) =
-    goes_on SpanInRange (span_by (point_at m) n) (λ _. away ms) (span_by_ranged (point_at m) n (point_at_ranged m)) (λ _ _. away_ranged ms)
+    goes_on SpanInRange (span_by (point_at m) n) (λ _. relative_spans ms) (span_by_ranged (point_at m) n (point_at_ranged m)) (λ _ _. away_ranged ms)
 
-across_ranged : (p : Coordinates) (ms : List Displacement) → IsInSquare p → IfSome (across p ms) (All SpanInRange)
-unfolding across
+across_ranged : (p : Coordinates) (ms : List Displacement) → IsInSquare p → IfSome (rect_chain_spans p ms) (All SpanInRange)
+unfolding rect_chain_spans
 across_ranged p [] from = All-nil SpanInRange
 across_ranged p (m ∷ ms) from =
-    goes_on SpanInRange (span_by (Some p) m) (λ s. across (corner s.from s.to) ms) (span_by_ranged (Some p) m from)
+    goes_on SpanInRange (span_by (Some p) m) (λ s. rect_chain_spans (corner s.from s.to) ms) (span_by_ranged (Some p) m from)
     (λ s there. across_ranged (corner s.from s.to) ms (there.1.0, there.0.1))
 
-round_ranged : (ps : List Coordinates) → All IsInSquare ps → All IsInSquare (round ps)
+round_ranged : (ps : List Coordinates) → All IsInSquare ps → All IsInSquare (circle_closed ps)
 round_ranged [] all = all
 round_ranged (p ∷ []) all = all
 round_ranged (p ∷ q ∷ []) all = All-append IsInSquare (p ∷ q ∷ []) (p ∷ []) all (All-take IsInSquare 1 (p ∷ q ∷ []) all)
 round_ranged (p ∷ q ∷ x ∷ ps) all = all
 
 poly_ranged : (p : Coordinates) (ms : List Displacement) → IsInSquare p → IfSome (poly_points p ms) (All IsInSquare)
-poly_ranged p ms from = one_more IsInSquare p (reached p ms) from (reached_ranged p ms)
+poly_ranged p ms from = one_more IsInSquare p (points_reached p ms) from (reached_ranged p ms)
 
 arc_ranged : (p : Coordinates) (ms : List Displacement) → IsInSquare p → IfSome (arc_points p ms) (All IsInSquare)
-arc_ranged p ms from = at (reached p ms) (reached_ranged p ms)
+arc_ranged p ms from = at (points_reached p ms) (reached_ranged p ms)
   where
-    at : (o : Option (List Coordinates)) → IfSome o (All IsInSquare) → IfSome (option_map (λ qs. round (p ∷ qs)) o) (All IsInSquare)
+    at : (o : Option (List Coordinates)) → IfSome o (All IsInSquare) → IfSome (option_map (λ qs. circle_closed (p ∷ qs)) o) (All IsInSquare)
     at None all = tt
     at (Some qs) all = round_ranged (p ∷ qs) (All-cons IsInSquare p qs from all)
 
-end_ranged : (o : Option Coordinates) (ps : List Coordinates) → IfSome o IsInSquare → All IsInSquare ps → IfSome (end_of o ps) IsInSquare
-unfolding end_of
+end_ranged : (o : Option Coordinates) (ps : List Coordinates) → IfSome o IsInSquare → All IsInSquare ps → IfSome (last_or o ps) IsInSquare
+unfolding last_or
 end_ranged o [] from all = from
 end_ranged o (p ∷ ps) from all = end_ranged (Some p) ps (All-head IsInSquare p ps all) (All-tail IsInSquare p ps all)
 
 -- what rules give
 
-abbrev pub Ranged : Result Drawn DrawFault → Type 0
+abbrev pub Ranged : Result RuleResult DrawFault → Type 0
 Ranged by = IfOk by (λ d. AllInRange d.entries × StateInRange d.work.state)
 
-each_ranged : {A : Type 0} (P : A → Type 0) (by : Result A DrawFault) (next : A → Result Drawn DrawFault) → IfOk by P → ((x : A) → P x → Ranged (next x)) →
+each_ranged : {A : Type 0} (P : A → Type 0) (by : Result A DrawFault) (next : A → Result RuleResult DrawFault) → IfOk by P → ((x : A) → P x → Ranged (next x)) →
     Ranged (and_then by next)
 each_ranged P (Ok x) next all each = each x all
 each_ranged P (Err fault) next all each = tt
 
-any_ranged : {A : Type 0} (by : Result A DrawFault) (next : A → Result Drawn DrawFault) → ((x : A) → Ranged (next x)) → Ranged (and_then by next)
+any_ranged : {A : Type 0} (by : Result A DrawFault) (next : A → Result RuleResult DrawFault) → ((x : A) → Ranged (next x)) → Ranged (and_then by next)
 any_ranged (Ok x) next each = each x
 any_ranged (Err fault) next each = tt
 
@@ -197,73 +197,73 @@ ink_ranged : (d : Drawing) → DrawingInRange d → InkInRange (ink_of d)
 ink_ranged d r = record { pel = r.pel; colour = r.colour; texture = r.texture }
 
 -- the values change, and nothing is drawn
-pub silent_ranged : (work : Work) (d : Drawing) → StateInRange work.state → DrawingInRange d → Ranged (Ok (drawn (with_drawing work d) []))
+pub silent_ranged : (work : Work) (d : Drawing) → StateInRange work.state → DrawingInRange d → Ranged (Ok (rule_result (with_drawing work d) []))
 unfolding walk
 silent_ranged work d r new = (All-nil InRange, record { drawing = new; definition = r.definition; last = r.last; known = r.known })
 
 module _ (work : Work) (r : StateInRange work.state) where
-  pub list_ranged : (es : List Entry) → AllInRange es → Ranged (Ok (drawn work es))
+  pub list_ranged : (es : List Entry) → AllInRange es → Ranged (Ok (rule_result work es))
   list_ranged es all = (all, walk_ranged work.state es r all)
 
-  pub one_ranged : (e : Entry) → InRange e → Ranged (Ok (drawn work (e ∷ [])))
+  pub one_ranged : (e : Entry) → InRange e → Ranged (Ok (rule_result work (e ∷ [])))
   one_ranged e new = list_ranged (e ∷ []) (All-cons InRange e [] new (All-nil InRange))
 
   module _ {A : Type 0} (P : A → Type 0) (entry : Drawing → A → Entry) (new : (x : A) → P x → InRange (entry work.state.drawing x)) where
-    draws_ranged : (o : Option (List A)) → IfSome o (All P) → Ranged (draws work entry o)
+    draws_ranged : (o : Option (List A)) → IfSome o (All P) → Ranged (entries_result work entry o)
     draws_ranged None all = tt
     draws_ranged (Some xs) all =
         list_ranged (map (entry work.state.drawing) xs)
         (All-map InRange (entry work.state.drawing) xs (All-weaker P (λ x. InRange (entry work.state.drawing x)) new xs all))
 
-    draws_one_ranged : (o : Option A) → IfSome o P → Ranged (draws_one work entry o)
+    draws_one_ranged : (o : Option A) → IfSome o P → Ranged (entry_result work entry o)
     draws_one_ranged None there = tt
     draws_one_ranged (Some x) there = one_ranged (entry work.state.drawing x) (new x there)
 
-  goes_ranged : (o : Option (List Coordinates)) → IfSome o (All IsInSquare) → Ranged (goes work o)
+  goes_ranged : (o : Option (List Coordinates)) → IfSome o (All IsInSquare) → Ranged (pen_result work o)
   goes_ranged None all = tt
   goes_ranged (Some ps) all =
-      silent_ranged work (with_pen_at (end_of None ps) work.state.drawing) r
-      (with_pen_at_ranged (end_of None ps) work.state.drawing (end_ranged None ps tt all) r.drawing)
+      silent_ranged work (with_pen_at (last_or None ps) work.state.drawing) r
+      (with_pen_at_ranged (last_or None ps) work.state.drawing (end_ranged None ps tt all) r.drawing)
 
-  points_ranged : (o : Option (List Coordinates)) → IfSome o (All IsInSquare) → Ranged (draws work point_on o)
-  points_ranged o all = draws_ranged IsInSquare point_on (λ p inside. (inside, r.drawing.pel, r.drawing.colour)) o all
+  points_ranged : (o : Option (List Coordinates)) → IfSome o (All IsInSquare) → Ranged (entries_result work point_entry o)
+  points_ranged o all = draws_ranged IsInSquare point_entry (λ p inside. (inside, r.drawing.pel, r.drawing.colour)) o all
 
-  strokes_ranged : (o : Option (List Span)) → IfSome o (All SpanInRange) → Ranged (draws work line_on o)
-  strokes_ranged o all = draws_ranged SpanInRange line_on (λ s there. (there.0, there.1, ink_ranged work.state.drawing r.drawing)) o all
+  strokes_ranged : (o : Option (List Span)) → IfSome o (All SpanInRange) → Ranged (entries_result work span_line_entry o)
+  strokes_ranged o all = draws_ranged SpanInRange span_line_entry (λ s there. (there.0, there.1, ink_ranged work.state.drawing r.drawing)) o all
 
-  rects_ranged : (filled : Bool) (o : Option (List Span)) → IfSome o (All SpanInRange) → Ranged (draws work (rect_on filled) o)
+  rects_ranged : (filled : Bool) (o : Option (List Span)) → IfSome o (All SpanInRange) → Ranged (entries_result work (rect_on filled) o)
   rects_ranged filled o all = draws_ranged SpanInRange (rect_on filled) (λ s there. (there.0, there.1, ink_ranged work.state.drawing r.drawing)) o all
 
   -- the kinds of operands
 
-  pen_ranged : (f : Coordinates → Result Drawn DrawFault) → ((p : Coordinates) → IsInSquare p → Ranged (f p)) → Ranged (and_then (pen_point work.state.drawing.pen) f)
+  pen_ranged : (f : Coordinates → Result RuleResult DrawFault) → ((p : Coordinates) → IsInSquare p → Ranged (f p)) → Ranged (and_then (pen_point work.state.drawing.pen) f)
   pen_ranged f each = each_ranged IsInSquare (pen_point work.state.drawing.pen) f (pen_point_ranged work.state.drawing.pen r.drawing.pen) each
 
-  from_pen_ranged : (run : List ℕ) (f : Coordinates → List Displacement → Result Drawn DrawFault) →
+  from_pen_ranged : (run : List ℕ) (f : Coordinates → List Displacement → Result RuleResult DrawFault) →
       ((p : Coordinates) (ms : List Displacement) → IsInSquare p → Ranged (f p ms)) → Ranged (from_pen work run f)
   from_pen_ranged run f each =
-      any_ranged (some_of (moves_of work run)) (λ ms. and_then (pen_point work.state.drawing.pen) (λ p. f p ms)) (λ ms. pen_ranged (λ p. f p ms) (λ p inside. each p ms inside))
+      any_ranged (at_least_one (moves_of work run)) (λ ms. and_then (pen_point work.state.drawing.pen) (λ p. f p ms)) (λ ms. pen_ranged (λ p. f p ms) (λ p inside. each p ms inside))
 
   module _ (entry : Drawing → List Coordinates → Entry) (points : Coordinates → List Displacement → Option (List Coordinates))
       (new : (ps : List Coordinates) → All IsInSquare ps → InRange (entry work.state.drawing ps))
       (inside : (p : Coordinates) (ms : List Displacement) → IsInSquare p → IfSome (points p ms) (All IsInSquare)) where
-    shape_ranged : (p : Coordinates) (ms : List Displacement) → IsInSquare p → Ranged (draws_one work entry (points p ms))
+    shape_ranged : (p : Coordinates) (ms : List Displacement) → IsInSquare p → Ranged (entry_result work entry (points p ms))
     shape_ranged p ms from = draws_one_ranged (All IsInSquare) entry new (points p ms) (inside p ms from)
 
     shape_from_pen_ranged : (run : List ℕ) → Ranged (shape_from_pen work run entry points)
     shape_from_pen_ranged run =
-        any_ranged (some_of (moves_of work run)) _ (λ ms. any_ranged (few_of ms) _ (λ few. pen_ranged (λ p. draws_one work entry (points p few)) (λ p from. shape_ranged p few from)))
+        any_ranged (at_least_one (moves_of work run)) _ (λ ms. any_ranged (at_most_limit ms) _ (λ few. pen_ranged (λ p. entry_result work entry (points p few)) (λ p from. shape_ranged p few from)))
 
     shape_at_ranged : (o : Option Coordinates) (ms : List Displacement) → IfSome o IsInSquare →
-        Ranged (draws_one work entry (option_and_then (λ p. points p ms) o))
+        Ranged (entry_result work entry (option_and_then (λ p. points p ms) o))
     shape_at_ranged None ms from = tt
     shape_at_ranged (Some p) ms from = shape_ranged p ms from
 
     shape_from_point_ranged : (run : List ℕ) → Ranged (shape_from_point work run entry points)
     shape_from_point_ranged run =
-        let shape : Displacement → List Displacement → Result Drawn DrawFault = λ m few. draws_one work entry (option_and_then (λ p. points p few) (point_at m)) in
-        any_ranged (first_of (moves_of work run)) (λ x. and_then (few_of x.1) (shape x.0))
-        (λ x. any_ranged (few_of x.1) (shape x.0) (λ few. shape_at_ranged (point_at x.0) few (point_at_ranged x.0)))
+        let shape : Displacement → List Displacement → Result RuleResult DrawFault = λ m few. entry_result work entry (option_and_then (λ p. points p few) (point_at m)) in
+        any_ranged (first_and_more (moves_of work run)) (λ x. and_then (at_most_limit x.1) (shape x.0))
+        (λ x. any_ranged (at_most_limit x.1) (shape x.0) (λ few. shape_at_ranged (point_at x.0) few (point_at_ranged x.0)))
 
   arc_new : (filled : Bool) (ps : List Coordinates) → All IsInSquare ps → InRange (arc_on filled work.state.drawing ps)
   arc_new filled ps all = (all, ink_ranged work.state.drawing r.drawing)
@@ -294,7 +294,7 @@ module _ (work : Work) (r : StateInRange work.state) where
       (unwrap_ranged IsInRange pel work.state.drawing.pel (first_move_ranged (domain_in word).multi words (All-tail IsWord word words all)) r.drawing.pel) in
       cond_both (eqb (word / 32) 1) _ _ Ranged (λ _. tt) (λ _. silent_ranged work _ r new)
 
-  area_ranged : (o : Option Coordinates) (m : Displacement) → IfSome o IsInSquare → IfOk (part o m) AreaInRange
+  area_ranged : (o : Option Coordinates) (m : Displacement) → IfSome o IsInSquare → IfOk (area_part o m) AreaInRange
   area_ranged o m from = at (span_by o m) (span_by_ranged o m from)
     where
       at : (s : Option Span) → IfSome s SpanInRange → IfOk (ok_or (option_map (λ s. areas.Part s.from s.to) s) faults.Outside) AreaInRange
@@ -303,10 +303,10 @@ module _ (work : Work) (r : StateInRange work.state) where
 
   field_ranged : (ms : List Displacement) → Ranged (field_rule work ms)
   field_ranged ms =
-      each_ranged AreaInRange (area_of work ms) (λ area. draws_one work field_on (Some area)) (at ms)
+      each_ranged AreaInRange (area_of work ms) (λ area. entry_result work field_on (Some area)) (at ms)
       (λ area new. draws_one_ranged AreaInRange field_on (λ area there. (there, r.drawing.pen)) (Some area) new)
     where
-      from_pen_area : (by : Result Coordinates DrawFault) (m : Displacement) → IfOk by IsInSquare → IfOk (and_then by (λ p. part (Some p) m)) AreaInRange
+      from_pen_area : (by : Result Coordinates DrawFault) (m : Displacement) → IfOk by IsInSquare → IfOk (and_then by (λ p. area_part (Some p) m)) AreaInRange
       from_pen_area (Ok p) m from = area_ranged (Some p) m from
       from_pen_area (Err fault) m from = tt
 
@@ -358,7 +358,7 @@ module _ (work : Work) (r : StateInRange work.state) where
   base_colour_ranged (bases.Own origin) new = tt
   base_colour_ranged (bases.Direct grb) new = new
 
-  selected_ranged : (chosen : List ℕ) → All IsAddress chosen → ColourInRange (selected work.state.drawing.base chosen)
+  selected_ranged : (chosen : List ℕ) → All IsAddress chosen → ColourInRange (selected_colour work.state.drawing.base chosen)
   selected_ranged [] all = base_colour_ranged work.state.drawing.base r.drawing.base
   selected_ranged (a ∷ []) all = All-head IsAddress a [] all
   selected_ranged (a ∷ b ∷ more) all = (All-head IsAddress a (b ∷ more) all, All-head IsAddress b more (All-tail IsAddress a (b ∷ more) all))
@@ -366,13 +366,13 @@ module _ (work : Work) (r : StateInRange work.state) where
   select_ranged : (run : List ℕ) → All IsWord run → Ranged (select_rule work run)
   select_ranged run all =
       let chosen = addresses work.domain.single run in
-      silent_ranged work (with_colour (selected work.state.drawing.base chosen) work.state.drawing) r
-      (with_colour_ranged (selected work.state.drawing.base chosen) work.state.drawing (selected_ranged chosen (addresses_ranged work.domain.single run all)) r.drawing)
+      silent_ranged work (with_colour (selected_colour work.state.drawing.base chosen) work.state.drawing) r
+      (with_colour_ranged (selected_colour work.state.drawing.base chosen) work.state.drawing (selected_ranged chosen (addresses_ranged work.domain.single run all)) r.drawing)
 
-  maps_ranged : (a : ℕ) (grb : Components) → IsAddress a → HasSixteenBitParts grb → Ranged (maps work a grb)
+  maps_ranged : (a : ℕ) (grb : Components) → IsAddress a → HasSixteenBitParts grb → Ranged (map_rule work a grb)
   maps_ranged a grb address parts = by (is_known a grb work.state.known) refl
     where
-      by : (known : Bool) → is_known a grb work.state.known ≡ known → Ranged (maps work a grb)
+      by : (known : Bool) → is_known a grb work.state.known ≡ known → Ranged (map_rule work a grb)
       by true is = rw is (silent_ranged work work.state.drawing r r.drawing)
       by false is = rw is (
         All-cons InRange (entries.Map a grb) [] (address, parts) (All-nil InRange),
@@ -380,11 +380,11 @@ module _ (work : Work) (r : StateInRange work.state) where
       )
 
   direct_ranged : (grb : Components) → HasSixteenBitParts grb →
-      Ranged (Ok (drawn (with_drawing work (record work.state.drawing { base = bases.Direct grb; colour = colours.Direct grb })) []))
+      Ranged (Ok (rule_result (with_drawing work (record work.state.drawing { base = bases.Direct grb; colour = colours.Direct grb })) []))
   direct_ranged grb parts =
       silent_ranged work _ r (record { pen = r.drawing.pen; pel = r.drawing.pel; base = parts; colour = parts; texture = r.drawing.texture; text = r.drawing.text })
 
-  colours_as_ranged : (colour : Colour) (grb : Components) → ColourInRange colour → HasSixteenBitParts grb → Ranged (colours_as work colour grb)
+  colours_as_ranged : (colour : Colour) (grb : Components) → ColourInRange colour → HasSixteenBitParts grb → Ranged (set_color_under work colour grb)
   colours_as_ranged (colours.Own origin) grb chosen parts = direct_ranged grb parts
   colours_as_ranged (colours.Direct old) grb chosen parts = direct_ranged grb parts
   colours_as_ranged (colours.Front a) grb chosen parts = maps_ranged a grb chosen parts
@@ -424,21 +424,21 @@ module _ (work : Work) (r : StateInRange work.state) where
   rule_ranged opcodes.Text run all = text_ranged run all
   rule_ranged opcodes.Texture run all = texture_ranged run all
   rule_ranged opcodes.PointSetAbs run all = any_ranged _ _ (λ ms. goes_ranged (points_at ms) (points_at_ranged ms))
-  rule_ranged opcodes.PointSetRel run all = from_pen_ranged run _ (λ p ms _. goes_ranged (reached p ms) (reached_ranged p ms))
+  rule_ranged opcodes.PointSetRel run all = from_pen_ranged run _ (λ p ms _. goes_ranged (points_reached p ms) (reached_ranged p ms))
   rule_ranged opcodes.PointAbs run all = any_ranged _ _ (λ ms. points_ranged (points_at ms) (points_at_ranged ms))
-  rule_ranged opcodes.PointRel run all = from_pen_ranged run _ (λ p ms _. points_ranged (reached p ms) (reached_ranged p ms))
+  rule_ranged opcodes.PointRel run all = from_pen_ranged run _ (λ p ms _. points_ranged (points_reached p ms) (reached_ranged p ms))
   rule_ranged opcodes.LineAbs run all = from_pen_ranged run _ (λ p ms from. strokes_ranged _ (lines_ranged p (points_at ms) from (points_at_ranged ms)))
-  rule_ranged opcodes.LineRel run all = from_pen_ranged run _ (λ p ms from. strokes_ranged _ (lines_ranged p (reached p ms) from (reached_ranged p ms)))
-  rule_ranged opcodes.SetLineAbs run all = any_ranged _ _ (λ ms. strokes_ranged (between ms) (between_ranged ms))
-  rule_ranged opcodes.SetLineRel run all = any_ranged _ _ (λ ms. strokes_ranged (away ms) (away_ranged ms))
+  rule_ranged opcodes.LineRel run all = from_pen_ranged run _ (λ p ms from. strokes_ranged _ (lines_ranged p (points_reached p ms) from (reached_ranged p ms)))
+  rule_ranged opcodes.SetLineAbs run all = any_ranged _ _ (λ ms. strokes_ranged (absolute_spans ms) (between_ranged ms))
+  rule_ranged opcodes.SetLineRel run all = any_ranged _ _ (λ ms. strokes_ranged (relative_spans ms) (away_ranged ms))
   rule_ranged opcodes.ArcOutlined run all = shape_from_pen_ranged (arc_on false) arc_points (arc_new false) arc_ranged run
   rule_ranged opcodes.ArcFilled run all = shape_from_pen_ranged (arc_on true) arc_points (arc_new true) arc_ranged run
   rule_ranged opcodes.SetArcOutlined run all = shape_from_point_ranged (arc_on false) arc_points (arc_new false) arc_ranged run
   rule_ranged opcodes.SetArcFilled run all = shape_from_point_ranged (arc_on true) arc_points (arc_new true) arc_ranged run
-  rule_ranged opcodes.RectOutlined run all = from_pen_ranged run _ (λ p ms from. rects_ranged false (across p ms) (across_ranged p ms from))
-  rule_ranged opcodes.RectFilled run all = from_pen_ranged run _ (λ p ms from. rects_ranged true (across p ms) (across_ranged p ms from))
-  rule_ranged opcodes.SetRectOutlined run all = any_ranged _ _ (λ ms. rects_ranged false (away ms) (away_ranged ms))
-  rule_ranged opcodes.SetRectFilled run all = any_ranged _ _ (λ ms. rects_ranged true (away ms) (away_ranged ms))
+  rule_ranged opcodes.RectOutlined run all = from_pen_ranged run _ (λ p ms from. rects_ranged false (rect_chain_spans p ms) (across_ranged p ms from))
+  rule_ranged opcodes.RectFilled run all = from_pen_ranged run _ (λ p ms from. rects_ranged true (rect_chain_spans p ms) (across_ranged p ms from))
+  rule_ranged opcodes.SetRectOutlined run all = any_ranged _ _ (λ ms. rects_ranged false (relative_spans ms) (away_ranged ms))
+  rule_ranged opcodes.SetRectFilled run all = any_ranged _ _ (λ ms. rects_ranged true (relative_spans ms) (away_ranged ms))
   rule_ranged opcodes.PolyOutlined run all = shape_from_pen_ranged (poly_on false) poly_points (poly_new false) poly_ranged run
   rule_ranged opcodes.PolyFilled run all = shape_from_pen_ranged (poly_on true) poly_points (poly_new true) poly_ranged run
   rule_ranged opcodes.SetPolyOutlined run all = shape_from_point_ranged (poly_on false) poly_points (poly_new false) poly_ranged run

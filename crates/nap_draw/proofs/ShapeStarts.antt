@@ -1,6 +1,6 @@
 use Rattle.std.proofs.Common.{◌≡◌, ◌<◌, ◌≤◌, ℕ, Bool, List, length, take, drop, Some, None, Ok, Err, ◌∙◌, ap, ap₂, arith, subst, sym}
 use Rattle.nap_values.specs.Coordinates.{Coordinates, point_at}
-use Rattle.nap_values.specs.Operands.{carried, multi_of}
+use Rattle.nap_values.specs.Operands.{operand_words, multi_of}
 use Rattle.nap_list.specs.declared.shape.ShapeKind.{ShapeKind}
 use Rattle.nap_list.specs.Limits.{steps_limit}
 use Rattle.nap_list.specs.Shapes.{shape_on}
@@ -9,9 +9,9 @@ use Rattle.nap_draw.specs.declared.fault.DrawFault.TheVariants.{Missing, ManyPoi
 use Rattle.nap_draw.specs.declared.shapes.ShapeStart.{ShapeStart}
 use Rattle.nap_draw.specs.declared.shapes.ShapeStart.TheVariants as starts
 use Rattle.nap_draw.specs.declared.work.Work.{Work}
-use Rattle.nap_draw.specs.Geometry.{reached}
+use Rattle.nap_draw.specs.Geometry.{points_reached}
 use Rattle.nap_draw.specs.Rule.{moves_of, pen_point}
-use Rattle.nap_draw.specs.Doing.{drawn_from, shape_from, shape_points, start_size}
+use Rattle.nap_draw.specs.Execution.{shape_result, shape_from, shape_points, start_size}
 use Rattle.nap_draw.proofs.ByteRuns.{carried_front, carried_length, carried_rest}
 use Rattle.nap_draw.proofs.Outlines.{pen_none, pen_many, pen_lost, pen_goes, point_missing, point_many, point_few, point_goes}
 
@@ -26,7 +26,7 @@ pub record IsCut (start : ShapeStart) (k : ℕ) (run front after : List ℕ) : T
   pub rest : after ≡ drop size run
 
 pub cut_at : (start : ShapeStart) (size k n : ℕ) (run front after : List ℕ) → size ≡ k → 1 ≤ size → n ≡ start_size start size (length run) → front ≡ take n run → after ≡ drop n run →
-    IsCut start k (carried run) (carried front) (carried after)
+    IsCut start k (operand_words run) (operand_words front) (operand_words after)
 cut_at start size k n run front after same least is first rest = record {
   size = n;
   least = omega arith;
@@ -59,11 +59,11 @@ module _ (work : Work) (kind : ShapeKind) (filled : Bool) (run front after : Lis
 
   pub at_pen : (start : ShapeStart) → IsCut start work.domain.multi run front after → 0 < length (moves_of work after) → length (moves_of work after) ≤ steps_limit →
       (p : Coordinates) → start ≡ starts.AtPen → Ok p ≡ pen_point work.state.drawing.pen →
-      shape_from start work run (shape_on kind filled) (shape_points kind) ≡ drawn_from work kind filled p (reached p (moves_of work after))
+      shape_from start work run (shape_on kind filled) (shape_points kind) ≡ shape_result work kind filled p (points_reached p (moves_of work after))
   at_pen starts.AtPen cut some few p is goes =
       pen_goes work kind filled (moves_of work run) p (subst (λ (run : List ℕ). 0 < length (moves_of work run)) (whole cut) some)
       (subst (λ (run : List ℕ). length (moves_of work run) ≤ steps_limit) (whole cut) few) goes
-      ∙ ap (λ (run : List ℕ). drawn_from work kind filled p (reached p (moves_of work run))) (sym (whole cut))
+      ∙ ap (λ (run : List ℕ). shape_result work kind filled p (points_reached p (moves_of work run))) (sym (whole cut))
   at_pen starts.AtOperand cut some few p is goes = let bad : ⊥ = cc in absurd bad
 
   pub at_operand_lost : (start : ShapeStart) → IsCut start work.domain.multi run front after → 0 < length (moves_of work after) → length (moves_of work after) ≤ steps_limit →
@@ -73,6 +73,6 @@ module _ (work : Work) (kind : ShapeKind) (filled : Bool) (run front after : Lis
 
   pub at_operand : (start : ShapeStart) → IsCut start work.domain.multi run front after → 0 < length (moves_of work after) → length (moves_of work after) ≤ steps_limit →
       (p : Coordinates) → start ≡ starts.AtOperand → point_at (multi_of front) ≡ Some p →
-      shape_from start work run (shape_on kind filled) (shape_points kind) ≡ drawn_from work kind filled p (reached p (moves_of work after))
+      shape_from start work run (shape_on kind filled) (shape_points kind) ≡ shape_result work kind filled p (points_reached p (moves_of work after))
   at_operand starts.AtPen cut some few p is at = let bad : ⊥ = cc in absurd bad
   at_operand starts.AtOperand cut some few p is at = point_goes work kind filled cut.size run front after cut.least cut.is cut.first cut.rest p some few at

@@ -1,6 +1,6 @@
 use Rattle.std.proofs.Common.{◌≡◌, ℕ, ◌+◌, ◌%◌, List, [], ◌∷◌, ◌++◌, map, length, take, drop, drop-cons, add-one, get_or, min, ◌<◌, arith, Option, None, refl, sym, ◌∙◌, ap, subst}
 use Rattle.std.proofs.lemmas.List.{take_min, drop_min}
-use Rattle.nap_values.specs.Operands.{carried, single_of}
+use Rattle.nap_values.specs.Operands.{operand_words, single_of}
 use Rattle.nap_draw.specs.Operands.{operands}
 use Rattle.nap_draw.proofs.ByteRuns.{operands_chunk}
 use Rattle.nap_list.specs.declared.attribute.Colour.{Colour}
@@ -9,9 +9,9 @@ use Rattle.nap_list.specs.declared.entry.Entry.TheVariants as entries
 use Rattle.nap_list.specs.declared.state.Drawing.{Drawing}
 use Rattle.nap_list.specs.declared.state.LastChar.{LastChar}
 use Rattle.nap_list.specs.declared.state.State.{State}
-use Rattle.nap_list.specs.Entry.{held, WellMade}
-use Rattle.nap_list.specs.State.{AllFit, Comes, after, walk}
-use Rattle.nap_list.specs.Agreement.{InMode, Holds, StatesAgree}
+use Rattle.nap_list.specs.Entry.{attributes, WellMade}
+use Rattle.nap_list.specs.State.{AllFit, MayCome, after, walk}
+use Rattle.nap_list.specs.Agreement.{ModeZeroIsBase, EqualCurrent, StatesAgree}
 use Rattle.nap_list.proofs.PublicLaws.{agreeing_fits}
 use Rattle.nap_draw.specs.Rule.{blink}
 use Rattle.nap_draw.proofs.Walks.{left_by}
@@ -25,9 +25,9 @@ at d s last = record s { drawing = d; last = last }
 -- entries that leave the values as they stand
 pub record Stays {A : Type 0} (d : Drawing) (entry : A → Entry) : Type 0 where
   pub stays : (x : A) (s : State) (last : Option LastChar) → after (at d s last) (entry x) ≡ at d s None
-  pub holds : (x : A) → Holds (held (entry x)) d
+  pub holds : (x : A) → EqualCurrent (attributes (entry x)) d
   pub made : (x : A) → WellMade (entry x)
-  pub comes : (x : A) (s : State) → Comes s (entry x)
+  pub comes : (x : A) (s : State) → MayCome s (entry x)
 
 module _ {A : Type 0} (d : Drawing) (entry : A → Entry) (by : Stays d entry) where
   pub walk_stays : (s : State) (last : Option LastChar) (x : A) (xs : List A) → walk (at d s last) (map entry (x ∷ xs)) ≡ at d s None
@@ -54,7 +54,7 @@ wait_stays d = record {
   comes = λ word s. tt;
 }
 
-pub blink_stays : (d : Drawing) (k : ℕ) → InMode d.base d.colour → Stays d (blink k d.colour)
+pub blink_stays : (d : Drawing) (k : ℕ) → ModeZeroIsBase d.base d.colour → Stays d (blink k d.colour)
 blink_stays d k mode = record {
   stays = λ group s last. left_by (at d s last) (blink k d.colour group) (record { pen = tt; pel = tt; colour = refl; texture = tt; text = tt }) mode;
   holds = λ group. record { pen = tt; pel = tt; colour = refl; texture = tt; text = tt };
@@ -72,13 +72,13 @@ blink_made k m colour group address times a on off delay part front back at one 
 
 -- the first pause of what is left
 pub pause_left : (run : List ℕ) (i word : ℕ) → i < length run → word ≡ get_or run i 0 % 64 →
-    map entries.Wait (carried (drop i run)) ≡ entries.Wait word ∷ map entries.Wait (carried (drop (i + 1) run))
+    map entries.Wait (operand_words (drop i run)) ≡ entries.Wait word ∷ map entries.Wait (operand_words (drop (i + 1) run))
 pause_left run i word inside made =
     let front : drop i run ≡ get_or run i 0 ∷ drop (i + 1) run = rw add-one (drop-cons run i 0 inside) in
-    ap (λ (left : List ℕ). map entries.Wait (carried left)) front ∙ ap (λ (word : ℕ). entries.Wait word ∷ map entries.Wait (carried (drop (i + 1) run))) (sym made)
+    ap (λ (left : List ℕ). map entries.Wait (operand_words left)) front ∙ ap (λ (word : ℕ). entries.Wait word ∷ map entries.Wait (operand_words (drop (i + 1) run))) (sym made)
 
 -- the first blink of what is left
 pub blink_left : (k size : ℕ) (colour : Colour) (left group rest : List ℕ) (e : Entry) → size ≡ k + 3 → left ≡ group ++ rest → length group ≡ min size (length left) → 0 < length left →
-    e ≡ blink k colour (carried group) → map (blink k colour) (operands (k + 3) (carried left)) ≡ e ∷ map (blink k colour) (operands (k + 3) (carried rest))
+    e ≡ blink k colour (operand_words group) → map (blink k colour) (operands (k + 3) (operand_words left)) ≡ e ∷ map (blink k colour) (operands (k + 3) (operand_words rest))
 blink_left k size colour left group rest e is parts long more made =
-    ap (map (blink k colour)) (operands_chunk (k + 3) size left group rest is (omega arith) parts long more) ∙ ap (λ (e : Entry). e ∷ map (blink k colour) (operands (k + 3) (carried rest))) (sym made)
+    ap (map (blink k colour)) (operands_chunk (k + 3) size left group rest is (omega arith) parts long more) ∙ ap (λ (e : Entry). e ∷ map (blink k colour) (operands (k + 3) (operand_words rest))) (sym made)

@@ -6,74 +6,74 @@ use Rattle.nap_list.specs.declared.attribute.Pen.TheVariants as pens
 use Rattle.nap_list.specs.declared.entry.Entry.{Entry}
 use Rattle.nap_list.specs.declared.state.LastChar.{LastChar}
 use Rattle.nap_list.specs.declared.state.State.{State}
-use Rattle.nap_list.specs.Entry.{held}
-use Rattle.nap_list.specs.Batches.{IsTyped, text_in, typed, typed_as, last_typed}
-use Rattle.nap_list.specs.State.{AllFit, Comes, after, walk, with_pen, hand_of, start_drawing, last_after}
-use Rattle.nap_list.specs.Agreement.{Holds, InMode, StatesAgree}
+use Rattle.nap_list.specs.Entry.{attributes}
+use Rattle.nap_list.specs.Batches.{IsTextByte, text_entries_in, text_entry, text_entry_as, last_char_of_text}
+use Rattle.nap_list.specs.State.{AllFit, MayCome, after, walk, with_pen, hand_of, start_drawing, last_after}
+use Rattle.nap_list.specs.Agreement.{EqualCurrent, ModeZeroIsBase, StatesAgree}
 use Rattle.nap_list.proofs.PublicLaws.{agreeing_fits, text_leaves, typed_made}
 use Rattle.nap_draw.specs.Codes.{code_as, code_rule, text}
-use Rattle.nap_draw.specs.Laws.{TypedRule}
-use Rattle.nap_draw.specs.Rule.{drawn}
+use Rattle.nap_draw.specs.Laws.{TextByteRule}
+use Rattle.nap_draw.specs.Rule.{rule_result}
 use Rattle.nap_draw.proofs.Walks.{left_by}
 
 -- What the characters of a text and the moves among them leave.
 
 -- the code of one puts it
-pub typed_rule : TypedRule
+pub typed_rule : TextByteRule
 typed_rule work set code = by (format_effector code)
   where
-    by : (step : Option TextStep) → code_rule work (code_as step set code) ≡ Ok (drawn work (typed_as step set (hand_of work.state.drawing) code ∷ []))
+    by : (step : Option TextStep) → code_rule work (code_as step set code) ≡ Ok (rule_result work (text_entry_as step set (hand_of work.state.drawing) code ∷ []))
     by (Some step) = refl
     by None = refl
 
 -- it holds what stands
-typed_holds : (s : State) (set : CharSet) (code : ℕ) → Holds (held (typed set (hand_of s.drawing) code)) s.drawing
+typed_holds : (s : State) (set : CharSet) (code : ℕ) → EqualCurrent (attributes (text_entry set (hand_of s.drawing) code)) s.drawing
 typed_holds s set code = by (format_effector code)
   where
-    by : (step : Option TextStep) → Holds (held (typed_as step set (hand_of s.drawing) code)) s.drawing
+    by : (step : Option TextStep) → EqualCurrent (attributes (text_entry_as step set (hand_of s.drawing) code)) s.drawing
     by (Some step) = record { pen = refl; pel = tt; colour = refl; texture = tt; text = refl }
     by None = record { pen = refl; pel = tt; colour = refl; texture = tt; text = refl }
 
 -- it may come anywhere
-typed_comes : (s : State) (set : CharSet) (code : ℕ) → Comes s (typed set (hand_of s.drawing) code)
+typed_comes : (s : State) (set : CharSet) (code : ℕ) → MayCome s (text_entry set (hand_of s.drawing) code)
 typed_comes s set code = by (format_effector code)
   where
-    by : (step : Option TextStep) → Comes s (typed_as step set (hand_of s.drawing) code)
+    by : (step : Option TextStep) → MayCome s (text_entry_as step set (hand_of s.drawing) code)
     by (Some step) = tt
     by None = tt
 
 behind : State → CharSet → ℕ → State
-behind s set code = record s { drawing = with_pen pens.After s.drawing; last = last_typed set code }
+behind s set code = record s { drawing = with_pen pens.After s.drawing; last = last_char_of_text set code }
 
 -- what it leaves
-typed_left : (s : State) (set : CharSet) (code : ℕ) → InMode s.drawing.base s.drawing.colour →
-    after s (typed set (hand_of s.drawing) code) ≡ record s { drawing = with_pen pens.After s.drawing; last = last_typed set code }
+typed_left : (s : State) (set : CharSet) (code : ℕ) → ModeZeroIsBase s.drawing.base s.drawing.colour →
+    after s (text_entry set (hand_of s.drawing) code) ≡ record s { drawing = with_pen pens.After s.drawing; last = last_char_of_text set code }
 typed_left s set code mode = by (format_effector code) (typed_holds s set code)
   where
-    by : (step : Option TextStep) → Holds (held (typed_as step set (hand_of s.drawing) code)) s.drawing →
-        after s (typed_as step set (hand_of s.drawing) code) ≡ record s { drawing = with_pen pens.After s.drawing; last = last_after (typed_as step set (hand_of start_drawing) code) }
-    by (Some step) holds = left_by s (typed_as (Some step) set (hand_of s.drawing) code) holds mode
-    by None holds = left_by s (typed_as None set (hand_of s.drawing) code) holds mode
+    by : (step : Option TextStep) → EqualCurrent (attributes (text_entry_as step set (hand_of s.drawing) code)) s.drawing →
+        after s (text_entry_as step set (hand_of s.drawing) code) ≡ record s { drawing = with_pen pens.After s.drawing; last = last_after (text_entry_as step set (hand_of start_drawing) code) }
+    by (Some step) holds = left_by s (text_entry_as (Some step) set (hand_of s.drawing) code) holds mode
+    by None holds = left_by s (text_entry_as None set (hand_of s.drawing) code) holds mode
 
-pub text_is : (s : State) (set : CharSet) (codes : List ℕ) → InMode s.drawing.base s.drawing.colour → text s set codes ≡ text_in set (hand_of s.drawing) codes
-unfolding text text_in behind
+pub text_is : (s : State) (set : CharSet) (codes : List ℕ) → ModeZeroIsBase s.drawing.base s.drawing.colour → text s set codes ≡ text_entries_in set (hand_of s.drawing) codes
+unfolding text text_entries_in behind
 text_is s set [] mode = refl
 text_is s set (code ∷ codes) mode =
-    let e = typed set (hand_of s.drawing) code in
+    let e = text_entry set (hand_of s.drawing) code in
     ap (λ (t : State). e ∷ text t set codes) (typed_left s set code mode) ∙ ap (λ (list : List Entry). e ∷ list) (text_is (behind s set code) set codes mode)
 
-pub text_left : (s : State) (set : CharSet) (codes front : List ℕ) (code : ℕ) (last : Option LastChar) → InMode s.drawing.base s.drawing.colour → codes ≡ front ++ code ∷ [] →
-    last ≡ last_typed set code → walk s (text s set codes) ≡ record s { drawing = with_pen pens.After s.drawing; last = last }
+pub text_left : (s : State) (set : CharSet) (codes front : List ℕ) (code : ℕ) (last : Option LastChar) → ModeZeroIsBase s.drawing.base s.drawing.colour → codes ≡ front ++ code ∷ [] →
+    last ≡ last_char_of_text set code → walk s (text s set codes) ≡ record s { drawing = with_pen pens.After s.drawing; last = last }
 text_left s set codes front code last mode is leaves =
     ap (walk s) (text_is s set codes mode) ∙ (text_leaves s set (hand_of s.drawing) codes front code is ∙ rw leaves (typed_left s set code mode))
 
-pub text_fits : (s shown : State) (set : CharSet) (codes : List ℕ) → StatesAgree s shown → All IsTyped codes →
+pub text_fits : (s shown : State) (set : CharSet) (codes : List ℕ) → StatesAgree s shown → All IsTextByte codes →
     AllFit shown (text s set codes) × StatesAgree (walk s (text s set codes)) (walk shown (text s set codes))
 unfolding text walk AllFit
 text_fits s shown set [] agrees made = (tt, agrees)
 text_fits s shown set (code ∷ codes) agrees made =
     let hand = hand_of s.drawing in
-    let e = typed set hand code in
+    let e = text_entry set hand code in
     let here = agreeing_fits s shown e agrees (typed_holds s set code) (typed_made set hand code (made 0 code (omega arith))) (typed_comes s set code) in
     let then = text_fits (after s e) (after shown e) set codes here.1 (λ k d less. made (suc k) d (omega arith)) in
     ((here.0, then.0), then.1)
@@ -83,7 +83,7 @@ unfolding text walk
 text_none s set codes is = ap (λ (codes : List ℕ). walk s (text s set codes)) is
 
 -- the state that a text leaves agrees with the one that it leads to
-pub text_agrees : (s shown there left : State) (set : CharSet) (codes : List ℕ) → StatesAgree s shown → All IsTyped codes → there ≡ walk shown (text_in set (hand_of s.drawing) codes) →
+pub text_agrees : (s shown there left : State) (set : CharSet) (codes : List ℕ) → StatesAgree s shown → All IsTextByte codes → there ≡ walk shown (text_entries_in set (hand_of s.drawing) codes) →
     walk s (text s set codes) ≡ left → StatesAgree left there
 text_agrees s shown there left set codes agrees made leads is =
     rw (leads ∙ ap (walk shown) (sym (text_is s set codes agrees.drawing.mode))) (subst (λ (t : State). StatesAgree t (walk shown (text s set codes))) is (text_fits s shown set codes agrees made).1)

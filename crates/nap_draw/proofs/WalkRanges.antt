@@ -11,17 +11,17 @@ use Rattle.nap_list.specs.declared.attribute.Colour.{Colour}
 use Rattle.nap_list.specs.declared.attribute.Colour.TheVariants as colours
 use Rattle.nap_list.specs.declared.attribute.Ink.{Ink}
 use Rattle.nap_list.specs.declared.attribute.Hand.{Hand}
-use Rattle.nap_list.specs.declared.attribute.Held.{Held}
+use Rattle.nap_list.specs.declared.attribute.Attributes.{Attributes}
 use Rattle.nap_list.specs.declared.entry.Entry.{Entry}
 use Rattle.nap_list.specs.declared.entry.Entry.TheVariants as entries
 use Rattle.nap_list.specs.declared.state.Drawing.{Drawing}
-use Rattle.nap_list.specs.declared.state.Opened.{Opened}
+use Rattle.nap_list.specs.declared.state.OpenDefinition.{OpenDefinition}
 use Rattle.nap_list.specs.declared.state.LastChar.{LastChar}
 use Rattle.nap_list.specs.declared.state.State.{State}
-use Rattle.nap_list.specs.Entry.{held, ink_values, hand_values, colour_alone, pen_alone}
+use Rattle.nap_list.specs.Entry.{attributes, ink_attributes, hand_attributes, colour_only, pen_only}
 use Rattle.nap_list.specs.declared.known.MapColour.{MapColour}
-use Rattle.nap_list.specs.Known.{colour_code, elsewhere, setting}
-use Rattle.nap_list.specs.State.{start_drawing, start_texture, start_text, base_shown, taking, with_pen, with_pen_at, with_colour, corner, reset, saved_values, drawn, definition_after, last_after, known_after, after, walk}
+use Rattle.nap_list.specs.Known.{colour_code, without_address, with_known_colour}
+use Rattle.nap_list.specs.State.{start_drawing, start_texture, start_text, base_after, with_attributes, with_pen, with_pen_at, with_colour, corner, reset, restored_drawing, effect_on_drawing, definition_after, last_after, known_after, after, walk}
 use Rattle.nap_list.specs.Range.{IsAddress, IsByte, MapColourInRange, PenInRange, BaseInRange, ColourInRange, TextureInRange, TextInRange, InkInRange, HandInRange, InRange, AllInRange, DrawingInRange, OpenedInRange, StateInRange}
 
 -- A walk over entries in range, from a state in range, leads to a state in range.
@@ -46,26 +46,26 @@ start_drawing_ranged = record {
 
 -- the values that an entry holds
 
-record HeldInRange (h : Held) : Type 0 where
+record HeldInRange (h : Attributes) : Type 0 where
   pub pen : IfSome h.pen PenInRange
   pub pel : IfSome h.pel IsInRange
   pub colour : IfSome h.colour ColourInRange
   pub texture : IfSome h.texture TextureInRange
   pub text : IfSome h.text TextInRange
 
-of_ink : (ink : Ink) → InkInRange ink → HeldInRange (ink_values ink)
+of_ink : (ink : Ink) → InkInRange ink → HeldInRange (ink_attributes ink)
 of_ink ink r = record { pen = tt; pel = r.pel; colour = r.colour; texture = r.texture; text = tt }
 
-of_hand : (hand : Hand) → HandInRange hand → HeldInRange (hand_values hand)
+of_hand : (hand : Hand) → HandInRange hand → HeldInRange (hand_attributes hand)
 of_hand hand r = record { pen = r.pen; pel = tt; colour = r.colour; texture = tt; text = r.text }
 
-of_colour : (colour : Colour) → ColourInRange colour → HeldInRange (colour_alone colour)
+of_colour : (colour : Colour) → ColourInRange colour → HeldInRange (colour_only colour)
 of_colour colour r = record { pen = tt; pel = tt; colour = r; texture = tt; text = tt }
 
-of_pen : (pen : Pen) → PenInRange pen → HeldInRange (pen_alone pen)
+of_pen : (pen : Pen) → PenInRange pen → HeldInRange (pen_only pen)
 of_pen pen r = record { pen = r; pel = tt; colour = tt; texture = tt; text = tt }
 
-held_ranged : (e : Entry) → InRange e → HeldInRange (held e)
+held_ranged : (e : Entry) → InRange e → HeldInRange (attributes e)
 held_ranged (entries.Point at pel colour) r = record { pen = tt; pel = r.1; colour = r.2; texture = tt; text = tt }
 held_ranged (entries.Line from to ink) r = of_ink ink r.2
 held_ranged (entries.Arc filled points ink) r = of_ink ink r.1
@@ -88,7 +88,7 @@ pub unwrap_ranged : {A : Type 0} (P : A → Type 0) (o : Option A) (x : A) → I
 unwrap_ranged P None x some other = other
 unwrap_ranged P (Some y) x some other = some
 
-base_ranged : (base : Base) (colour : Option Colour) → BaseInRange base → IfSome colour ColourInRange → BaseInRange (base_shown base colour)
+base_ranged : (base : Base) (colour : Option Colour) → BaseInRange base → IfSome colour ColourInRange → BaseInRange (base_after base colour)
 base_ranged base (Some (colours.Direct grb)) stands shown = shown
 base_ranged base (Some (colours.Own origin)) stands shown = stands
 base_ranged base (Some (colours.Front address)) stands shown = stands
@@ -96,7 +96,7 @@ base_ranged base (Some (colours.Pair front back)) stands shown = stands
 base_ranged base (Some (colours.ByReset preset)) stands shown = stands
 base_ranged base None stands shown = stands
 
-taking_ranged : (d : Drawing) (h : Held) → DrawingInRange d → HeldInRange h → DrawingInRange (taking d h)
+taking_ranged : (d : Drawing) (h : Attributes) → DrawingInRange d → HeldInRange h → DrawingInRange (with_attributes d h)
 taking_ranged d h r taken = record {
   pen = unwrap_ranged PenInRange h.pen d.pen taken.pen r.pen;
   pel = unwrap_ranged IsInRange h.pel d.pel taken.pel r.pel;
@@ -136,11 +136,11 @@ reset_ranged first second d r = record {
   text = cond_both (eqb (second % 2) 1) _ _ TextInRange (λ _. start_text_ranged) (λ _. r.text);
 }
 
-saved_ranged : (o : Option Opened) (d : Drawing) → IfSome o OpenedInRange → DrawingInRange d → DrawingInRange (saved_values o d)
+saved_ranged : (o : Option OpenDefinition) (d : Drawing) → IfSome o OpenedInRange → DrawingInRange d → DrawingInRange (restored_drawing o d)
 saved_ranged None d saved r = r
 saved_ranged (Some opened) d saved r = saved.saved
 
-drawn_ranged : (o : Option Opened) (d : Drawing) (e : Entry) → IfSome o OpenedInRange → DrawingInRange d → InRange e → DrawingInRange (drawn o d e)
+drawn_ranged : (o : Option OpenDefinition) (d : Drawing) (e : Entry) → IfSome o OpenedInRange → DrawingInRange d → InRange e → DrawingInRange (effect_on_drawing o d e)
 drawn_ranged o d (entries.Point at pel colour) saved r new = with_pen_ranged (pens.At at) d new.0 r
 drawn_ranged o d (entries.Line from to ink) saved r new = with_pen_ranged (pens.At to) d new.1 r
 drawn_ranged o d (entries.Arc filled points ink) saved r new =
@@ -159,7 +159,7 @@ drawn_ranged o d (entries.MaskStart mask) saved r new = with_pen_ranged pens.Sta
 drawn_ranged o d entries.DefEnd saved r new = saved_ranged o d saved r
 drawn_ranged o d _ saved r new = r
 
-definition_ranged : (o : Option Opened) (d : Drawing) (e : Entry) → IfSome o OpenedInRange → DrawingInRange d → InRange e → IfSome (definition_after o d e) OpenedInRange
+definition_ranged : (o : Option OpenDefinition) (d : Drawing) (e : Entry) → IfSome o OpenedInRange → DrawingInRange d → InRange e → IfSome (definition_after o d e) OpenedInRange
 definition_ranged o d (entries.GlyphStart code) saved r new = record { what = new; saved = r }
 definition_ranged o d (entries.MaskStart mask) saved r new = record { what = tt; saved = r }
 definition_ranged o d entries.DefEnd saved r new = tt
@@ -170,10 +170,10 @@ last_ranged (entries.Char set code hand) new = new.0
 last_ranged _ new = tt
 
 pub setting_ranged : (addr : ℕ) (grb : Components) (known : List MapColour) → IsAddress addr → HasSixteenBitParts grb → All MapColourInRange known →
-    All MapColourInRange (setting addr grb known)
+    All MapColourInRange (with_known_colour addr grb known)
 setting_ranged addr grb known there parts all =
-    All-cons MapColourInRange (record { addr = addr; grb = grb }) (take 15 (elsewhere addr known)) (there, parts)
-    (All-take MapColourInRange 15 (elsewhere addr known) (All-filter _ MapColourInRange known all))
+    All-cons MapColourInRange (record { addr = addr; grb = grb }) (take 15 (without_address addr known)) (there, parts)
+    (All-take MapColourInRange 15 (without_address addr known) (All-filter _ MapColourInRange known all))
 
 known_ranged : (known : List MapColour) (e : Entry) → InRange e → All MapColourInRange known → All MapColourInRange (known_after known e)
 known_ranged known (entries.Map addr grb) new all = setting_ranged addr grb known new.0 new.1 all
@@ -183,10 +183,10 @@ known_ranged known _ new all = all
 
 pub after_ranged : (s : State) (e : Entry) → StateInRange s → InRange e → StateInRange (after s e)
 after_ranged s e r new =
-    let taken = taking_ranged s.drawing (held e) r.drawing (held_ranged e new) in
+    let taken = taking_ranged s.drawing (attributes e) r.drawing (held_ranged e new) in
     record {
-      drawing = drawn_ranged s.definition (taking s.drawing (held e)) e r.definition taken new;
-      definition = definition_ranged s.definition (taking s.drawing (held e)) e r.definition taken new;
+      drawing = drawn_ranged s.definition (with_attributes s.drawing (attributes e)) e r.definition taken new;
+      definition = definition_ranged s.definition (with_attributes s.drawing (attributes e)) e r.definition taken new;
       last = last_ranged e new;
       known = known_ranged s.known e new r.known;
     }

@@ -6,72 +6,72 @@ use Rattle.nap_list.specs.declared.attribute.Pen.{Pen}
 use Rattle.nap_list.specs.declared.entry.Entry.{Entry}
 use Rattle.nap_list.specs.declared.state.Drawing.{Drawing}
 use Rattle.nap_list.specs.declared.state.State.{State}
-use Rattle.nap_list.specs.Entry.{held, WellMade}
-use Rattle.nap_list.specs.State.{with_pen, drawn, definition_after, last_after, known_after, after, walk, Comes, corner}
-use Rattle.nap_list.specs.Agreement.{InMode, Holds}
+use Rattle.nap_list.specs.Entry.{attributes, WellMade}
+use Rattle.nap_list.specs.State.{with_pen, effect_on_drawing, definition_after, last_after, known_after, after, walk, MayCome, corner}
+use Rattle.nap_list.specs.Agreement.{ModeZeroIsBase, EqualCurrent}
 use Rattle.nap_list.proofs.PublicLaws.{taking_nothing}
 use Rattle.nap_draw.specs.declared.spans.Figure.{Figure}
 use Rattle.nap_draw.specs.declared.spans.Figure.TheVariants as figures
 use Rattle.nap_draw.specs.declared.work.Work.{Work}
 use Rattle.nap_draw.specs.declared.fault.DrawFault.{DrawFault}
-use Rattle.nap_draw.specs.Geometry.{end_of}
-use Rattle.nap_list.specs.Batches.{point_on}
-use Rattle.nap_draw.specs.Rule.{Drawn, draws, line_on, rect_on}
-use Rattle.nap_draw.specs.Doing.{landed, stroke_on, stroke_end}
+use Rattle.nap_draw.specs.Geometry.{last_or}
+use Rattle.nap_list.specs.Batches.{point_entry}
+use Rattle.nap_draw.specs.Rule.{RuleResult, entries_result, span_line_entry, rect_on}
+use Rattle.nap_draw.specs.Execution.{with_pen_moved_to, figure_entry, figure_end}
 
 -- Where entries lead that only move the pen.
 
 -- entries of one shape that only move the pen, each to a point of its own
 pub record Lands {A : Type 0} (entry : Drawing → A → Entry) (at : A → Coordinates) : Type 0 where
   pub keeps : (pen : Pen) (d : Drawing) → entry (with_pen pen d) ≡ entry d
-  pub lands : (s : State) (x : A) → InMode s.drawing.base s.drawing.colour → after s (entry s.drawing x) ≡ landed s (Some (at x))
-  pub holds : (pen : Pen) (d : Drawing) (x : A) → Holds (held (entry d x)) (with_pen pen d)
+  pub lands : (s : State) (x : A) → ModeZeroIsBase s.drawing.base s.drawing.colour → after s (entry s.drawing x) ≡ with_pen_moved_to s (Some (at x))
+  pub holds : (pen : Pen) (d : Drawing) (x : A) → EqualCurrent (attributes (entry d x)) (with_pen pen d)
   pub made : (d : Drawing) (x : A) → WellMade (entry d x)
-  pub comes : (s : State) (d : Drawing) (x : A) → Comes s (entry d x)
+  pub comes : (s : State) (d : Drawing) (x : A) → MayCome s (entry d x)
 
 module _ {A : Type 0} (entry : Drawing → A → Entry) (at : A → Coordinates) (by : Lands entry at) where
-  pub one : (s : State) (o : Option A) (x : A) → InMode s.drawing.base s.drawing.colour →
-      after (landed s (option_map at o)) (entry s.drawing x) ≡ landed s (Some (at x))
+  pub one : (s : State) (o : Option A) (x : A) → ModeZeroIsBase s.drawing.base s.drawing.colour →
+      after (with_pen_moved_to s (option_map at o)) (entry s.drawing x) ≡ with_pen_moved_to s (Some (at x))
   one s None x mode = by.lands s x mode
   one s (Some y) x mode =
-      let t = landed s (Some (at y)) in
+      let t = with_pen_moved_to s (Some (at y)) in
       ap (λ (f : A → Entry). after t (f x)) (sym (by.keeps t.drawing.pen s.drawing)) ∙ by.lands t x mode
 
-  walk_from : (s : State) (o : Option A) (xs : List A) → InMode s.drawing.base s.drawing.colour →
-      walk (landed s (option_map at o)) (map (entry s.drawing) xs) ≡ landed s (option_map at (end_of o xs))
-  unfolding walk end_of
+  walk_from : (s : State) (o : Option A) (xs : List A) → ModeZeroIsBase s.drawing.base s.drawing.colour →
+      walk (with_pen_moved_to s (option_map at o)) (map (entry s.drawing) xs) ≡ with_pen_moved_to s (option_map at (last_or o xs))
+  unfolding walk last_or
   walk_from s o [] mode = refl
   walk_from s o (x ∷ xs) mode = ap (λ t. walk t (map (entry s.drawing) xs)) (one s o x mode) ∙ walk_from s (Some x) xs mode
 
   -- where such entries lead
-  pub draws_end : (work : Work) (xs : List A) (p : Option Coordinates) → InMode work.state.drawing.base work.state.drawing.colour → p ≡ option_map at (end_of None xs) →
-      draws work entry (Some xs) ≡ Ok (record { entries = map (entry work.state.drawing) xs; work = record work { state = landed work.state p }; clears = false })
+  pub draws_end : (work : Work) (xs : List A) (p : Option Coordinates) → ModeZeroIsBase work.state.drawing.base work.state.drawing.colour → p ≡ option_map at (last_or None xs) →
+      entries_result work entry (Some xs) ≡ Ok (record { entries = map (entry work.state.drawing) xs; work = record work { state = with_pen_moved_to work.state p }; clears = false })
   draws_end work xs p mode to =
-      let all : State → Result Drawn DrawFault = λ s. Ok (record { entries = map (entry work.state.drawing) xs; work = record work { state = s }; clears = false }) in
-      ap all (walk_from work.state None xs mode ∙ ap (landed work.state) (sym to))
+      let all : State → Result RuleResult DrawFault = λ s. Ok (record { entries = map (entry work.state.drawing) xs; work = record work { state = s }; clears = false }) in
+      ap all (walk_from work.state None xs mode ∙ ap (with_pen_moved_to work.state) (sym to))
 
 -- what an entry leaves that holds the values that stand
-pub left_by : (s : State) (e : Entry) → Holds (held e) s.drawing → InMode s.drawing.base s.drawing.colour →
-    after s e ≡ record { drawing = drawn s.definition s.drawing e; definition = definition_after s.definition s.drawing e; last = last_after e; known = known_after s.known e }
+pub left_by : (s : State) (e : Entry) → EqualCurrent (attributes e) s.drawing → ModeZeroIsBase s.drawing.base s.drawing.colour →
+    after s e ≡ record { drawing = effect_on_drawing s.definition s.drawing e; definition = definition_after s.definition s.drawing e; last = last_after e; known = known_after s.known e }
 left_by s e holds mode =
-    let there : Drawing → State = λ d. record { drawing = drawn s.definition d e; definition = definition_after s.definition d e; last = last_after e; known = known_after s.known e } in
-    ap there (taking_nothing (held e) s.drawing holds mode)
+    let there : Drawing → State = λ d. record { drawing = effect_on_drawing s.definition d e; definition = definition_after s.definition d e; last = last_after e; known = known_after s.known e } in
+    ap there (taking_nothing (attributes e) s.drawing holds mode)
 
 -- a pen goes to each point
-pub point_lands : Lands point_on (λ p. p)
+pub point_lands : Lands point_entry (λ p. p)
 point_lands = record {
   keeps = λ pen d. refl;
-  lands = λ s p mode. left_by s (point_on s.drawing p) (record { pen = tt; pel = refl; colour = refl; texture = tt; text = tt }) mode;
+  lands = λ s p mode. left_by s (point_entry s.drawing p) (record { pen = tt; pel = refl; colour = refl; texture = tt; text = tt }) mode;
   holds = λ pen d p. record { pen = tt; pel = refl; colour = refl; texture = tt; text = tt };
   made = λ d p. tt;
   comes = λ s d p. tt;
 }
 
 -- a pen goes to the end of each line
-pub line_lands : Lands line_on (λ s. s.to)
+pub line_lands : Lands span_line_entry (λ s. s.to)
 line_lands = record {
   keeps = λ pen d. refl;
-  lands = λ s span mode. left_by s (line_on s.drawing span) (record { pen = tt; pel = refl; colour = refl; texture = refl; text = tt }) mode;
+  lands = λ s span mode. left_by s (span_line_entry s.drawing span) (record { pen = tt; pel = refl; colour = refl; texture = refl; text = tt }) mode;
   holds = λ pen d span. record { pen = tt; pel = refl; colour = refl; texture = refl; text = tt };
   made = λ d span. tt;
   comes = λ s d span. tt;
@@ -87,7 +87,7 @@ rect_lands filled = record {
   comes = λ s d span. tt;
 }
 
-pub stroke_lands : (figure : Figure) → Lands (stroke_on figure) (stroke_end figure)
+pub stroke_lands : (figure : Figure) → Lands (figure_entry figure) (figure_end figure)
 stroke_lands figures.Line = line_lands
 stroke_lands (figures.Rect filled) = rect_lands filled
 
@@ -96,12 +96,12 @@ itself None = refl
 itself (Some x) = refl
 
 -- the last of them
-end_last : {A : Type 0} (o : Option A) (x : A) (xs : List A) → end_of o (x ∷ xs) ≡ slice_get (x ∷ xs) (length xs)
-unfolding end_of
+end_last : {A : Type 0} (o : Option A) (x : A) (xs : List A) → last_or o (x ∷ xs) ≡ slice_get (x ∷ xs) (length xs)
+unfolding last_or
 end_last o x [] = refl
 end_last o x (y ∷ ys) = end_last (Some x) y ys
 
-pub end_is_last : {A : Type 0} (xs : List A) (p : Option A) → p ≡ slice_get xs (length xs - 1) → p ≡ end_of None xs
-unfolding end_of
+pub end_is_last : {A : Type 0} (xs : List A) (p : Option A) → p ≡ slice_get xs (length xs - 1) → p ≡ last_or None xs
+unfolding last_or
 end_is_last [] p is = is
 end_is_last (x ∷ xs) p is = let n : suc (length xs) - 1 ≡ length xs = omega arith in is ∙ (ap (slice_get (x ∷ xs)) n ∙ sym (end_last None x xs))

@@ -6,29 +6,30 @@ use Rattle.nap_list.specs.State.{AllFit}
 use Rattle.nap_list.specs.Agreement.{StatesAgree}
 use Rattle.nap_draw.specs.declared.fault.DrawFault.{DrawFault}
 use Rattle.nap_draw.specs.declared.work.Work.{Work}
-use Rattle.nap_draw.specs.Rule.{Drawn}
+use Rattle.nap_draw.specs.Rule.{RuleResult}
 use Rattle.nap_draw.specs.Draws.{DrawsBy, cause_of}
 
--- a code acted on work w and sink s, by what its rule gives, and left v and t with this answer, which says whether all
--- macros are cleared: all its entries were taken, each of them fits, and the states agree again; or the work is as it was
-abbrev pub Acts : {S A : Type 0} → (g : Ghosts S) → (A → Bool) → Result Drawn DrawFault → Work → Work → S → S → Result A DrawFault → Type 0
+-- a code acted on the work w and the sink s by the result of its rule, and left v and t with this answer, which says
+-- whether all macros are cleared: the sink took all entries, each fits, and the states agree again; or the work is
+-- unchanged
+abbrev pub Acts : {S A : Type 0} → (g : Ghosts S) → (A → Bool) → Result RuleResult DrawFault → Work → Work → S → S → Result A DrawFault → Type 0
 Acts g clears by w v s t (Ok x) = (entries : List Entry) × (by ≡ Ok (record { entries = entries; work = v; clears = clears x })) × g.took s entries t
     × AllFit (g.state s) entries × StatesAgree v.state (g.state t)
 Acts g clears by w v s t (Err fault) = (v ≡ w) × DrawsBy g.took g.broke g.failed by s t fault (cause_of fault)
 
--- the answer is that of RESET
-abbrev pub told : Bool → Bool
-told clears = clears
+-- the answer of RESET says whether all macros are cleared
+abbrev pub clears_macros : Bool → Bool
+clears_macros clears = clears
 
--- there was no memory for one of these entries, where it may be wanting for them
+-- memory ran out for one of these entries, where the sink may lack it for them
 pub record WantsEntry {S : Type 0} (g : Ghosts S) (list : List Entry) (s t : S) : Type 0 where
   pub wants : g.wants s list
   pub stops : Stops g.took s list t
 
--- the same of the entries that a rule gives
-abbrev pub WantsBy : {S : Type 0} → Ghosts S → Result Drawn DrawFault → S → S → Type 0
+-- memory ran out for one of the entries of a rule's result
+abbrev pub WantsBy : {S : Type 0} → Ghosts S → Result RuleResult DrawFault → S → S → Type 0
 WantsBy g by s t = IfOk by (λ d. WantsEntry g d.entries s t)
 
--- the rule gives some entry
-abbrev pub GivesSome : Result Drawn DrawFault → Type 0
+-- the rule's result has entries
+abbrev pub GivesSome : Result RuleResult DrawFault → Type 0
 GivesSome by = IfOk by (λ d. d.entries ≢ [])

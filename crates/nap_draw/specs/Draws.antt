@@ -7,20 +7,20 @@ use Rattle.nap_draw.specs.declared.work.Work.{Work}
 use Rattle.nap_draw.specs.declared.fault.DrawFault.{DrawFault}
 use Rattle.nap_draw.specs.declared.fault.DrawFault.TheVariants as faults
 use Rattle.nap_list.specs.Putting.{Stops, Breaks}
-use Rattle.nap_draw.specs.Rule.{Drawn}
+use Rattle.nap_draw.specs.Rule.{RuleResult}
 
--- the fault where a sink took an entry not
+-- the fault of a code whose entry a sink didn't take
 abbrev pub fault_of : SinkFault → DrawFault
 fault_of sink_faults.Memory = faults.Memory
 fault_of sink_faults.Write = faults.Sink
 
--- where a fault comes from
+-- the cause of a fault
 pub data Cause : Type 0 where
   -- the codes of the stream
   stream : Cause
-  -- want of memory
+  -- lack of memory
   memory : Cause
-  -- the device behind the sink
+  -- the sink's device
   device : Cause
 
 abbrev pub cause_of : DrawFault → Cause
@@ -28,19 +28,19 @@ cause_of faults.Memory = memory
 cause_of faults.Sink = device
 cause_of _ = stream
 
--- What a sink took of the entries that a rule gives, where this fault was answered. Memory is wanted before the first of
--- them, or for one of them.
-abbrev pub DrawsBy : {S : Type 0} → (S → List Entry → S → Type 0) → (S → List Entry → Entry → S → Type 0) → (S → Bool) → Result Drawn DrawFault → S → S → DrawFault → Cause → Type 0
+-- What a sink took of the entries of a rule's result when this fault was answered. Memory can run out before the first
+-- of them or for one of them.
+abbrev pub DrawsBy : {S : Type 0} → (S → List Entry → S → Type 0) → (S → List Entry → Entry → S → Type 0) → (S → Bool) → Result RuleResult DrawFault → S → S → DrawFault → Cause → Type 0
 DrawsBy took broke failed by s t fault stream = (by ≡ Err fault) × (t ≡ s)
-DrawsBy took broke failed by s t fault memory = (drawn : Drawn) × (by ≡ Ok drawn) × ((t ≡ s) ⊎ Stops took s drawn.entries t)
-DrawsBy took broke failed by s t fault device = (drawn : Drawn) × (by ≡ Ok drawn) × (((failed s ≡ true) × (t ≡ s)) ⊎ Breaks broke s drawn.entries t)
+DrawsBy took broke failed by s t fault memory = (drawn : RuleResult) × (by ≡ Ok drawn) × ((t ≡ s) ⊎ Stops took s drawn.entries t)
+DrawsBy took broke failed by s t fault device = (drawn : RuleResult) × (by ≡ Ok drawn) × (((failed s ≡ true) × (t ≡ s)) ⊎ Breaks broke s drawn.entries t)
 
--- what a sink took of the entries that a rule gives, where this was answered
-abbrev pub Draws : {S : Type 0} → (S → List Entry → S → Type 0) → (S → List Entry → Entry → S → Type 0) → (S → Bool) → Result Drawn DrawFault → S → S → Result Effects DrawFault → Type 0
+-- what a sink took of the entries of a rule's result when this was answered
+abbrev pub Draws : {S : Type 0} → (S → List Entry → S → Type 0) → (S → List Entry → Entry → S → Type 0) → (S → Bool) → Result RuleResult DrawFault → S → S → Result Effects DrawFault → Type 0
 Draws took broke failed by s t (Ok effects) = (entries : List Entry) × (by ≡ Ok (record { entries = entries; work = effects.work; clears = effects.clears })) × took s entries t
 Draws took broke failed by s t (Err fault) = DrawsBy took broke failed by s t fault (cause_of fault)
 
--- an answer without the macros, which stay
-abbrev pub quietly : Result Work DrawFault → Result Effects DrawFault
-quietly (Ok work) = Ok (record { work = work; clears = false })
-quietly (Err fault) = Err fault
+-- an answer of a code that clears no macros
+abbrev pub without_clear : Result Work DrawFault → Result Effects DrawFault
+without_clear (Ok work) = Ok (record { work = work; clears = false })
+without_clear (Err fault) = Err fault

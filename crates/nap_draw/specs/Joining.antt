@@ -2,9 +2,9 @@ use Rattle.std.specs.Prelude.{ℕ, ◌≡◌, ◌*◌, List, ◌++◌, length, O
 use Rattle.nap_codes.specs.declared.opcode.Opcode.{Opcode}
 use Rattle.nap_codes.specs.declared.opcode.Opcode.TheVariants as opcodes
 use Rattle.nap_draw.specs.declared.work.Work.{Work}
-use Rattle.nap_draw.specs.Rule.{Drawn, rule}
+use Rattle.nap_draw.specs.Rule.{RuleResult, rule}
 
--- the opcodes whose runs can be joined
+-- the opcodes whose runs canonical text joins (PROFILE.md, Canonical text)
 abbrev pub CanJoin : Opcode → Type 0
 CanJoin opcodes.PointAbs = ⊤
 CanJoin opcodes.LineAbs = ⊤
@@ -13,12 +13,12 @@ CanJoin opcodes.SetRectOutlined = ⊤
 CanJoin opcodes.SetRectFilled = ⊤
 CanJoin _ = ⊥
 
--- the run is operands of k words, and none has fewer
+-- the run is complete operands of k words
 abbrev pub IsWhole : ℕ → List ℕ → Type 0
 IsWhole k run = (operands : ℕ) × (length run ≡ operands * k)
 
--- an opcode with a run of whole operands, and the same opcode with one more run, do what the opcode does with both runs as one
+-- an opcode on a run of complete operands, and then on a second run, does what it does on both runs joined
 abbrev pub RunsJoin : Type 0
-RunsJoin = (work : Work) (op : Opcode) (run more : List ℕ) (first second : Drawn) →
+RunsJoin = (work : Work) (op : Opcode) (run more : List ℕ) (first second : RuleResult) →
     CanJoin op → IsWhole work.domain.multi run → rule work op run ≡ Ok first → rule first.work op more ≡ Ok second →
     rule work op (run ++ more) ≡ Ok (record { entries = first.entries ++ second.entries; work = second.work; clears = false })

@@ -5,7 +5,7 @@ pub mod Carried
 pub mod Codes
 pub mod Draws
 pub mod Acts
-pub mod Doing
+pub mod Execution
 pub mod Joining
 pub mod Laws
 pub mod Limits

@@ -1,7 +1,7 @@
 use Rattle.std.specs.Prelude.{ℕ}
 
--- A limit of our profile. The law `limits` says that the constant of the code is this.
+-- A limit of the profile (PROFILE.md, Limits). The law `limits` says that the constant in the code has this value.
 
--- the most operand bytes of one opcode
+-- the greatest number of operand bytes of one opcode
 abbrev pub run_limit : ℕ
 run_limit = 16384

@@ -1,6 +1,6 @@
-//! An opcode upon a copy of the work, with its run as words.
+//! Execution of an opcode on a copy of the work, with the run as words.
 ghost use Rattle.std.specs.Prelude.{◌≡◌, ◌≤◌, length, take, true, false, OnOk, IfOk, IsErrOf};
-ghost use Rattle.nap_values.specs.Operands.{carried};
+ghost use Rattle.nap_values.specs.Operands.{operand_words};
 ghost use Rattle.nap_list.specs.Agreement.{StatesAgree};
 ghost use Rattle.nap_draw.specs.Limits.{run_limit};
 ghost use Rattle.nap_draw.specs.Rule.{rule, IsDrawn};
@@ -14,10 +14,10 @@ use nap_list::Sink;
 use nap_values::Word;
 use std::alloc::Global;
 
-/// Puts the entries that the opcode gives on its whole run, once all its checks have passed (PDI opcodes), and gives
-/// what they leave; the work that is passed stays as it was. A refused opcode puts nothing, except if memory runs
-/// out or the sink fails: then some of its first entries may stay. The incremental opcodes are no part of our profile.
-/// `act` takes the run as bytes: a byte carries a word in its low six bits.
+/// Returns the effects of an opcode on its complete run, and puts its entries into the sink once all checks have
+/// passed; the work passed is unchanged (PROFILE.md, Opcodes). A refused opcode puts nothing. If memory runs out or the
+/// sink fails, the sink may have some of the first entries. The incremental opcodes aren't in the profile. `apply_effect` does
+/// the same on bytes.
 pub fn apply<S: Sink>(
     alloc: Global,
     work: &Work,
@@ -34,16 +34,17 @@ pub fn apply<S: Sink>(
     ensures clear { OnOk result (S.failed sink.old ≡ false → S.failed sink.new ≡ false) }
 {
     let mut next = work.copy();
-    let mut room = Vec::new(alloc);
-    let bytes = bytes_of(run);
-    let clears = next.act(alloc, &mut room, op, &bytes[..run.len()], sink)?;
+    let mut scratch = Vec::new(alloc);
+    let bytes = word_bytes(run);
+    let clears = next.act(alloc, &mut scratch, op, &bytes[..run.len()], sink)?;
     Ok(Effects { work: next, clears })
 }
 
-/// The words of a run, a byte for each, and zero behind them. They are on no heap, so that no refused opcode wants memory.
-fn bytes_of(run: &[Word]) -> [u8; RUN_LIMIT]
+/// Returns the words of a run, one to a byte, padded with zero bytes. The array is on the stack, so that no refused
+/// opcode can lack memory.
+fn word_bytes(run: &[Word]) -> [u8; RUN_LIMIT]
     requires { length run.now ≤ run_limit }
-    ensures { carried (take (length run.now) result) ≡ run.now }
+    ensures { operand_words (take (length run.now) result) ≡ run.now }
 {
     let mut bytes = [0; RUN_LIMIT];
     for at in 0..run.len() {

@@ -1,10 +1,10 @@
-//! Many points or lines, which a sink takes at once.
+//! Points and lines that a sink takes as a batch.
 ghost use Rattle.std.specs.Prelude.{Some};
 ghost use Rattle.nap_list.specs.Agreement.{StatesAgree};
-ghost use Rattle.nap_list.specs.Batches.{point_on};
-ghost use Rattle.nap_draw.specs.Geometry.{joined};
-ghost use Rattle.nap_draw.specs.Rule.{draws, line_on};
-ghost use Rattle.nap_draw.specs.Doing.{Does, quiet};
+ghost use Rattle.nap_list.specs.Batches.{point_entry};
+ghost use Rattle.nap_draw.specs.Geometry.{polyline_spans};
+ghost use Rattle.nap_draw.specs.Rule.{entries_result, span_line_entry};
+ghost use Rattle.nap_draw.specs.Execution.{ActsByRule, clears_nothing};
 
 use crate::fault::DrawFault;
 use crate::work::Work;
@@ -12,26 +12,30 @@ use nap_list::{Batch, Sink};
 use nap_values::Point;
 
 impl Work {
-    /// A point at each of the points.
-    pub(crate) fn dots<S: Sink>(&mut self, points: &[Point], sink: &mut S) -> Result<(), DrawFault>
+    /// Draws a point at each of these points.
+    pub(crate) fn draw_points<S: Sink>(
+        &mut self,
+        points: &[Point],
+        sink: &mut S,
+    ) -> Result<(), DrawFault>
         requires { StatesAgree self.old.state (S.state sink.old) }
-        ensures { Does S.Sink quiet (draws self.old point_on (Some points.now)) self.old self.new sink.old sink.new result }
+        ensures { ActsByRule S.Sink clears_nothing (entries_result self.old point_entry (Some points.now)) self.old self.new sink.old sink.new result }
     {
         let drawing = &self.state.drawing;
         sink.put_batch(&Batch::Points { points, drawing })?;
-        self.land(points.last().copied());
+        self.move_pen_to(points.last().copied());
         Ok(())
     }
 
-    /// Lines from this point to the first, and on from each to the next.
-    pub(crate) fn joined<S: Sink>(
+    /// Draws lines from `from` to the first point, and from each point to the next.
+    pub(crate) fn draw_polyline<S: Sink>(
         &mut self,
         from: Point,
         points: &[Point],
         sink: &mut S,
     ) -> Result<(), DrawFault>
         requires { StatesAgree self.old.state (S.state sink.old) }
-        ensures { Does S.Sink quiet (draws self.old line_on (Some (joined from points.now))) self.old self.new sink.old sink.new result }
+        ensures { ActsByRule S.Sink clears_nothing (entries_result self.old span_line_entry (Some (polyline_spans from points.now))) self.old self.new sink.old sink.new result }
     {
         let drawing = &self.state.drawing;
         sink.put_batch(&Batch::Lines {
@@ -39,7 +43,7 @@ impl Work {
             points,
             drawing,
         })?;
-        self.land(points.last().copied());
+        self.move_pen_to(points.last().copied());
         Ok(())
     }
 }

@@ -1,23 +1,23 @@
-//! Characters, one by one and many at once (G sets).
+//! Characters, one by one and many at once (PROFILE.md, Characters and controls).
 ghost use Rattle.std.specs.Prelude.{◌≡◌, All, OnOk, MatchResult};
 ghost use Rattle.nap_codes.specs.declared.code.Code.TheVariants as codes;
 ghost use Rattle.nap_list.specs.Entry.{IsCode};
-ghost use Rattle.nap_list.specs.Batches.{IsTyped};
+ghost use Rattle.nap_list.specs.Batches.{IsTextByte};
 ghost use Rattle.nap_list.specs.Agreement.{StatesAgree};
 ghost use Rattle.nap_list.specs.Putting.{Put};
-ghost use Rattle.nap_list.specs.Shown.{shows_of};
+ghost use Rattle.nap_list.specs.SinkModels.{sink_model_of};
 ghost use Rattle.nap_draw.specs.Codes.{code_rule, text};
-ghost use Rattle.nap_draw.specs.Rule.{drawn};
-ghost use Rattle.nap_draw.specs.Doing.{Obeys};
+ghost use Rattle.nap_draw.specs.Rule.{rule_result};
+ghost use Rattle.nap_draw.specs.Execution.{AppliesControl};
 
 use crate::fault::DrawFault;
 use crate::work::Work;
 use nap_codes::CharSet;
-use nap_list::{Batch, BatchFault, Entry, LastChar, Pen, Sink, last_typed};
+use nap_list::{Batch, BatchFault, Entry, LastChar, Pen, Sink, last_char_of_text};
 
 impl Work {
-    /// Puts characters of a set and the format effectors of one byte among them in turn, as `text` and `control` do each.
-    /// An error tells how many of them were put, and leaves the work as it was.
+    /// Puts the entries of the bytes of a text: characters of a set, and format effectors of one byte among them, as
+    /// `text` and `control` put each. The error has the number of entries put; on an error the work is unchanged.
     #[inline(always)]
     pub fn characters<S: Sink>(
         &mut self,
@@ -26,9 +26,9 @@ impl Work {
         sink: &mut S,
     ) -> Result<(), BatchFault>
         requires agrees { StatesAgree self.old.state (S.state sink.old) }
-        requires made { All IsTyped codes.now }
-        ensures put { Put (shows_of S.Sink) (text self.old.state set codes.now) sink.old sink.new result }
-        ensures work { MatchResult result (λ _. self.new ≡ (drawn self.old (text self.old.state set codes.now)).work) (λ _. self.new ≡ self.old) }
+        requires made { All IsTextByte codes.now }
+        ensures put { Put (sink_model_of S.Sink) (text self.old.state set codes.now) sink.old sink.new result }
+        ensures work { MatchResult result (λ _. self.new ≡ (rule_result self.old (text self.old.state set codes.now)).work) (λ _. self.new ≡ self.old) }
         ensures agree { OnOk result (StatesAgree self.new.state (S.state sink.new)) }
     {
         let drawing = &self.state.drawing;
@@ -43,11 +43,11 @@ impl Work {
             return Ok(());
         };
         self.state.drawing.pen = Pen::After;
-        self.state.last = last_typed(set, *code);
+        self.state.last = last_char_of_text(set, *code);
         Ok(())
     }
 
-    /// Puts a character; the pen isn't known after it.
+    /// Puts a character. Afterwards the pen is at a position that only a terminal knows.
     pub(crate) fn character<S: Sink>(
         &mut self,
         set: CharSet,
@@ -56,7 +56,7 @@ impl Work {
     ) -> Result<(), DrawFault>
         requires agrees { StatesAgree self.old.state (S.state sink.old) }
         requires made { IsCode code }
-        ensures { Obeys S.Sink (code_rule self.old (codes.Char set code)) self.old self.new sink.old sink.new result }
+        ensures { AppliesControl S.Sink (code_rule self.old (codes.Char set code)) self.old self.new sink.old sink.new result }
     {
         let hand = self.hand();
         self.put(Entry::Char { set, code, hand }, sink)?;

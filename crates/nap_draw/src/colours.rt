@@ -1,10 +1,10 @@
-//! SELECT COLOR and SET COLOR: the colour modes and the colour map.
+//! SELECT COLOR and SET COLOR (PROFILE.md, Colours).
 ghost use Rattle.std.specs.Prelude.{◌≡◌};
-ghost use Rattle.nap_values.specs.Operands.{carried};
+ghost use Rattle.nap_values.specs.Operands.{operand_words};
 ghost use Rattle.nap_list.specs.Agreement.{StatesAgree};
 ghost use Rattle.nap_draw.specs.Operands.{addresses};
-ghost use Rattle.nap_draw.specs.Rule.{selected, maps, with_drawing, rule};
-ghost use Rattle.nap_draw.specs.Doing.{Does, Sets, quiet};
+ghost use Rattle.nap_draw.specs.Rule.{selected_colour, map_rule, with_drawing, rule};
+ghost use Rattle.nap_draw.specs.Execution.{ActsByRule, SetsWork, clears_nothing};
 
 use crate::fault::DrawFault;
 use crate::work::Work;
@@ -14,16 +14,16 @@ use nap_values::{Addr, Domain, Grb, colour_bytes, single_bytes};
 
 impl Work {
     pub(crate) fn select_color(&mut self, run: &[u8]) -> Result<(), DrawFault>
-        ensures { Sets (rule self.old Opcode.SelectColor (carried run.now)) self.old self.new result }
+        ensures { SetsWork (rule self.old Opcode.SelectColor (operand_words run.now)) self.old self.new result }
     {
         let base = self.base();
-        self.state.drawing.colour = selected(base, self.domain, run);
+        self.state.drawing.colour = selected_colour(base, self.domain, run);
         Ok(())
     }
 
     pub(crate) fn set_color<S: Sink>(&mut self, run: &[u8], sink: &mut S) -> Result<(), DrawFault>
         requires { StatesAgree self.old.state (S.state sink.old) }
-        ensures { Does S.Sink quiet (rule self.old Opcode.SetColor (carried run.now)) self.old self.new sink.old sink.new result }
+        ensures { ActsByRule S.Sink clears_nothing (rule self.old Opcode.SetColor (operand_words run.now)) self.old self.new sink.old sink.new result }
     {
         let size = self.domain.multi();
         if run.is_empty() {
@@ -35,31 +35,32 @@ impl Work {
         let grb = colour_bytes(run);
         match self.colour() {
             Colour::Own(_) => {
-                self.become_direct(grb);
+                self.set_direct_colour(grb);
                 Ok(())
             }
             Colour::Direct(_) => {
-                self.become_direct(grb);
+                self.set_direct_colour(grb);
                 Ok(())
             }
-            Colour::Front(addr) => self.map(addr, grb, sink),
-            Colour::Pair(addr, _) => self.map(addr, grb, sink),
+            Colour::Front(addr) => self.put_map(addr, grb, sink),
+            Colour::Pair(addr, _) => self.put_map(addr, grb, sink),
             Colour::ByReset(_) => Err(DrawFault::NoAddress),
         }
     }
 
-    /// A new colour of mode 0.
-    fn become_direct(&mut self, grb: Grb)
+    /// Sets the colour of mode 0 to a direct colour.
+    fn set_direct_colour(&mut self, grb: Grb)
         ensures { self.new ≡ with_drawing self.old (record self.old.state.drawing { base = Base.Direct grb; colour = Colour.Direct grb }) }
     {
         self.state.drawing.base = Base::Direct(grb);
         self.state.drawing.colour = Colour::Direct(grb);
     }
 
-    /// A new colour at the address; one that is known there adds nothing.
-    fn map<S: Sink>(&mut self, addr: Addr, grb: Grb, sink: &mut S) -> Result<(), DrawFault>
+    /// Sets the colour at an address. Puts no entry if it is known to be there already (PROFILE.md, Known colours of
+    /// the map).
+    fn put_map<S: Sink>(&mut self, addr: Addr, grb: Grb, sink: &mut S) -> Result<(), DrawFault>
         requires { StatesAgree self.old.state (S.state sink.old) }
-        ensures { Does S.Sink quiet (maps self.old addr grb) self.old self.new sink.old sink.new result }
+        ensures { ActsByRule S.Sink clears_nothing (map_rule self.old addr grb) self.old self.new sink.old sink.new result }
     {
         if self.state.known.has(addr, grb) {
             return Ok(());
@@ -71,9 +72,9 @@ impl Work {
     }
 }
 
-/// The colour that the operands select.
-fn selected(base: Base, domain: Domain, run: &[u8]) -> Colour
-    ensures { result ≡ selected base (addresses domain.single (carried run.now)) }
+/// Returns the colour that the operands of SELECT COLOR select.
+fn selected_colour(base: Base, domain: Domain, run: &[u8]) -> Colour
+    ensures { result ≡ selected_colour base (addresses domain.single (operand_words run.now)) }
 {
     let size = domain.single();
     let mut addresses = run.chunks(usize::from(size));

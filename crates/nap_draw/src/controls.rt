@@ -1,7 +1,7 @@
-//! What each character and each control does by itself (G sets, C0 and C1 sets).
+//! The rule of each character and control (PROFILE.md, Characters and controls).
 ghost use Rattle.nap_list.specs.Agreement.{StatesAgree};
 ghost use Rattle.nap_draw.specs.Codes.{code_rule, IsMade};
-ghost use Rattle.nap_draw.specs.Doing.{Obeys};
+ghost use Rattle.nap_draw.specs.Execution.{AppliesControl};
 
 use crate::fault::DrawFault;
 use crate::work::Work;
@@ -9,11 +9,15 @@ use nap_codes::Code;
 use nap_list::{CharSize, Definition, Entry, Pen, Sink};
 
 impl Work {
-    /// Each code by its own row.
-    pub(crate) fn obey<S: Sink>(&mut self, code: &Code, sink: &mut S) -> Result<(), DrawFault>
+    /// Executes a code by the rule of its row.
+    pub(crate) fn apply_control<S: Sink>(
+        &mut self,
+        code: &Code,
+        sink: &mut S,
+    ) -> Result<(), DrawFault>
         requires agrees { StatesAgree self.old.state (S.state sink.old) }
         requires made { IsMade code.now }
-        ensures { Obeys S.Sink (code_rule self.old code.now) self.old self.new sink.old sink.new result }
+        ensures { AppliesControl S.Sink (code_rule self.old code.now) self.old self.new sink.old sink.new result }
     {
         let hand = self.hand();
         let pen = hand.pen;
@@ -23,16 +27,20 @@ impl Work {
             Code::Char(set, code) => return self.character(set, code, sink),
             Code::Repeat(count) => return self.repeat(count, sink),
             Code::ToEol => return self.repeat_to_end(sink),
-            Code::DefGlyph(code) => return self.begin(Definition::Glyph(code), sink),
-            Code::DefMask(mask) => return self.begin(Definition::Mask(mask), sink),
-            Code::End | Code::DefMacro { .. } => return self.end(sink),
+            Code::DefGlyph(code) => return self.begin_definition(Definition::Glyph(code), sink),
+            Code::DefMask(mask) => return self.begin_definition(Definition::Mask(mask), sink),
+            Code::End | Code::DefMacro { .. } => return self.end_definition(sink),
             Code::Step(step) => {
-                return self.single(Entry::TextMove { step, hand }, Pen::After, sink);
+                return self.put_and_set_pen(Entry::TextMove { step, hand }, Pen::After, sink);
             }
-            Code::Clear => return self.single(Entry::Clear { pen }, Pen::After, sink),
-            Code::Bell => return self.single(Entry::Bell, pen, sink),
-            Code::BlinkMark(on) => return self.single(Entry::BlinkMark { on, colour }, pen, sink),
-            Code::Cursor(kind) => return self.single(Entry::Cursor(kind), pen, sink),
+            Code::Clear => return self.put_and_set_pen(Entry::Clear { pen }, Pen::After, sink),
+            Code::Bell => return self.put_and_set_pen(Entry::Bell, pen, sink),
+            Code::BlinkMark(on) => return self.put_and_set_pen(
+                Entry::BlinkMark { on, colour },
+                pen,
+                sink,
+            ),
+            Code::Cursor(kind) => return self.put_and_set_pen(Entry::Cursor(kind), pen, sink),
             Code::Named(size) => look.size = CharSize::Named(size),
             Code::Reverse(on) => look.reverse = on,
             Code::Underline(on) => look.underline = on,

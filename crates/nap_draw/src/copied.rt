@@ -1,23 +1,23 @@
-//! A character, or any code but an opcode, upon a copy of the work.
+//! Execution of a character or a control on a copy of the work.
 ghost use Rattle.std.specs.Prelude.{◌≡◌, true, false, OnOk, IfOk, IsErrOf};
 ghost use Rattle.nap_codes.specs.declared.code.Code.TheVariants as codes;
 ghost use Rattle.nap_list.specs.Entry.{IsCode};
 ghost use Rattle.nap_list.specs.Agreement.{StatesAgree};
 ghost use Rattle.nap_draw.specs.Acts.{WantsBy};
 ghost use Rattle.nap_draw.specs.Codes.{code_rule, IsMade};
-ghost use Rattle.nap_draw.specs.Draws.{Draws, quietly};
+ghost use Rattle.nap_draw.specs.Draws.{Draws, without_clear};
 
 use crate::fault::DrawFault;
 use crate::work::Work;
 use nap_codes::{CharSet, Code};
 use nap_list::Sink;
 
-/// Puts a character of the set, with its byte from `20` to `7F`, and gives what it leaves; the work that is passed stays as
-/// it was.
+/// Returns the work after a character of the set, whose byte is from `20` to `7F`, and puts its entry into the sink;
+/// the work passed is unchanged.
 pub fn text<S: Sink>(work: &Work, set: CharSet, code: u8, sink: &mut S) -> Result<Work, DrawFault>
     requires agrees { StatesAgree work.now.state (S.state sink.old) }
     requires made { IsCode code }
-    ensures draws { Draws S.took S.broke S.failed (code_rule work.now (codes.Char set code)) sink.old sink.new (quietly result) }
+    ensures draws { Draws S.took S.broke S.failed (code_rule work.now (codes.Char set code)) sink.old sink.new (without_clear result) }
     ensures agree { IfOk result (λ next. StatesAgree next.state (S.state sink.new)) }
     ensures memory { IsErrOf result DrawFault.Memory → WantsBy S.Sink (code_rule work.now (codes.Char set code)) sink.old sink.new }
     ensures failed { IsErrOf result DrawFault.Sink → S.failed sink.new ≡ true }
@@ -28,12 +28,12 @@ pub fn text<S: Sink>(work: &Work, set: CharSet, code: u8, sink: &mut S) -> Resul
     Ok(next)
 }
 
-/// Does what a character or a control does (G sets, C0 and C1 sets), and gives what it leaves; the work that is passed
-/// stays as it was. Opcodes, operands and codes that are no part of the table change nothing.
+/// Returns the work after a character or a control, and puts its entries into the sink; the work passed is unchanged.
+/// Opcodes, operand words and codes without a rule change nothing (PROFILE.md, Characters and controls).
 pub fn control<S: Sink>(work: &Work, code: &Code, sink: &mut S) -> Result<Work, DrawFault>
     requires agrees { StatesAgree work.now.state (S.state sink.old) }
     requires made { IsMade code.now }
-    ensures draws { Draws S.took S.broke S.failed (code_rule work.now code.now) sink.old sink.new (quietly result) }
+    ensures draws { Draws S.took S.broke S.failed (code_rule work.now code.now) sink.old sink.new (without_clear result) }
     ensures agree { IfOk result (λ next. StatesAgree next.state (S.state sink.new)) }
     ensures memory { IsErrOf result DrawFault.Memory → WantsBy S.Sink (code_rule work.now code.now) sink.old sink.new }
     ensures failed { IsErrOf result DrawFault.Sink → S.failed sink.new ≡ true }

@@ -1,17 +1,17 @@
-//! Definitions of glyphs and of texture masks (C1 set).
+//! Definitions of glyphs and texture masks (PROFILE.md, Definitions of glyphs and masks).
 ghost use Rattle.std.specs.Prelude.{◌≡◌, ◌∷◌, [], ◌++◌, Ok};
 ghost use Rattle.nap_list.specs.Entry.{WellMade};
 ghost use Rattle.nap_list.specs.Agreement.{StatesAgree};
-ghost use Rattle.nap_draw.specs.Codes.{ended, opens};
-ghost use Rattle.nap_draw.specs.Doing.{Obeys, Put, start_of};
+ghost use Rattle.nap_draw.specs.Codes.{definition_ended, definition_result};
+ghost use Rattle.nap_draw.specs.Execution.{AppliesControl, Put, definition_start};
 
 use crate::fault::DrawFault;
 use crate::work::Work;
 use nap_list::{Definition, Entry, Sink, SinkFault};
 
-/// The entry that opens a definition.
-fn start_of(what: Definition) -> Entry
-    ensures { result ≡ start_of what }
+/// Returns the entry that opens a definition.
+fn definition_start(what: Definition) -> Entry
+    ensures { result ≡ definition_start what }
 {
     match what {
         Definition::Glyph(code) => Entry::GlyphStart(code),
@@ -20,39 +20,43 @@ fn start_of(what: Definition) -> Entry
 }
 
 impl Work {
-    /// END: ends the definition that is open, where one is.
-    pub(crate) fn end<S: Sink>(&mut self, sink: &mut S) -> Result<(), DrawFault>
+    /// Executes END: ends the open definition, if there is one.
+    pub(crate) fn end_definition<S: Sink>(&mut self, sink: &mut S) -> Result<(), DrawFault>
         requires { StatesAgree self.old.state (S.state sink.old) }
-        ensures { Obeys S.Sink (Ok (ended self.old)) self.old self.new sink.old sink.new result }
+        ensures { AppliesControl S.Sink (Ok (definition_ended self.old)) self.old self.new sink.old sink.new result }
     {
         if self.state.definition.is_none() {
             return Ok(());
         }
         self.put(Entry::DefEnd, sink)?;
-        self.go_back();
+        self.restore_saved();
         Ok(())
     }
 
-    /// DEF DRCS and DEF TEXTURE: opens a definition, after the end of the open one, if there is one.
-    pub(crate) fn begin<S: Sink>(&mut self, what: Definition, sink: &mut S) -> Result<(), DrawFault>
+    /// Executes DEF DRCS or DEF TEXTURE: ends the open definition, if there is one, and opens another.
+    pub(crate) fn begin_definition<S: Sink>(
+        &mut self,
+        what: Definition,
+        sink: &mut S,
+    ) -> Result<(), DrawFault>
         requires agrees { StatesAgree self.old.state (S.state sink.old) }
-        requires made { WellMade (start_of what) }
-        ensures { Obeys S.Sink (opens self.old (start_of what)) self.old self.new sink.old sink.new result }
+        requires made { WellMade (definition_start what) }
+        ensures { AppliesControl S.Sink (definition_result self.old (definition_start what)) self.old self.new sink.old sink.new result }
     {
         self.put_start(what, sink)?;
-        self.go_back();
-        self.state.step(&start_of(what));
+        self.restore_saved();
+        self.state.step(&definition_start(what));
         self.saved = self.domain;
         Ok(())
     }
 
-    /// Puts the end of the definition that is open, where one is, and the start of the next.
+    /// Puts the entry that ends the open definition, if there is one, and the entry that opens the next.
     fn put_start<S: Sink>(&self, what: Definition, sink: &mut S) -> Result<(), SinkFault>
         requires agrees { StatesAgree self.now.state (S.state sink.old) }
-        requires made { WellMade (start_of what) }
-        ensures { Put S.Sink ((ended self.now).entries ++ start_of what ∷ []) sink.old sink.new result }
+        requires made { WellMade (definition_start what) }
+        ensures { Put S.Sink ((definition_ended self.now).entries ++ definition_start what ∷ []) sink.old sink.new result }
     {
-        let start = start_of(what);
+        let start = definition_start(what);
         if self.state.definition.is_none() {
             return self.put(start, sink);
         }
@@ -60,9 +64,9 @@ impl Work {
         sink.put(start)
     }
 
-    /// The values and the lengths of operands are again those before the definition that is open, where one is.
-    fn go_back(&mut self)
-        ensures { self.new ≡ (ended self.old).work }
+    /// Restores the attributes and operand lengths that the open definition saved, if there is one.
+    fn restore_saved(&mut self)
+        ensures { self.new ≡ (definition_ended self.old).work }
     {
         if self.state.definition.is_some() {
             self.state.step(&Entry::DefEnd);

@@ -1,8 +1,8 @@
-//! DOMAIN: the lengths of operands, and the logical pel.
+//! DOMAIN: the operand lengths and the logical pel (PROFILE.md, DOMAIN).
 ghost use Rattle.std.specs.Prelude.{◌≡◌};
-ghost use Rattle.nap_values.specs.Operands.{carried};
+ghost use Rattle.nap_values.specs.Operands.{operand_words};
 ghost use Rattle.nap_draw.specs.Rule.{domain_in, rule};
-ghost use Rattle.nap_draw.specs.Doing.{Sets};
+ghost use Rattle.nap_draw.specs.Execution.{SetsWork};
 
 use crate::fault::DrawFault;
 use crate::operands::first_move;
@@ -10,7 +10,7 @@ use crate::work::Work;
 use nap_codes::Opcode;
 use nap_values::{Domain, Word};
 
-/// The lengths of operands that the word gives.
+/// Returns the operand lengths that the word of DOMAIN sets.
 fn domain_in(word: Word) -> Domain
     ensures { result ≡ domain_in word }
 {
@@ -20,7 +20,7 @@ fn domain_in(word: Word) -> Domain
 
 impl Work {
     pub(crate) fn set_domain(&mut self, run: &[u8]) -> Result<(), DrawFault>
-        ensures { Sets (rule self.old Opcode.Domain (carried run.now)) self.old self.new result }
+        ensures { SetsWork (rule self.old Opcode.Domain (operand_words run.now)) self.old self.new result }
     {
         let Some((word, words)) = run.split_first() else {
             return Err(DrawFault::Missing);

@@ -1,4 +1,4 @@
-//! Why a code is refused.
+//! The refusals of a code.
 ghost use Rattle.std.specs.Prelude.{◌≡◌};
 ghost use Rattle.nap_draw.specs.declared.fault.DrawFault.TheVariants.{Memory};
 ghost use Rattle.nap_draw.specs.Draws.{fault_of};
@@ -7,38 +7,38 @@ use nap_list::{BatchFault, SinkFault};
 use std::alloc::AllocError;
 use thiserror::Error;
 
-/// Why a code is refused. Where several hold of an opcode, the first is answered of `ThreeD`, `Missing`, `ManyColours`,
-/// `NoAddress`, `ManyPoints`, `PenUnknown` and `Outside` (our profile).
+/// Why a code is refused. If several apply to an opcode, the first in this order is given: `ThreeD`, `Missing`,
+/// `ManyColours`, `NoAddress`, `ManyPoints`, `PenUnknown`, `Outside` (PROFILE.md, Refusals).
 #[derive(Clone, Copy, PartialEq, Eq, Debug, Drop, Error)]
 pub enum DrawFault {
-    /// DOMAIN asks for three dimensions.
+    /// DOMAIN in three dimensions.
     #[error("three dimensions are asked for")]
     ThreeD,
-    /// An operand that is needed is wholly missing.
+    /// A required operand is missing entirely.
     #[error("an operand is missing")]
     Missing,
-    /// SET COLOR has more than one operand.
+    /// SET COLOR with more than one operand.
     #[error("more than one colour is set")]
     ManyColours,
-    /// A point lies outside the unit square.
+    /// A point isn't on the unit screen.
     #[error("a point lies outside the unit square")]
     Outside,
-    /// Drawing would go on from a pen whose place isn't known, as text, a field or a reset leaves it.
+    /// An opcode starts at the pen, whose position isn't known after text, RESET, CS or FIELD.
     #[error("the pen's place isn't known")]
     PenUnknown,
-    /// SET COLOR has no address to set, since RESET chose the colour.
+    /// SET COLOR without an address to set, since a reset selected the colour.
     #[error("there is no address to set")]
     NoAddress,
-    /// An arc or a polygon has too many points (our profile).
+    /// More displacements than an arc or polygon may have.
     #[error("a shape has too many points")]
     ManyPoints,
-    /// The last entry is no character that could be repeated.
+    /// REPEAT or REPEAT TO EOL where the last entry isn't a character.
     #[error("there is no character to repeat")]
     NothingToRepeat,
-    /// There was no memory.
+    /// Memory ran out.
     #[error("no memory")]
     Memory,
-    /// The device behind the sink failed.
+    /// The sink's device failed.
     #[error("the device behind the sink failed")]
     Sink,
 }

@@ -1,9 +1,9 @@
-//! FIELD: the whole unit screen, or a part of it.
+//! FIELD: the whole unit screen, or a part of it (PROFILE.md, Opcodes).
 ghost use Rattle.std.specs.Prelude.{◌≡◌};
-ghost use Rattle.nap_values.specs.Operands.{carried};
+ghost use Rattle.nap_values.specs.Operands.{operand_words};
 ghost use Rattle.nap_list.specs.Agreement.{StatesAgree};
-ghost use Rattle.nap_draw.specs.Rule.{moves_of, part, area_of, rule};
-ghost use Rattle.nap_draw.specs.Doing.{Does, quiet};
+ghost use Rattle.nap_draw.specs.Rule.{moves_of, area_part, area_of, rule};
+ghost use Rattle.nap_draw.specs.Execution.{ActsByRule, clears_nothing};
 
 use crate::fault::DrawFault;
 use crate::spans::{Span, span_by};
@@ -15,16 +15,16 @@ use nap_values::{Move, Point, multi_bytes};
 impl Work {
     pub(crate) fn field<S: Sink>(&mut self, run: &[u8], sink: &mut S) -> Result<(), DrawFault>
         requires { StatesAgree self.old.state (S.state sink.old) }
-        ensures { Does S.Sink quiet (rule self.old Opcode.Field (carried run.now)) self.old self.new sink.old sink.new result }
+        ensures { ActsByRule S.Sink clears_nothing (rule self.old Opcode.Field (operand_words run.now)) self.old self.new sink.old sink.new result }
     {
         let area = self.area_of(run)?;
         let pen = self.pen();
-        self.single(Entry::Field { area, pen }, Pen::After, sink)
+        self.put_and_set_pen(Entry::Field { area, pen }, Pen::After, sink)
     }
 
-    /// The whole square, or a part from the pen on, or from a point on.
+    /// Returns the field that the operands give: the whole unit screen, or a part from the pen or from a point.
     fn area_of(&self, run: &[u8]) -> Result<Area, DrawFault>
-        ensures { result ≡ area_of self.now (moves_of self.now (carried run.now)) }
+        ensures { result ≡ area_of self.now (moves_of self.now (operand_words run.now)) }
     {
         let size = self.domain.multi();
         let mut operands = run.chunks(usize::from(size));
@@ -33,14 +33,14 @@ impl Work {
         };
         let first = multi_bytes(first);
         match operands.next() {
-            None => part(Some(self.pen_point()?), first),
-            Some(second) => part(first.point(), multi_bytes(second)),
+            None => area_part(Some(self.pen_point()?), first),
+            Some(second) => area_part(first.point(), multi_bytes(second)),
         }
     }
 }
 
-fn part(from: Option<Point>, step: Move) -> Result<Area, DrawFault>
-    ensures { result ≡ part from step }
+fn area_part(from: Option<Point>, step: Move) -> Result<Area, DrawFault>
+    ensures { result ≡ area_part from step }
 {
     match span_by(from, step) {
         Some(Span { from, to }) => Ok(Area::Part { from, to }),

@@ -1,4 +1,5 @@
-//! The rule of each code that draws: its entries, and the work that it leaves.
+//! The rules of opcodes, characters and controls: which entries each adds, and the work after it (PROFILE.md, Opcodes,
+//! and Characters and controls).
 #![tactic(auto)]
 
 mod act;
@@ -23,7 +24,7 @@ mod points;
 mod putting;
 mod rects;
 mod repeating;
-mod room;
+mod scratch;
 mod shapes;
 mod spans;
 mod times;

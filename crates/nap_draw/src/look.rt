@@ -1,11 +1,11 @@
-//! RESET, TEXT and TEXTURE.
+//! RESET, TEXT and TEXTURE (PROFILE.md, RESET, and Opcodes).
 ghost use Rattle.std.specs.Prelude.{◌≡◌, ◌%◌, ◌==◌, if◌then◌else◌, slice_get, unwrap_or, option_map};
-ghost use Rattle.nap_values.specs.Operands.{carried};
+ghost use Rattle.nap_values.specs.Operands.{operand_words};
 ghost use Rattle.std.specs.Option.{option_or};
 ghost use Rattle.nap_list.specs.Agreement.{StatesAgree};
 ghost use Rattle.nap_draw.specs.Rule.{start_domain, rule};
-ghost use Rattle.nap_draw.specs.Acts.{told};
-ghost use Rattle.nap_draw.specs.Doing.{Does, Sets};
+ghost use Rattle.nap_draw.specs.Acts.{clears_macros};
+ghost use Rattle.nap_draw.specs.Execution.{ActsByRule, SetsWork};
 
 use crate::fault::DrawFault;
 use crate::operands::{first_move, word_at, word_or, words_from};
@@ -15,10 +15,10 @@ use nap_list::{CharSize, Entry, Sink, TextLook, Texture};
 use nap_values::{Domain, Move, Word};
 
 impl Work {
-    /// Says whether all macros are cleared.
+    /// Executes RESET, and returns whether all macros are cleared.
     pub(crate) fn reset<S: Sink>(&mut self, run: &[u8], sink: &mut S) -> Result<bool, DrawFault>
         requires { StatesAgree self.old.state (S.state sink.old) }
-        ensures { Does S.Sink told (rule self.old Opcode.Reset (carried run.now)) self.old self.new sink.old sink.new result }
+        ensures { ActsByRule S.Sink clears_macros (rule self.old Opcode.Reset (operand_words run.now)) self.old self.new sink.old sink.new result }
     {
         let first = word_at(run, 0);
         let second = word_at(run, 1);
@@ -33,7 +33,7 @@ impl Work {
     }
 
     pub(crate) fn set_text(&mut self, run: &[u8]) -> Result<(), DrawFault>
-        ensures { Sets (rule self.old Opcode.Text (carried run.now)) self.old self.new result }
+        ensures { SetsWork (rule self.old Opcode.Text (operand_words run.now)) self.old self.new result }
     {
         let size = first_move(self.domain, words_from(run, 2));
         let look = text_after(self.look(), run, size);
@@ -42,7 +42,7 @@ impl Work {
     }
 
     pub(crate) fn set_texture(&mut self, run: &[u8]) -> Result<(), DrawFault>
-        ensures { Sets (rule self.old Opcode.Texture (carried run.now)) self.old self.new result }
+        ensures { SetsWork (rule self.old Opcode.Texture (operand_words run.now)) self.old self.new result }
     {
         let mask = first_move(self.domain, words_from(run, 1));
         let texture = texture_after(self.texture(), run, mask);
@@ -51,7 +51,7 @@ impl Work {
     }
 }
 
-/// The lengths of operands after a reset with this first word.
+/// Returns the operand lengths after RESET with this first word.
 fn domain_after(domain: Domain, first: Word) -> Domain
     ensures { result ≡ (if first % 2 == 1 then start_domain else domain) }
 {
@@ -62,9 +62,9 @@ fn domain_after(domain: Domain, first: Word) -> Domain
     }
 }
 
-/// The look with the words that the run has, and with the size.
+/// Returns the text attributes with the words of the run, if it has them, and with the size.
 fn text_after(look: TextLook, run: &[u8], size: Option<Move>) -> TextLook
-    ensures { result ≡ record look { first = unwrap_or (slice_get (carried run.now) 0) look.first; second = unwrap_or (slice_get (carried run.now) 1) look.second; size = unwrap_or (option_map CharSize.Given size) look.size } }
+    ensures { result ≡ record look { first = unwrap_or (slice_get (operand_words run.now) 0) look.first; second = unwrap_or (slice_get (operand_words run.now) 1) look.second; size = unwrap_or (option_map CharSize.Given size) look.size } }
 {
     TextLook {
         first: word_or(run, 0, look.first),
@@ -77,9 +77,9 @@ fn text_after(look: TextLook, run: &[u8], size: Option<Move>) -> TextLook
     }
 }
 
-/// The texture with the word that the run has, and with the mask.
+/// Returns the texture with the word of the run, if it has one, and with the mask.
 fn texture_after(texture: Texture, run: &[u8], mask: Option<Move>) -> Texture
-    ensures { result ≡ record { word = unwrap_or (slice_get (carried run.now) 0) texture.word; mask = option_or mask texture.mask } }
+    ensures { result ≡ record { word = unwrap_or (slice_get (operand_words run.now) 0) texture.word; mask = option_or mask texture.mask } }
 {
     Texture {
         word: word_or(run, 0, texture.word),

@@ -1,21 +1,21 @@
-//! POINT SET and POINT.
-ghost use Rattle.nap_values.specs.Operands.{carried};
+//! POINT SET and POINT, absolute and relative.
+ghost use Rattle.nap_values.specs.Operands.{operand_words};
 ghost use Rattle.nap_list.specs.Agreement.{StatesAgree};
 ghost use Rattle.nap_draw.specs.Rule.{rule};
-ghost use Rattle.nap_draw.specs.Doing.{Does, Sets, quiet};
+ghost use Rattle.nap_draw.specs.Execution.{ActsByRule, SetsWork, clears_nothing};
 
 use crate::fault::DrawFault;
-use crate::operands::{some_operand, start};
-use crate::room::{points_into, steps_into};
+use crate::operands::{require_operand, require_start};
+use crate::scratch::{points_into, steps_into};
 use crate::work::Work;
 use nap_codes::Opcode;
 use nap_list::{Pen, Sink};
 use nap_values::{Point, multi_bytes};
 
 impl Work {
-    /// The pen goes to each of the points.
+    /// POINT SET ABS: moves the pen to each point.
     pub(crate) fn point_set_abs(&mut self, run: &[u8]) -> Result<(), DrawFault>
-        ensures { Sets (rule self.old Opcode.PointSetAbs (carried run.now)) self.old self.new result }
+        ensures { SetsWork (rule self.old Opcode.PointSetAbs (operand_words run.now)) self.old self.new result }
     {
         if self.domain.multi() != 3 || run.len() != 3 {
             return self.point_set_each(run);
@@ -27,12 +27,12 @@ impl Work {
         Ok(())
     }
 
-    /// The same of operands of any number and size.
+    /// POINT SET ABS for operands of any length and number.
     #[inline(never)]
     fn point_set_each(&mut self, run: &[u8]) -> Result<(), DrawFault>
-        ensures { Sets (rule self.old Opcode.PointSetAbs (carried run.now)) self.old self.new result }
+        ensures { SetsWork (rule self.old Opcode.PointSetAbs (operand_words run.now)) self.old self.new result }
     {
-        some_operand(self, run)?;
+        require_operand(self, run)?;
         let mut pen = self.pen();
         for operand in run.chunks(usize::from(self.domain.multi())) {
             let Some(point) = multi_bytes(operand).point() else {
@@ -44,11 +44,11 @@ impl Work {
         Ok(())
     }
 
-    /// The pen goes on to each of the points.
+    /// POINT SET REL: moves the pen by each displacement.
     pub(crate) fn point_set_rel(&mut self, run: &[u8]) -> Result<(), DrawFault>
-        ensures { Sets (rule self.old Opcode.PointSetRel (carried run.now)) self.old self.new result }
+        ensures { SetsWork (rule self.old Opcode.PointSetRel (operand_words run.now)) self.old self.new result }
     {
-        let mut at = start(self, run)?;
+        let mut at = require_start(self, run)?;
         for operand in run.chunks(usize::from(self.domain.multi())) {
             let Some(point) = at.by(multi_bytes(operand)) else {
                 return Err(DrawFault::Outside);
@@ -61,29 +61,29 @@ impl Work {
 
     pub(crate) fn point_abs<S: Sink>(
         &mut self,
-        room: &mut Vec<Point>,
+        scratch: &mut Vec<Point>,
         run: &[u8],
         sink: &mut S,
     ) -> Result<(), DrawFault>
         requires { StatesAgree self.old.state (S.state sink.old) }
-        ensures { Does S.Sink quiet (rule self.old Opcode.PointAbs (carried run.now)) self.old self.new sink.old sink.new result }
+        ensures { ActsByRule S.Sink clears_nothing (rule self.old Opcode.PointAbs (operand_words run.now)) self.old self.new sink.old sink.new result }
     {
-        some_operand(self, run)?;
-        points_into(room, self.domain, run)?;
-        self.dots(room, sink)
+        require_operand(self, run)?;
+        points_into(scratch, self.domain, run)?;
+        self.draw_points(scratch, sink)
     }
 
     pub(crate) fn point_rel<S: Sink>(
         &mut self,
-        room: &mut Vec<Point>,
+        scratch: &mut Vec<Point>,
         run: &[u8],
         sink: &mut S,
     ) -> Result<(), DrawFault>
         requires { StatesAgree self.old.state (S.state sink.old) }
-        ensures { Does S.Sink quiet (rule self.old Opcode.PointRel (carried run.now)) self.old self.new sink.old sink.new result }
+        ensures { ActsByRule S.Sink clears_nothing (rule self.old Opcode.PointRel (operand_words run.now)) self.old self.new sink.old sink.new result }
     {
-        let from = start(self, run)?;
-        steps_into(room, from, self.domain, run)?;
-        self.dots(room, sink)
+        let from = require_start(self, run)?;
+        steps_into(scratch, from, self.domain, run)?;
+        self.draw_points(scratch, sink)
     }
 }

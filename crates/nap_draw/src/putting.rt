@@ -1,29 +1,29 @@
-//! Putting the entries of an opcode into a sink, one after another, up to the first that it doesn't take.
+//! Putting of the entries of an opcode one after another, up to the first that the sink doesn't take.
 ghost use Rattle.std.specs.Prelude.{◌≡◌, ◌+◌, ◌<◌, None, map, length, IfOk};
-ghost use Rattle.nap_values.specs.Operands.{carried};
+ghost use Rattle.nap_values.specs.Operands.{operand_words};
 ghost use Rattle.nap_list.specs.State.{AllFit};
 ghost use Rattle.nap_list.specs.declared.entry.Entry.TheVariants.{Wait};
 ghost use Rattle.nap_draw.specs.Operands.{operands};
-ghost use Rattle.nap_draw.specs.Geometry.{end_of};
+ghost use Rattle.nap_draw.specs.Geometry.{last_or};
 ghost use Rattle.nap_draw.specs.Rule.{blink};
-ghost use Rattle.nap_draw.specs.Doing.{Put, linked, paired, stroke_on};
+ghost use Rattle.nap_draw.specs.Execution.{Put, chain_spans, pair_spans, figure_entry};
 
 use crate::operands::word_at;
 use crate::spans::{Figure, Span};
 use nap_list::{Drawing, Entry, Sink, SinkFault};
 use nap_values::{Domain, Point, Word, single_bytes};
 
-/// The figure from this point to the first, and on from its end to each further one. Gives the last span.
-pub(crate) fn put_linked<S: Sink>(
+/// Puts the figure from `from` to the first point, and from its end to each further point. Returns the last span.
+pub(crate) fn put_chain<S: Sink>(
     figure: Figure,
     from: Point,
     points: &[Point],
     drawing: &Drawing,
     sink: &mut S,
 ) -> Result<Option<Span>, SinkFault>
-    requires { AllFit (S.state sink.old) (map (stroke_on figure drawing.now) (linked figure from points.now)) }
-    ensures put { Put S.Sink (map (stroke_on figure drawing.now) (linked figure from points.now)) sink.old sink.new result }
-    ensures last { IfOk result (λ last. last ≡ end_of None (linked figure from points.now)) }
+    requires { AllFit (S.state sink.old) (map (figure_entry figure drawing.now) (chain_spans figure from points.now)) }
+    ensures put { Put S.Sink (map (figure_entry figure drawing.now) (chain_spans figure from points.now)) sink.old sink.new result }
+    ensures last { IfOk result (λ last. last ≡ last_or None (chain_spans figure from points.now)) }
 {
     let mut at = from;
     let mut last = None;
@@ -35,16 +35,16 @@ pub(crate) fn put_linked<S: Sink>(
     Ok(last)
 }
 
-/// The figure between the points of each pair. Gives the last span.
-pub(crate) fn put_paired<S: Sink>(
+/// Puts the figure between the two points of each pair. Returns the last span.
+pub(crate) fn put_pairs<S: Sink>(
     figure: Figure,
     points: &[Point],
     drawing: &Drawing,
     sink: &mut S,
 ) -> Result<Option<Span>, SinkFault>
-    requires { AllFit (S.state sink.old) (map (stroke_on figure drawing.now) (paired points.now)) }
-    ensures put { Put S.Sink (map (stroke_on figure drawing.now) (paired points.now)) sink.old sink.new result }
-    ensures last { IfOk result (λ last. last ≡ end_of None (paired points.now)) }
+    requires { AllFit (S.state sink.old) (map (figure_entry figure drawing.now) (pair_spans points.now)) }
+    ensures put { Put S.Sink (map (figure_entry figure drawing.now) (pair_spans points.now)) sink.old sink.new result }
+    ensures last { IfOk result (λ last. last ≡ last_or None (pair_spans points.now)) }
 {
     let mut last = None;
     for pair in points.chunks_exact(2) {
@@ -55,10 +55,10 @@ pub(crate) fn put_paired<S: Sink>(
     Ok(last)
 }
 
-/// A pause for each word.
+/// Puts a Wait for each word.
 pub(crate) fn put_pauses<S: Sink>(run: &[u8], sink: &mut S) -> Result<(), SinkFault>
-    requires { AllFit (S.state sink.old) (map Wait (carried run.now)) }
-    ensures { Put S.Sink (map Wait (carried run.now)) sink.old sink.new result }
+    requires { AllFit (S.state sink.old) (map Wait (operand_words run.now)) }
+    ensures { Put S.Sink (map Wait (operand_words run.now)) sink.old sink.new result }
 {
     for byte in run {
         sink.put(Entry::Wait(Word::of_byte(*byte)))?;
@@ -66,15 +66,15 @@ pub(crate) fn put_pauses<S: Sink>(run: &[u8], sink: &mut S) -> Result<(), SinkFa
     Ok(())
 }
 
-/// A blink for each group of BLINK.
+/// Puts a Blink for each group of operands of BLINK.
 pub(crate) fn put_blinks<S: Sink>(
     domain: Domain,
     drawing: &Drawing,
     run: &[u8],
     sink: &mut S,
 ) -> Result<(), SinkFault>
-    requires { AllFit (S.state sink.old) (map (blink domain.single drawing.now.colour) (operands (domain.single + 3) (carried run.now))) }
-    ensures { Put S.Sink (map (blink domain.single drawing.now.colour) (operands (domain.single + 3) (carried run.now))) sink.old sink.new result }
+    requires { AllFit (S.state sink.old) (map (blink domain.single drawing.now.colour) (operands (domain.single + 3) (operand_words run.now))) }
+    ensures { Put S.Sink (map (blink domain.single drawing.now.colour) (operands (domain.single + 3) (operand_words run.now))) sink.old sink.new result }
 {
     for group in run.chunks(usize::from(domain.single()) + 3) {
         sink.put(blink_of(domain, drawing, group))?;
@@ -82,10 +82,10 @@ pub(crate) fn put_blinks<S: Sink>(
     Ok(())
 }
 
-/// The blink of one group: an address, and three words.
+/// Returns the Blink of a group: an address and three words.
 fn blink_of(domain: Domain, drawing: &Drawing, group: &[u8]) -> Entry
     requires { 0 < length group.now }
-    ensures { result ≡ blink domain.single drawing.now.colour (carried group.now) }
+    ensures { result ≡ blink domain.single drawing.now.colour (operand_words group.now) }
 {
     let size = domain.single();
     let (address, times) = group.split_at(usize::from(size).min(group.len()));

@@ -1,22 +1,22 @@
-//! The controls that repeat the last character (C1 set).
+//! REPEAT and REPEAT TO EOL (PROFILE.md, Characters and controls).
 ghost use Rattle.nap_codes.specs.declared.code.Code.TheVariants as codes;
 ghost use Rattle.nap_list.specs.Agreement.{StatesAgree};
 ghost use Rattle.nap_draw.specs.Codes.{code_rule};
-ghost use Rattle.nap_draw.specs.Doing.{Obeys};
+ghost use Rattle.nap_draw.specs.Execution.{AppliesControl};
 
 use crate::fault::DrawFault;
 use crate::work::Work;
 use nap_list::{Entry, Pen, Sink};
 use nap_values::Word;
 
-/// The most copies that REPEAT makes.
+/// The greatest number of copies that REPEAT makes.
 const COPIES: usize = 63;
 
 impl Work {
-    /// REPEAT: the last character again, this many times.
+    /// REPEAT: puts the last character again, `operand_count` times.
     pub(crate) fn repeat<S: Sink>(&mut self, count: Word, sink: &mut S) -> Result<(), DrawFault>
         requires { StatesAgree self.old.state (S.state sink.old) }
-        ensures { Obeys S.Sink (code_rule self.old (codes.Repeat count)) self.old self.new sink.old sink.new result }
+        ensures { AppliesControl S.Sink (code_rule self.old (codes.Repeat count)) self.old self.new sink.old sink.new result }
     {
         let Some(last) = self.state.last else {
             return Err(DrawFault::NothingToRepeat);
@@ -29,15 +29,15 @@ impl Work {
         Ok(())
     }
 
-    /// REPEAT TO EOL: the last character again, up to the end of the line.
+    /// REPEAT TO EOL: puts the repetition of the last character to the end of the line.
     pub(crate) fn repeat_to_end<S: Sink>(&mut self, sink: &mut S) -> Result<(), DrawFault>
         requires { StatesAgree self.old.state (S.state sink.old) }
-        ensures { Obeys S.Sink (code_rule self.old codes.ToEol) self.old self.new sink.old sink.new result }
+        ensures { AppliesControl S.Sink (code_rule self.old codes.ToEol) self.old self.new sink.old sink.new result }
     {
         if self.state.last.is_none() {
             return Err(DrawFault::NothingToRepeat);
         }
         let hand = self.hand();
-        self.single(Entry::ToEol { hand }, Pen::After, sink)
+        self.put_and_set_pen(Entry::ToEol { hand }, Pen::After, sink)
     }
 }

@@ -1,12 +1,12 @@
-//! What is drawn from one point to another.
+//! Spans, and the figures drawn along them.
 ghost use Rattle.std.specs.Prelude.{◌≡◌, option_map};
 ghost use Rattle.nap_draw.specs.Geometry.{span_by};
-ghost use Rattle.nap_draw.specs.Doing.{stroke_on, stroke_end};
+ghost use Rattle.nap_draw.specs.Execution.{figure_entry, figure_end};
 
 use nap_list::{Drawing, Entry, corner};
 use nap_values::{Move, Point};
 
-/// From one point to another.
+/// A pair of points: from one to the other.
 #[derive(Clone, Copy, Drop)]
 pub(crate) struct Span {
     pub from: Point,
@@ -17,14 +17,14 @@ pub(crate) struct Span {
 #[derive(Clone, Copy, Drop)]
 pub(crate) enum Figure {
     Line,
-    /// A rectangle with the span's ends at two corners, filled or not.
+    /// A rectangle with the ends of the span as opposite corners, filled or not.
     Rect(bool),
 }
 
 impl Figure {
-    /// The figure from the one point to the other, with the values that stand.
+    /// Returns the entry of the figure from one point to the other, with the current attributes.
     pub(crate) fn entry(self, drawing: &Drawing, from: Point, to: Point) -> Entry
-        ensures { result ≡ stroke_on self drawing.now (record { from = from; to = to }) }
+        ensures { result ≡ figure_entry self drawing.now (record { from = from; to = to }) }
     {
         let ink = drawing.ink();
         match self {
@@ -38,9 +38,9 @@ impl Figure {
         }
     }
 
-    /// Where the pen is once the figure is drawn.
+    /// Returns the position of the pen after the figure.
     pub(crate) fn after(self, from: Point, to: Point) -> Point
-        ensures { result ≡ stroke_end self (record { from = from; to = to }) }
+        ensures { result ≡ figure_end self (record { from = from; to = to }) }
     {
         match self {
             Figure::Line => to,
@@ -48,9 +48,9 @@ impl Figure {
         }
     }
 
-    /// The same of the last span, where there is one.
+    /// Returns the position of the pen after the figure on the last span, if there is one.
     pub(crate) fn end(self, last: Option<Span>) -> Option<Point>
-        ensures { result ≡ option_map (stroke_end self) last }
+        ensures { result ≡ option_map (figure_end self) last }
     {
         let Span { from, to } = last?;
         Some(self.after(from, to))

@@ -1,8 +1,8 @@
 //! WAIT and BLINK.
-ghost use Rattle.nap_values.specs.Operands.{carried};
+ghost use Rattle.nap_values.specs.Operands.{operand_words};
 ghost use Rattle.nap_list.specs.Agreement.{StatesAgree};
 ghost use Rattle.nap_draw.specs.Rule.{rule};
-ghost use Rattle.nap_draw.specs.Doing.{Does, quiet};
+ghost use Rattle.nap_draw.specs.Execution.{ActsByRule, clears_nothing};
 
 use crate::fault::DrawFault;
 use crate::putting::{put_blinks, put_pauses};
@@ -13,7 +13,7 @@ use nap_list::{Entry, Sink};
 impl Work {
     pub(crate) fn wait<S: Sink>(&mut self, run: &[u8], sink: &mut S) -> Result<(), DrawFault>
         requires { StatesAgree self.old.state (S.state sink.old) }
-        ensures { Does S.Sink quiet (rule self.old Opcode.Wait (carried run.now)) self.old self.new sink.old sink.new result }
+        ensures { ActsByRule S.Sink clears_nothing (rule self.old Opcode.Wait (operand_words run.now)) self.old self.new sink.old sink.new result }
     {
         if run.is_empty() {
             return Ok(());
@@ -25,11 +25,11 @@ impl Work {
 
     pub(crate) fn blink<S: Sink>(&mut self, run: &[u8], sink: &mut S) -> Result<(), DrawFault>
         requires { StatesAgree self.old.state (S.state sink.old) }
-        ensures { Does S.Sink quiet (rule self.old Opcode.Blink (carried run.now)) self.old self.new sink.old sink.new result }
+        ensures { ActsByRule S.Sink clears_nothing (rule self.old Opcode.Blink (operand_words run.now)) self.old self.new sink.old sink.new result }
     {
         if run.is_empty() {
             let colour = self.colour();
-            return self.single(Entry::BlinkEnd { colour }, self.pen(), sink);
+            return self.put_and_set_pen(Entry::BlinkEnd { colour }, self.pen(), sink);
         }
         put_blinks(self.domain, &self.state.drawing, run, sink)?;
         self.state.last = None;

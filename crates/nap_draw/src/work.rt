@@ -1,37 +1,37 @@
-//! What the codes of a stream work on, and what an opcode leaves.
+//! The working state of codes, and the effects of an opcode.
 ghost use Rattle.std.specs.Prelude.{◌≡◌, [], ◌∷◌, Ok, unwrap_or};
 ghost use Rattle.nap_list.specs.State.{after};
 ghost use Rattle.nap_list.specs.Agreement.{StatesAgree};
 ghost use Rattle.nap_list.specs.State.{hand_of};
-ghost use Rattle.nap_draw.specs.Rule.{start_work, pen_point, with_drawing, drawn};
-ghost use Rattle.nap_draw.specs.Doing.{MayFollow, Obeys, Put, landed, pen_moved};
+ghost use Rattle.nap_draw.specs.Rule.{start_work, pen_point, with_drawing, rule_result};
+ghost use Rattle.nap_draw.specs.Execution.{MayFollow, AppliesControl, Put, with_pen_moved_to, with_pen_moved};
 
 use crate::fault::DrawFault;
 use nap_list::{Base, Colour, Entry, Hand, Pen, Sink, SinkFault, State, TextLook, Texture};
 use nap_values::{Domain, Move, Point};
 
-/// What the codes of a stream work on.
+/// The working state of codes: what codes depend on and change. It may be ahead of the state that the entries leave.
 #[derive(PartialEq, Eq, Drop)]
 pub struct Work {
-    /// The lengths of operands (DOMAIN).
+    /// The operand lengths (PROFILE.md, DOMAIN).
     pub domain: Domain,
-    /// The values that stand, also those that no entry has shown yet.
+    /// The state, with attributes that no entry need have shown yet.
     pub state: State,
-    /// The lengths of operands that the end of the definition puts back, where one is open.
+    /// The operand lengths that the end of the open definition restores.
     pub saved: Domain,
 }
 
-/// What an opcode leaves.
+/// The effects of an opcode.
 #[derive(PartialEq, Eq, Drop)]
 pub struct Effects {
-    /// What the codes after it work on.
+    /// The work after it.
     pub work: Work,
-    /// Whether all macros are cleared, which RESET alone does.
+    /// Whether all macros are cleared, which only RESET does.
     pub clears: bool,
 }
 
 impl Work {
-    /// The work before any code.
+    /// Returns the work at the start of a stream (PROFILE.md, The drawing state).
     pub fn start() -> Work
         ensures { result ≡ start_work }
     {
@@ -42,7 +42,7 @@ impl Work {
         }
     }
 
-    /// The same work again.
+    /// Returns a copy.
     pub fn copy(&self) -> Work
         ensures { result ≡ self.now }
     {
@@ -53,49 +53,49 @@ impl Work {
         }
     }
 
-    /// How text is drawn.
+    /// Returns the text attributes.
     pub(crate) fn look(&self) -> TextLook
         ensures { result ≡ self.now.state.drawing.text }
     {
         self.state.drawing.text
     }
 
-    /// What text is drawn with.
+    /// Returns the attributes for text.
     pub(crate) fn hand(&self) -> Hand
         ensures { result ≡ hand_of self.now.state.drawing }
     {
         self.state.drawing.hand()
     }
 
-    /// How lines and areas are drawn.
+    /// Returns the texture.
     pub(crate) fn texture(&self) -> Texture
         ensures { result ≡ self.now.state.drawing.texture }
     {
         self.state.drawing.texture
     }
 
-    /// The colour of mode 0.
+    /// Returns the colour of mode 0.
     pub(crate) fn base(&self) -> Base
         ensures { result ≡ self.now.state.drawing.base }
     {
         self.state.drawing.base
     }
 
-    /// The colour that stands.
+    /// Returns the colour in use.
     pub(crate) fn colour(&self) -> Colour
         ensures { result ≡ self.now.state.drawing.colour }
     {
         self.state.drawing.colour
     }
 
-    /// Where the pen is.
+    /// Returns the pen.
     pub(crate) fn pen(&self) -> Pen
         ensures { result ≡ self.now.state.drawing.pen }
     {
         self.state.drawing.pen
     }
 
-    /// Where drawing goes on from.
+    /// Returns the point of the pen, or PenUnknown.
     pub(crate) fn pen_point(&self) -> Result<Point, DrawFault>
         ensures { result ≡ pen_point self.now.state.drawing.pen }
     {
@@ -106,7 +106,7 @@ impl Work {
         }
     }
 
-    /// The pel becomes this, where there is one.
+    /// Sets the pel, if one is given.
     pub(crate) fn set_pel(&mut self, pel: Option<Move>)
         ensures { self.new ≡ with_drawing self.old (record self.old.state.drawing { pel = unwrap_or pel self.old.state.drawing.pel }) }
     {
@@ -115,9 +115,9 @@ impl Work {
         }
     }
 
-    /// The pen comes to the point, where there is one, by an entry that was put.
-    pub(crate) fn land(&mut self, point: Option<Point>)
-        ensures { self.new ≡ record self.old { state = landed self.old.state point } }
+    /// Moves the pen to the point, if there is one, after an entry that was put.
+    pub(crate) fn move_pen_to(&mut self, point: Option<Point>)
+        ensures { self.new ≡ record self.old { state = with_pen_moved_to self.old.state point } }
     {
         if let Some(point) = point {
             self.state.drawing.pen = Pen::At(point);
@@ -125,7 +125,7 @@ impl Work {
         }
     }
 
-    /// Puts one entry that holds the values that stand.
+    /// Puts an entry that holds current attributes.
     #[inline(always)]
     pub(crate) fn put<S: Sink>(&self, entry: Entry, sink: &mut S) -> Result<(), SinkFault>
         requires agrees { StatesAgree self.now.state (S.state sink.old) }
@@ -135,9 +135,9 @@ impl Work {
         sink.put(entry)
     }
 
-    /// Puts one entry that holds the values that stand, and leaves them but for the pen.
+    /// Puts an entry that holds current attributes, and sets the pen.
     #[inline(always)]
-    pub(crate) fn single<S: Sink>(
+    pub(crate) fn put_and_set_pen<S: Sink>(
         &mut self,
         entry: Entry,
         pen: Pen,
@@ -145,8 +145,8 @@ impl Work {
     ) -> Result<(), DrawFault>
         requires agrees { StatesAgree self.old.state (S.state sink.old) }
         requires follows { MayFollow self.old.state entry }
-        requires leaves { after self.old.state entry ≡ pen_moved self.old.state pen }
-        ensures { Obeys S.Sink (Ok (drawn self.old (entry ∷ []))) self.old self.new sink.old sink.new result }
+        requires leaves { after self.old.state entry ≡ with_pen_moved self.old.state pen }
+        ensures { AppliesControl S.Sink (Ok (rule_result self.old (entry ∷ []))) self.old self.new sink.old sink.new result }
     {
         self.put(entry, sink)?;
         self.state.drawing.pen = pen;

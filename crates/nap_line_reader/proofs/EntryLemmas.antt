@@ -5,7 +5,7 @@ use Rattle.std.proofs.lemmas.List.Elements.{All-nil, All-push}
 use Rattle.std.proofs.lemmas.Bool.{false≢true}
 use Rattle.nap_list.specs.declared.entry.Entry.{Entry}
 use Rattle.nap_list.specs.declared.entry.Entry.TheVariants as entries
-use Rattle.nap_list.specs.declared.state.Opened.{Opened}
+use Rattle.nap_list.specs.declared.state.OpenDefinition.{OpenDefinition}
 use Rattle.nap_list.specs.declared.state.State.{State}
 use Rattle.nap_list.specs.State.{start, after, walk, AllFit, Fits}
 use Rattle.nap_list.proofs.PublicLaws.{fits_join, walks_join}
@@ -55,7 +55,7 @@ opened_more es e before now opened same new opens = by (walk start es).definitio
     goes_on : IsSome (after (walk start es) e).definition
     goes_on = subst (λ (s : State). IsSome s.definition) (walk_more es e) opens
 
-    by : (o : Option Opened) → (walk start es).definition ≡ o → OpenedAt (es ++ e ∷ []) now
+    by : (o : Option OpenDefinition) → (walk start es).definition ≡ o → OpenedAt (es ++ e ∷ []) now
     by (Some o) is =
         let some : IsSome (walk start es).definition = ap is_some is in
         let h = opened some in

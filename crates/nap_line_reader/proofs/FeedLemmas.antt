@@ -9,20 +9,20 @@ use Rattle.nap_list.specs.declared.state.State.{State}
 use Rattle.nap_list.specs.Range.{InRange}
 use Rattle.nap_lines.specs.Lines.{line}
 use Rattle.nap_lines.specs.Listing.{lines}
-use Rattle.nap_make.specs.Cutting.{Cuts}
+use Rattle.nap_make.specs.Cutting.{SplitsAtByte}
 use Rattle.nap_make.specs.Entries.{IsProper, TellsColumn}
 use Rattle.nap_make.specs.Laws.{longest_line}
 use Rattle.nap_line_reader.specs.declared.fault.MakeFault.{MakeFault}
 use Rattle.nap_line_reader.specs.declared.fault.MakeFault.TheVariants as faults
 use Rattle.nap_line_reader.specs.declared.line_reader.LineReader.{LineReader}
-use Rattle.nap_line_reader.specs.declared.maker.Maker.{Maker}
+use Rattle.nap_line_reader.specs.declared.maker.LineMaker.{LineMaker}
 use Rattle.nap_line_reader.specs.Lists.{BeginsNoLine, LinesSoFar}
-use Rattle.nap_line_reader.specs.Making.{Cuts as CutsOff, Ends, Feeds, Finishes, Holds, IsLine, IsReady, Keeps, Stands, Stops, Takes}
+use Rattle.nap_line_reader.specs.Making.{IsUnendedLine as CutsOff, Ends, Feeds, Finishes, MakerHasPut, IsLine, IsReady, KeepsPart, HasRead, Stops, Takes}
 use Rattle.nap_line_reader.proofs.EntryLemmas.{lines_more, so_far_more}
 use Rattle.nap_line_reader.proofs.LineLemmas.{column_stays, long_begins_none, no_long_line, part_begins_none, whole_begins_none}
 
 -- bytes that aren't cut have no end in them
-pub uncut : (xs : List ℕ) → ((front back : List ℕ) → Cuts 10 xs front back → ⊥) → All (λ b. b ≢ 10) xs
+pub uncut : (xs : List ℕ) → ((front back : List ℕ) → SplitsAtByte 10 xs front back → ⊥) → All (λ b. b ≢ 10) xs
 uncut [] none = All-nil (λ b. b ≢ 10)
 uncut (x ∷ xs) none = by (x == 10) refl (λ other.
     uncut xs (λ front back cuts. none (x ∷ front) back (record {
@@ -41,8 +41,8 @@ never_ok Q bytes (Err f) own long = tt
 
 module _ {S : Type 0} (g : Ghosts S) where
   -- a line that is too long
-  pub keeps_long : (old m : Maker S) (bytes front more : List ℕ) (r : Result (Unit {0}) MakeFault) → bytes ≡ front ++ more → All (λ x. x ≢ 10) front → longest_line < length front →
-      ((s : S) (es : List Entry) → Holds g s es old → Takes g s es front m r) → IfErr r (λ f. (s : S) (es : List Entry) → Holds g s es old → Keeps g s es bytes m f)
+  pub keeps_long : (old m : LineMaker S) (bytes front more : List ℕ) (r : Result (Unit {0}) MakeFault) → bytes ≡ front ++ more → All (λ x. x ≢ 10) front → longest_line < length front →
+      ((s : S) (es : List Entry) → MakerHasPut g s es old → Takes g s es front m r) → IfErr r (λ f. (s : S) (es : List Entry) → MakerHasPut g s es old → KeepsPart g s es bytes m f)
   keeps_long old m bytes front more (Ok done) parts none long takes = tt
   keeps_long old m bytes front more (Err (faults.Line number column)) parts none long takes = λ s es holds.
       let h = takes s es holds in (
@@ -58,16 +58,16 @@ module _ {S : Type 0} (g : Ghosts S) where
   keeps_long old m bytes front more (Err faults.Write) parts none long takes = λ s es holds. let h = takes s es holds in absurd (no_long_line front h.0 h.1 long)
 
   -- no more of a line is kept than a line may have, and one byte
-  pub keeps_front : (old m : Maker S) (part bytes front : List ℕ) (kept : ℕ) (r : Result (Unit {0}) MakeFault) → front ≡ part ++ take kept bytes → All (λ x. x ≢ 10) part → All (λ x. x ≢ 10) bytes →
-      longest_line < length front → ((s : S) (es : List Entry) → Holds g s es old → Takes g s es front m r) →
-      IfErr r (λ f. (s : S) (es : List Entry) → Holds g s es old → Keeps g s es (part ++ bytes) m f)
+  pub keeps_front : (old m : LineMaker S) (part bytes front : List ℕ) (kept : ℕ) (r : Result (Unit {0}) MakeFault) → front ≡ part ++ take kept bytes → All (λ x. x ≢ 10) part → All (λ x. x ≢ 10) bytes →
+      longest_line < length front → ((s : S) (es : List Entry) → MakerHasPut g s es old → Takes g s es front m r) →
+      IfErr r (λ f. (s : S) (es : List Entry) → MakerHasPut g s es old → KeepsPart g s es (part ++ bytes) m f)
   keeps_front old m part bytes front kept r is none also long takes =
       keeps_long old m (part ++ bytes) front (drop kept bytes) r
       (sym (ap (λ (xs : List ℕ). xs ++ drop kept bytes) is ∙ append_assoc part (take kept bytes) (drop kept bytes) ∙ ap (λ (xs : List ℕ). part ++ xs) (take-append-drop kept bytes)))
       (subst (λ (xs : List ℕ). All (λ x. x ≢ 10) xs) (sym is) (All-append (λ x. x ≢ 10) part (take kept bytes) none (All-take (λ x. x ≢ 10) kept bytes also))) long takes
 
   -- a line that was refused before its end was read
-  pub ends_kept : (s : S) (es : List Entry) (bytes : List ℕ) (m : Maker S) (f : MakeFault) → Keeps g s es bytes m f → Ends g s es bytes m (Err f)
+  pub ends_kept : (s : S) (es : List Entry) (bytes : List ℕ) (m : LineMaker S) (f : MakeFault) → KeepsPart g s es bytes m f → Ends g s es bytes m (Err f)
   ends_kept s es bytes m (faults.Line number column) h = (h.0, λ more. h.2 (10 ∷ more), h.3, h.4)
   ends_kept s es bytes m faults.Memory h = h
   ends_kept s es bytes m (faults.Misfit number) h = absurd h
@@ -75,7 +75,7 @@ module _ {S : Type 0} (g : Ghosts S) where
   ends_kept s es bytes m faults.Write h = absurd h
 
   -- a whole line that was taken, or not
-  pub ends_taken : (s : S) (es : List Entry) (bytes : List ℕ) (m : Maker S) (r : Result (Unit {0}) MakeFault) → All (λ x. x ≢ 10) bytes → Takes g s es bytes m r → Ends g s es bytes m r
+  pub ends_taken : (s : S) (es : List Entry) (bytes : List ℕ) (m : LineMaker S) (r : Result (Unit {0}) MakeFault) → All (λ x. x ≢ 10) bytes → Takes g s es bytes m r → Ends g s es bytes m r
   ends_taken s es bytes m (Ok done) none h = h
   ends_taken s es bytes m (Err (faults.Line number column)) none h = (h.0, λ more. whole_begins_none bytes more none h.1, h.2, h.3)
   ends_taken s es bytes m (Err faults.Memory) none h = h
@@ -87,13 +87,13 @@ module _ {S : Type 0} (g : Ghosts S) where
   pub ready_last : (old new : LineReader S) (rest : List ℕ) (r : Result (Unit {0}) MakeFault) → IsReady g old → All (λ b. b ≢ 10) rest → OnOk r (new.part.items ≡ old.part.items ++ rest) →
       OnOk r (new.maker ≡ old.maker) → OnOk r (length new.part.items ≤ longest_line) → OnOk r (IsReady g new)
   ready_last old new rest (Ok done) ready none part maker short = record {
-    agrees = subst (λ (m : Maker S). g.state m.sink ≡ m.state) (sym maker) ready.agrees;
+    agrees = subst (λ (m : LineMaker S). g.state m.sink ≡ m.state) (sym maker) ready.agrees;
     whole = subst (λ (xs : List ℕ). All (λ b. b ≢ 10) xs) (sym part) (All-append (λ b. b ≢ 10) old.part.items rest ready.whole none);
     short = short;
   }
   ready_last old new rest (Err f) ready none part maker short = tt
 
-  module _ (s : S) (es : List Entry) (old : Maker S) (holds : Holds g s es old) where
+  module _ (s : S) (es : List Entry) (old : LineMaker S) (holds : MakerHasPut g s es old) where
     so_far : (q rest : List ℕ) → q ≡ lines es ++ rest → LinesSoFar q es rest
     so_far q rest parts = record { proper = holds.proper; fit = holds.fit; parts = parts }
 
@@ -106,7 +106,7 @@ module _ {S : Type 0} (g : Ghosts S) where
     behind_line bytes rest more = append_assoc bytes (10 ∷ rest) more
 
     -- a whole line with its end makes no list
-    pub ends_stops : (q bytes rest : List ℕ) (m : Maker S) (f : MakeFault) → q ≡ lines es ++ (bytes ++ 10 ∷ rest) → Ends g s es bytes m (Err f) → Stops g s q m.sink f
+    pub ends_stops : (q bytes rest : List ℕ) (m : LineMaker S) (f : MakeFault) → q ≡ lines es ++ (bytes ++ 10 ∷ rest) → Ends g s es bytes m (Err f) → Stops g s q m.sink f
     ends_stops q bytes rest m (faults.Line number column) parts h = record {
       entries = es;
       first = (bytes ++ 10 ∷ rest, so_far q (bytes ++ 10 ∷ rest) parts);
@@ -156,7 +156,7 @@ module _ {S : Type 0} (g : Ghosts S) where
     }
 
     -- a part of a line makes none
-    pub keep_stops : (q bytes : List ℕ) (m : Maker S) (f : MakeFault) → q ≡ lines es ++ bytes → Keeps g s es bytes m f → Stops g s q m.sink f
+    pub keep_stops : (q bytes : List ℕ) (m : LineMaker S) (f : MakeFault) → q ≡ lines es ++ bytes → KeepsPart g s es bytes m f → Stops g s q m.sink f
     keep_stops q bytes m (faults.Line number column) parts h = record {
       entries = es;
       first = (bytes, so_far q bytes parts);
@@ -230,11 +230,11 @@ module _ {S : Type 0} (g : Ghosts S) where
   behind_part p done rest es part is = sym (append_assoc p done rest) ∙ ap (λ (xs : List ℕ). xs ++ rest) is ∙ append_assoc (lines es) part rest
 
   -- the last bytes of a piece were read, or make no list
-  pub fed_last : (s : S) (p done rest : List ℕ) (old new : LineReader S) (r : Result (Unit {0}) MakeFault) → Stands g s (p ++ done) old → OnOk r (new.part.items ≡ old.part.items ++ rest) →
-      OnOk r (new.maker ≡ old.maker) → IfErr r (λ f. (s : S) (es : List Entry) → Holds g s es old.maker → Keeps g s es (old.part.items ++ rest) new.maker f) → Feeds g s (p ++ (done ++ rest)) new r
+  pub fed_last : (s : S) (p done rest : List ℕ) (old new : LineReader S) (r : Result (Unit {0}) MakeFault) → HasRead g s (p ++ done) old → OnOk r (new.part.items ≡ old.part.items ++ rest) →
+      OnOk r (new.maker ≡ old.maker) → IfErr r (λ f. (s : S) (es : List Entry) → MakerHasPut g s es old.maker → KeepsPart g s es (old.part.items ++ rest) new.maker f) → Feeds g s (p ++ (done ++ rest)) new r
   fed_last s p done rest old new (Ok ok) stands part maker keeps = record {
     entries = stands.entries;
-    holds = subst (λ (m : Maker S). Holds g s stands.entries m) (sym maker) stands.holds;
+    holds = subst (λ (m : LineMaker S). MakerHasPut g s stands.entries m) (sym maker) stands.holds;
     parts = behind_part p done rest stands.entries old.part.items stands.parts ∙ ap (λ (xs : List ℕ). lines stands.entries ++ xs) (sym part);
   }
   fed_last s p done rest old new (Err f) stands part maker keeps =
@@ -246,14 +246,14 @@ module _ {S : Type 0} (g : Ghosts S) where
   line_behind p done front more es part is = behind_part p done (front ++ 10 ∷ more) es part is ∙ ap (λ (xs : List ℕ). lines es ++ xs) (sym (append_assoc part front (10 ∷ more)))
 
   -- it makes no list
-  pub line_stops : (s : S) (p done front more : List ℕ) (old : LineReader S) (m : Maker S) (f : MakeFault) (stands : Stands g s (p ++ done) old) →
+  pub line_stops : (s : S) (p done front more : List ℕ) (old : LineReader S) (m : LineMaker S) (f : MakeFault) (stands : HasRead g s (p ++ done) old) →
       Ends g s stands.entries (old.part.items ++ front) m (Err f) → Stops g s (p ++ (done ++ (front ++ 10 ∷ more))) m.sink f
   line_stops s p done front more old m f stands ends =
       ends_stops s stands.entries old.maker stands.holds (p ++ (done ++ (front ++ 10 ∷ more))) (old.part.items ++ front) more m f (line_behind p done front more stands.entries old.part.items stands.parts) ends
 
   -- it was taken
-  pub line_taken : (s : S) (p done front : List ℕ) (old new : LineReader S) (stands : Stands g s (p ++ done) old) → Ends g s stands.entries (old.part.items ++ front) new.maker (Ok tt) →
-      new.part.items ≡ [] → Stands g s (p ++ (done ++ (front ++ 10 ∷ []))) new
+  pub line_taken : (s : S) (p done front : List ℕ) (old new : LineReader S) (stands : HasRead g s (p ++ done) old) → Ends g s stands.entries (old.part.items ++ front) new.maker (Ok tt) →
+      new.part.items ≡ [] → HasRead g s (p ++ (done ++ (front ++ 10 ∷ []))) new
   line_taken s p done front old new stands ends empty = record {
     entries = stands.entries ++ ends.0 ∷ [];
     holds = ends.2;

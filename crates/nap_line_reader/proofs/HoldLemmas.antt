@@ -8,8 +8,8 @@ use Rattle.nap_list.specs.declared.sink.Sink.{Ghosts}
 use Rattle.nap_list.specs.declared.state.State.{State}
 use Rattle.nap_list.specs.State.{start, after, walk, AllFit, Fits}
 use Rattle.nap_make.specs.Entries.{IsProper}
-use Rattle.nap_line_reader.specs.declared.maker.Maker.{Maker}
-use Rattle.nap_line_reader.specs.Making.{Holds}
+use Rattle.nap_line_reader.specs.declared.maker.LineMaker.{LineMaker}
+use Rattle.nap_line_reader.specs.Making.{MakerHasPut}
 use Rattle.nap_line_reader.proofs.EntryLemmas.{fit_more, length_more, opened_more, walk_more}
 
 not_true : (b : Bool) → (b ≡ true → ⊥) → b ≡ false
@@ -17,7 +17,7 @@ not_true false fails = refl
 not_true true fails = absurd (fails refl)
 
 module _ {S : Type 0} (g : Ghosts S) where
-  pub holds_none : (s : S) (state : State) (opening : ℕ) → g.took s [] s → g.failed s ≡ false → state ≡ start → Holds g s [] (record { sink = s; state = state; lines = 0; opening = opening })
+  pub holds_none : (s : S) (state : State) (opening : ℕ) → g.took s [] s → g.failed s ≡ false → state ≡ start → MakerHasPut g s [] (record { sink = s; state = state; lines = 0; opening = opening })
   unfolding walk AllFit
   holds_none s state opening took works is = record {
     proper = All-nil IsProper;
@@ -28,9 +28,9 @@ module _ {S : Type 0} (g : Ghosts S) where
     opened = λ some. absurd (false≢true some);
   }
 
-  pub holds_more : (s : S) (es : List Entry) (e : Entry) (old new : Maker S) → Holds g s es old → IsProper e → Fits old.state e →
+  pub holds_more : (s : S) (es : List Entry) (e : Entry) (old new : LineMaker S) → MakerHasPut g s es old → IsProper e → Fits old.state e →
       ((s t u : S) (d e : List Entry) → g.took s d t → g.took t e u → g.took s (d ++ e) u) → g.took old.sink (e ∷ []) new.sink → (g.failed new.sink ≡ true → ⊥) → new.state ≡ after old.state e →
-      new.lines ≡ old.lines + 1 → (IsSome old.state.definition → new.opening ≡ old.opening) → ((IsSome old.state.definition → ⊥) → new.opening ≡ new.lines) → Holds g s (es ++ e ∷ []) new
+      new.lines ≡ old.lines + 1 → (IsSome old.state.definition → new.opening ≡ old.opening) → ((IsSome old.state.definition → ⊥) → new.opening ≡ new.lines) → MakerHasPut g s (es ++ e ∷ []) new
   holds_more s es e old new holds proper fits more took fails state lines same other =
       let counted : new.lines ≡ length es + 1 = lines ∙ ap (λ (n : ℕ). n + 1) holds.count in
       record {

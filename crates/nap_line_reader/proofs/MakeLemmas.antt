@@ -10,7 +10,7 @@ use Rattle.nap_line_reader.specs.declared.line_reader.LineReader.{LineReader}
 use Rattle.nap_line_reader.specs.declared.making.ListFault.{ListFault}
 use Rattle.nap_line_reader.specs.declared.making.ListFault.TheVariants as list_faults
 use Rattle.nap_line_reader.specs.Lists.{ComeFirst, MakesNone, ShowsNone}
-use Rattle.nap_line_reader.specs.Making.{FeedsFrom, Finishes, Kept, Makes, MakesNoList, PutsLines, Stops}
+use Rattle.nap_line_reader.specs.Making.{FeedsFrom, Finishes, SinkTook, Makes, MakesNoList, PutsLines, Stops}
 
 pub makes_none : {S : Type 0} (g : Ghosts S) (s : S) (p : List ℕ) (seen : Reading) (r : LineReader S) (f : ListFault) → FeedsFrom g s p seen r (Err f) → Makes g s p seen r.maker.sink (Err f)
 makes_none g s p seen r (list_faults.Lines fault) h = inr h
@@ -25,7 +25,7 @@ makes_none g s p seen r list_faults.Read h = record {
 
 module _ {S : Type 0} (g : Ghosts S) (s : S) (p : List ℕ) (t : S) where
   -- lines that show that they are no list's are none's
-  shown_none : (f : MakeFault) (es : List Entry) → f ≢ faults.Write → ComeFirst p es → ShowsNone p es f → Kept g s es t → MakesNoList g s p t f
+  shown_none : (f : MakeFault) (es : List Entry) → f ≢ faults.Write → ComeFirst p es → ShowsNone p es f → SinkTook g s es t → MakesNoList g s p t f
   shown_none f es own first shows kept = record {
     entries = es;
     first = first;

@@ -1,14 +1,14 @@
-//! Why lines make no list.
+//! Why lines aren't those of a list (PROFILE.md, Lines that make a page).
 ghost use Rattle.std.specs.Prelude.{◌≡◌};
 ghost use Rattle.nap_line_reader.specs.declared.fault.MakeFault.TheVariants.{Memory};
 
 use std::alloc::AllocError;
 use thiserror::Error;
 
-/// Why lines make no list. Lines and columns are counted from one on.
+/// Why lines aren't those of a list (PROFILE.md, Lines that make a page). Lines and columns are counted from 1.
 #[derive(Clone, Copy, PartialEq, Eq, Debug, Drop, Error)]
 pub enum MakeFault {
-    /// This line is no entry's: a column before which it could be one's.
+    /// A line that no entry has. What is before the column begins the line of an entry.
     #[error("line {line}: no line of a list, at column {column}")]
     Line {
         /// The line.
@@ -16,13 +16,13 @@ pub enum MakeFault {
         /// The column.
         column: usize,
     },
-    /// The entry of this line can't come there.
+    /// A line whose entry doesn't fit.
     #[error("line {line}: can't come here")]
     Misfit {
         /// The line.
         line: usize,
     },
-    /// The lines end, and a definition isn't ended.
+    /// The lines end inside a definition.
     #[error("line {line}: the definition of line {opening} isn't ended")]
     Open {
         /// The last line.
@@ -30,10 +30,10 @@ pub enum MakeFault {
         /// The line that opens the definition.
         opening: usize,
     },
-    /// There was no memory.
+    /// Memory ran out.
     #[error("no memory")]
     Memory,
-    /// The device behind the sink failed.
+    /// The sink's device failed.
     #[error("the device failed")]
     Write,
 }

@@ -1,4 +1,4 @@
-//! Reads the lines of a list, and puts their entries into a sink.
+//! Reads the lines of a list, and puts their entries into a sink (PROFILE.md, Lines that make a page).
 #![tactic(auto)]
 
 mod fault;

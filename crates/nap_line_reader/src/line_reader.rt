@@ -1,106 +1,106 @@
-//! Lines by the bytes of an input.
+//! Lines that are read in pieces.
 ghost use Rattle.std.specs.Prelude.{◌≡◌, ◌≢◌, ◌≤◌, ◌++◌, ℕ, List, [], All, IfErr, OnOk, length, false};
 ghost use Rattle.nap_list.specs.declared.entry.Entry.{Entry};
 ghost use Rattle.nap_list.specs.State.{start};
 ghost use Rattle.nap_make.specs.Laws.{longest_line};
-ghost use Rattle.nap_line_reader.specs.Making.{Ends, Feeds, Finishes, Holds, IsReady, Keeps, Stands};
+ghost use Rattle.nap_line_reader.specs.Making.{Ends, Feeds, Finishes, MakerHasPut, IsReady, KeepsPart, HasRead};
 
 use crate::fault::MakeFault;
-use crate::maker::Maker;
+use crate::maker::LineMaker;
 use nap_list::Sink;
-use nap_make::cut;
+use nap_make::split_at_byte;
 use std::alloc::Global;
 use std::cmp::min;
 
-/// The most bytes of a line.
-const LONGEST: usize = 32_112;
+/// The greatest number of bytes of a line.
+const LONGEST_LINE: usize = 32_112;
 
 /// Reads lines in any pieces, and puts their entries into a sink as they are read.
 #[derive(Drop)]
 pub(crate) struct LineReader<S> {
-    /// What the lines become.
-    pub(crate) maker: Maker<S>,
+    /// Puts the entries of the lines.
+    pub(crate) maker: LineMaker<S>,
     /// The bytes of a line whose end isn't read yet.
     pub(crate) part: Vec<u8>,
 }
 
 impl<S: Sink> LineReader<S> {
-    /// A reader that has read nothing.
+    /// Returns a reader that has read nothing.
     pub(crate) fn new(alloc: Global, sink: S) -> LineReader<S>
         requires start { S.state sink ≡ start }
         requires works { S.failed sink ≡ false }
-        ensures stands { Stands S.Sink sink [] result }
+        ensures stands { HasRead S.Sink sink [] result }
         ensures ready { IsReady S.Sink result }
     {
         LineReader {
-            maker: Maker::new(sink),
+            maker: LineMaker::new(sink),
             part: Vec::new(alloc),
         }
     }
 
-    /// Reads bytes of a line. No more of them are kept than a line may have, and one.
-    fn keep(&mut self, alloc: Global, bytes: &[u8]) -> Result<(), MakeFault>
+    /// Reads bytes of a line. Keeps at most one byte more than a line may have.
+    fn keep_part(&mut self, alloc: Global, bytes: &[u8]) -> Result<(), MakeFault>
         requires { IsReady S.Sink self.old × All (λ b. b ≢ 10) bytes.now }
         ensures part { OnOk result (self.new.part.items ≡ self.old.part.items ++ bytes.now) }
         ensures maker { OnOk result (self.new.maker ≡ self.old.maker) }
         ensures short { OnOk result (length self.new.part.items ≤ longest_line) }
-        ensures keeps { IfErr result (λ f. (s : S) (es : List Entry) → Holds S.Sink s es self.old.maker → Keeps S.Sink s es (self.old.part.items ++ bytes.now) self.new.maker f) }
+        ensures keeps { IfErr result (λ f. (s : S) (es : List Entry) → MakerHasPut S.Sink s es self.old.maker → KeepsPart S.Sink s es (self.old.part.items ++ bytes.now) self.new.maker f) }
     {
-        let room = LONGEST + 1 - self.part.len();
-        let kept = min(room, bytes.len());
+        let buffer = LONGEST_LINE + 1 - self.part.len();
+        let kept = min(buffer, bytes.len());
         self.part.extend_from_slice(&bytes[..kept])?;
-        if self.part.len() > LONGEST {
-            // No entry has it.
-            return self.maker.take(alloc, self.part.as_slice());
+        if self.part.len() > LONGEST_LINE {
+            // No entry has a line as long.
+            return self.maker.take_line(alloc, self.part.as_slice());
         }
         Ok(())
     }
 
-    /// Reads the last bytes of a line, behind which is its end.
+    /// Reads the last bytes of a line, which LF follows.
     fn end_line(&mut self, alloc: Global, bytes: &[u8]) -> Result<(), MakeFault>
         requires { IsReady S.Sink self.old × All (λ b. b ≢ 10) bytes.now }
         ensures ready { OnOk result (IsReady S.Sink self.new) }
         ensures part { OnOk result (self.new.part.items ≡ []) }
-        ensures ends { (s : S) (es : List Entry) → Holds S.Sink s es self.old.maker → Ends S.Sink s es (self.old.part.items ++ bytes.now) self.new.maker result }
+        ensures ends { (s : S) (es : List Entry) → MakerHasPut S.Sink s es self.old.maker → Ends S.Sink s es (self.old.part.items ++ bytes.now) self.new.maker result }
     {
-        self.keep(alloc, bytes)?;
-        self.maker.take(alloc, self.part.as_slice())?;
+        self.keep_part(alloc, bytes)?;
+        self.maker.take_line(alloc, self.part.as_slice())?;
         self.part.clear();
         Ok(())
     }
 
-    /// Reads the next piece of an input.
+    /// Reads the next piece of the input.
     pub(crate) fn feed(&mut self, alloc: Global, piece: &[u8]) -> Result<(), MakeFault>
         requires { IsReady S.Sink self.old }
         ensures ready { OnOk result (IsReady S.Sink self.new) }
-        ensures feeds { (s : S) (p : List ℕ) → Stands S.Sink s p self.old → Feeds S.Sink s (p ++ piece.now) self.new result }
+        ensures feeds { (s : S) (p : List ℕ) → HasRead S.Sink s p self.old → Feeds S.Sink s (p ++ piece.now) self.new result }
     {
         let mut rest = piece;
-        while let Some(next) = cut(rest, b'\n') {
+        while let Some(next) = split_at_byte(rest, b'\n') {
             let (front, more) = next;
             self.end_line(alloc, front)?;
             rest = more;
         }
-        self.keep(alloc, rest)
+        self.keep_part(alloc, rest)
     }
 
-    /// The sink as it stands.
+    /// Returns the sink.
     pub(crate) fn into_sink(self) -> S
         ensures { result ≡ self.maker.sink }
     {
         let LineReader { maker, .. } = self;
-        let Maker { sink, .. } = maker;
+        let LineMaker { sink, .. } = maker;
         sink
     }
 
-    /// The input ends here. Returns how many lines there were.
+    /// Ends the input, and returns the number of lines.
     pub(crate) fn finish(&self, alloc: Global) -> Result<usize, MakeFault>
         requires { IsReady S.Sink self.now }
-        ensures { (s : S) (p : List ℕ) → Stands S.Sink s p self.now → Finishes S.Sink s p self.now.maker.sink result }
+        ensures { (s : S) (p : List ℕ) → HasRead S.Sink s p self.now → Finishes S.Sink s p self.now.maker.sink result }
     {
         let part = self.part.as_slice();
         if !part.is_empty() {
-            return Err(self.maker.cut_off(alloc, part));
+            return Err(self.maker.unended_line_fault(alloc, part));
         }
         if self.maker.state.definition.is_some() {
             return Err(MakeFault::Open {

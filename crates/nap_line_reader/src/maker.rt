@@ -3,35 +3,35 @@ ghost use Rattle.std.specs.Prelude.{◌≡◌, ◌+◌, ◌^◌, ◌<◌, List, 
 ghost use Rattle.nap_list.specs.declared.entry.Entry.{Entry};
 ghost use Rattle.nap_list.specs.State.{start};
 ghost use Rattle.nap_make.specs.Entries.{IsProper};
-ghost use Rattle.nap_line_reader.specs.Making.{Cuts, Holds, IsLine, Puts, Takes};
+ghost use Rattle.nap_line_reader.specs.Making.{IsUnendedLine, MakerHasPut, IsLine, Puts, Takes};
 
 use crate::fault::MakeFault;
 use nap_list::{Entry, Sink, SinkFault, State};
 use nap_make::{LineFault, entry_of_line};
 use std::alloc::Global;
 
-/// Puts the entries of lines into a sink, and knows what the next one has to fit.
+/// Puts the entries of lines into a sink. Its state is what the next entry has to fit.
 #[derive(Drop)]
-pub(crate) struct Maker<S> {
-    /// Where the entries go.
+pub(crate) struct LineMaker<S> {
+    /// The sink.
     pub(crate) sink: S,
     /// The state that the entries leave.
     pub(crate) state: State,
-    /// How many lines were taken.
+    /// The number of lines taken.
     pub(crate) lines: usize,
-    /// The line that opened the definition that is open.
+    /// The line that opened the open definition.
     pub(crate) opening: usize,
 }
 
-impl<S: Sink> Maker<S> {
-    /// A maker that has taken no line.
-    pub(crate) fn new(sink: S) -> Maker<S>
+impl<S: Sink> LineMaker<S> {
+    /// Returns a maker that has taken no line.
+    pub(crate) fn new(sink: S) -> LineMaker<S>
         requires start { S.state sink ≡ start }
         requires works { S.failed sink ≡ false }
-        ensures holds { Holds S.Sink sink [] result }
+        ensures holds { MakerHasPut S.Sink sink [] result }
         ensures agrees { S.state result.sink ≡ result.state }
     {
-        Maker {
+        LineMaker {
             sink,
             state: State::start(),
             lines: 0,
@@ -39,8 +39,8 @@ impl<S: Sink> Maker<S> {
         }
     }
 
-    /// The line that opens the definition that is open behind this line, if one is.
-    fn opening_behind(&self, line: usize) -> usize
+    /// Returns the line that opened the definition that is open after this line, if one is.
+    fn opening_after(&self, line: usize) -> usize
         ensures open { IsSome self.now.state.definition → result ≡ self.now.opening }
         ensures closed { (IsSome self.now.state.definition → ⊥) → result ≡ line }
     {
@@ -51,16 +51,16 @@ impl<S: Sink> Maker<S> {
     }
 
     /// Puts the entry of the next line, which has this number.
-    fn put(&mut self, line: usize, entry: Entry) -> Result<(), MakeFault>
+    fn put_entry(&mut self, line: usize, entry: Entry) -> Result<(), MakeFault>
         requires agrees { S.state self.old.sink ≡ self.old.state }
         requires line { line ≡ self.old.lines + 1 }
         ensures agrees { OnOk result (S.state self.new.sink ≡ self.new.state) }
-        ensures puts { (s : S) (es : List Entry) → Holds S.Sink s es self.old → IsProper entry → Puts S.Sink s es entry self.new result }
+        ensures puts { (s : S) (es : List Entry) → MakerHasPut S.Sink s es self.old → IsProper entry → Puts S.Sink s es entry self.new result }
     {
         if !self.state.fits(&entry) {
             return Err(MakeFault::Misfit { line });
         }
-        self.opening = self.opening_behind(line);
+        self.opening = self.opening_after(line);
         self.lines = line;
         self.state.step(&entry);
         match self.sink.put(entry) {
@@ -70,27 +70,27 @@ impl<S: Sink> Maker<S> {
         }
     }
 
-    /// Takes the next line, without its end.
-    pub(crate) fn take(&mut self, alloc: Global, bytes: &[u8]) -> Result<(), MakeFault>
+    /// Takes the next line, without LF.
+    pub(crate) fn take_line(&mut self, alloc: Global, bytes: &[u8]) -> Result<(), MakeFault>
         requires agrees { S.state self.old.sink ≡ self.old.state }
         ensures agrees { OnOk result (S.state self.new.sink ≡ self.new.state) }
         ensures own { OnOk result (IsLine bytes.now) }
-        ensures takes { (s : S) (es : List Entry) → Holds S.Sink s es self.old → Takes S.Sink s es bytes.now self.new result }
+        ensures takes { (s : S) (es : List Entry) → MakerHasPut S.Sink s es self.old → Takes S.Sink s es bytes.now self.new result }
     {
         let Some(line) = self.lines.checked_add(1) else {
             return Err(MakeFault::Memory);
         };
         match entry_of_line(alloc, bytes) {
-            Ok(entry) => self.put(line, entry),
+            Ok(entry) => self.put_entry(line, entry),
             Err(LineFault::Line(column)) => Err(MakeFault::Line { line, column }),
             Err(LineFault::Memory) => Err(MakeFault::Memory),
         }
     }
 
-    /// Why a line that has no end, which is the last one, is none.
-    pub(crate) fn cut_off(&self, alloc: Global, bytes: &[u8]) -> MakeFault
+    /// Returns the fault of a last line without LF.
+    pub(crate) fn unended_line_fault(&self, alloc: Global, bytes: &[u8]) -> MakeFault
         requires { length bytes.now < 2 ^ 63 }
-        ensures { (s : S) (es : List Entry) → Holds S.Sink s es self.now → Cuts es bytes.now result }
+        ensures { (s : S) (es : List Entry) → MakerHasPut S.Sink s es self.now → IsUnendedLine es bytes.now result }
     {
         let Some(line) = self.lines.checked_add(1) else {
             return MakeFault::Memory;

@@ -1,11 +1,11 @@
-//! Lists of the lines that an input gives.
+//! Lists that an input gives as lines.
 ghost use Rattle.std.specs.Prelude.{◌≡◌, ◌+◌, ◌^◌, ◌<◌, ◌≤◌, ℕ, List, [], OnOk, false};
 ghost use Rattle.std.specs.Io.KnownBytes.{Consumes};
 ghost use Rattle.nap_list.specs.Limits.{reads_limit};
 ghost use Rattle.nap_list.specs.Reading.{reading};
 ghost use Rattle.nap_list.specs.State.{start};
 ghost use Rattle.nap_line_reader.specs.declared.making.ListFault.TheVariants.{Lines};
-ghost use Rattle.nap_line_reader.specs.Making.{FeedsFrom, IsReady, Makes, Stands};
+ghost use Rattle.nap_line_reader.specs.Making.{FeedsFrom, IsReady, Makes, HasRead};
 
 use crate::fault::MakeFault;
 use crate::line_reader::LineReader;
@@ -13,13 +13,13 @@ use nap_list::{Inlet, READS, Sink};
 use std::alloc::Global;
 use thiserror::Error;
 
-/// The most bytes of one read.
-const ROOM: usize = 4_096;
+/// The greatest number of bytes of one read.
+const READ_SIZE: usize = 4_096;
 
-/// Why an input gives no list.
+/// Why an input doesn't give the lines of a list.
 #[derive(Clone, Copy, PartialEq, Eq, Debug, Drop, Error)]
 pub enum ListFault {
-    /// Its lines make none.
+    /// Its lines aren't those of a list.
     #[error("{0}")]
     Lines(MakeFault),
     /// A read failed, or there were as many reads as one input may have.
@@ -35,7 +35,7 @@ impl From<MakeFault> for ListFault {
     }
 }
 
-/// Feeds a reader all that an input gives. Nothing is read behind a line that is wrong, or a failed read.
+/// Feeds a reader all that an input gives. Nothing is read after a wrong line or a failed read.
 fn feed_from<I: Inlet, S: Sink>(
     alloc: Global,
     reader: &mut LineReader<S>,
@@ -48,22 +48,23 @@ fn feed_from<I: Inlet, S: Sink>(
     ensures ready { OnOk result (IsReady S.Sink reader.new) }
     ensures feeds { let seen = reading I.Inlet input.old input.new in
         (p : List ℕ) × Consumes (I.left input.old) (I.left input.new) p
-        × ((s : S) → Stands S.Sink s [] reader.old → FeedsFrom S.Sink s p seen reader.new result) }
+        × ((s : S) → HasRead S.Sink s [] reader.old → FeedsFrom S.Sink s p seen reader.new result) }
 {
-    let mut room = [0; ROOM];
+    let mut buffer = [0; READ_SIZE];
     for _ in 0..READS {
-        let Ok(count) = input.read(&mut room) else {
+        let Ok(count) = input.read(&mut buffer) else {
             return Err(ListFault::Read);
         };
         if count == 0 {
             return Ok(());
         }
-        reader.feed(alloc, &room[..count])?;
+        reader.feed(alloc, &buffer[..count])?;
     }
     Err(ListFault::Read)
 }
 
-/// Puts the entries of the lines that an input gives into a sink, as they are read. It keeps one line at most.
+/// Puts the entries of the lines that an input gives into a sink, as they are read, and returns the sink. Keeps one
+/// line at most (PROFILE.md, Lines that make a page).
 pub fn make_list<I: Inlet, S: Sink + Drop>(
     alloc: Global,
     input: &mut I,

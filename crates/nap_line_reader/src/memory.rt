@@ -1,4 +1,4 @@
-//! Lists of lines that are in memory.
+//! Lists whose lines are in memory.
 ghost use Rattle.std.specs.Prelude.{◌≡◌, false};
 ghost use Rattle.nap_list.specs.State.{start};
 ghost use Rattle.nap_line_reader.specs.Making.{PutsLines};
@@ -8,7 +8,8 @@ use crate::line_reader::LineReader;
 use nap_list::Sink;
 use std::alloc::Global;
 
-/// Puts the entries of these lines into a sink: the sink as it stands, and how many they are.
+/// Puts the entries of these lines into a sink. Returns the sink, and the number of lines (PROFILE.md, Lines that make
+/// a page).
 pub fn put_lines<S: Sink + Drop>(
     alloc: Global,
     lines: &[u8],

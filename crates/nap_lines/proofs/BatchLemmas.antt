@@ -19,24 +19,24 @@ use Rattle.nap_list.specs.declared.state.Drawing.{Drawing}
 use Rattle.nap_list.specs.State.{hand_of, ink_of}
 use Rattle.nap_list.specs.declared.batch.Batch.{Batch}
 use Rattle.nap_list.specs.declared.batch.Batch.TheVariants as batches
-use Rattle.nap_list.specs.Batches.{last_of, point_on, lines_on, text_in, typed, typed_as, listed}
+use Rattle.nap_list.specs.Batches.{last_point, point_entry, polyline_entries, text_entries_in, text_entry, text_entry_as, batch_entries}
 use Rattle.nap_list.specs.BatchLaws.{points_front, lines_front, text_front, points_rest, lines_rest}
-use Rattle.nap_list.specs.Putting.{SinkShows, shows}
+use Rattle.nap_list.specs.Putting.{SinkModel, sink_model}
 use Rattle.nap_lines.specs.Lines.{line, ink_text, pen_text, move_text, colour_text, look_text, hand_text, set_text}
-use Rattle.nap_lines.specs.Listing.{Listed, Lists, lines}
-use Rattle.nap_lines.specs.Batches.{point_front, point_end, line_front, char_front, move_front, typed_front_as, typed_front, written_text, lines_with, pen_at, Goes}
+use Rattle.nap_lines.specs.Listing.{LineSinkState, TakesLinesOf, lines}
+use Rattle.nap_lines.specs.Batches.{point_front, point_end, line_front, char_front, move_front, text_byte_front_as, text_byte_front, hand_text_without_pen, lines_with, pen_at, LinesGoOn}
 
 -- The lines of a batch.
 
 -- the end of a line stays where its front is taken off
-pub kept : (room front end : List ℕ) (n : ℕ) → room ≡ front ++ end → n ≡ length end → drop (length room - n) room ≡ end
-kept room front end n is size =
-    let at : length room - n ≡ length front = omega (arith, ap length is, length-append front end) in
+pub kept : (buffer front end : List ℕ) (n : ℕ) → buffer ≡ front ++ end → n ≡ length end → drop (length buffer - n) buffer ≡ end
+kept buffer front end n is size =
+    let at : length buffer - n ≡ length front = omega (arith, ap length is, length-append front end) in
     rw (at, is) (drop-append_seam front end)
 
 -- what stands before a code and behind it
-pub around : (front two end room : List ℕ) (place : ℕ) → room ≡ (front ++ two) ++ end → length two ≡ 2 → place ≡ length front → (take place room ≡ front) × (drop (place + 2) room ≡ end)
-around front two end room place is size at = (
+pub around : (front two end buffer : List ℕ) (place : ℕ) → buffer ≡ (front ++ two) ++ end → length two ≡ 2 → place ≡ length front → (take place buffer ≡ front) × (drop (place + 2) buffer ≡ end)
+around front two end buffer place is size at = (
   rw (at, is, append_assoc) (take-append_seam front (two ++ end)),
   let behind : place + 2 ≡ length (front ++ two) = omega (arith, length-append front two) in
       rw (behind, is) (drop-append_seam (front ++ two) end),
@@ -75,19 +75,19 @@ text_goes first now next before after bytes is more goes =
 
 -- lines on from point to point
 
-pub goes_first : (end : List ℕ) (from : Coordinates) → Goes end from [] from
+pub goes_first : (end : List ℕ) (from : Coordinates) → LinesGoOn end from [] from
 unfolding lines_with
 goes_first end from rest = refl
 
-pub goes_line : (end : List ℕ) (from at to : Coordinates) (points : List Coordinates) (i : ℕ) → i < length points → to ≡ get_or points i to → Goes end from (take i points) at →
+pub goes_line : (end : List ℕ) (from at to : Coordinates) (points : List Coordinates) (i : ℕ) → i < length points → to ≡ get_or points i to → LinesGoOn end from (take i points) at →
     lines_with end from (take (i + 1) points) ≡ lines_with end from (take i points) ++ (line_front at to ++ end)
 unfolding lines_with
 goes_line end from at to points i less is goes =
     let more : take (i + 1) points ≡ take i points ++ to ∷ [] = take_more points i to less ∙ ap (λ (p : Coordinates). take i points ++ p ∷ []) (sym is) in
     ap (lines_with end from) more ∙ goes (to ∷ []) ∙ ap (λ (bytes : List ℕ). lines_with end from (take i points) ++ bytes) (append-nil (line_front at to ++ end))
 
-pub goes_on : (end : List ℕ) (from at to : Coordinates) (points : List Coordinates) (i : ℕ) → i < length points → to ≡ get_or points i to → Goes end from (take i points) at →
-    Goes end from (take (i + 1) points) to
+pub goes_on : (end : List ℕ) (from at to : Coordinates) (points : List Coordinates) (i : ℕ) → i < length points → to ≡ get_or points i to → LinesGoOn end from (take i points) at →
+    LinesGoOn end from (take (i + 1) points) to
 unfolding lines_with
 goes_on end from at to points i less is goes rest =
     let more : take (i + 1) points ≡ take i points ++ to ∷ [] = take_more points i to less ∙ ap (λ (p : Coordinates). take i points ++ p ∷ []) (sym is) in
@@ -100,7 +100,7 @@ goes_on end from at to points i less is goes rest =
 
 -- lines of points, lines and characters, with their fronts and ends
 
-dot_line : (d : Drawing) (at : Coordinates) → point_front at ++ (point_end d.pel d.colour ++ 10 ∷ []) ≡ line (point_on d at) ++ 10 ∷ []
+dot_line : (d : Drawing) (at : Coordinates) → point_front at ++ (point_end d.pel d.colour ++ 10 ∷ []) ≡ line (point_entry d at) ++ 10 ∷ []
 dot_line d at = parts (point_front at) (codes " pel=") (move_text d.pel) (codes " colour=") (colour_text d.colour) (10 ∷ [])
   where
     parts : (f a m b c n : List ℕ) → f ++ (a ++ m ++ b ++ c ++ n) ≡ f ++ a ++ m ++ b ++ c ++ n
@@ -113,39 +113,39 @@ line_line ink from to = parts (line_front from to) (codes " ") (ink_text ink) (1
     parts f a i n = simp append_assoc
 
 hand_line : (front : List ℕ) (hand : Hand) →
-    front ++ (codes " pen=" ++ (pen_text hand.pen ++ (written_text hand ++ 10 ∷ []))) ≡ (front ++ codes " " ++ hand_text hand) ++ 10 ∷ []
+    front ++ (codes " pen=" ++ (pen_text hand.pen ++ (hand_text_without_pen hand ++ 10 ∷ []))) ≡ (front ++ codes " " ++ hand_text hand) ++ 10 ∷ []
 hand_line front hand = parts front (codes " ") (codes "pen=") (pen_text hand.pen) (codes " colour=") (colour_text hand.colour) (codes " text=") (look_text hand.text) (10 ∷ [])
   where
     parts : (f a b p c k t l n : List ℕ) → f ++ ((a ++ b) ++ (p ++ (c ++ k ++ t ++ l ++ n))) ≡ (f ++ a ++ (b ++ p ++ c ++ k ++ t ++ l)) ++ n
     parts f a b p c k t l n = simp append_assoc
 
 typed_line_as : (step : Option TextStep) (set : CharSet) (hand : Hand) (code : ℕ) →
-    typed_front_as step set code ++ (codes " pen=" ++ (pen_text hand.pen ++ (written_text hand ++ 10 ∷ []))) ≡ line (typed_as step set hand code) ++ 10 ∷ []
+    text_byte_front_as step set code ++ (codes " pen=" ++ (pen_text hand.pen ++ (hand_text_without_pen hand ++ 10 ∷ []))) ≡ line (text_entry_as step set hand code) ++ 10 ∷ []
 typed_line_as (Some step) set hand code = hand_line (move_front step) hand
 typed_line_as None set hand code = hand_line (char_front set code) hand
 
 pub typed_line : (set : CharSet) (hand : Hand) (code : ℕ) →
-    typed_front set code ++ (codes " pen=" ++ (pen_text hand.pen ++ (written_text hand ++ 10 ∷ []))) ≡ line (typed set hand code) ++ 10 ∷ []
+    text_byte_front set code ++ (codes " pen=" ++ (pen_text hand.pen ++ (hand_text_without_pen hand ++ 10 ∷ []))) ≡ line (text_entry set hand code) ++ 10 ∷ []
 typed_line set hand code = typed_line_as (format_effector code) set hand code
 
 -- a byte that isn't below the codes of a set has the front of a character
-letter_typed_as : (step : Option TextStep) (set : CharSet) (code : ℕ) → format_effector code ≡ step → 0x20 ≤ code → typed_front_as step set code ≡ char_front set code
+letter_typed_as : (step : Option TextStep) (set : CharSet) (code : ℕ) → format_effector code ≡ step → 0x20 ≤ code → text_byte_front_as step set code ≡ char_front set code
 letter_typed_as (Some step) set code is above = let below = (format_effector_front code step is).0 in absurd (omega (arith, below, above))
 letter_typed_as None set code is above = refl
 
-pub letter_typed : (set : CharSet) (code : ℕ) → 0x20 ≤ code → typed_front set code ≡ char_front set code
+pub letter_typed : (set : CharSet) (code : ℕ) → 0x20 ≤ code → text_byte_front set code ≡ char_front set code
 letter_typed set code above = letter_typed_as (format_effector code) set code refl above
 
 pub dots_are_lines : (d : Drawing) (points : List Coordinates) →
-    flat_map (λ at. point_front at ++ (point_end d.pel d.colour ++ 10 ∷ [])) points ≡ lines (map (point_on d) points)
+    flat_map (λ at. point_front at ++ (point_end d.pel d.colour ++ 10 ∷ [])) points ≡ lines (map (point_entry d) points)
 dots_are_lines d [] = refl
 dots_are_lines d (p ∷ ps) =
     ap (λ (bytes : List ℕ). bytes ++ flat_map (λ at. point_front at ++ (point_end d.pel d.colour ++ 10 ∷ [])) ps) (dot_line d p)
-    ∙ ap (λ (bytes : List ℕ). (line (point_on d p) ++ 10 ∷ []) ++ bytes) (dots_are_lines d ps)
+    ∙ ap (λ (bytes : List ℕ). (line (point_entry d p) ++ 10 ∷ []) ++ bytes) (dots_are_lines d ps)
 
 pub lines_are_lines : (d : Drawing) (from : Coordinates) (points : List Coordinates) →
-    lines_with (codes " " ++ ink_text (ink_of d) ++ 10 ∷ []) from points ≡ lines (lines_on d from points)
-unfolding lines_with lines_on
+    lines_with (codes " " ++ ink_text (ink_of d) ++ 10 ∷ []) from points ≡ lines (polyline_entries d from points)
+unfolding lines_with polyline_entries
 lines_are_lines d from [] = refl
 lines_are_lines d from (p ∷ ps) =
     let end : List ℕ = codes " " ++ ink_text (ink_of d) ++ 10 ∷ [] in
@@ -153,16 +153,16 @@ lines_are_lines d from (p ∷ ps) =
     ∙ ap (λ (bytes : List ℕ). (line (entries.Line from p (ink_of d)) ++ 10 ∷ []) ++ bytes) (lines_are_lines d p ps)
 
 pub letters_are_lines : (set : CharSet) (hand : Hand) (cs : List ℕ) →
-    flat_map (λ code. typed_front set code ++ (codes " pen=after" ++ (written_text hand ++ 10 ∷ []))) cs ≡ lines (text_in set (record hand { pen = After }) cs)
-unfolding text_in
+    flat_map (λ code. text_byte_front set code ++ (codes " pen=after" ++ (hand_text_without_pen hand ++ 10 ∷ []))) cs ≡ lines (text_entries_in set (record hand { pen = After }) cs)
+unfolding text_entries_in
 letters_are_lines set hand [] = refl
 letters_are_lines set hand (c ∷ cs) =
-    ap (λ (bytes : List ℕ). bytes ++ flat_map (λ code. typed_front set code ++ (codes " pen=after" ++ (written_text hand ++ 10 ∷ []))) cs) (typed_line set (record hand { pen = After }) c)
-    ∙ ap (λ (bytes : List ℕ). (line (typed set (record hand { pen = After }) c) ++ 10 ∷ []) ++ bytes) (letters_are_lines set hand cs)
+    ap (λ (bytes : List ℕ). bytes ++ flat_map (λ code. text_byte_front set code ++ (codes " pen=after" ++ (hand_text_without_pen hand ++ 10 ∷ []))) cs) (typed_line set (record hand { pen = After }) c)
+    ∙ ap (λ (bytes : List ℕ). (line (text_entry set (record hand { pen = After }) c) ++ 10 ∷ []) ++ bytes) (letters_are_lines set hand cs)
 
 -- a room with the end of a line, behind which nothing stood
-pub ended : (room pushed cleared end : List ℕ) → room ≡ end ++ pushed → pushed ≡ codes "\n" ++ cleared → cleared ≡ [] → room ≡ end ++ 10 ∷ []
-ended room pushed cleared end is push clear = is ∙ ap (λ (bytes : List ℕ). end ++ bytes) (push ∙ ap (λ (bytes : List ℕ). codes "\n" ++ bytes) clear)
+pub ended : (buffer pushed cleared end : List ℕ) → buffer ≡ end ++ pushed → pushed ≡ codes "\n" ++ cleared → cleared ≡ [] → buffer ≡ end ++ 10 ∷ []
+ended buffer pushed cleared end is push clear = is ∙ ap (λ (bytes : List ℕ). end ++ bytes) (push ∙ ap (λ (bytes : List ℕ). codes "\n" ++ bytes) clear)
 
 -- so many were written of a part
 pub few_of : {A : Type 0} (few xs : List A) (m n : ℕ) → few ≡ take m xs → n ≤ length few → n ≤ m
@@ -170,74 +170,74 @@ few_of few xs m n is less = omega (arith, ap length is, length-take m xs, less)
 
 -- the lines of a batch from one entry on, of which so many were written
 
-pub points_written : (b : Batch) (points : _) (d : _) (first m n : ℕ) (old new room : List ℕ) (few : List Coordinates) → b ≡ batches.Points points d → n ≤ m →
-    room ≡ point_end d.now.pel d.now.colour ++ 10 ∷ [] → few ≡ take m (drop first points.now) →
-    new ≡ old ++ flat_map (λ at. point_front at ++ room) (take n few) → new ≡ old ++ lines (take n (drop first (listed b)))
-points_written b points d first m n old new room few is less end slice text =
+pub points_written : (b : Batch) (points : _) (d : _) (first m n : ℕ) (old new buffer : List ℕ) (few : List Coordinates) → b ≡ batches.Points points d → n ≤ m →
+    buffer ≡ point_end d.now.pel d.now.colour ++ 10 ∷ [] → few ≡ take m (drop first points.now) →
+    new ≡ old ++ flat_map (λ at. point_front at ++ buffer) (take n few) → new ≡ old ++ lines (take n (drop first (batch_entries b)))
+points_written b points d first m n old new buffer few is less end slice text =
     let bytes =
     text
     ∙ ap (λ (end : List ℕ). old ++ flat_map (λ at. point_front at ++ end) (take n few)) end
     ∙ ap (λ (bytes : List ℕ). old ++ bytes) (dots_are_lines d.now (take n few))
-    ∙ ap (λ (points : List Coordinates). old ++ lines (map (point_on d.now) points)) (ap (take n) slice ∙ take-take n m (drop first points.now) less)
+    ∙ ap (λ (points : List Coordinates). old ++ lines (map (point_entry d.now) points)) (ap (take n) slice ∙ take-take n m (drop first points.now) less)
     ∙ ap (λ (list : List Entry). old ++ lines list) (points_front d.now (drop first points.now) n)
     ∙ ap (λ (list : List Entry). old ++ lines (take n list)) (points_rest d.now points.now first) in
     rw is bytes
 
-pub lines_written : (b : Batch) (from : _) (points : _) (d : _) (first m n : ℕ) (start : Coordinates) (old new room : List ℕ) (few : List Coordinates) → b ≡ batches.Lines from points d → n ≤ m →
-    room ≡ codes " " ++ ink_text (ink_of d.now) ++ 10 ∷ [] → start ≡ last_of from (take first points.now) → few ≡ take m (drop first points.now) →
-    new ≡ old ++ lines_with room start (take n few) → new ≡ old ++ lines (take n (drop first (listed b)))
-lines_written b from points d first m n start old new room few is less end begins slice text =
+pub lines_written : (b : Batch) (from : _) (points : _) (d : _) (first m n : ℕ) (start : Coordinates) (old new buffer : List ℕ) (few : List Coordinates) → b ≡ batches.Lines from points d → n ≤ m →
+    buffer ≡ codes " " ++ ink_text (ink_of d.now) ++ 10 ∷ [] → start ≡ last_point from (take first points.now) → few ≡ take m (drop first points.now) →
+    new ≡ old ++ lines_with buffer start (take n few) → new ≡ old ++ lines (take n (drop first (batch_entries b)))
+lines_written b from points d first m n start old new buffer few is less end begins slice text =
     let bytes =
     text
     ∙ ap (λ (end : List ℕ). old ++ lines_with end start (take n few)) end
     ∙ ap (λ (bytes : List ℕ). old ++ bytes) (lines_are_lines d.now start (take n few))
-    ∙ ap (λ (points : List Coordinates). old ++ lines (lines_on d.now start points)) (ap (take n) slice ∙ take-take n m (drop first points.now) less)
-    ∙ ap (λ (at : Coordinates). old ++ lines (lines_on d.now at (take n (drop first points.now)))) begins
-    ∙ ap (λ (list : List Entry). old ++ lines list) (lines_front d.now (last_of from (take first points.now)) (drop first points.now) n)
+    ∙ ap (λ (points : List Coordinates). old ++ lines (polyline_entries d.now start points)) (ap (take n) slice ∙ take-take n m (drop first points.now) less)
+    ∙ ap (λ (at : Coordinates). old ++ lines (polyline_entries d.now at (take n (drop first points.now)))) begins
+    ∙ ap (λ (list : List Entry). old ++ lines list) (lines_front d.now (last_point from (take first points.now)) (drop first points.now) n)
     ∙ ap (λ (list : List Entry). old ++ lines (take n list)) (lines_rest d.now from points.now first) in
     rw is bytes
 
 -- characters of a text from one on: behind the first the pen is as text leaves it
-text_rest : (set : CharSet) (hand : Hand) (codes : List ℕ) (n : ℕ) → text_in set (record hand { pen = After }) (drop n codes) ≡ drop n (text_in set (record hand { pen = After }) codes)
-unfolding text_in
+text_rest : (set : CharSet) (hand : Hand) (codes : List ℕ) (n : ℕ) → text_entries_in set (record hand { pen = After }) (drop n codes) ≡ drop n (text_entries_in set (record hand { pen = After }) codes)
+unfolding text_entries_in
 text_rest set hand codes zero = refl
 text_rest set hand [] (suc n) = refl
 text_rest set hand (c ∷ cs) (suc n) = text_rest set hand cs n
 
-text_behind : (set : CharSet) (hand : Hand) (codes : List ℕ) (n : ℕ) → text_in set (record hand { pen = pen_at hand.pen n }) (drop n codes) ≡ drop n (text_in set hand codes)
-unfolding text_in
+text_behind : (set : CharSet) (hand : Hand) (codes : List ℕ) (n : ℕ) → text_entries_in set (record hand { pen = pen_at hand.pen n }) (drop n codes) ≡ drop n (text_entries_in set hand codes)
+unfolding text_entries_in
 text_behind set hand codes zero = refl
 text_behind set hand [] (suc n) = refl
 text_behind set hand (c ∷ cs) (suc n) = text_rest set hand cs n
 
 pub part_written : (b : Batch) (set : CharSet) (bytes : _) (pen : Pen) (d : _) (first m n : ℕ) (hand : Hand) (old new few : List ℕ) → b ≡ batches.Text set bytes pen d → n ≤ m →
     hand ≡ record (hand_of d.now) { pen = pen_at pen first } → few ≡ take m (drop first bytes.now) →
-    new ≡ old ++ lines (take n (text_in set hand few)) → new ≡ old ++ lines (take n (drop first (listed b)))
+    new ≡ old ++ lines (take n (text_entries_in set hand few)) → new ≡ old ++ lines (take n (drop first (batch_entries b)))
 part_written b set bytes pen d first m n hand old new few is less in_hand slice text =
     let whole : Hand = record (hand_of d.now) { pen = pen } in
     let all =
     text
-    ∙ ap (λ (hand : Hand). old ++ lines (take n (text_in set hand few))) in_hand
-    ∙ ap (λ (few : List ℕ). old ++ lines (take n (text_in set (record whole { pen = pen_at pen first }) few))) slice
+    ∙ ap (λ (hand : Hand). old ++ lines (take n (text_entries_in set hand few))) in_hand
+    ∙ ap (λ (few : List ℕ). old ++ lines (take n (text_entries_in set (record whole { pen = pen_at pen first }) few))) slice
     ∙ ap (λ (list : List Entry). old ++ lines (take n list)) (text_front set (record whole { pen = pen_at pen first }) (drop first bytes.now) m)
-    ∙ ap (λ (list : List Entry). old ++ lines list) (take-take n m (text_in set (record whole { pen = pen_at pen first }) (drop first bytes.now)) less)
+    ∙ ap (λ (list : List Entry). old ++ lines list) (take-take n m (text_entries_in set (record whole { pen = pen_at pen first }) (drop first bytes.now)) less)
     ∙ ap (λ (list : List Entry). old ++ lines (take n list)) (text_behind set whole bytes.now first) in
     rw is all
 
 -- the lines of a text, of which the first has a pen of its own
-pub text_written : (set : CharSet) (hand : Hand) (all others : List ℕ) (first n : ℕ) (old mid new bytes room : List ℕ) → all ≡ first ∷ others → mid ≡ old ++ bytes →
-    bytes ≡ typed_front set first ++ (codes " pen=" ++ (pen_text hand.pen ++ (written_text hand ++ 10 ∷ []))) → room ≡ codes " pen=after" ++ (written_text hand ++ 10 ∷ []) →
-    new ≡ mid ++ flat_map (λ code. typed_front set code ++ room) (take n others) → new ≡ old ++ lines (take (n + 1) (text_in set hand all))
-unfolding text_in
-text_written set hand all others first n old mid new bytes room is one front end more =
+pub text_written : (set : CharSet) (hand : Hand) (all others : List ℕ) (first n : ℕ) (old mid new bytes buffer : List ℕ) → all ≡ first ∷ others → mid ≡ old ++ bytes →
+    bytes ≡ text_byte_front set first ++ (codes " pen=" ++ (pen_text hand.pen ++ (hand_text_without_pen hand ++ 10 ∷ []))) → buffer ≡ codes " pen=after" ++ (hand_text_without_pen hand ++ 10 ∷ []) →
+    new ≡ mid ++ flat_map (λ code. text_byte_front set code ++ buffer) (take n others) → new ≡ old ++ lines (take (n + 1) (text_entries_in set hand all))
+unfolding text_entries_in
+text_written set hand all others first n old mid new bytes buffer is one front end more =
     let further : Hand = record hand { pen = After } in
-    let rest : List ℕ = lines (take n (text_in set further others)) in
-    let begun = typed set hand first in
-    let written : flat_map (λ code. typed_front set code ++ room) (take n others) ≡ rest =
-    ap (λ (end : List ℕ). flat_map (λ code. typed_front set code ++ end) (take n others)) end
+    let rest : List ℕ = lines (take n (text_entries_in set further others)) in
+    let begun = text_entry set hand first in
+    let written : flat_map (λ code. text_byte_front set code ++ buffer) (take n others) ≡ rest =
+    ap (λ (end : List ℕ). flat_map (λ code. text_byte_front set code ++ end) (take n others)) end
     ∙ letters_are_lines set hand (take n others)
     ∙ ap lines (text_front set further others n) in
-    let taken : take (n + 1) (text_in set hand all) ≡ begun ∷ take n (text_in set further others) = rw (is, add-one) refl in
+    let taken : take (n + 1) (text_entries_in set hand all) ≡ begun ∷ take n (text_entries_in set further others) = rw (is, add-one) refl in
     more
     ∙ ap (λ (bytes : List ℕ). mid ++ bytes) written
     ∙ ap (λ (bytes : List ℕ). bytes ++ rest) (one ∙ ap (λ (bytes : List ℕ). old ++ bytes) (front ∙ typed_line set hand first))
@@ -245,5 +245,5 @@ text_written set hand all others first n old mid new bytes room is one front end
     ∙ ap (λ (list : List Entry). old ++ lines list) (sym taken)
 
 -- a sink of lines, as any sink shows
-abbrev pub lines_shows : SinkShows Listed
-lines_shows = shows (λ s. s.state) (λ s d. Unit {0}) (λ s. false) Lists (λ s d e t. ⊥)
+abbrev pub lines_shows : SinkModel LineSinkState
+lines_shows = sink_model (λ s. s.state) (λ s d. Unit {0}) (λ s. false) TakesLinesOf (λ s d e t. ⊥)

@@ -7,7 +7,7 @@ use Rattle.std.proofs.Math.Nat.{suc-mul}
 use Rattle.std.proofs.Math.Seq.{take-add, take-append-add, drop-append-add, take-append_seam, drop-append_seam}
 use Rattle.nap_codes.specs.declared.code_set.CharSet.{CharSet}
 use Rattle.nap_lines.specs.Lines.{code_text}
-use Rattle.nap_lines.specs.Batches.{typed_front}
+use Rattle.nap_lines.specs.Batches.{text_byte_front}
 use Rattle.nap_lines.specs.Blocks.{laid, recoded, repeated}
 use Rattle.nap_lines.proofs.BatchLemmas.{char_start, letter_typed}
 
@@ -164,14 +164,14 @@ coded_again start end (c ∷ cs) (o ∷ os) rest size place at is few =
     ∙ sym (append_assoc now (coded start end cs) (coded start end (drop (length cs) os) ++ rest))
 
 -- lines of codes of characters are those of bytes of a text
-pub coded_typed : (set : CharSet) (end codes : List ℕ) → All (λ code. 0x20 ≤ code) codes → coded (char_start set) end codes ≡ flat_map (λ code. typed_front set code ++ end) codes
+pub coded_typed : (set : CharSet) (end codes : List ℕ) → All (λ code. 0x20 ≤ code) codes → coded (char_start set) end codes ≡ flat_map (λ code. text_byte_front set code ++ end) codes
 coded_typed set end [] all = refl
 coded_typed set end (c ∷ cs) all =
     let above : 0x20 ≤ c = All-head (λ code. 0x20 ≤ code) c cs all in
-    let one : char_start set ++ (code_text c ++ end) ≡ typed_front set c ++ end =
+    let one : char_start set ++ (code_text c ++ end) ≡ text_byte_front set c ++ end =
     sym (append_assoc (char_start set) (code_text c) end) ∙ ap (λ (front : List ℕ). front ++ end) (sym (letter_typed set c above)) in
     ap (λ (bytes : List ℕ). bytes ++ coded (char_start set) end cs) one
-    ∙ ap (λ (bytes : List ℕ). (typed_front set c ++ end) ++ bytes) (coded_typed set end cs (All-tail (λ code. 0x20 ≤ code) c cs all))
+    ∙ ap (λ (bytes : List ℕ). (text_byte_front set c ++ end) ++ bytes) (coded_typed set end cs (All-tail (λ code. 0x20 ≤ code) c cs all))
 
 -- a block of lines of characters, with other digits in the first ones
 pub block_again : (start end now others rest block : List ℕ) (size place : ℕ) → place ≡ length start → size ≡ length start + 2 + length end → length now ≤ length others → block ≡ coded start end others ++ rest →

@@ -8,17 +8,17 @@ use Rattle.nap_list.specs.declared.sink.BatchFault.{BatchFault}
 use Rattle.nap_list.specs.declared.sink.SinkFault.{SinkFault}
 use Rattle.nap_list.specs.declared.sink.SinkFault.TheVariants as faults
 use Rattle.nap_list.specs.declared.state.State.{State}
-use Rattle.nap_list.specs.Putting.{SinkShows, Put, BreaksAfter, HaltsAfter, PutSome, Tells, TakesAll, shows}
+use Rattle.nap_list.specs.Putting.{SinkModel, Put, BreaksAfter, HaltsAfter, PutSome, FaultMatchesDevice, TakesAll, sink_model}
 use Rattle.nap_list.specs.PuttingLaws.{stops_behind, wanting_put}
 use Rattle.nap_list.specs.Sending.{Sending, sending, Grows}
 use Rattle.nap_list.specs.State.{walk}
 use Rattle.nap_lines.specs.Lines.{line}
 use Rattle.nap_lines.specs.Listing.{lines, lines_join}
-use Rattle.nap_lines.specs.Printing.{Passes, Sent, Closes, Printing, shown, Took, Broke, StopsAt, Prints, taken_of}
+use Rattle.nap_lines.specs.Printing.{SendsPart, SendsBuffered, Closes, Printing, sending_of, Took, Broke, StopsAt, Prints, taken_count}
 use Rattle.nap_lines.specs.PrintingLaws.{passes_none, passes_more, passes_on, took_none}
 
 -- a first part was sent
-pub part_passes : (s : Sending) (t : Sending) (i : ℕ) (xs : List ℕ) → Grows s (take i xs) t → Passes s [] xs (drop i xs) t
+pub part_passes : (s : Sending) (t : Sending) (i : ℕ) (xs : List ℕ) → Grows s (take i xs) t → SendsPart s [] xs (drop i xs) t
 part_passes s t i xs sent = record { sent = take i xs; parts = sym (take-append-drop i xs); grows = sent }
 
 -- the piece from i on is the rest
@@ -28,24 +28,24 @@ rest_of i xs = take_all (length xs - i) (drop i xs) (omega (arith, length-drop i
 -- What was held is sent.
 
 -- bytes that come first are those that were held
-held_first : (s t : Sending) (held left : List ℕ) → Passes s [] held left t → Passes s held [] left t
-held_first s t held left h = record { sent = h.sent; parts = append-nil held ∙ h.parts; grows = h.grows }
+held_first : (s t : Sending) (buffered left : List ℕ) → SendsPart s [] buffered left t → SendsPart s buffered [] left t
+held_first s t buffered left h = record { sent = h.sent; parts = append-nil buffered ∙ h.parts; grows = h.grows }
 
-module _ {O : Type 0} (o : outlet.Ghosts O) (w u : O) (m n : ℕ) (held bytes : List ℕ) (v : State) (is : bytes ≡ held) where
+module _ {O : Type 0} (o : outlet.Ghosts O) (w u : O) (m n : ℕ) (buffered bytes : List ℕ) (v : State) (is : bytes ≡ buffered) where
   abbrev before : Printing O
-  before = record { outlet = w; written = m; held = held; state = v }
+  before = record { outlet = w; written = m; buffered = buffered; state = v }
 
-  pub sent_all : (now : List ℕ) → now ≡ [] → Grows (sending o w m) bytes (sending o u n) × (o.failed u ≡ o.failed w) → Sent o before (record { outlet = u; written = n; held = now; state = v }) (Ok tt)
+  pub sent_all : (now : List ℕ) → now ≡ [] → Grows (sending o w m) bytes (sending o u n) × (o.failed u ≡ o.failed w) → SendsBuffered o before (record { outlet = u; written = n; buffered = now; state = v }) (Ok tt)
   sent_all now none sent = (
-    record { sent = bytes; parts = append-nil held ∙ sym is ∙ sym (append-nil bytes) ∙ ap (λ (left : List ℕ). bytes ++ left) (sym none); grows = sent.0 },
+    record { sent = bytes; parts = append-nil buffered ∙ sym is ∙ sym (append-nil bytes) ∙ ap (λ (left : List ℕ). bytes ++ left) (sym none); grows = sent.0 },
     sent.1,
     refl,
   )
 
-  pub sent_part : (f : DeviceFault) → ((left : List ℕ) × Passes (sending o w m) [] bytes left (sending o u n)) × (o.failed u ≡ true) →
-      Sent o before (record { outlet = u; written = n; held = held; state = v }) (Err f)
+  pub sent_part : (f : DeviceFault) → ((left : List ℕ) × SendsPart (sending o w m) [] bytes left (sending o u n)) × (o.failed u ≡ true) →
+      SendsBuffered o before (record { outlet = u; written = n; buffered = buffered; state = v }) (Err f)
   sent_part f sent = (
-    (sent.0.0, held_first (sending o w m) (sending o u n) held sent.0.0 (subst (λ (bytes : List ℕ). Passes (sending o w m) [] bytes sent.0.0 (sending o u n)) is sent.0.1)),
+    (sent.0.0, held_first (sending o w m) (sending o u n) buffered sent.0.0 (subst (λ (bytes : List ℕ). SendsPart (sending o w m) [] bytes sent.0.0 (sending o u n)) is sent.0.1)),
     sent.1,
     refl,
   )
@@ -54,16 +54,16 @@ module _ {O : Type 0} (o : outlet.Ghosts O) (w u : O) (m n : ℕ) (held bytes : 
 
 pub closes_failed : {O : Type 0} (o : outlet.Ghosts O) (s : Printing O) → o.failed s.outlet ≡ true → Closes o s s.outlet s.written
 closes_failed o s set = record {
-  left = s.held;
-  passes = passes_none (shown o s) s.held;
+  left = s.buffered;
+  passes = passes_none (sending_of o s) s.buffered;
   all = λ works. (let bad : true ≡ false = sym set ∙ works in cc);
   still = λ _. (refl, refl);
 }
 
-pub closes_by : {O : Type 0} (o : outlet.Ghosts O) (s t : Printing O) (r : Result (Unit {0}) DeviceFault) → o.failed s.outlet ≡ false → Sent o s t r → OnOk r (t.held ≡ []) →
+pub closes_by : {O : Type 0} (o : outlet.Ghosts O) (s t : Printing O) (r : Result (Unit {0}) DeviceFault) → o.failed s.outlet ≡ false → SendsBuffered o s t r → OnOk r (t.buffered ≡ []) →
     Closes o s t.outlet t.written
 closes_by o s t (Ok done) works sent none = record {
-  left = t.held;
+  left = t.buffered;
   passes = sent.0;
   all = λ _. none;
   still = λ set. (let bad : true ≡ false = sym set ∙ works in cc);
@@ -81,29 +81,29 @@ pub one_line : (e : Entry) → line e ++ 10 ∷ [] ≡ lines (e ∷ [])
 one_line e = sym (append-nil (line e ++ 10 ∷ []))
 
 -- bytes were held too, and then what is held was passed on
-pub held_on : (s t : Sending) (held now bytes left : List ℕ) → now ≡ held ++ bytes → Passes s now [] left t → Passes s held bytes left t
-held_on s t held now bytes left is h = record { sent = h.sent; parts = sym is ∙ sym (append-nil now) ∙ h.parts; grows = h.grows }
+pub held_on : (s t : Sending) (buffered now bytes left : List ℕ) → now ≡ buffered ++ bytes → SendsPart s now [] left t → SendsPart s buffered bytes left t
+held_on s t buffered now bytes left is h = record { sent = h.sent; parts = sym is ∙ sym (append-nil now) ∙ h.parts; grows = h.grows }
 
 -- more entries' lines behind the first ones
-pub lines_on : (s t : Sending) (held left now : List ℕ) (list : List Entry) (n more : ℕ) → Passes s held (lines (take n list)) left t →
-    now ≡ left ++ lines (take more (drop n list)) → Passes s held (lines (take (n + more) list)) now t
-lines_on s t held left now list n more h is =
+pub lines_on : (s t : Sending) (buffered left now : List ℕ) (list : List Entry) (n more : ℕ) → SendsPart s buffered (lines (take n list)) left t →
+    now ≡ left ++ lines (take more (drop n list)) → SendsPart s buffered (lines (take (n + more) list)) now t
+lines_on s t buffered left now list n more h is =
     let all : lines (take (n + more) list) ≡ lines (take n list) ++ lines (take more (drop n list)) =
     ap lines (take-add n more list) ∙ lines_join (take n list) (take more (drop n list)) in
-    rw (all, is) (passes_on s t held left (lines (take n list)) (lines (take more (drop n list))) h)
+    rw (all, is) (passes_on s t buffered left (lines (take n list)) (lines (take more (drop n list))) h)
 
 -- what was held went on
-pub sent_on : (s t u : Sending) (held mid left bytes : List ℕ) → Passes s held bytes mid t → Passes t mid [] left u → Passes s held bytes left u
-sent_on s t u held mid left bytes first second =
-    subst (λ (bytes : List ℕ). Passes s held bytes left u) (append-nil bytes) (passes_more s t u held mid left bytes [] first second)
+pub sent_on : (s t u : Sending) (buffered mid left bytes : List ℕ) → SendsPart s buffered bytes mid t → SendsPart t mid [] left u → SendsPart s buffered bytes left u
+sent_on s t u buffered mid left bytes first second =
+    subst (λ (bytes : List ℕ). SendsPart s buffered bytes left u) (append-nil bytes) (passes_more s t u buffered mid left bytes [] first second)
 
 -- what was held is passed on, and then more entries' lines are made
-pub chunk : {O : Type 0} (o : outlet.Ghosts O) (s t m : Printing O) (list : List Entry) (n more : ℕ) (held now : List ℕ) (w : O) (k : ℕ) →
-    Passes (shown o s) s.held (lines (take n list)) t.held (shown o t) → Passes (shown o t) t.held [] m.held (shown o m) → w ≡ m.outlet → k ≡ m.written → held ≡ m.held →
-    now ≡ held ++ lines (take more (drop n list)) → Passes (shown o s) s.held (lines (take (n + more) list)) now (sending o w k)
-chunk o s t m list n more held now w k passes sent outlet written same is =
-    rw (outlet, written) (lines_on (shown o s) (shown o m) s.held m.held now list n more (sent_on (shown o s) (shown o t) (shown o m) s.held t.held m.held (lines (take n list)) passes sent)
-    (is ∙ ap (λ (held : List ℕ). held ++ lines (take more (drop n list))) same))
+pub chunk : {O : Type 0} (o : outlet.Ghosts O) (s t m : Printing O) (list : List Entry) (n more : ℕ) (buffered now : List ℕ) (w : O) (k : ℕ) →
+    SendsPart (sending_of o s) s.buffered (lines (take n list)) t.buffered (sending_of o t) → SendsPart (sending_of o t) t.buffered [] m.buffered (sending_of o m) → w ≡ m.outlet → k ≡ m.written → buffered ≡ m.buffered →
+    now ≡ buffered ++ lines (take more (drop n list)) → SendsPart (sending_of o s) s.buffered (lines (take (n + more) list)) now (sending o w k)
+chunk o s t m list n more buffered now w k passes sent outlet written same is =
+    rw (outlet, written) (lines_on (sending_of o s) (sending_of o m) s.buffered m.buffered now list n more (sent_on (sending_of o s) (sending_of o t) (sending_of o m) s.buffered t.buffered m.buffered (lines (take n list)) passes sent)
+    (is ∙ ap (λ (buffered : List ℕ). buffered ++ lines (take more (drop n list))) same))
 
 pub prints_state : {O : Type 0} (o : outlet.Ghosts O) (s t : Printing O) (d : List Entry) (r : Result (Unit {0}) BatchFault) → Prints o s d t r → t.state ≡ s.state
 prints_state o s t d (Ok done) prints = prints.2
@@ -111,8 +111,8 @@ prints_state o s t d (Err stop) prints = prints.2
 
 module _ {O : Type 0} (o : outlet.Ghosts O) where
   -- a printer, as any sink shows
-  abbrev pub printer_shows : SinkShows (Printing O)
-  printer_shows = shows (λ s. s.state) (λ s d. Unit {0}) (λ s. o.failed s.outlet) (Took o) (Broke o)
+  abbrev pub printer_shows : SinkModel (Printing O)
+  printer_shows = sink_model (λ s. s.state) (λ s d. Unit {0}) (λ s. o.failed s.outlet) (Took o) (Broke o)
 
   -- The lines of a list were printed, and the state goes on.
   module _ (s t : Printing O) (v : State) (d : List Entry) (works : o.failed s.outlet ≡ false) where
@@ -122,11 +122,11 @@ module _ {O : Type 0} (o : outlet.Ghosts O) where
     not_failed : {A : Type 0} → o.failed s.outlet ≡ true → A
     not_failed set = let bad : ⊥ = cc in absurd bad
 
-    took_front : (n : ℕ) → Passes (shown o s) s.held (lines (take n d)) t.held (shown o t) → o.failed t.outlet ≡ false → v ≡ walk s.state (take n d) → Took o s (take n d) u
+    took_front : (n : ℕ) → SendsPart (sending_of o s) s.buffered (lines (take n d)) t.buffered (sending_of o t) → o.failed t.outlet ≡ false → v ≡ walk s.state (take n d) → Took o s (take n d) u
     took_front n passes clear is = record { passes = passes; failed = clear ∙ sym works; state = is }
 
     -- a write failed behind so many
-    breaks : (n : ℕ) (left : List ℕ) → n < length d → Passes (shown o s) s.held (lines (take n d)) left (shown o t) → o.failed t.outlet ≡ true → v ≡ walk s.state (take n d) →
+    breaks : (n : ℕ) (left : List ℕ) → n < length d → SendsPart (sending_of o s) s.buffered (lines (take n d)) left (sending_of o t) → o.failed t.outlet ≡ true → v ≡ walk s.state (take n d) →
         (rest : List Entry) → d ≡ take n d ++ rest → BreaksAfter (Broke o) s d n u
     breaks n left less passes failed is [] parts = absurd (omega (arith, less, length-take-le n d (omega (arith, less)), ap length parts, ap length (append-nil (take n d))))
     breaks n left less passes failed is (x ∷ rest) parts = record {
@@ -137,25 +137,25 @@ module _ {O : Type 0} (o : outlet.Ghosts O) where
       count = length-take-le n d (omega (arith, less));
       broken = record {
         left = left ++ lines (x ∷ []);
-        passes = rw (lines_join (take n d) (x ∷ [])) (passes_on (shown o s) (shown o t) s.held left (lines (take n d)) (lines (x ∷ [])) passes);
+        passes = rw (lines_join (take n d) (x ∷ [])) (passes_on (sending_of o s) (sending_of o t) s.buffered left (lines (take n d)) (lines (x ∷ [])) passes);
         failed = failed;
         state = is;
       };
     }
 
     -- so many, and then memory ran out or a write failed
-    stopped : (n : ℕ) (fault : SinkFault) → StopsAt o s d n t fault → n < length d → v ≡ walk s.state (take n d) → HaltsAfter printer_shows d s u n fault × Tells printer_shows s u n fault
+    stopped : (n : ℕ) (fault : SinkFault) → StopsAt o s d n t fault → n < length d → v ≡ walk s.state (take n d) → HaltsAfter printer_shows d s u n fault × FaultMatchesDevice printer_shows s u n fault
     stopped n faults.Memory (passes, clear) less is = stops_behind printer_shows s u d n less works clear (took_front n passes clear is) (λ x. tt)
     stopped n faults.Write ((left, passes), failed) less is = (
       inr (breaks n left less passes failed is (drop n d) (sym (take-append-drop n d))),
       record { write = λ _. failed; memory = λ e. (let bad : ⊥ = cc in absurd bad); none = λ set. not_failed set },
     )
 
-    put_by : (r : Result (Unit {0}) BatchFault) → Prints o s d t r → v ≡ walk s.state (take (taken_of (length d) r) d) → Put printer_shows d s u r
+    put_by : (r : Result (Unit {0}) BatchFault) → Prints o s d t r → v ≡ walk s.state (take (taken_count (length d) r) d) → Put printer_shows d s u r
     put_by (Ok done) (passes, clear, _) is =
         let all = take_all (length d) d (omega arith) in
         record {
-          took = record { passes = subst (λ (d : List Entry). Passes (shown o s) s.held (lines d) t.held (shown o t)) refl passes; failed = clear ∙ sym works; state = is ∙ ap (walk s.state) all };
+          took = record { passes = subst (λ (d : List Entry). SendsPart (sending_of o s) s.buffered (lines d) t.buffered (sending_of o t)) refl passes; failed = clear ∙ sym works; state = is ∙ ap (walk s.state) all };
           state = is ∙ ap (walk s.state) all;
           works = λ _. clear;
           none = λ set. not_failed set;
@@ -163,25 +163,25 @@ module _ {O : Type 0} (o : outlet.Ghosts O) where
     put_by (Err stop) (stops, less, _) is = stopped stop.taken stop.fault stops less is
 
     -- as it is left
-    pub put_at : (w : O) (m : ℕ) (held : List ℕ) (r : Result (Unit {0}) BatchFault) → w ≡ t.outlet → m ≡ t.written → held ≡ t.held → Prints o s d t r →
-        v ≡ walk s.state (take (taken_of (length d) r) d) → Put printer_shows d s (record { outlet = w; written = m; held = held; state = v }) r
-    put_at w m held r outlet written same prints is = rw (outlet, written, same) (put_by r prints is)
+    pub put_at : (w : O) (m : ℕ) (buffered : List ℕ) (r : Result (Unit {0}) BatchFault) → w ≡ t.outlet → m ≡ t.written → buffered ≡ t.buffered → Prints o s d t r →
+        v ≡ walk s.state (take (taken_count (length d) r) d) → Put printer_shows d s (record { outlet = w; written = m; buffered = buffered; state = v }) r
+    put_at w m buffered r outlet written same prints is = rw (outlet, written, same) (put_by r prints is)
 
   -- One entry's line was held too, and then what is held was sent where it was much.
-  module _ (s m t : Printing O) (e : Entry) (shown_is : shown o m ≡ shown o s) (held_is : m.held ≡ s.held ++ lines (e ∷ [])) where
-    pub took_one : (w : O) (n : ℕ) (held : List ℕ) (v : State) (f : Unit {0}) → Sent o m t (Ok f) → o.failed m.outlet ≡ o.failed s.outlet → w ≡ t.outlet → n ≡ t.written → held ≡ t.held →
-        v ≡ walk s.state (e ∷ []) → Took o s (e ∷ []) (record { outlet = w; written = n; held = held; state = v })
-    took_one w n held v f sent same outlet written left state = rw (outlet, written, left) (record {
-      passes = held_on (shown o s) (shown o t) s.held m.held (lines (e ∷ [])) t.held held_is (subst (λ (x : Sending). Passes x m.held [] t.held (shown o t)) shown_is sent.0);
+  module _ (s m t : Printing O) (e : Entry) (shown_is : sending_of o m ≡ sending_of o s) (held_is : m.buffered ≡ s.buffered ++ lines (e ∷ [])) where
+    pub took_one : (w : O) (n : ℕ) (buffered : List ℕ) (v : State) (f : Unit {0}) → SendsBuffered o m t (Ok f) → o.failed m.outlet ≡ o.failed s.outlet → w ≡ t.outlet → n ≡ t.written → buffered ≡ t.buffered →
+        v ≡ walk s.state (e ∷ []) → Took o s (e ∷ []) (record { outlet = w; written = n; buffered = buffered; state = v })
+    took_one w n buffered v f sent same outlet written left state = rw (outlet, written, left) (record {
+      passes = held_on (sending_of o s) (sending_of o t) s.buffered m.buffered (lines (e ∷ [])) t.buffered held_is (subst (λ (x : Sending). SendsPart x m.buffered [] t.buffered (sending_of o t)) shown_is sent.0);
       failed = sent.1 ∙ same;
       state = state;
     })
 
-    pub broke_one : (f : DeviceFault) → Sent o m t (Err f) → t.state ≡ s.state → Broke o s [] e t
+    pub broke_one : (f : DeviceFault) → SendsBuffered o m t (Err f) → t.state ≡ s.state → Broke o s [] e t
     unfolding walk
     broke_one f sent state = record {
       left = sent.0.0;
-      passes = held_on (shown o s) (shown o t) s.held m.held (lines (e ∷ [])) sent.0.0 held_is (subst (λ (x : Sending). Passes x m.held [] sent.0.0 (shown o t)) shown_is sent.0.1);
+      passes = held_on (sending_of o s) (sending_of o t) s.buffered m.buffered (lines (e ∷ [])) sent.0.0 held_is (subst (λ (x : Sending). SendsPart x m.buffered [] sent.0.0 (sending_of o t)) shown_is sent.0.1);
       failed = sent.1;
       state = state;
     }
@@ -204,10 +204,10 @@ module _ {O : Type 0} (o : outlet.Ghosts O) where
   )
 
   pub shape_refused : (s : Printing O) (w : O) (n : ℕ) (old now : List ℕ) (v : State) (e : Entry) (r : Result (Unit {0}) SinkFault) →
-      record { outlet = w; written = n; held = old; state = v } ≡ s → now ≡ old → IsErrAnd r (λ fault. fault ≡ faults.Memory) → o.failed s.outlet ≡ false →
-      PutSome printer_shows (e ∷ []) s (record { outlet = w; written = n; held = now; state = v }) r
+      record { outlet = w; written = n; buffered = old; state = v } ≡ s → now ≡ old → IsErrAnd r (λ fault. fault ≡ faults.Memory) → o.failed s.outlet ≡ false →
+      PutSome printer_shows (e ∷ []) s (record { outlet = w; written = n; buffered = now; state = v }) r
   shape_refused s w n old now v e r is kept wants works =
-      let same : record { outlet = w; written = n; held = now; state = v } ≡ s = ap (λ (held : List ℕ). record { outlet = w; written = n; held = held; state = v }) kept ∙ is in
+      let same : record { outlet = w; written = n; buffered = now; state = v } ≡ s = ap (λ (buffered : List ℕ). record { outlet = w; written = n; buffered = buffered; state = v }) kept ∙ is in
       subst (λ (u : Printing O). PutSome printer_shows (e ∷ []) s u r) (sym same) (wanting_put printer_shows s e r wants (took_none o s) works tt)
 
   pub shape_failed : (s : Printing O) (list : List Entry) → o.failed s.outlet ≡ true → PutSome {A = Unit {0}} printer_shows list s s (Err faults.Write)

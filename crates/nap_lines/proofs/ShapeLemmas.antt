@@ -7,11 +7,11 @@ use Rattle.nap_values.specs.Coordinates.{Coordinates}
 use Rattle.nap_list.specs.declared.shape.Shape.{Shape}
 use Rattle.nap_list.specs.declared.shape.ShapeKind.{ShapeKind}
 use Rattle.nap_list.specs.declared.shape.ShapeKind.TheVariants as kinds
-use Rattle.nap_list.specs.Shapes.{drawn_shape, outline, shape_entry, shape_points}
+use Rattle.nap_list.specs.Shapes.{entry_of_shape, outline, shape_entry, shape_points}
 use Rattle.nap_list.specs.State.{ink_of}
 use Rattle.nap_list.specs.declared.attribute.Ink.{Ink}
 use Rattle.nap_lines.specs.Lines.{fill_text, ink_text, line, point_text, points_text}
-use Rattle.nap_lines.specs.Shapes.{closing, shape_name}
+use Rattle.nap_lines.specs.Shapes.{closing_points, shape_name}
 use Rattle.nap_lines.specs.Writing.{Writes}
 
 -- The line of a shape, part by part.
@@ -32,13 +32,13 @@ points_join : (xs ys : List Coordinates) → points_text (xs ++ ys) ≡ points_t
 points_join xs ys = flat_map-append (λ (p : Coordinates). codes " " ++ point_text p) xs ys
 
 -- the points of a shape are those that it goes through, and its start again where it goes back there
-way_is : (kind : ShapeKind) (p : Coordinates) (points : List Coordinates) → outline kind (p ∷ points) ≡ p ∷ (points ++ closing kind p points)
+way_is : (kind : ShapeKind) (p : Coordinates) (points : List Coordinates) → outline kind (p ∷ points) ≡ p ∷ (points ++ closing_points kind p points)
 way_is kinds.Arc p [] = refl
 way_is kinds.Arc p (q ∷ []) = refl
 way_is kinds.Arc p (q ∷ (r ∷ rest)) = sym (ap (λ (points : List Coordinates). p ∷ points) (append-nil (q ∷ (r ∷ rest))))
 way_is kinds.Poly p points = sym (ap (λ (points : List Coordinates). p ∷ points) (append-nil points))
 
-pub way_text : (kind : ShapeKind) (p : Coordinates) (points back : List Coordinates) → closing kind p points ≡ back →
+pub way_text : (kind : ShapeKind) (p : Coordinates) (points back : List Coordinates) → closing_points kind p points ≡ back →
     points_text (outline kind (p ∷ points)) ≡ points_text (p ∷ []) ++ (points_text points ++ points_text back)
 way_text kind p points back is =
     ap points_text (way_is kind p points)
@@ -57,6 +57,6 @@ shape_line kinds.Poly filled points ink = parts (codes "POLY-") (fill_text fille
     parts : (a f p s i n : List ℕ) → (a ++ f ++ p ++ s ++ i) ++ n ≡ (a ++ f) ++ (p ++ (s ++ i ++ n))
     parts a f p s i n = simp append_assoc
 
-pub drawn_line : (shape : Shape) → line (drawn_shape shape) ++ 10 ∷ [] ≡
+pub drawn_line : (shape : Shape) → line (entry_of_shape shape) ++ 10 ∷ [] ≡
     (shape_name shape.kind ++ fill_text shape.filled) ++ (points_text (shape_points shape) ++ (codes " " ++ ink_text (ink_of shape.drawing.now) ++ 10 ∷ []))
 drawn_line shape = shape_line shape.kind shape.filled (shape_points shape) (ink_of shape.drawing.now)

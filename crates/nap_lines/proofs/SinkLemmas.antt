@@ -8,18 +8,18 @@ use Rattle.nap_list.specs.Putting.{PutSome, TakesAll}
 use Rattle.nap_list.specs.PuttingLaws.{wanting_put}
 use Rattle.nap_list.specs.State.{after, walk}
 use Rattle.nap_lines.specs.Lines.{line}
-use Rattle.nap_lines.specs.Listing.{Listed, lists_none}
+use Rattle.nap_lines.specs.Listing.{LineSinkState, lists_none}
 use Rattle.nap_lines.proofs.BatchLemmas.{lines_shows}
 use Rattle.nap_lines.proofs.PrintLemmas.{one_line}
 
 -- A shape that is put into a sink of lines.
 
-pub shape_listed : (s : Listed) (old now : List ℕ) (v w : State) (e : Entry) → record { text = old; state = v } ≡ s → now ≡ old ++ (line e ++ 10 ∷ []) → w ≡ after v e →
+pub shape_listed : (s : LineSinkState) (old now : List ℕ) (v w : State) (e : Entry) → record { text = old; state = v } ≡ s → now ≡ old ++ (line e ++ 10 ∷ []) → w ≡ after v e →
     TakesAll lines_shows (e ∷ []) s (record { text = now; state = w })
 unfolding walk
 shape_listed s old now v w e is text state =
-    let before : old ≡ s.text = ap (λ (l : Listed). l.text) is in
-    let from : v ≡ s.state = ap (λ (l : Listed). l.state) is in
+    let before : old ≡ s.text = ap (λ (l : LineSinkState). l.text) is in
+    let from : v ≡ s.state = ap (λ (l : LineSinkState). l.state) is in
     let walked : w ≡ after s.state e = state ∙ ap (λ (v : State). after v e) from in
     record {
       took = record {
@@ -31,8 +31,8 @@ shape_listed s old now v w e is text state =
       none = λ set. (let bad : ⊥ = cc in absurd bad);
     }
 
-pub shape_unlisted : (s : Listed) (old now : List ℕ) (v : State) (e : Entry) (r : Result (Unit {0}) SinkFault) → record { text = old; state = v } ≡ s → now ≡ old →
+pub shape_unlisted : (s : LineSinkState) (old now : List ℕ) (v : State) (e : Entry) (r : Result (Unit {0}) SinkFault) → record { text = old; state = v } ≡ s → now ≡ old →
     IsErrAnd r (λ fault. fault ≡ faults.Memory) → PutSome lines_shows (e ∷ []) s (record { text = now; state = v }) r
 shape_unlisted s old now v e r is kept wants =
     let same : record { text = now; state = v } ≡ s = ap (λ (text : List ℕ). record { text = text; state = v }) kept ∙ is in
-    subst (λ (u : Listed). PutSome lines_shows (e ∷ []) s u r) (sym same) (wanting_put lines_shows s e r wants (lists_none s) refl tt)
+    subst (λ (u : LineSinkState). PutSome lines_shows (e ∷ []) s u r) (sym same) (wanting_put lines_shows s e r wants (lists_none s) refl tt)

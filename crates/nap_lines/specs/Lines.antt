@@ -29,7 +29,7 @@ use Rattle.nap_list.specs.declared.attribute.Texture.{Texture}
 use Rattle.nap_list.specs.declared.entry.Entry.{Entry}
 use Rattle.nap_list.specs.declared.entry.Entry.TheVariants as entry
 
--- The fields of a line.
+-- The fields of a line (PROFILE.md, Lines of list).
 
 abbrev pub point_text : Coordinates → List ℕ
 point_text p = decimal p.x ++ codes "," ++ decimal p.y
@@ -41,7 +41,7 @@ move_text m = signed_decimal m.x ++ codes "," ++ signed_decimal m.y
 abbrev pub points_text : List Coordinates → List ℕ
 points_text points = flat_map (λ p. codes " " ++ point_text p) points
 
--- green, red and blue
+-- the components of a colour: green, red, blue
 abbrev pub grb_text : Components → List ℕ
 grb_text c = decimal c.g ++ codes "," ++ decimal c.r ++ codes "," ++ decimal c.b
 
@@ -130,7 +130,7 @@ mask_text mask.B = codes "B"
 mask_text mask.C = codes "C"
 mask_text mask.D = codes "D"
 
--- the line of an entry, without its end
+-- the line of an entry, without LF
 abbrev pub line : Entry → List ℕ
 line (entry.Point at pel colour) = codes "POINT " ++ point_text at ++ codes " pel=" ++ move_text pel ++ codes " colour=" ++ colour_text colour
 line (entry.Line from to ink) = codes "LINE " ++ point_text from ++ codes " " ++ point_text to ++ codes " " ++ ink_text ink

@@ -5,23 +5,23 @@ use Rattle.nap_list.specs.State.{walk}
 use Rattle.nap_list.proofs.PublicLaws.{walks_join}
 use Rattle.nap_lines.specs.Lines.{line}
 
--- the lines of a list, each with its end
+-- the lines of a list, each with LF
 abbrev pub lines : List Entry → List ℕ
 lines entries = flat_map (λ entry. line entry ++ 10 ∷ []) entries
 
--- what a sink of lines shows: their text, and the state that the next entry has to fit
-pub record Listed : Type 0 where
+-- a sink of lines: its text, and the state that the next entry has to fit
+pub record LineSinkState : Type 0 where
   pub text : List ℕ
   pub state : State
 
--- A sink took these entries, and made their lines.
-pub record Lists (s : Listed) (d : List Entry) (t : Listed) : Type 0 where
+-- A sink took these entries and appended their lines.
+pub record TakesLinesOf (s : LineSinkState) (d : List Entry) (t : LineSinkState) : Type 0 where
   pub text : t.text ≡ s.text ++ lines d
   pub state : t.state ≡ walk s.state d
 
--- What the trait asks of it.
+-- The members of the trait for a sink of lines.
 
-pub lists_none : (s : Listed) → Lists s [] s
+pub lists_none : (s : LineSinkState) → TakesLinesOf s [] s
 unfolding walk
 lists_none s = record { text = sym (append-nil s.text); state = refl }
 
@@ -30,7 +30,7 @@ lines_join [] e = refl
 lines_join (x ∷ d) e =
     ap (λ (bytes : List ℕ). (line x ++ 10 ∷ []) ++ bytes) (lines_join d e) ∙ sym (append_assoc (line x ++ 10 ∷ []) (lines d) (lines e))
 
-pub lists_more : (s t u : Listed) (d e : List Entry) → Lists s d t → Lists t e u → Lists s (d ++ e) u
+pub lists_more : (s t u : LineSinkState) (d e : List Entry) → TakesLinesOf s d t → TakesLinesOf t e u → TakesLinesOf s (d ++ e) u
 lists_more s t u d e first second = record {
   text =
       second.text

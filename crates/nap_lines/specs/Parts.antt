@@ -5,13 +5,13 @@ use Rattle.nap_lines.specs.Lines.{fill_text, points_text, ink_text, line}
 
 -- A line in two parts.
 
--- the line of a shape as far as its points go, and of no other entry
+-- the line of a shape up to its points, and nothing of any other entry
 abbrev pub first_part : Entry → List ℕ
 first_part (entry.Arc filled points ink) = codes "ARC-" ++ fill_text filled ++ points_text points
 first_part (entry.Poly filled points ink) = codes "POLY-" ++ fill_text filled ++ points_text points
 first_part _ = []
 
--- the line of a shape behind its points, and that of every other entry
+-- the line of a shape after its points, and all of the line of any other entry
 abbrev pub last_part : Entry → List ℕ
 last_part (entry.Arc filled points ink) = codes " " ++ ink_text ink
 last_part (entry.Poly filled points ink) = codes " " ++ ink_text ink

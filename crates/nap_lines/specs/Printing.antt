@@ -12,66 +12,69 @@ use Rattle.nap_lines.specs.Listing.{lines}
 
 -- Lines that are printed as their entries come.
 
--- Of what was held and of these bytes a first part was sent, and this is left.
-pub record Passes (s : Sending) (held bytes left : List ℕ) (t : Sending) : Type 0 where
+-- A prefix of the buffered bytes and these was sent, and the rest is left.
+pub record SendsPart (s : Sending) (buffered bytes left : List ℕ) (t : Sending) : Type 0 where
   pub sent : List ℕ
-  pub parts : held ++ bytes ≡ sent ++ left
+  pub parts : buffered ++ bytes ≡ sent ++ left
   pub grows : Grows s sent t
 
--- all of the bytes were sent, and no write failed; or a first part, and then one did
+-- all bytes were sent and no write failed, or a prefix was sent and then a write failed
 abbrev pub SentUpTo : Sending → List ℕ → Sending → Result (Unit {0}) DeviceFault → Type 0
 SentUpTo s bytes t (Ok done) = Grows s bytes t × (t.failed ≡ s.failed)
-SentUpTo s bytes t (Err fault) = ((left : List ℕ) × Passes s [] bytes left t) × (t.failed ≡ true)
+SentUpTo s bytes t (Err fault) = ((left : List ℕ) × SendsPart s [] bytes left t) × (t.failed ≡ true)
 
--- What a printer shows: its outlet, how many bytes that took from it, what it holds, and the state that the next entry has
--- to fit.
+-- A printer: its outlet, the number of bytes that it took, the buffered bytes, and the state that the next entry has to
+-- fit.
 pub record Printing (O : Type 0) : Type 0 where
   pub outlet : O
   pub written : ℕ
-  pub held : List ℕ
+  pub buffered : List ℕ
   pub state : State
 
-abbrev pub shown : {O : Type 0} → outlet.Ghosts O → Printing O → Sending
-shown o s = sending o s.outlet s.written
+abbrev pub sending_of : {O : Type 0} → outlet.Ghosts O → Printing O → Sending
+sending_of o s = sending o s.outlet s.written
 
--- a printer took the lines of these entries: what wasn't sent it holds
+-- a printer took these entries: their lines were sent, or are buffered
 pub record Took {O : Type 0} (o : outlet.Ghosts O) (s : Printing O) (d : List Entry) (t : Printing O) : Type 0 where
-  pub passes : Passes (shown o s) s.held (lines d) t.held (shown o t)
+  pub passes : SendsPart (sending_of o s) s.buffered (lines d) t.buffered (sending_of o t)
   pub failed : o.failed t.outlet ≡ o.failed s.outlet
   pub state : t.state ≡ walk s.state d
 
--- a printer took the lines of these entries, and a write failed amid them or amid that of one more
+-- a printer took these entries, and a write failed in their lines or in the line of one more entry
 pub record Broke {O : Type 0} (o : outlet.Ghosts O) (s : Printing O) (d : List Entry) (e : Entry) (t : Printing O) : Type 0 where
   pub left : List ℕ
-  pub passes : Passes (shown o s) s.held (lines (d ++ e ∷ [])) left (shown o t)
+  pub passes : SendsPart (sending_of o s) s.buffered (lines (d ++ e ∷ [])) left (sending_of o t)
   pub failed : o.failed t.outlet ≡ true
   pub state : t.state ≡ walk s.state d
 
--- A printer is closed: what was held is sent, all of it unless the outlet failed. One whose outlet had failed sends nothing.
+-- A printer is closed: the buffered bytes were sent, all of them unless the outlet failed. Nothing is sent if the
+-- outlet had failed before.
 pub record Closes {O : Type 0} (o : outlet.Ghosts O) (s : Printing O) (w : O) (count : ℕ) : Type 0 where
   pub left : List ℕ
-  pub passes : Passes (shown o s) s.held [] left (sending o w count)
+  pub passes : SendsPart (sending_of o s) s.buffered [] left (sending o w count)
   pub all : o.failed w ≡ false → left ≡ []
   pub still : o.failed s.outlet ≡ true → (w ≡ s.outlet) × (count ≡ s.written)
 
--- Printed as far as told.
+-- Lines that are printed up to a failure.
 
--- what was held was sent, or is held still; or a write failed amid it
-abbrev pub Sent : {O : Type 0} → outlet.Ghosts O → Printing O → Printing O → Result (Unit {0}) DeviceFault → Type 0
-Sent o s t (Ok done) = Passes (shown o s) s.held [] t.held (shown o t) × (o.failed t.outlet ≡ o.failed s.outlet) × (t.state ≡ s.state)
-Sent o s t (Err fault) = ((left : List ℕ) × Passes (shown o s) s.held [] left (shown o t)) × (o.failed t.outlet ≡ true) × (t.state ≡ s.state)
+-- the buffered bytes were sent, or are still buffered, or a write failed in them
+abbrev pub SendsBuffered : {O : Type 0} → outlet.Ghosts O → Printing O → Printing O → Result (Unit {0}) DeviceFault → Type 0
+SendsBuffered o s t (Ok done) = SendsPart (sending_of o s) s.buffered [] t.buffered (sending_of o t) × (o.failed t.outlet ≡ o.failed s.outlet) × (t.state ≡ s.state)
+SendsBuffered o s t (Err fault) = ((left : List ℕ) × SendsPart (sending_of o s) s.buffered [] left (sending_of o t)) × (o.failed t.outlet ≡ true) × (t.state ≡ s.state)
 
--- so many lines of a list were printed, by an outlet that works, and then memory ran out or a write failed
+-- this many lines of a list were printed, and then memory ran out or a write failed, with an outlet that hadn't failed
+-- before
 abbrev pub StopsAt : {O : Type 0} → outlet.Ghosts O → Printing O → List Entry → ℕ → Printing O → SinkFault → Type 0
-StopsAt o s d n t faults.Memory = Passes (shown o s) s.held (lines (take n d)) t.held (shown o t) × (o.failed t.outlet ≡ false)
-StopsAt o s d n t faults.Write = ((left : List ℕ) × Passes (shown o s) s.held (lines (take n d)) left (shown o t)) × (o.failed t.outlet ≡ true)
+StopsAt o s d n t faults.Memory = SendsPart (sending_of o s) s.buffered (lines (take n d)) t.buffered (sending_of o t) × (o.failed t.outlet ≡ false)
+StopsAt o s d n t faults.Write = ((left : List ℕ) × SendsPart (sending_of o s) s.buffered (lines (take n d)) left (sending_of o t)) × (o.failed t.outlet ≡ true)
 
--- the lines of a list were printed, by an outlet that works, and the state was left: all of them, or so many
+-- the lines of a list were printed, all of them or as many as the error says, with an outlet that hadn't failed before;
+-- the state is unchanged
 abbrev pub Prints : {O : Type 0} → outlet.Ghosts O → Printing O → List Entry → Printing O → Result (Unit {0}) BatchFault → Type 0
-Prints o s d t (Ok done) = Passes (shown o s) s.held (lines d) t.held (shown o t) × (o.failed t.outlet ≡ false) × (t.state ≡ s.state)
+Prints o s d t (Ok done) = SendsPart (sending_of o s) s.buffered (lines d) t.buffered (sending_of o t) × (o.failed t.outlet ≡ false) × (t.state ≡ s.state)
 Prints o s d t (Err stop) = StopsAt o s d stop.taken t stop.fault × (stop.taken < length d) × (t.state ≡ s.state)
 
--- how many entries of so many were taken
-abbrev pub taken_of : ℕ → Result (Unit {0}) BatchFault → ℕ
-taken_of n (Ok done) = n
-taken_of n (Err stop) = stop.taken
+-- how many of a number of entries were taken
+abbrev pub taken_count : ℕ → Result (Unit {0}) BatchFault → ℕ
+taken_count n (Ok done) = n
+taken_count n (Err stop) = stop.taken

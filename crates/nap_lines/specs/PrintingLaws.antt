@@ -6,18 +6,18 @@ use Rattle.nap_list.specs.Sending.{Sending, grows_none, grows_more}
 use Rattle.nap_list.specs.State.{walk}
 use Rattle.nap_list.proofs.PublicLaws.{walks_join}
 use Rattle.nap_lines.specs.Listing.{lines, lines_join}
-use Rattle.nap_lines.specs.Printing.{Passes, Printing, shown, Took, Broke}
+use Rattle.nap_lines.specs.Printing.{SendsPart, Printing, sending_of, Took, Broke}
 
--- What is passed on, and on again.
+-- What was passed on in two steps was passed on.
 
-pub passes_none : (s : Sending) (held : List ℕ) → Passes s held [] held s
-passes_none s held = record { sent = []; parts = append-nil held; grows = grows_none s }
+pub passes_none : (s : Sending) (buffered : List ℕ) → SendsPart s buffered [] buffered s
+passes_none s buffered = record { sent = []; parts = append-nil buffered; grows = grows_none s }
 
-pub passes_more : (s t u : Sending) (held mid left a b : List ℕ) → Passes s held a mid t → Passes t mid b left u → Passes s held (a ++ b) left u
-passes_more s t u held mid left a b first second = record {
+pub passes_more : (s t u : Sending) (buffered mid left a b : List ℕ) → SendsPart s buffered a mid t → SendsPart t mid b left u → SendsPart s buffered (a ++ b) left u
+passes_more s t u buffered mid left a b first second = record {
   sent = first.sent ++ second.sent;
   parts =
-      sym (append_assoc held a b)
+      sym (append_assoc buffered a b)
       ∙ ap (λ (bytes : List ℕ). bytes ++ b) first.parts
       ∙ append_assoc first.sent mid b
       ∙ ap (λ (bytes : List ℕ). first.sent ++ bytes) second.parts
@@ -25,27 +25,27 @@ passes_more s t u held mid left a b first second = record {
   grows = grows_more s t u first.sent second.sent first.grows second.grows;
 }
 
--- more bytes come, and none is sent
-pub passes_on : (s t : Sending) (held left a b : List ℕ) → Passes s held a left t → Passes s held (a ++ b) (left ++ b) t
-passes_on s t held left a b first = record {
+-- more bytes are buffered, and none is sent
+pub passes_on : (s t : Sending) (buffered left a b : List ℕ) → SendsPart s buffered a left t → SendsPart s buffered (a ++ b) (left ++ b) t
+passes_on s t buffered left a b first = record {
   sent = first.sent;
-  parts = sym (append_assoc held a b) ∙ ap (λ (bytes : List ℕ). bytes ++ b) first.parts ∙ append_assoc first.sent left b;
+  parts = sym (append_assoc buffered a b) ∙ ap (λ (bytes : List ℕ). bytes ++ b) first.parts ∙ append_assoc first.sent left b;
   grows = first.grows;
 }
 
--- What the trait asks of a printer.
+-- The members of the trait for a printer.
 
 module _ {O : Type 0} (o : outlet.Ghosts O) where
   pub took_none : (s : Printing O) → Took o s [] s
   unfolding walk
-  took_none s = record { passes = passes_none (shown o s) s.held; failed = refl; state = refl }
+  took_none s = record { passes = passes_none (sending_of o s) s.buffered; failed = refl; state = refl }
 
   state_join : (s t : Printing O) (d e : List Entry) → t.state ≡ walk s.state d → walk t.state e ≡ walk s.state (d ++ e)
   state_join s t d e is = ap (λ (state : State). walk state e) is ∙ sym (walks_join s.state d e)
 
   pub took_more : (s t u : Printing O) (d e : List Entry) → Took o s d t → Took o t e u → Took o s (d ++ e) u
   took_more s t u d e first second = record {
-    passes = rw (lines_join d e) (passes_more (shown o s) (shown o t) (shown o u) s.held t.held u.held (lines d) (lines e) first.passes second.passes);
+    passes = rw (lines_join d e) (passes_more (sending_of o s) (sending_of o t) (sending_of o u) s.buffered t.buffered u.buffered (lines d) (lines e) first.passes second.passes);
     failed = second.failed ∙ first.failed;
     state = second.state ∙ state_join s t d e first.state;
   }
@@ -54,7 +54,7 @@ module _ {O : Type 0} (o : outlet.Ghosts O) where
   took_broke s t u d e x first second = record {
     left = second.left;
     passes = rw (append_assoc d e (x ∷ []), lines_join d (e ++ x ∷ []))
-        (passes_more (shown o s) (shown o t) (shown o u) s.held t.held second.left (lines d) (lines (e ++ x ∷ [])) first.passes second.passes);
+        (passes_more (sending_of o s) (sending_of o t) (sending_of o u) s.buffered t.buffered second.left (lines d) (lines (e ++ x ∷ [])) first.passes second.passes);
     failed = second.failed;
     state = second.state ∙ state_join s t d e first.state;
   }

@@ -3,12 +3,12 @@ use Rattle.nap_values.specs.Coordinates.{Coordinates}
 use Rattle.nap_list.specs.declared.shape.ShapeKind.{ShapeKind}
 use Rattle.nap_list.specs.declared.shape.ShapeKind.TheVariants as kinds
 
--- what the line of a shape begins with
+-- the beginning of the line of a shape
 abbrev pub shape_name : ShapeKind → List ℕ
 shape_name kinds.Arc = codes "ARC-"
 shape_name kinds.Poly = codes "POLY-"
 
--- the points behind those that a shape goes through: an arc of one step goes back to its start
-abbrev pub closing : ShapeKind → Coordinates → List Coordinates → List Coordinates
-closing kinds.Arc p (q ∷ []) = p ∷ []
-closing _ p points = []
+-- the points after those that a shape goes through: the start again for an arc of one displacement
+abbrev pub closing_points : ShapeKind → Coordinates → List Coordinates → List Coordinates
+closing_points kinds.Arc p (q ∷ []) = p ∷ []
+closing_points _ p points = []

@@ -2,7 +2,7 @@
 ghost use Rattle.std.specs.Prelude.{◌≡◌, ◌+◌, ◌*◌, ◌≤◌, ◌++◌, All, drop, length, take};
 ghost use Rattle.nap_lines.specs.Blocks.{laid, recoded, repeated};
 
-use crate::tail::digit;
+use crate::backward_buffer::digit;
 
 /// The bytes of a block of lines.
 pub(crate) const BLOCK: usize = 1_024;

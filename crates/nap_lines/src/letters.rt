@@ -1,33 +1,38 @@
 //! Lines of characters and of the moves among them.
 ghost use Rattle.std.specs.Prelude.{◌≡◌, ◌+◌, ◌≤◌, ◌++◌, flat_map, length, take};
-ghost use Rattle.nap_lines.specs.Batches.{typed_front};
+ghost use Rattle.nap_lines.specs.Batches.{text_byte_front};
 ghost use Rattle.nap_lines.specs.Writing.{line_limit};
 
-use crate::batch::{part, write_typed};
+use crate::backward_buffer::BackwardBuffer;
+use crate::batch::{slice_part, write_text_byte};
 use crate::block::{BLOCK, fill_lines, recode_lines};
-use crate::tail::Tail;
 use nap_codes::CharSet;
 
 /// Writes a line for each character and for each move among them, one by one. Each line ends as the
 /// room holds it. Answers how many it wrote: not all of them where memory is wanting.
-pub(crate) fn write_few(room: &mut Tail, text: &mut Vec<u8>, set: CharSet, codes: &[u8]) -> usize
-    requires room { length room.old + 21 ≤ line_limit }
+pub(crate) fn write_few(
+    buffer: &mut BackwardBuffer,
+    text: &mut Vec<u8>,
+    set: CharSet,
+    codes: &[u8],
+) -> usize
+    requires space { length buffer.old + 21 ≤ line_limit }
     ensures count { result ≤ length codes.now }
-    ensures text { text.new.items ≡ text.old.items ++ flat_map (λ code. typed_front set code ++ room.old) (take result codes.now) }
+    ensures text { text.new.items ≡ text.old.items ++ flat_map (λ code. text_byte_front set code ++ buffer.old) (take result codes.now) }
 {
-    let end = room.len();
+    let end = buffer.len();
     // The digits stand for those of any code.
-    room.letter_front(set, 0);
-    let place = room.len() - end - 2;
+    buffer.push_char_front(set, 0);
+    let place = buffer.len() - end - 2;
     let mut written = 0;
     for code in codes {
         if *code < 0x20 {
-            if write_typed(room, text, set, *code, end).is_err() {
+            if write_text_byte(buffer, text, set, *code, end).is_err() {
                 return written;
             }
         } else {
-            room.recode(place, *code);
-            if text.extend_from_slice(room.as_slice()).is_err() {
+            buffer.replace_code(place, *code);
+            if text.extend_from_slice(buffer.as_slice()).is_err() {
                 return written;
             }
         }
@@ -38,31 +43,36 @@ pub(crate) fn write_few(room: &mut Tail, text: &mut Vec<u8>, set: CharSet, codes
 
 /// Writes a line for each character and for each move among them, by blocks of lines, as `write_few` does.
 #[inline(never)]
-pub(crate) fn write_many(room: &mut Tail, text: &mut Vec<u8>, set: CharSet, codes: &[u8]) -> usize
-    requires room { length room.old + 21 ≤ line_limit }
+pub(crate) fn write_many(
+    buffer: &mut BackwardBuffer,
+    text: &mut Vec<u8>,
+    set: CharSet,
+    codes: &[u8],
+) -> usize
+    requires space { length buffer.old + 21 ≤ line_limit }
     ensures count { result ≤ length codes.now }
-    ensures text { text.new.items ≡ text.old.items ++ flat_map (λ code. typed_front set code ++ room.old) (take result codes.now) }
+    ensures text { text.new.items ≡ text.old.items ++ flat_map (λ code. text_byte_front set code ++ buffer.old) (take result codes.now) }
 {
-    let end = room.len();
+    let end = buffer.len();
     // The digits stand for those of any code.
-    room.letter_front(set, 0);
-    let size = room.len();
+    buffer.push_char_front(set, 0);
+    let size = buffer.len();
     let place = size - end - 2;
     let ready = (BLOCK / size).min(codes.len());
     let mut block = [0; BLOCK];
-    fill_lines(&mut block, room.as_slice(), ready);
+    fill_lines(&mut block, buffer.as_slice(), ready);
     let mut written = 0;
     while written < codes.len() {
         let most = ready.min(codes.len() - written);
-        let count = recode_lines(&mut block, size, place, part(codes, written, most));
+        let count = recode_lines(&mut block, size, place, slice_part(codes, written, most));
         if count == 0 {
-            if write_typed(room, text, set, codes[written], end).is_err() {
+            if write_text_byte(buffer, text, set, codes[written], end).is_err() {
                 return written;
             }
             written += 1;
         } else {
             if text
-                .extend_from_slice(part(&block, 0, count * size))
+                .extend_from_slice(slice_part(&block, 0, count * size))
                 .is_err()
             {
                 return written;

@@ -1,6 +1,7 @@
-//! The line of each entry of a display list, as `list` prints it.
+//! The line of each entry of a display list, as `list` prints it (PROFILE.md, Lines of list).
 #![tactic(auto)]
 
+mod backward_buffer;
 mod batch;
 mod block;
 mod field;
@@ -10,7 +11,6 @@ mod line_sink;
 mod printer;
 mod sending;
 mod shape;
-mod tail;
 
 pub use line::{append_line, line_of};
 pub use line_sink::LineSink;

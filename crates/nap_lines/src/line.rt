@@ -1,250 +1,250 @@
-//! The line of an entry.
+//! The line of an entry (PROFILE.md, Lines of list).
 ghost use Rattle.std.specs.Prelude.{◌≡◌, ◌+◌, ◌≤◌, [], ◌∷◌, ◌++◌, IfOk, OnOk, OnErr, codes, length, string_bytes};
 ghost use Rattle.std.specs.Str.{IsUtf8};
 ghost use Rattle.nap_lines.specs.Lines.{line, points_text, fill_text, ink_text};
 ghost use Rattle.nap_lines.specs.Parts.{first_part, last_part};
 ghost use Rattle.nap_lines.specs.Writing.{Writes, line_limit};
 
+use crate::backward_buffer::BackwardBuffer;
 use crate::field::{fill_name, mark_name};
-use crate::tail::Tail;
 use nap_codes::{CharSet, CursorKind, Mask, TextStep};
 use nap_list::{Area, Colour, Entry, Hand, Ink, Pen, Points};
 use nap_values::{Addr, Grb, Move, Point, Word};
 use std::alloc::{AllocError, Global};
 
-// Each line asks for the room that it takes at most.
-impl Tail {
-    fn dot(&mut self, at: Point, pel: Move, colour: &Colour)
+// Each method requires the space that its line may take.
+impl BackwardBuffer {
+    fn push_point_line(&mut self, at: Point, pel: Move, colour: &Colour)
         requires { length self.old + 102 ≤ line_limit }
         ensures { self.new ≡ line (Entry.Point at pel colour.now) ++ self.old }
     {
-        self.dot_end(pel, colour);
-        self.dot_front(at);
+        self.push_point_end(pel, colour);
+        self.push_point_front(at);
     }
 
-    // What a line, a rectangle or a shape is drawn with.
-    pub(crate) fn inked(&mut self, ink: &Ink)
+    // The part INK of a Line, a Rect or a shape, after a space.
+    pub(crate) fn push_ink_part(&mut self, ink: &Ink)
         requires { length self.old + 118 ≤ line_limit }
         ensures text { self.new ≡ codes " " ++ ink_text ink.now ++ self.old }
         ensures size { length self.new ≤ length self.old + 118 }
     {
-        self.ink(ink);
+        self.push_ink(ink);
         self.push(" ");
     }
 
-    fn line(&mut self, from: Point, to: Point, ink: &Ink)
+    fn push_line_line(&mut self, from: Point, to: Point, ink: &Ink)
         requires { length self.old + 166 ≤ line_limit }
         ensures { self.new ≡ line (Entry.Line from to ink.now) ++ self.old }
     {
-        self.inked(ink);
-        self.line_front(from, to);
+        self.push_ink_part(ink);
+        self.push_line_front(from, to);
     }
 
-    fn rect(&mut self, filled: bool, from: Point, to: Point, ink: &Ink)
+    fn push_rect_line(&mut self, filled: bool, from: Point, to: Point, ink: &Ink)
         requires { length self.old + 175 ≤ line_limit }
         ensures { self.new ≡ line (Entry.Rect filled from to ink.now) ++ self.old }
     {
-        self.inked(ink);
-        self.point(to);
+        self.push_ink_part(ink);
+        self.push_point(to);
         self.push(" ");
-        self.point(from);
+        self.push_point(from);
         self.push(" ");
         self.push(fill_name(filled));
         self.push("RECT-");
     }
 
-    fn letter(&mut self, set: CharSet, code: u8, hand: &Hand)
+    fn push_char_line(&mut self, set: CharSet, code: u8, hand: &Hand)
         requires { length self.old + 150 ≤ line_limit }
         ensures { self.new ≡ line (Entry.Char set code hand.now) ++ self.old }
     {
-        self.hand(hand);
+        self.push_hand(hand);
         self.push(" ");
-        self.letter_front(set, code);
+        self.push_char_front(set, code);
     }
 
-    fn text_move(&mut self, step: TextStep, hand: &Hand)
+    fn push_text_move_line(&mut self, step: TextStep, hand: &Hand)
         requires { length self.old + 143 ≤ line_limit }
         ensures { self.new ≡ line (Entry.TextMove step hand.now) ++ self.old }
     {
-        self.hand(hand);
+        self.push_hand(hand);
         self.push(" ");
-        self.move_front(step);
+        self.push_move_front(step);
     }
 
-    fn to_eol(&mut self, hand: &Hand)
+    fn push_to_eol_line(&mut self, hand: &Hand)
         requires { length self.old + 135 ≤ line_limit }
         ensures { self.new ≡ line (Entry.ToEol hand.now) ++ self.old }
     {
-        self.hand(hand);
+        self.push_hand(hand);
         self.push("TO-EOL ");
     }
 
-    fn map(&mut self, addr: Addr, grb: Grb)
+    fn push_map_line(&mut self, addr: Addr, grb: Grb)
         requires { length self.old + 47 ≤ line_limit }
         ensures { self.new ≡ line (Entry.Map addr grb) ++ self.old }
     {
-        self.grb(grb);
+        self.push_grb(grb);
         self.push(" ");
-        self.addr(addr);
+        self.push_addr(addr);
         self.push("MAP ");
     }
 
-    fn blink(&mut self, addr: Addr, on: Word, off: Word, delay: Word, colour: &Colour)
+    fn push_blink_line(&mut self, addr: Addr, on: Word, off: Word, delay: Word, colour: &Colour)
         requires { length self.old + 96 ≤ line_limit }
         ensures { self.new ≡ line (Entry.Blink addr on off delay colour.now) ++ self.old }
     {
-        self.coloured(colour);
-        self.word(delay);
+        self.push_colour_field(colour);
+        self.push_word(delay);
         self.push(",");
-        self.word(off);
+        self.push_word(off);
         self.push(",");
-        self.word(on);
+        self.push_word(on);
         self.push(" ");
-        self.addr(addr);
+        self.push_addr(addr);
         self.push("BLINK ");
     }
 
-    fn blink_end(&mut self, colour: &Colour)
+    fn push_blink_end_line(&mut self, colour: &Colour)
         requires { length self.old + 56 ≤ line_limit }
         ensures { self.new ≡ line (Entry.BlinkEnd colour.now) ++ self.old }
     {
-        self.coloured(colour);
+        self.push_colour_field(colour);
         self.push("BLINK-END");
     }
 
-    fn blink_mark(&mut self, on: bool, colour: &Colour)
+    fn push_blink_mark_line(&mut self, on: bool, colour: &Colour)
         requires { length self.old + 58 ≤ line_limit }
         ensures { self.new ≡ line (Entry.BlinkMark on colour.now) ++ self.old }
     {
-        self.coloured(colour);
+        self.push_colour_field(colour);
         self.push(mark_name(on));
         self.push("BLINK-");
     }
 
-    fn wait(&mut self, tenths: Word)
+    fn push_wait_line(&mut self, tenths: Word)
         requires { length self.old + 15 ≤ line_limit }
         ensures { self.new ≡ line (Entry.Wait tenths) ++ self.old }
     {
-        self.word(tenths);
+        self.push_word(tenths);
         self.push("WAIT ");
     }
 
-    fn cursor(&mut self, kind: CursorKind)
+    fn push_cursor_line(&mut self, kind: CursorKind)
         requires { length self.old + 13 ≤ line_limit }
         ensures { self.new ≡ line (Entry.Cursor kind) ++ self.old }
     {
-        self.cursor_kind(kind);
+        self.push_cursor_kind(kind);
         self.push("CURSOR ");
     }
 
-    fn field(&mut self, area: Area, pen: Pen)
+    fn push_field_line(&mut self, area: Area, pen: Pen)
         requires { length self.old + 75 ≤ line_limit }
         ensures { self.new ≡ line (Entry.Field area pen) ++ self.old }
     {
-        self.pen(pen);
+        self.push_pen(pen);
         self.push(" pen=");
-        self.area(area);
+        self.push_area(area);
         self.push("FIELD ");
     }
 
-    fn reset(&mut self, first: Word, second: Word, pen: Pen)
+    fn push_reset_line(&mut self, first: Word, second: Word, pen: Pen)
         requires { length self.old + 53 ≤ line_limit }
         ensures { self.new ≡ line (Entry.Reset first second pen) ++ self.old }
     {
-        self.pen(pen);
+        self.push_pen(pen);
         self.push(" pen=");
-        self.word(second);
+        self.push_word(second);
         self.push(" ");
-        self.word(first);
+        self.push_word(first);
         self.push("RESET ");
     }
 
-    fn screen_clear(&mut self, pen: Pen)
+    fn push_clear_line(&mut self, pen: Pen)
         requires { length self.old + 31 ≤ line_limit }
         ensures { self.new ≡ line (Entry.Clear pen) ++ self.old }
     {
-        self.pen(pen);
+        self.push_pen(pen);
         self.push("CLEAR pen=");
     }
 
-    fn glyph(&mut self, code: u8)
+    fn push_glyph_line(&mut self, code: u8)
         requires { length self.old + 8 ≤ line_limit }
         ensures { self.new ≡ line (Entry.GlyphStart code) ++ self.old }
     {
-        self.code(code);
+        self.push_code(code);
         self.push("GLYPH ");
     }
 
-    fn mask(&mut self, mask: Mask)
+    fn push_mask_line(&mut self, mask: Mask)
         requires { length self.old + 6 ≤ line_limit }
         ensures { self.new ≡ line (Entry.MaskStart mask) ++ self.old }
     {
-        self.mask_letter(mask);
+        self.push_mask_letter(mask);
         self.push("MASK ");
     }
 
     // Of a shape what comes after its points, and all of any other line.
-    fn last_part(&mut self, entry: &Entry)
+    fn push_last_part(&mut self, entry: &Entry)
         requires { length self.old ≤ 1 }
         ensures { self.new ≡ last_part entry.now ++ self.old }
     {
         match entry {
-            Entry::Point { at, pel, colour } => self.dot(*at, *pel, colour),
-            Entry::Line { from, to, ink } => self.line(*from, *to, ink),
-            Entry::Arc { ink, .. } => self.inked(ink),
+            Entry::Point { at, pel, colour } => self.push_point_line(*at, *pel, colour),
+            Entry::Line { from, to, ink } => self.push_line_line(*from, *to, ink),
+            Entry::Arc { ink, .. } => self.push_ink_part(ink),
             Entry::Rect {
                 filled,
                 from,
                 to,
                 ink,
-            } => self.rect(*filled, *from, *to, ink),
-            Entry::Poly { ink, .. } => self.inked(ink),
-            Entry::Char { set, code, hand } => self.letter(*set, *code, hand),
-            Entry::TextMove { step, hand } => self.text_move(*step, hand),
-            Entry::ToEol { hand } => self.to_eol(hand),
-            Entry::Map { addr, grb } => self.map(*addr, *grb),
+            } => self.push_rect_line(*filled, *from, *to, ink),
+            Entry::Poly { ink, .. } => self.push_ink_part(ink),
+            Entry::Char { set, code, hand } => self.push_char_line(*set, *code, hand),
+            Entry::TextMove { step, hand } => self.push_text_move_line(*step, hand),
+            Entry::ToEol { hand } => self.push_to_eol_line(hand),
+            Entry::Map { addr, grb } => self.push_map_line(*addr, *grb),
             Entry::Blink {
                 addr,
                 on,
                 off,
                 delay,
                 colour,
-            } => self.blink(*addr, *on, *off, *delay, colour),
-            Entry::BlinkEnd { colour } => self.blink_end(colour),
-            Entry::BlinkMark { on, colour } => self.blink_mark(*on, colour),
-            Entry::Wait(tenths) => self.wait(*tenths),
+            } => self.push_blink_line(*addr, *on, *off, *delay, colour),
+            Entry::BlinkEnd { colour } => self.push_blink_end_line(colour),
+            Entry::BlinkMark { on, colour } => self.push_blink_mark_line(*on, colour),
+            Entry::Wait(tenths) => self.push_wait_line(*tenths),
             Entry::Bell => self.push("BELL"),
-            Entry::Cursor(kind) => self.cursor(*kind),
-            Entry::Field { area, pen } => self.field(*area, *pen),
-            Entry::Reset { first, second, pen } => self.reset(*first, *second, *pen),
-            Entry::Clear { pen } => self.screen_clear(*pen),
-            Entry::GlyphStart(code) => self.glyph(*code),
-            Entry::MaskStart(mask) => self.mask(*mask),
+            Entry::Cursor(kind) => self.push_cursor_line(*kind),
+            Entry::Field { area, pen } => self.push_field_line(*area, *pen),
+            Entry::Reset { first, second, pen } => self.push_reset_line(*first, *second, *pen),
+            Entry::Clear { pen } => self.push_clear_line(*pen),
+            Entry::GlyphStart(code) => self.push_glyph_line(*code),
+            Entry::MaskStart(mask) => self.push_mask_line(*mask),
             Entry::DefEnd => self.push("END"),
         }
     }
 }
 
-// Points, each after a space.
+// Appends points, each after a space.
 pub(crate) fn write_points(
-    room: &mut Tail,
+    buffer: &mut BackwardBuffer,
     text: &mut Vec<u8>,
     points: &[Point],
 ) -> Result<(), AllocError>
     ensures { Writes text.old.items (points_text points.now) text.new.items result }
 {
     for point in points {
-        room.clear();
-        room.point(*point);
-        room.push(" ");
-        text.extend_from_slice(room.as_slice())?;
+        buffer.clear();
+        buffer.push_point(*point);
+        buffer.push(" ");
+        text.extend_from_slice(buffer.as_slice())?;
     }
     Ok(())
 }
 
-// The name of a shape and its points.
+// Appends the name and the points of a shape.
 fn write_shape(
-    room: &mut Tail,
+    buffer: &mut BackwardBuffer,
     text: &mut Vec<u8>,
     name: &str,
     filled: bool,
@@ -253,28 +253,32 @@ fn write_shape(
     requires { length name.now ≤ 5 }
     ensures { Writes text.old.items (name.now ++ fill_text filled ++ points_text points.now) text.new.items result }
 {
-    room.clear();
-    room.push(fill_name(filled));
-    room.push(name);
-    text.extend_from_slice(room.as_slice())?;
-    write_points(room, text, points.as_slice())?;
+    buffer.clear();
+    buffer.push(fill_name(filled));
+    buffer.push(name);
+    text.extend_from_slice(buffer.as_slice())?;
+    write_points(buffer, text, points.as_slice())?;
     Ok(())
 }
 
-// Of a shape its name and its points, and nothing of any other entry.
-fn write_first_part(room: &mut Tail, text: &mut Vec<u8>, entry: &Entry) -> Result<(), AllocError>
+// Appends the name and the points of a shape, and nothing for any other entry.
+fn write_first_part(
+    buffer: &mut BackwardBuffer,
+    text: &mut Vec<u8>,
+    entry: &Entry,
+) -> Result<(), AllocError>
     ensures { Writes text.old.items (first_part entry.now) text.new.items result }
 {
     match entry {
-        Entry::Arc { filled, points, .. } => write_shape(room, text, "ARC-", *filled, points),
-        Entry::Poly { filled, points, .. } => write_shape(room, text, "POLY-", *filled, points),
+        Entry::Arc { filled, points, .. } => write_shape(buffer, text, "ARC-", *filled, points),
+        Entry::Poly { filled, points, .. } => write_shape(buffer, text, "POLY-", *filled, points),
         _ => Ok(()),
     }
 }
 
-// The line of an entry and an end of it. The room's bytes mean nothing before it and after it.
+// Appends the line of an entry and `end`. The buffer's contents are ignored before, and of no use after.
 fn write_parts(
-    room: &mut Tail,
+    buffer: &mut BackwardBuffer,
     text: &mut Vec<u8>,
     entry: &Entry,
     end: &str,
@@ -282,17 +286,17 @@ fn write_parts(
     requires { length end.now ≤ 1 }
     ensures { Writes text.old.items (line entry.now ++ end.now) text.new.items result }
 {
-    write_first_part(room, text, entry)?;
-    room.clear();
-    room.push(end);
-    room.last_part(entry);
-    text.extend_from_slice(room.as_slice())?;
+    write_first_part(buffer, text, entry)?;
+    buffer.clear();
+    buffer.push(end);
+    buffer.push_last_part(entry);
+    text.extend_from_slice(buffer.as_slice())?;
     Ok(())
 }
 
-/// Appends the line of an entry and an end of it to the text, by way of a buffer whose bytes mean nothing.
+/// Appends the line of an entry and `end` to the text, using a buffer whose contents are ignored.
 pub(crate) fn write_line(
-    room: &mut Tail,
+    buffer: &mut BackwardBuffer,
     text: &mut Vec<u8>,
     entry: &Entry,
     end: &str,
@@ -303,26 +307,26 @@ pub(crate) fn write_line(
     ensures utf8 { IsUtf8 text.old.items → OnOk result (IsUtf8 text.new.items) }
 {
     let before = text.len();
-    let written = write_parts(room, text, entry, end);
+    let written = write_parts(buffer, text, entry, end);
     if written.is_err() {
         text.truncate(before);
     }
     written
 }
 
-/// Appends the line of an entry, with its end, to the text. It takes no memory but the text's.
+/// Appends the line of an entry and LF to the text. Takes no memory but that of the text (PROFILE.md, Lines of list).
 pub fn append_line(text: &mut Vec<u8>, entry: &Entry) -> Result<(), AllocError>
     ensures ok { OnOk result (text.new.items ≡ text.old.items ++ line entry.now ++ 10 ∷ []) }
     ensures err { OnErr result (text.new.items ≡ text.old.items) }
 {
-    write_line(&mut Tail::new(), text, entry, "\n")
+    write_line(&mut BackwardBuffer::new(), text, entry, "\n")
 }
 
-/// The line of an entry, without its end.
+/// Returns the line of an entry, without LF (PROFILE.md, Lines of list).
 pub fn line_of(alloc: Global, entry: &Entry) -> Result<String, AllocError>
     ensures { IfOk result (λ s. string_bytes s ≡ line entry.now) }
 {
     let mut text = Vec::new(alloc);
-    write_line(&mut Tail::new(), &mut text, entry, "")?;
+    write_line(&mut BackwardBuffer::new(), &mut text, entry, "")?;
     Ok(String::from_utf8(text).unwrap())
 }

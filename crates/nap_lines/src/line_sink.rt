@@ -1,39 +1,39 @@
-//! A sink that makes the lines of its entries.
+//! A sink that makes lines of its entries.
 ghost use Rattle.std.specs.Prelude.{◌≡◌, [], false};
 ghost use Rattle.nap_list.specs.State.{start};
-ghost use Rattle.nap_lines.specs.Listing.{Lists, lists_more, lists_none};
+ghost use Rattle.nap_lines.specs.Listing.{TakesLinesOf, lists_more, lists_none};
 
+use crate::backward_buffer::BackwardBuffer;
 use crate::batch::write_batch;
 use crate::line::write_line;
 use crate::shape::write_shape_line;
-use crate::tail::Tail;
 use nap_list::{Batch, BatchFault, Entry, Shape, Sink, SinkFault, State};
 use std::alloc::Global;
 use std::marker::Model;
 
-/// Makes a line of each entry that it takes, with its end, and keeps the lines alone.
+/// Makes a line of each entry that it takes, and keeps only the lines.
 #[derive(Drop)]
 pub struct LineSink {
-    room: Tail,
+    buffer: BackwardBuffer,
     text: Vec<u8>,
     state: State,
 }
 
 impl Model for LineSink {
-    ghost use Rattle.nap_lines.specs.Listing.{Listed};
+    ghost use Rattle.nap_lines.specs.Listing.{LineSinkState};
 
-    ghost Value = { Listed };
+    ghost Value = { LineSinkState };
 
     ghost view = { λ s. record { text = s.text.items; state = s.state } };
 }
 
 impl LineSink {
-    /// A sink that has taken nothing, no memory either.
+    /// Returns a sink that has taken no entry, and no memory.
     pub fn new(alloc: Global) -> LineSink
         ensures { result ≡ record { text = []; state = start } }
     {
         LineSink {
-            room: Tail::new(),
+            buffer: BackwardBuffer::new(),
             text: Vec::new(alloc),
             state: State::start(),
         }
@@ -46,7 +46,7 @@ impl LineSink {
         self.text.as_slice()
     }
 
-    /// The lines of the entries that were taken.
+    /// Returns the lines of the entries taken.
     pub fn into_text(self) -> Vec<u8>
         ensures { result.items ≡ self.text }
     {
@@ -62,25 +62,25 @@ impl Sink for LineSink {
 
     ghost failed = { λ s. false };
 
-    ghost took = { λ s d t. Lists s d t };
+    ghost took = { λ s d t. TakesLinesOf s d t };
 
     ghost broke = { λ s d e t. ⊥ };
 
     fn put(&mut self, entry: Entry) -> Result<(), SinkFault> {
-        write_line(&mut self.room, &mut self.text, &entry, "\n")?;
+        write_line(&mut self.buffer, &mut self.text, &entry, "\n")?;
         self.state.step(&entry);
         Ok(())
     }
 
     #[inline(always)]
     fn put_batch(&mut self, batch: &Batch) -> Result<(), BatchFault> {
-        let taken = write_batch(&mut self.room, &mut self.text, batch, 0, batch.len());
-        self.state.step_front(batch, taken);
-        BatchFault::unless_all(taken, batch)
+        let taken = write_batch(&mut self.buffer, &mut self.text, batch, 0, batch.len());
+        self.state.step_first(batch, taken);
+        BatchFault::error_unless_all(taken, batch)
     }
 
     fn put_shape(&mut self, _: Global, shape: &Shape) -> Result<(), SinkFault> {
-        write_shape_line(&mut self.room, &mut self.text, shape)?;
+        write_shape_line(&mut self.buffer, &mut self.text, shape)?;
         self.state.step_shape(shape);
         Ok(())
     }

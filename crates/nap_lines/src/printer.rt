@@ -1,36 +1,35 @@
-//! A sink that prints the lines of its entries.
+//! A sink that prints lines of its entries.
 ghost use Rattle.std.specs.Prelude.{◌≡◌, [], false, OnOk};
-ghost use Rattle.nap_list.specs.Batches.{listed};
+ghost use Rattle.nap_list.specs.Batches.{batch_entries};
 ghost use Rattle.nap_list.specs.State.{start};
-ghost use Rattle.nap_lines.specs.Printing.{Broke, Closes, Prints, Sent, Took, taken_of};
+ghost use Rattle.nap_lines.specs.Printing.{Broke, Closes, Prints, SendsBuffered, Took, taken_count};
 ghost use Rattle.nap_lines.specs.PrintingLaws.{took_broke, took_more, took_none};
 
+use crate::backward_buffer::BackwardBuffer;
 use crate::batch::write_batch;
 use crate::line::write_line;
 use crate::sending::send_all;
 use crate::shape::write_shape_line;
-use crate::tail::Tail;
 use nap_list::{Batch, BatchFault, DeviceFault, Entry, Outlet, Shape, Sink, SinkFault, State};
 use std::alloc::Global;
 use std::marker::Model;
 
-/// Lines are sent once there are so many bytes of them, as many as a pipe takes at once.
-const SENT: usize = 65_536;
+/// The lines are sent when they have this many bytes, as many as a pipe takes at once.
+const SEND_SIZE: usize = 65_536;
 
-/// The most entries of a batch whose lines are made together.
-const TOGETHER: usize = 128;
+/// The greatest number of entries of a batch whose lines are made at once.
+const BATCH_SIZE: usize = 128;
 
-/// The bytes of memory that lines are made in: those that are held, those of entries whose lines are made together, and
-/// those of the longest line of a shape.
+/// The memory that a printer needs, in bytes: for lines that are buffered, for lines that are made at once, and for the
+/// longest line of a shape.
 pub const LINE_MEMORY: usize = 131_072;
 
-/// Prints a line of each entry that it takes, with its end, to an outlet. Lines are held until there are enough for a write.
-///
-/// Once a write has failed, it writes nothing more and answers each further entry with `Write`.
+/// Prints a line of each entry that it takes to an outlet. Lines are buffered until there are enough for a write. Once
+/// a write has failed, it writes nothing more and answers `Write` for each further entry.
 #[derive(Drop)]
 pub struct LinePrinter<O: Outlet + Drop> {
-    room: Tail,
-    held: Vec<u8>,
+    buffer: BackwardBuffer,
+    buffered: Vec<u8>,
     state: State,
     outlet: O,
     written: u64,
@@ -41,13 +40,13 @@ impl<O: Outlet + Drop> Model for LinePrinter<O> {
 
     ghost Value = { Printing O };
 
-    ghost view = { λ s. record { outlet = s.outlet; written = s.written; held = s.held.items; state = s.state } };
+    ghost view = { λ s. record { outlet = s.outlet; written = s.written; buffered = s.buffered.items; state = s.state } };
 }
 
-/// How many entries of so many were taken.
+/// Returns how many of `count` entries were taken.
 #[inline(always)]
-fn taken_of(printed: Result<(), BatchFault>, count: usize) -> usize
-    ensures { result ≡ taken_of count printed }
+fn taken_count(printed: Result<(), BatchFault>, count: usize) -> usize
+    ensures { result ≡ taken_count count printed }
 {
     match printed {
         Ok(()) => count,
@@ -56,15 +55,16 @@ fn taken_of(printed: Result<(), BatchFault>, count: usize) -> usize
 }
 
 impl<O: Outlet + Drop> LinePrinter<O> {
-    /// A sink that has taken nothing. It makes lines in this memory, and wants no more where it has `LINE_MEMORY` bytes.
+    /// Returns a sink that has taken no entry. It makes lines in this memory, and needs no more if that has
+    /// `LINE_MEMORY` bytes.
     pub fn new(memory: Vec<u8>, outlet: O) -> LinePrinter<O>
-        ensures { result ≡ record { outlet = outlet; written = 0; held = []; state = start } }
+        ensures { result ≡ record { outlet = outlet; written = 0; buffered = []; state = start } }
     {
-        let mut held = memory;
-        held.clear();
+        let mut buffered = memory;
+        buffered.clear();
         LinePrinter {
-            room: Tail::new(),
-            held,
+            buffer: BackwardBuffer::new(),
+            buffered,
             state: State::start(),
             outlet,
             written: 0,
@@ -79,48 +79,52 @@ impl<O: Outlet + Drop> LinePrinter<O> {
         self.outlet.failed()
     }
 
-    /// Sends what is held.
+    /// Sends the buffered lines.
     #[inline(never)]
-    fn send(&mut self) -> Result<(), DeviceFault>
-        ensures sent { Sent O.Outlet self.old self.new result }
-        ensures none { OnOk result (self.new.held ≡ []) }
+    fn send_buffered(&mut self) -> Result<(), DeviceFault>
+        ensures sent { SendsBuffered O.Outlet self.old self.new result }
+        ensures none { OnOk result (self.new.buffered ≡ []) }
     {
-        match send_all(&mut self.outlet, &mut self.written, self.held.as_slice()) {
+        match send_all(
+            &mut self.outlet,
+            &mut self.written,
+            self.buffered.as_slice(),
+        ) {
             Ok(()) => {
-                self.held.clear();
+                self.buffered.clear();
                 Ok(())
             }
             Err(fault) => Err(fault),
         }
     }
 
-    /// Sends what is held, where that is much.
+    /// Sends the buffered lines if they are enough for a write.
     #[inline(always)]
-    fn settle(&mut self) -> Result<(), DeviceFault>
-        ensures { Sent O.Outlet self.old self.new result }
+    fn send_if_large(&mut self) -> Result<(), DeviceFault>
+        ensures { SendsBuffered O.Outlet self.old self.new result }
     {
-        if self.held.len() < SENT {
+        if self.buffered.len() < SEND_SIZE {
             return Ok(());
         }
-        self.send()
+        self.send_buffered()
     }
 
-    /// Prints the lines of a batch, and leaves the state.
+    /// Prints the lines of a batch; the state is unchanged.
     #[inline(always)]
     fn print_batch(&mut self, batch: &Batch) -> Result<(), BatchFault>
         requires { O.failed self.old.outlet ≡ false }
-        ensures { Prints O.Outlet self.old (listed batch.now) self.new result }
+        ensures { Prints O.Outlet self.old (batch_entries batch.now) self.new result }
     {
         let mut taken = 0;
         while taken < batch.len() {
-            let Ok(()) = self.settle() else {
+            let Ok(()) = self.send_if_large() else {
                 return Err(BatchFault {
                     taken,
                     fault: SinkFault::Write,
                 });
             };
-            let count = (batch.len() - taken).min(TOGETHER);
-            let more = write_batch(&mut self.room, &mut self.held, batch, taken, count);
+            let count = (batch.len() - taken).min(BATCH_SIZE);
+            let more = write_batch(&mut self.buffer, &mut self.buffered, batch, taken, count);
             taken += more;
             if more < count {
                 return Err(BatchFault {
@@ -132,24 +136,24 @@ impl<O: Outlet + Drop> LinePrinter<O> {
         Ok(())
     }
 
-    /// Sends what is held, unless a write has failed.
-    fn finish(&mut self)
+    /// Sends the buffered lines, unless a write has failed.
+    fn send_rest(&mut self)
         ensures { Closes O.Outlet self.old self.new.outlet self.new.written }
     {
         if self.failed() {
             return;
         }
-        // The outlet knows of a failure.
-        let _ = self.send();
+        // The outlet keeps the failure.
+        let _ = self.send_buffered();
     }
 
-    /// Sends what is held. The outlet, which isn't flushed, and how many bytes it took from this sink; the count stays at the
-    /// greatest `u64`.
+    /// Sends the buffered lines. Returns the outlet, unflushed, and the number of bytes that it took from this sink,
+    /// saturating at the greatest `u64`.
     pub fn close(self) -> (O, u64)
         ensures { Closes O.Outlet self result.0 result.1 }
     {
         let mut sink = self;
-        sink.finish();
+        sink.send_rest();
         let LinePrinter {
             outlet,
             written,
@@ -158,8 +162,8 @@ impl<O: Outlet + Drop> LinePrinter<O> {
         (outlet, written)
     }
 
-    /// Lets go of what is held. The outlet, and how many bytes it took from this sink; the count stays at the greatest
-    /// `u64`.
+    /// Drops the buffered lines. Returns the outlet, and the number of bytes that it took from this sink, saturating at
+    /// the greatest `u64`.
     pub fn stop(self) -> (O, u64)
         ensures { (result.0 ≡ self.outlet) × (result.1 ≡ self.written) }
     {
@@ -187,8 +191,8 @@ impl<O: Outlet + Drop> Sink for LinePrinter<O> {
         if self.failed() {
             return Err(SinkFault::Write);
         }
-        write_line(&mut self.room, &mut self.held, &entry, "\n")?;
-        let Ok(()) = self.settle() else {
+        write_line(&mut self.buffer, &mut self.buffered, &entry, "\n")?;
+        let Ok(()) = self.send_if_large() else {
             return Err(SinkFault::Write);
         };
         self.state.step(&entry);
@@ -204,8 +208,8 @@ impl<O: Outlet + Drop> Sink for LinePrinter<O> {
             });
         }
         let printed = self.print_batch(batch);
-        let taken = taken_of(printed, batch.len());
-        self.state.step_front(batch, taken);
+        let taken = taken_count(printed, batch.len());
+        self.state.step_first(batch, taken);
         printed
     }
 
@@ -213,8 +217,8 @@ impl<O: Outlet + Drop> Sink for LinePrinter<O> {
         if self.failed() {
             return Err(SinkFault::Write);
         }
-        write_shape_line(&mut self.room, &mut self.held, shape)?;
-        let Ok(()) = self.settle() else {
+        write_shape_line(&mut self.buffer, &mut self.buffered, shape)?;
+        let Ok(()) = self.send_if_large() else {
             return Err(SinkFault::Write);
         };
         self.state.step_shape(shape);

@@ -1,10 +1,10 @@
-//! Bytes that an outlet takes whole.
+//! Writing of all bytes to an outlet.
 ghost use Rattle.nap_list.specs.Sending.{sending};
 ghost use Rattle.nap_lines.specs.Printing.{SentUpTo};
 
 use nap_list::{DeviceFault, Outlet};
 
-/// Sends all the bytes, and counts those that the outlet takes; the count stays at the greatest `u64`.
+/// Writes all bytes, and adds the number that the outlet takes to `push_hand_without_pen`, saturating at the greatest `u64`.
 pub(crate) fn send_all<O: Outlet>(
     outlet: &mut O,
     written: &mut u64,

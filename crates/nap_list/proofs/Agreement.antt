@@ -10,19 +10,19 @@ use Rattle.nap_list.specs.declared.attribute.Base.TheVariants as bases
 use Rattle.nap_list.specs.declared.attribute.Colour.{Colour}
 use Rattle.nap_list.specs.declared.attribute.Colour.TheVariants as colours
 use Rattle.nap_list.specs.declared.attribute.Texture.{Texture}
-use Rattle.nap_list.specs.declared.attribute.Held.{Held}
+use Rattle.nap_list.specs.declared.attribute.Attributes.{Attributes}
 use Rattle.nap_list.specs.declared.state.Drawing.{Drawing}
-use Rattle.nap_list.specs.declared.state.Opened.{Opened}
+use Rattle.nap_list.specs.declared.state.OpenDefinition.{OpenDefinition}
 use Rattle.nap_list.specs.declared.state.LastChar.{LastChar}
 use Rattle.nap_list.specs.declared.state.State.{State}
 use Rattle.nap_list.specs.declared.entry.Entry.{Entry}
 use Rattle.nap_list.specs.declared.entry.Entry.TheVariants as entries
-use Rattle.nap_list.specs.Entry.{held, IsCode, WellMade}
-use Rattle.nap_list.specs.State.{PenFits, ColourFits, MaskFits, TextureFits, HeldFits, Comes, base_shown, taking, with_pen, with_pen_at, reset, saved_values, drawn, definition_after, last_after, known_after, start_texture}
+use Rattle.nap_list.specs.Entry.{attributes, IsCode, WellMade}
+use Rattle.nap_list.specs.State.{PenFits, ColourFits, MaskFits, TextureFits, AttributesFit, MayCome, base_after, with_attributes, with_pen, with_pen_at, reset, restored_drawing, effect_on_drawing, definition_after, last_after, known_after, start_texture}
 use Rattle.nap_list.specs.Known.{colour_code, is_known}
 use Rattle.nap_list.specs.declared.known.MapColour.{MapColour}
-use Rattle.nap_list.specs.Agreement.{BaseAgrees, ColourAgrees, InMode, Agrees, DefinitionsAgree, StatesAgree, Holds, AgreeingFits, Stands}
-use Rattle.nap_list.specs.Laws.{StartAgrees, TakingNothing}
+use Rattle.nap_list.specs.Agreement.{BaseAgrees, ColourAgrees, ModeZeroIsBase, Agrees, DefinitionsAgree, StatesAgree, EqualCurrent, AgreeingFits, AreCurrent}
+use Rattle.nap_list.specs.Laws.{StartAgrees, CurrentAttributesChangeNothing}
 
 -- a value fits where it stands
 
@@ -46,7 +46,7 @@ pen_fits None pen shown is h = tt
 pen_fits (Some p) pen shown is h = subst (λ (x : Pen). PenFits shown (Some x)) (sym is) h
 
 -- where the colour is this one
-colour_at : (d shown : Drawing) (colour : Colour) → BaseAgrees d.base shown.base → ColourAgrees colour shown.colour → InMode d.base colour → ColourFits shown (Some colour)
+colour_at : (d shown : Drawing) (colour : Colour) → BaseAgrees d.base shown.base → ColourAgrees colour shown.colour → ModeZeroIsBase d.base colour → ColourFits shown (Some colour)
 colour_at d shown (colours.Own origin) base c mode = subst (λ (b : Base). BaseAgrees b shown.base) mode base
 colour_at d shown (colours.ByReset preset) base c mode = c
 colour_at d shown _ base c mode = tt
@@ -59,7 +59,7 @@ texture_fits : (w : Option Texture) (t shown : Texture) → IfSome w (λ u. u �
 texture_fits None t shown is h = tt
 texture_fits (Some u) t shown is h = subst (λ (x : Texture). TextureFits shown (Some x)) (sym is) h
 
-held_fits : (h : Held) (d shown : Drawing) → Holds h d → Agrees d shown → HeldFits shown h
+held_fits : (h : Attributes) (d shown : Drawing) → EqualCurrent h d → Agrees d shown → AttributesFit shown h
 held_fits h d shown holds agrees = record {
   pen = pen_fits h.pen d.pen shown.pen holds.pen agrees.pen;
   colour = colour_fits h.colour d shown holds.colour agrees;
@@ -80,17 +80,17 @@ colour_taken : (w : Option Colour) (colour shown : Colour) → ColourAgrees colo
 colour_taken None colour shown h = h
 colour_taken (Some c) colour shown h = colour_itself c
 
-base_taken : (w : Option Colour) (base shown : Base) → BaseAgrees base shown → BaseAgrees (base_shown base w) (base_shown shown w)
+base_taken : (w : Option Colour) (base shown : Base) → BaseAgrees base shown → BaseAgrees (base_after base w) (base_after shown w)
 base_taken (Some (colours.Direct grb)) base shown h = tt
 base_taken _ base shown h = h
 
-mode_taken : (w : Option Colour) (base : Base) (colour : Colour) → IfSome w (λ c. c ≡ colour) → InMode base colour → InMode (base_shown base w) (unwrap_or w colour)
+mode_taken : (w : Option Colour) (base : Base) (colour : Colour) → IfSome w (λ c. c ≡ colour) → ModeZeroIsBase base colour → ModeZeroIsBase (base_after base w) (unwrap_or w colour)
 mode_taken None base colour is h = h
-mode_taken (Some (colours.Own origin)) base colour is h = subst (InMode base) (sym is) h
+mode_taken (Some (colours.Own origin)) base colour is h = subst (ModeZeroIsBase base) (sym is) h
 mode_taken (Some (colours.Direct grb)) base colour is h = refl
 mode_taken _ base colour is h = tt
 
-taken_agree : (h : Held) (d shown : Drawing) → Holds h d → Agrees d shown → Agrees (taking d h) (taking shown h)
+taken_agree : (h : Attributes) (d shown : Drawing) → EqualCurrent h d → Agrees d shown → Agrees (with_attributes d h) (with_attributes shown h)
 taken_agree h d shown holds agrees = record {
   pen = pen_taken h.pen d.pen shown.pen agrees.pen;
   base = base_taken h.colour d.base shown.base agrees.base;
@@ -115,8 +115,8 @@ cond_agree : {A : Type 0} (P : A → A → Type 0) (b : Bool) (x y u v : A) → 
 cond_agree P true x y u v p q = p
 cond_agree P false x y u v p q = q
 
-reset_mode : (a b c : Bool) (base : Base) (colour : Colour) → InMode base colour →
-    InMode (cond a (bases.Own origins.AfterReset) base)
+reset_mode : (a b c : Bool) (base : Base) (colour : Colour) → ModeZeroIsBase base colour →
+    ModeZeroIsBase (cond a (bases.Own origins.AfterReset) base)
     (cond a (colours.Own origins.AfterReset) (cond b (colours.ByReset presets.Two) (cond c (colours.ByReset presets.Three) colour)))
 reset_mode true b c base colour h = refl
 reset_mode false true c base colour h = tt
@@ -141,12 +141,12 @@ reset_agree first second d shown h = record {
   texture = cond_agree (λ (t u : Texture). TextureFits u (Some t)) (second / 8 % 2 == 1) start_texture d.texture start_texture shown.texture refl h.texture;
 }
 
-saved_agree : (o p : Option Opened) (d shown : Drawing) → DefinitionsAgree o p → Agrees d shown → Agrees (saved_values o d) (saved_values p shown)
+saved_agree : (o p : Option OpenDefinition) (d shown : Drawing) → DefinitionsAgree o p → Agrees d shown → Agrees (restored_drawing o d) (restored_drawing p shown)
 saved_agree None None d shown defs h = h
 saved_agree (Some a) (Some b) d shown defs h = defs.1
 saved_agree _ _ d shown defs h = absurd defs
 
-drawn_agree : (o p : Option Opened) (d shown : Drawing) (e : Entry) → DefinitionsAgree o p → Agrees d shown → Agrees (drawn o d e) (drawn p shown e)
+drawn_agree : (o p : Option OpenDefinition) (d shown : Drawing) (e : Entry) → DefinitionsAgree o p → Agrees d shown → Agrees (effect_on_drawing o d e) (effect_on_drawing p shown e)
 drawn_agree o p d shown (entries.Point at pel colour) defs h = pen_set (pens.At at) d shown h
 drawn_agree o p d shown (entries.Line from to ink) defs h = pen_set (pens.At to) d shown h
 drawn_agree o p d shown (entries.Arc filled points ink) defs h = pen_set_at (slice_get points (length points - 1)) d shown h
@@ -164,25 +164,25 @@ drawn_agree o p d shown (entries.MaskStart mask) defs h = pen_set pens.Start d s
 drawn_agree o p d shown entries.DefEnd defs h = saved_agree o p d shown defs h
 drawn_agree o p d shown e defs h = h
 
-definition_agrees : (o p : Option Opened) (d shown : Drawing) (e : Entry) → DefinitionsAgree o p → Agrees d shown →
+definition_agrees : (o p : Option OpenDefinition) (d shown : Drawing) (e : Entry) → DefinitionsAgree o p → Agrees d shown →
     DefinitionsAgree (definition_after o d e) (definition_after p shown e)
 definition_agrees o p d shown (entries.GlyphStart code) defs h = (refl, h)
 definition_agrees o p d shown (entries.MaskStart mask) defs h = (refl, h)
 definition_agrees o p d shown entries.DefEnd defs h = tt
 definition_agrees o p d shown e defs h = defs
 
-none_agrees : (o p : Option Opened) → DefinitionsAgree o p → o ≡ None → p ≡ None
+none_agrees : (o p : Option OpenDefinition) → DefinitionsAgree o p → o ≡ None → p ≡ None
 none_agrees None None defs is = refl
 none_agrees None (Some b) defs is = absurd defs
 none_agrees (Some a) None defs is = refl
 none_agrees (Some a) (Some b) defs is = cc
 
-some_agrees : (o p : Option Opened) → DefinitionsAgree o p → IsSome o → IsSome p
+some_agrees : (o p : Option OpenDefinition) → DefinitionsAgree o p → IsSome o → IsSome p
 some_agrees None p defs is = cc
 some_agrees (Some a) None defs is = absurd defs
 some_agrees (Some a) (Some b) defs is = refl
 
-comes_too : (s shown : State) (e : Entry) → StatesAgree s shown → Comes s e → Comes shown e
+comes_too : (s shown : State) (e : Entry) → StatesAgree s shown → MayCome s e → MayCome shown e
 comes_too s shown (entries.ToEol hand) h comes = subst (λ (l : Option LastChar). IsSome l) h.last comes
 comes_too s shown (entries.GlyphStart code) h comes = none_agrees s.definition shown.definition h.definition comes
 comes_too s shown (entries.MaskStart mask) h comes = none_agrees s.definition shown.definition h.definition comes
@@ -196,11 +196,11 @@ last_made e made = tt
 
 pub agreeing_fits : AgreeingFits
 agreeing_fits s shown e agree holds made comes =
-    let d = taking s.drawing (held e) in
-    let d' = taking shown.drawing (held e) in
-    let taken = taken_agree (held e) s.drawing shown.drawing holds agree.drawing in (
+    let d = with_attributes s.drawing (attributes e) in
+    let d' = with_attributes shown.drawing (attributes e) in
+    let taken = taken_agree (attributes e) s.drawing shown.drawing holds agree.drawing in (
       record {
-        values = held_fits (held e) s.drawing shown.drawing holds agree.drawing;
+        values = held_fits (attributes e) s.drawing shown.drawing holds agree.drawing;
         made = made;
         comes = comes_too s shown e agree comes;
       },
@@ -227,13 +227,13 @@ is_unwrapped : {A : Type 0} (w : Option A) (a : A) → IfSome w (λ b. b ≡ a) 
 is_unwrapped None a is = refl
 is_unwrapped (Some b) a is = is
 
-base_stays : (w : Option Colour) (d : Drawing) → IfSome w (λ c. c ≡ d.colour) → InMode d.base d.colour → base_shown d.base w ≡ d.base
-base_stays (Some (colours.Direct grb)) d is h = sym (subst (InMode d.base) (sym is) h)
+base_stays : (w : Option Colour) (d : Drawing) → IfSome w (λ c. c ≡ d.colour) → ModeZeroIsBase d.base d.colour → base_after d.base w ≡ d.base
+base_stays (Some (colours.Direct grb)) d is h = sym (subst (ModeZeroIsBase d.base) (sym is) h)
 base_stays _ d is h = refl
 
 -- where all held values stand already, taking them changes nothing
 
-pub taking_stands : (h : Held) (d : Drawing) → Stands h d → taking d h ≡ d
+pub taking_stands : (h : Attributes) (d : Drawing) → AreCurrent h d → with_attributes d h ≡ d
 taking_stands h d stands =
     let p = is_unwrapped h.pen d.pen stands.holds.pen in
     let q = is_unwrapped h.pel d.pel stands.holds.pel in
@@ -243,5 +243,5 @@ taking_stands h d stands =
     let x = is_unwrapped h.text d.text stands.holds.text in
     rw (p, q, b, c, t, x) refl
 
-pub taking_nothing : TakingNothing
+pub taking_nothing : CurrentAttributesChangeNothing
 taking_nothing h d holds mode = taking_stands h d (record { holds = holds; base = base_stays h.colour d holds.colour mode })

@@ -23,67 +23,67 @@ use Rattle.nap_list.specs.declared.entry.Entry.{Entry}
 use Rattle.nap_list.specs.declared.entry.Entry.TheVariants as entries
 use Rattle.nap_list.specs.declared.state.Drawing.{Drawing}
 use Rattle.nap_list.specs.declared.state.State.{State}
-use Rattle.nap_list.specs.Agreement.{Stands}
-use Rattle.nap_list.specs.Entry.{held, StepMade, WellMade}
-use Rattle.nap_list.specs.Laws.{BatchStands, TextLeaves, TypedMade}
-use Rattle.nap_list.specs.State.{after, start_drawing, walk, taking, last_after, hand_of, with_pen, base_shown}
-use Rattle.nap_list.specs.Batches.{EachStands, marked, point_on, line_on, typed_on, lines_on, text_in, typed, typed_as, last_typed, listed, last_of}
+use Rattle.nap_list.specs.Agreement.{AreCurrent}
+use Rattle.nap_list.specs.Entry.{attributes, StepMade, WellMade}
+use Rattle.nap_list.specs.Laws.{BatchIsCurrent, TextLeaves, TextEntriesAreWellMade}
+use Rattle.nap_list.specs.State.{after, start_drawing, walk, with_attributes, last_after, hand_of, with_pen, base_after}
+use Rattle.nap_list.specs.Batches.{EachIsCurrent, with_pen_and_last, point_entry, line_entry, text_entry_on, polyline_entries, text_entries_in, text_entry, text_entry_as, last_char_of_text, batch_entries, last_point}
 use Rattle.nap_list.specs.BatchLaws.{points_rest, lines_rest}
 use Rattle.nap_list.proofs.Agreement.{taking_stands}
 
 -- The entries of a batch: behind the first, each holds what stands, and leaves another pen and another last character.
 
 -- a direct colour that was held stands
-colour_stays : (base : Base) (colour : Colour) → base_shown (base_shown base (Some colour)) (Some colour) ≡ base_shown base (Some colour)
+colour_stays : (base : Base) (colour : Colour) → base_after (base_after base (Some colour)) (Some colour) ≡ base_after base (Some colour)
 colour_stays base (colours.Direct grb) = refl
 colour_stays base _ = refl
 
 -- what an entry holds stands behind another
 abbrev Next : Entry → Entry → Type 0
-Next e x = (s : State) → Stands (held x) (after s e).drawing
+Next e x = (s : State) → AreCurrent (attributes x) (after s e).drawing
 
 -- entries of one kind: the first is one of these, and each further one comes next to the one before
 Chain : (Entry → Type 0) → List Entry → Type 0
 Chain First [] = ⊤
-Chain First (e ∷ es) = First e × ((s : State) → after s e ≡ marked s e (taking s.drawing (held e))) × Chain (Next e) es
+Chain First (e ∷ es) = First e × ((s : State) → after s e ≡ with_pen_and_last s e (with_attributes s.drawing (attributes e))) × Chain (Next e) es
 
-points_chain : (First : Entry → Type 0) (d : Drawing) → ((p : Coordinates) → First (point_on d p)) → (points : List Coordinates) → Chain First (map (point_on d) points)
+points_chain : (First : Entry → Type 0) (d : Drawing) → ((p : Coordinates) → First (point_entry d p)) → (points : List Coordinates) → Chain First (map (point_entry d) points)
 unfolding Chain
 points_chain First d first [] = tt
 points_chain First d first (p ∷ ps) =
-    let next : (q : Coordinates) → Next (point_on d p) (point_on d q) = λ q s. record { holds = record { pen = tt; pel = refl; colour = refl; texture = tt; text = tt }; base = colour_stays s.drawing.base d.colour } in
-    (first p, λ s. refl, points_chain (Next (point_on d p)) d next ps)
+    let next : (q : Coordinates) → Next (point_entry d p) (point_entry d q) = λ q s. record { holds = record { pen = tt; pel = refl; colour = refl; texture = tt; text = tt }; base = colour_stays s.drawing.base d.colour } in
+    (first p, λ s. refl, points_chain (Next (point_entry d p)) d next ps)
 
-lines_chain : (First : Entry → Type 0) (d : Drawing) (from : Coordinates) → ((p : Coordinates) → First (line_on d from p)) → (points : List Coordinates) → Chain First (lines_on d from points)
-unfolding Chain lines_on
+lines_chain : (First : Entry → Type 0) (d : Drawing) (from : Coordinates) → ((p : Coordinates) → First (line_entry d from p)) → (points : List Coordinates) → Chain First (polyline_entries d from points)
+unfolding Chain polyline_entries
 lines_chain First d from first [] = tt
 lines_chain First d from first (p ∷ ps) =
-    let next : (q : Coordinates) → Next (line_on d from p) (line_on d p q) = λ q s. record { holds = record { pen = tt; pel = refl; colour = refl; texture = refl; text = tt }; base = colour_stays s.drawing.base d.colour } in
-    (first p, λ s. refl, lines_chain (Next (line_on d from p)) d p next ps)
+    let next : (q : Coordinates) → Next (line_entry d from p) (line_entry d p q) = λ q s. record { holds = record { pen = tt; pel = refl; colour = refl; texture = refl; text = tt }; base = colour_stays s.drawing.base d.colour } in
+    (first p, λ s. refl, lines_chain (Next (line_entry d from p)) d p next ps)
 
 -- a character or a move behind another
-next_typed : (set : CharSet) (hand : Hand) (a b : ℕ) → Next (typed set hand a) (typed set (record hand { pen = After }) b)
+next_typed : (set : CharSet) (hand : Hand) (a b : ℕ) → Next (text_entry set hand a) (text_entry set (record hand { pen = After }) b)
 next_typed set hand a b s = by (format_effector a) (format_effector b)
   where
-    by : (first second : Option TextStep) → Stands (held (typed_as second set (record hand { pen = After }) b)) (after s (typed_as first set hand a)).drawing
+    by : (first second : Option TextStep) → AreCurrent (attributes (text_entry_as second set (record hand { pen = After }) b)) (after s (text_entry_as first set hand a)).drawing
     by (Some step) (Some move) = record { holds = record { pen = refl; pel = tt; colour = refl; texture = tt; text = refl }; base = colour_stays s.drawing.base hand.colour }
     by (Some step) None = record { holds = record { pen = refl; pel = tt; colour = refl; texture = tt; text = refl }; base = colour_stays s.drawing.base hand.colour }
     by None (Some move) = record { holds = record { pen = refl; pel = tt; colour = refl; texture = tt; text = refl }; base = colour_stays s.drawing.base hand.colour }
     by None None = record { holds = record { pen = refl; pel = tt; colour = refl; texture = tt; text = refl }; base = colour_stays s.drawing.base hand.colour }
 
 -- what one leaves
-typed_marks : (set : CharSet) (hand : Hand) (code : ℕ) (s : State) → after s (typed set hand code) ≡ marked s (typed set hand code) (taking s.drawing (held (typed set hand code)))
+typed_marks : (set : CharSet) (hand : Hand) (code : ℕ) (s : State) → after s (text_entry set hand code) ≡ with_pen_and_last s (text_entry set hand code) (with_attributes s.drawing (attributes (text_entry set hand code)))
 typed_marks set hand code s = by (format_effector code)
   where
-    by : (step : Option TextStep) → after s (typed_as step set hand code) ≡ marked s (typed_as step set hand code) (taking s.drawing (held (typed_as step set hand code)))
+    by : (step : Option TextStep) → after s (text_entry_as step set hand code) ≡ with_pen_and_last s (text_entry_as step set hand code) (with_attributes s.drawing (attributes (text_entry_as step set hand code)))
     by (Some step) = refl
     by None = refl
 
 -- it leaves the pen as text does, and the last character where it is one
-pub typed_mark : (set : CharSet) (hand : Hand) (code : ℕ) (s : State) → record s { drawing = with_pen After s.drawing; last = last_typed set code } ≡ marked s (typed set hand code) s.drawing
+pub typed_mark : (set : CharSet) (hand : Hand) (code : ℕ) (s : State) → record s { drawing = with_pen After s.drawing; last = last_char_of_text set code } ≡ with_pen_and_last s (text_entry set hand code) s.drawing
 typed_mark set hand code s = by (format_effector code)
   where
-    by : (step : Option TextStep) → record s { drawing = with_pen After s.drawing; last = last_after (typed_as step set (hand_of start_drawing) code) } ≡ marked s (typed_as step set hand code) s.drawing
+    by : (step : Option TextStep) → record s { drawing = with_pen After s.drawing; last = last_after (text_entry_as step set (hand_of start_drawing) code) } ≡ with_pen_and_last s (text_entry_as step set hand code) s.drawing
     by (Some step) = refl
     by None = refl
 
@@ -92,58 +92,58 @@ step_made : (step : TextStep) → IsInRange (codes.Step step) → StepMade step
 step_made (steps.Aps a b) range = ((range.0.0, omega (arith, range.0.1)), (range.1.0, omega (arith, range.1.1)))
 step_made _ range = tt
 
-pub typed_made : TypedMade
-typed_made set hand code typed = by (format_effector code) refl
+pub typed_made : TextEntriesAreWellMade
+typed_made set hand code text_entry = by (format_effector code) refl
   where
-    by : (step : Option TextStep) → format_effector code ≡ step → WellMade (typed_as step set hand code)
+    by : (step : Option TextStep) → format_effector code ≡ step → WellMade (text_entry_as step set hand code)
     by (Some step) is = step_made step (code_ranges start_sets (code ∷ []) (codes.Step step) 1 start_sets ((format_effector_front code step is).1 start_sets))
-    by None is = typed is
+    by None is = text_entry is
 
-text_chain : (First : Entry → Type 0) (set : CharSet) (hand : Hand) → ((code : ℕ) → First (typed set hand code)) → (codes : List ℕ) → Chain First (text_in set hand codes)
-unfolding Chain text_in
+text_chain : (First : Entry → Type 0) (set : CharSet) (hand : Hand) → ((code : ℕ) → First (text_entry set hand code)) → (codes : List ℕ) → Chain First (text_entries_in set hand codes)
+unfolding Chain text_entries_in
 text_chain First set hand first [] = tt
-text_chain First set hand first (c ∷ cs) = (first c, typed_marks set hand c, text_chain (Next (typed set hand c)) set (record hand { pen = After }) (next_typed set hand c) cs)
+text_chain First set hand first (c ∷ cs) = (first c, typed_marks set hand c, text_chain (Next (text_entry set hand c)) set (record hand { pen = After }) (next_typed set hand c) cs)
 
-batch_chain : (b : Batch) → Chain (λ e. ⊤) (listed b)
+batch_chain : (b : Batch) → Chain (λ e. ⊤) (batch_entries b)
 batch_chain (batches.Points points d) = points_chain (λ e. ⊤) d.now (λ p. tt) points.now
 batch_chain (batches.Lines from points d) = lines_chain (λ e. ⊤) d.now from (λ p. tt) points.now
 batch_chain (batches.Text set codes pen d) = text_chain (λ e. ⊤) set (record (hand_of d.now) { pen = pen }) (λ c. tt) codes.now
 
 -- the values of each stand, where those of the first do
-chain_stands : (s : State) (First : Entry → Type 0) (es : List Entry) → ((e : Entry) → First e → Stands (held e) s.drawing) → Chain First es → EachStands s es
-unfolding Chain EachStands
+chain_stands : (s : State) (First : Entry → Type 0) (es : List Entry) → ((e : Entry) → First e → AreCurrent (attributes e) s.drawing) → Chain First es → EachIsCurrent s es
+unfolding Chain EachIsCurrent
 chain_stands s First [] first chain = tt
 chain_stands s First (e ∷ es) first chain = (first e chain.0, chain_stands (after s e) (Next e) es (λ x next. next s) chain.2)
 
-pub batch_stands : BatchStands
+pub batch_stands : BatchIsCurrent
 unfolding Chain
 batch_stands b s e es is = chain_stands (after s e) (Next e) es (λ x next. next s) (subst (Chain (λ e. ⊤)) is (batch_chain b)).2
 
 -- where the values of each stand, so many of them leave the mark of the last, and nothing else
-chain_passes : (s : State) (First : Entry → Type 0) (es : List Entry) (m n : ℕ) (x : Entry) (xs : List Entry) → Chain First es → EachStands s (drop m es) → drop n (drop m es) ≡ x ∷ xs →
-    walk s (take (suc n) (drop m es)) ≡ marked s x s.drawing
-unfolding Chain EachStands walk
+chain_passes : (s : State) (First : Entry → Type 0) (es : List Entry) (m n : ℕ) (x : Entry) (xs : List Entry) → Chain First es → EachIsCurrent s (drop m es) → drop n (drop m es) ≡ x ∷ xs →
+    walk s (take (suc n) (drop m es)) ≡ with_pen_and_last s x s.drawing
+unfolding Chain EachIsCurrent walk
 chain_passes s First [] m n x xs chain stand is = let bad : ⊥ = cc (ap (drop n) (drop-nil {A = Entry} m), drop-nil {A = Entry} n) in absurd bad
 chain_passes s First (e ∷ es) (suc m) n x xs chain stand is = chain_passes s (Next e) es m n x xs chain.2 stand is
 chain_passes s First (e ∷ es) zero zero x xs chain stand is =
     let same : e ≡ x = cc in
-    rw (← same) (chain.1 s ∙ ap (marked s e) (taking_stands (held e) s.drawing stand.0))
+    rw (← same) (chain.1 s ∙ ap (with_pen_and_last s e) (taking_stands (attributes e) s.drawing stand.0))
 chain_passes s First (e ∷ es) zero (suc n) x xs chain stand is =
-    chain_passes (after s e) (Next e) es zero n x xs chain.2 stand.1 is ∙ ap (λ (t : State). marked t x t.drawing) (chain.1 s ∙ ap (marked s e) (taking_stands (held e) s.drawing stand.0))
+    chain_passes (after s e) (Next e) es zero n x xs chain.2 stand.1 is ∙ ap (λ (t : State). with_pen_and_last t x t.drawing) (chain.1 s ∙ ap (with_pen_and_last s e) (taking_stands (attributes e) s.drawing stand.0))
 
-pub batch_passes : (s t : State) (b : Batch) (m n count : ℕ) → m + n < length (listed b) → EachStands s (drop m (listed b)) → (1 ≤ count) × (n ≡ count - 1) →
-    ((x : Entry) (xs : List Entry) → drop (m + n) (listed b) ≡ x ∷ xs → t ≡ marked s x s.drawing) → t ≡ walk s (take count (drop m (listed b)))
-batch_passes s t b m n count less stand further leaves = by (drop (m + n) (listed b)) refl
+pub batch_passes : (s t : State) (b : Batch) (m n count : ℕ) → m + n < length (batch_entries b) → EachIsCurrent s (drop m (batch_entries b)) → (1 ≤ count) × (n ≡ count - 1) →
+    ((x : Entry) (xs : List Entry) → drop (m + n) (batch_entries b) ≡ x ∷ xs → t ≡ with_pen_and_last s x s.drawing) → t ≡ walk s (take count (drop m (batch_entries b)))
+batch_passes s t b m n count less stand further leaves = by (drop (m + n) (batch_entries b)) refl
   where
-    by : (rest : List Entry) → drop (m + n) (listed b) ≡ rest → t ≡ walk s (take count (drop m (listed b)))
-    by [] is = absurd (omega (arith, less, ap length is, length-drop (m + n) (listed b)))
+    by : (rest : List Entry) → drop (m + n) (batch_entries b) ≡ rest → t ≡ walk s (take count (drop m (batch_entries b)))
+    by [] is = absurd (omega (arith, less, ap length is, length-drop (m + n) (batch_entries b)))
     by (x ∷ xs) is =
         let size : suc n ≡ count = omega arith in
-        leaves x xs is ∙ rw (← size) (sym (chain_passes s (λ e. ⊤) (listed b) m n x xs (batch_chain b) stand (drop-drop n m (listed b) ∙ is)))
+        leaves x xs is ∙ rw (← size) (sym (chain_passes s (λ e. ⊤) (batch_entries b) m n x xs (batch_chain b) stand (drop-drop n m (batch_entries b) ∙ is)))
 
 -- the first entries leave the values of the first, and the mark of the last
-pub front_passes : (s t : State) (b : Batch) (n count : ℕ) (e : Entry) (es : List Entry) → n < length (listed b) → (1 ≤ count) × (n ≡ count - 1) → listed b ≡ e ∷ es →
-    ((x : Entry) (xs : List Entry) → drop n (listed b) ≡ x ∷ xs → t ≡ marked s x (taking s.drawing (held e))) → t ≡ walk s (take count (listed b))
+pub front_passes : (s t : State) (b : Batch) (n count : ℕ) (e : Entry) (es : List Entry) → n < length (batch_entries b) → (1 ≤ count) × (n ≡ count - 1) → batch_entries b ≡ e ∷ es →
+    ((x : Entry) (xs : List Entry) → drop n (batch_entries b) ≡ x ∷ xs → t ≡ with_pen_and_last s x (with_attributes s.drawing (attributes e))) → t ≡ walk s (take count (batch_entries b))
 unfolding Chain walk
 front_passes s t b n count e es less further all leaves =
     let size : suc n ≡ count = omega arith in
@@ -152,7 +152,7 @@ front_passes s t b n count e es less further all leaves =
     chain : Chain (λ e. ⊤) (e ∷ es)
     chain = subst (Chain (λ e. ⊤)) all (batch_chain b)
 
-    by : (n : ℕ) → n < length (e ∷ es) → ((x : Entry) (xs : List Entry) → drop n (e ∷ es) ≡ x ∷ xs → t ≡ marked s x (taking s.drawing (held e))) → t ≡ walk s (take (suc n) (e ∷ es))
+    by : (n : ℕ) → n < length (e ∷ es) → ((x : Entry) (xs : List Entry) → drop n (e ∷ es) ≡ x ∷ xs → t ≡ with_pen_and_last s x (with_attributes s.drawing (attributes e))) → t ≡ walk s (take (suc n) (e ∷ es))
     by zero less leaves = leaves e es refl ∙ sym (chain.1 s)
     by (suc n) less leaves = behind (drop n es) refl
       where
@@ -160,28 +160,28 @@ front_passes s t b n count e es less further all leaves =
         behind [] is = absurd (omega (arith, less, ap length is, length-drop n es))
         behind (x ∷ xs) is =
             leaves x xs is
-            ∙ sym (chain_passes (after s e) (Next e) es zero n x xs chain.2 (batch_stands b s e es all) is ∙ ap (λ (t : State). marked t x t.drawing) (chain.1 s))
+            ∙ sym (chain_passes (after s e) (Next e) es zero n x xs chain.2 (batch_stands b s e es all) is ∙ ap (λ (t : State). with_pen_and_last t x t.drawing) (chain.1 s))
 
 -- the last is drawn behind another as in the first hand
 abbrev Again : CharSet → ℕ → State → Hand → ℕ → Option TextStep → Option TextStep → Type 0
 Again set last s hand c first second =
-    Stands (held (typed_as second set (record hand { pen = After }) last)) (after s (typed_as first set hand c)).drawing →
-    after (after s (typed_as first set hand c)) (typed_as second set (record hand { pen = After }) last) ≡ after s (typed_as second set hand last)
+    AreCurrent (attributes (text_entry_as second set (record hand { pen = After }) last)) (after s (text_entry_as first set hand c)).drawing →
+    after (after s (text_entry_as first set hand c)) (text_entry_as second set (record hand { pen = After }) last) ≡ after s (text_entry_as second set hand last)
 
 pub text_leaves : TextLeaves
-unfolding walk text_in
-text_leaves s set hand codes front last is = ap (λ (cs : List ℕ). walk s (text_in set hand cs)) is ∙ along s hand front
+unfolding walk text_entries_in
+text_leaves s set hand codes front last is = ap (λ (cs : List ℕ). walk s (text_entries_in set hand cs)) is ∙ along s hand front
   where
     again : (s : State) (hand : Hand) (c : ℕ) (first second : Option TextStep) → Again set last s hand c first second
-    again s hand c (Some step) (Some move) stands = ap (marked (after s (entries.TextMove step hand)) (entries.TextMove move (record hand { pen = After }))) (taking_stands _ _ stands)
-    again s hand c (Some step) None stands = ap (marked (after s (entries.TextMove step hand)) (entries.Char set last (record hand { pen = After }))) (taking_stands _ _ stands)
-    again s hand c None (Some move) stands = ap (marked (after s (entries.Char set c hand)) (entries.TextMove move (record hand { pen = After }))) (taking_stands _ _ stands)
-    again s hand c None None stands = ap (marked (after s (entries.Char set c hand)) (entries.Char set last (record hand { pen = After }))) (taking_stands _ _ stands)
+    again s hand c (Some step) (Some move) stands = ap (with_pen_and_last (after s (entries.TextMove step hand)) (entries.TextMove move (record hand { pen = After }))) (taking_stands _ _ stands)
+    again s hand c (Some step) None stands = ap (with_pen_and_last (after s (entries.TextMove step hand)) (entries.Char set last (record hand { pen = After }))) (taking_stands _ _ stands)
+    again s hand c None (Some move) stands = ap (with_pen_and_last (after s (entries.Char set c hand)) (entries.TextMove move (record hand { pen = After }))) (taking_stands _ _ stands)
+    again s hand c None None stands = ap (with_pen_and_last (after s (entries.Char set c hand)) (entries.Char set last (record hand { pen = After }))) (taking_stands _ _ stands)
 
-    along : (s : State) (hand : Hand) (front : List ℕ) → walk s (text_in set hand (front ++ last ∷ [])) ≡ after s (typed set hand last)
+    along : (s : State) (hand : Hand) (front : List ℕ) → walk s (text_entries_in set hand (front ++ last ∷ [])) ≡ after s (text_entry set hand last)
     along s hand [] = refl
     along s hand (c ∷ cs) =
-        along (after s (typed set hand c)) (record hand { pen = After }) cs ∙ again s hand c (format_effector c) (format_effector last) (next_typed set hand c last s)
+        along (after s (text_entry set hand c)) (record hand { pen = After }) cs ∙ again s hand c (format_effector c) (format_effector last) (next_typed set hand c last s)
 
 -- the one at an index, with those behind it
 
@@ -189,40 +189,40 @@ behind : {A : Type 0} (list : List A) (n : ℕ) (x : A) (xs : List A) → drop n
 behind {A = A} list n x xs is = is ∙ ap (λ (l : List A). x ∷ l) (sym (ap (drop 1) is) ∙ drop-drop 1 n list)
 
 pub points_at : (b : Batch) (points : _) (d : _) (n : ℕ) (p : Coordinates) (ps : List Coordinates) → b ≡ batches.Points points d → drop n points.now ≡ p ∷ ps →
-    drop n (listed b) ≡ point_on d.now p ∷ drop (n + 1) (listed b)
+    drop n (batch_entries b) ≡ point_entry d.now p ∷ drop (n + 1) (batch_entries b)
 points_at b points d n p ps is cut =
-    behind (listed b) n (point_on d.now p) (map (point_on d.now) ps) (rw is (sym (points_rest d.now points.now n) ∙ ap (map (point_on d.now)) cut))
+    behind (batch_entries b) n (point_entry d.now p) (map (point_entry d.now) ps) (rw is (sym (points_rest d.now points.now n) ∙ ap (map (point_entry d.now)) cut))
 
 pub lines_at : (b : Batch) (from : _) (points : _) (d : _) (n : ℕ) (p : Coordinates) (ps : List Coordinates) → b ≡ batches.Lines from points d → drop n points.now ≡ p ∷ ps →
-    drop n (listed b) ≡ line_on d.now (last_of from (take n points.now)) p ∷ drop (n + 1) (listed b)
-unfolding lines_on
+    drop n (batch_entries b) ≡ line_entry d.now (last_point from (take n points.now)) p ∷ drop (n + 1) (batch_entries b)
+unfolding polyline_entries
 lines_at b from points d n p ps is cut =
-    let start = last_of from (take n points.now) in
-    behind (listed b) n (line_on d.now start p) (lines_on d.now p ps) (rw is (sym (lines_rest d.now from points.now n) ∙ ap (lines_on d.now start) cut))
+    let start = last_point from (take n points.now) in
+    behind (batch_entries b) n (line_entry d.now start p) (polyline_entries d.now p ps) (rw is (sym (lines_rest d.now from points.now n) ∙ ap (polyline_entries d.now start) cut))
 
 pub text_at : (b : Batch) (set : _) (codes : _) (first : Pen) (d : _) (n : ℕ) (pen : Pen) (c : ℕ) (cs : List ℕ) → b ≡ batches.Text set codes first d →
-    (n ≡ 0 → pen ≡ first) → (0 < n → pen ≡ After) → drop n codes.now ≡ c ∷ cs → drop n (listed b) ≡ typed_on d.now pen set c ∷ drop (n + 1) (listed b)
-unfolding text_in
+    (n ≡ 0 → pen ≡ first) → (0 < n → pen ≡ After) → drop n codes.now ≡ c ∷ cs → drop n (batch_entries b) ≡ text_entry_on d.now pen set c ∷ drop (n + 1) (batch_entries b)
+unfolding text_entries_in
 text_at b set codes first d n pen c cs is front later cut =
     let hand : Hand = hand_of d.now in
-    behind (listed b) n (typed_on d.now pen set c) (text_in set (record hand { pen = After }) cs) (rw is (at (record hand { pen = first }) codes.now n front later cut))
+    behind (batch_entries b) n (text_entry_on d.now pen set c) (text_entries_in set (record hand { pen = After }) cs) (rw is (at (record hand { pen = first }) codes.now n front later cut))
   where
     at : (hand : Hand) (codes : List ℕ) (n : ℕ) → (n ≡ 0 → pen ≡ hand.pen) → (0 < n → pen ≡ After) → drop n codes ≡ c ∷ cs →
-        drop n (text_in set hand codes) ≡ typed set (record hand { pen = pen }) c ∷ text_in set (record hand { pen = After }) cs
+        drop n (text_entries_in set hand codes) ≡ text_entry set (record hand { pen = pen }) c ∷ text_entries_in set (record hand { pen = After }) cs
     at hand codes zero front later cut = rw (cut, front refl) refl
     at hand [] (suc n) front later cut = let bad : ⊥ = cc in absurd bad
     at hand (a ∷ rest) (suc n) front later cut = let on = later (omega arith) in at (record hand { pen = After }) rest n (λ _. on) (λ _. on) cut
 
 -- the mark of the entry that is at the front of a list
-pub same_mark : (s : State) (list : List Entry) (x e : Entry) (xs es : List Entry) → list ≡ x ∷ xs → list ≡ e ∷ es → marked s x s.drawing ≡ marked s e s.drawing
+pub same_mark : (s : State) (list : List Entry) (x e : Entry) (xs es : List Entry) → list ≡ x ∷ xs → list ≡ e ∷ es → with_pen_and_last s x s.drawing ≡ with_pen_and_last s e s.drawing
 same_mark s list x e xs es first second =
     let same : x ≡ e = cc in
-    ap (λ (e : Entry). marked s e s.drawing) same
+    ap (λ (e : Entry). with_pen_and_last s e s.drawing) same
 
 -- where a line begins
 
-pub last_of_front : (p : Coordinates) (points : List Coordinates) (i n : ℕ) (z : Coordinates) → i ≡ suc n → n < length points → last_of p (take i points) ≡ get_or points n z
-unfolding last_of
+pub last_of_front : (p : Coordinates) (points : List Coordinates) (i n : ℕ) (z : Coordinates) → i ≡ suc n → n < length points → last_point p (take i points) ≡ get_or points n z
+unfolding last_point
 last_of_front p [] i n z is less = absurd (omega arith)
 last_of_front p (q ∷ qs) i zero z is less = rw is refl
 last_of_front p (q ∷ qs) i (suc n) z is less = rw is (last_of_front q qs (suc n) n z refl (omega arith))

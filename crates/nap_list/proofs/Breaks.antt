@@ -3,10 +3,10 @@ use Rattle.std.proofs.lemmas.List.{take_all, take_more, take-append-drop}
 use Rattle.std.proofs.Math.Seq.{drop-cons}
 use Rattle.std.specs.Prelude.{IsSome}
 use Rattle.nap_list.specs.declared.entry.Entry.{Entry}
-use Rattle.nap_list.specs.declared.state.Opened.{Opened}
+use Rattle.nap_list.specs.declared.state.OpenDefinition.{OpenDefinition}
 use Rattle.nap_list.specs.declared.state.State.{State}
-use Rattle.nap_list.specs.State.{start, after, walk, AllFit, Fits, Legal, BreaksAt}
-use Rattle.nap_list.specs.Laws.{LegalNeverBreaks}
+use Rattle.nap_list.specs.State.{start, after, walk, AllFit, Fits, Legal, IsIllegalAt}
+use Rattle.nap_list.specs.Laws.{LegalIsNowhereIllegal}
 
 -- A list goes wrong at one index at most, and a legal list at none: by the place along a walk, entry after entry.
 
@@ -25,7 +25,7 @@ unfolding Breaks walk AllFit
 at_end s [] fit opened = (refl, opened)
 at_end s (e ∷ es) fit opened = (fit.0, at_end (after s e) es fit.1 opened)
 
-along : (es : List Entry) (i : ℕ) → BreaksAt i es → Breaks start es i
+along : (es : List Entry) (i : ℕ) → IsIllegalAt i es → Breaks start es i
 along es i (inl misfit) =
     subst (λ (list : List Entry). Breaks start list i) (sym misfit.parts)
     (subst (λ (n : ℕ). Breaks start (misfit.front ++ misfit.entry ∷ misfit.rest) n) misfit.place
@@ -40,7 +40,7 @@ once s (e ∷ es) zero (suc j) a b = absurd (a b.0)
 once s (e ∷ es) (suc i) zero a b = absurd (b a.0)
 once s (e ∷ es) (suc i) (suc j) a b = ap suc (once (after s e) es i j a.1 b.1)
 
-none_opened : (o : Option Opened) → o ≡ None → IsSome o → ⊥
+none_opened : (o : Option OpenDefinition) → o ≡ None → IsSome o → ⊥
 none_opened None is opened = let bad : ⊥ = cc in bad
 none_opened (Some x) is opened = let bad : ⊥ = cc in bad
 
@@ -59,7 +59,7 @@ one_more es i e lt is = take_more es i e lt ∙ ap (λ (x : Entry). take i es ++
 
 -- the entry at an index doesn't fit the state behind those before it, which fit
 pub misfit_at : (es : List Entry) (i : ℕ) (e : Entry) (s : State) → i < length es → e ≡ get_or es i e →
-    s ≡ walk start (take i es) → AllFit start (take i es) → (Fits s e → ⊥) → BreaksAt i es
+    s ≡ walk start (take i es) → AllFit start (take i es) → (Fits s e → ⊥) → IsIllegalAt i es
 misfit_at es i e s lt is state before misfit = inl (record {
   front = take i es;
   entry = e;
@@ -70,27 +70,27 @@ misfit_at es i e s lt is state before misfit = inl (record {
   misfit = subst (λ (t : State). Fits t e → ⊥) state misfit;
 })
 
-pub breaks_once : (es : List Entry) (i j : ℕ) → BreaksAt i es → BreaksAt j es → i ≡ j
+pub breaks_once : (es : List Entry) (i j : ℕ) → IsIllegalAt i es → IsIllegalAt j es → i ≡ j
 breaks_once es i j a b = once start es i j (along es i a) (along es j b)
 
-pub legal_never_breaks : LegalNeverBreaks
+pub legal_never_breaks : LegalIsNowhereIllegal
 legal_never_breaks es i legal breaks = never start es i legal.fit legal.ended (along es i breaks)
 
 -- the answers, from where the walk stopped
 
-pub only_break : (es : List Entry) (i : ℕ) → BreaksAt i es → (j : ℕ) → IsErrOf {T = Unit {0}} {E = ℕ} (Err i) j ↔ BreaksAt j es
-only_break es i breaks j = (λ is. let same : i ≡ j = cc in subst (λ (n : ℕ). BreaksAt n es) same breaks, λ other. let same : i ≡ j = breaks_once es i j breaks other in cc)
+pub only_break : (es : List Entry) (i : ℕ) → IsIllegalAt i es → (j : ℕ) → IsErrOf {T = Unit {0}} {E = ℕ} (Err i) j ↔ IsIllegalAt j es
+only_break es i breaks j = (λ is. let same : i ≡ j = cc in subst (λ (n : ℕ). IsIllegalAt n es) same breaks, λ other. let same : i ≡ j = breaks_once es i j breaks other in cc)
 
-pub no_break : (es : List Entry) → Legal es → (j : ℕ) → IsErrOf {T = Unit {0}} {E = ℕ} (Ok tt) j ↔ BreaksAt j es
+pub no_break : (es : List Entry) → Legal es → (j : ℕ) → IsErrOf {T = Unit {0}} {E = ℕ} (Ok tt) j ↔ IsIllegalAt j es
 no_break es legal j = (λ is. let bad : ⊥ = cc in absurd bad, λ breaks. absurd (legal_never_breaks es j legal breaks))
 
-pub not_legal : (es : List Entry) (i : ℕ) → BreaksAt i es → IsTrue false ↔ Legal es
+pub not_legal : (es : List Entry) (i : ℕ) → IsIllegalAt i es → IsTrue false ↔ Legal es
 not_legal es i breaks = (λ is. let bad : ⊥ = cc in absurd bad, λ legal. absurd (legal_never_breaks es i legal breaks))
 
 -- the end of the list
 
 pub ends_open : (es : List Entry) (i : ℕ) (s : State) → length es ≤ i → s ≡ walk start (take i es) → AllFit start (take i es) →
-    is_some s.definition ≡ true → BreaksAt (length es) es
+    is_some s.definition ≡ true → IsIllegalAt (length es) es
 ends_open es i s le state fit opened =
     let all = take_all i es le in
     inr (record {
@@ -99,7 +99,7 @@ ends_open es i s le state fit opened =
       opened = subst (λ (t : State). IsSome t.definition) (state ∙ ap (walk start) all) opened;
     })
 
-is_none : (o : Option Opened) → is_some o ≡ false → o ≡ None
+is_none : (o : Option OpenDefinition) → is_some o ≡ false → o ≡ None
 is_none None is = refl
 is_none (Some opened) is = let bad : ⊥ = cc in absurd bad
 

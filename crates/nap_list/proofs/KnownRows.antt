@@ -2,7 +2,7 @@ use Rattle.std.proofs.Common.{◌≡◌, ℕ, true, false, List, [], ◌∷◌, 
 use Rattle.std.specs.Prelude.{map}
 use Rattle.nap_values.specs.Colours.{Components}
 use Rattle.nap_list.specs.declared.known.MapColour.{MapColour}
-use Rattle.nap_list.specs.Known.{is_known, setting, reset_known}
+use Rattle.nap_list.specs.Known.{is_known, with_known_colour, known_after_reset}
 
 -- Colours of the map, computed by the definitions.
 
@@ -19,17 +19,17 @@ pair addr grb = record { addr = addr; grb = grb }
 abbrev reds : List ℕ → List MapColour
 reds addrs = map (λ addr. pair addr red) addrs
 
-another_address_comes_before : setting 2 red (reds (1 ∷ [])) ≡ reds (2 ∷ 1 ∷ [])
+another_address_comes_before : with_known_colour 2 red (reds (1 ∷ [])) ≡ reds (2 ∷ 1 ∷ [])
 another_address_comes_before = refl
 
-another_colour_takes_the_place : setting 1 blue (reds (2 ∷ 1 ∷ [])) ≡ pair 1 blue ∷ pair 2 red ∷ []
+another_colour_takes_the_place : with_known_colour 1 blue (reds (2 ∷ 1 ∷ [])) ≡ pair 1 blue ∷ pair 2 red ∷ []
 another_colour_takes_the_place = refl
 
-the_seventeenth_goes : setting 17 red (reds (16 ∷ 15 ∷ 14 ∷ 13 ∷ 12 ∷ 11 ∷ 10 ∷ 9 ∷ 8 ∷ 7 ∷ 6 ∷ 5 ∷ 4 ∷ 3 ∷ 2 ∷ 1 ∷ [])) ≡
+the_seventeenth_goes : with_known_colour 17 red (reds (16 ∷ 15 ∷ 14 ∷ 13 ∷ 12 ∷ 11 ∷ 10 ∷ 9 ∷ 8 ∷ 7 ∷ 6 ∷ 5 ∷ 4 ∷ 3 ∷ 2 ∷ 1 ∷ [])) ≡
     reds (17 ∷ 16 ∷ 15 ∷ 14 ∷ 13 ∷ 12 ∷ 11 ∷ 10 ∷ 9 ∷ 8 ∷ 7 ∷ 6 ∷ 5 ∷ 4 ∷ 3 ∷ 2 ∷ [])
 the_seventeenth_goes = refl
 
-an_older_one_makes_room : setting 1 blue (reds (16 ∷ 15 ∷ 14 ∷ 13 ∷ 12 ∷ 11 ∷ 10 ∷ 9 ∷ 8 ∷ 7 ∷ 6 ∷ 5 ∷ 4 ∷ 3 ∷ 2 ∷ 1 ∷ [])) ≡
+an_older_one_makes_room : with_known_colour 1 blue (reds (16 ∷ 15 ∷ 14 ∷ 13 ∷ 12 ∷ 11 ∷ 10 ∷ 9 ∷ 8 ∷ 7 ∷ 6 ∷ 5 ∷ 4 ∷ 3 ∷ 2 ∷ 1 ∷ [])) ≡
     pair 1 blue ∷ reds (16 ∷ 15 ∷ 14 ∷ 13 ∷ 12 ∷ 11 ∷ 10 ∷ 9 ∷ 8 ∷ 7 ∷ 6 ∷ 5 ∷ 4 ∷ 3 ∷ 2 ∷ [])
 an_older_one_makes_room = refl
 
@@ -39,8 +39,8 @@ a_colour_is_known = refl
 another_colour_is_not : is_known 1 blue (reds (2 ∷ 1 ∷ [])) ≡ false
 another_colour_is_not = refl
 
-a_reset_of_the_lengths_keeps_them : reset_known 1 (reds (2 ∷ 1 ∷ [])) ≡ reds (2 ∷ 1 ∷ [])
+a_reset_of_the_lengths_keeps_them : known_after_reset 1 (reds (2 ∷ 1 ∷ [])) ≡ reds (2 ∷ 1 ∷ [])
 a_reset_of_the_lengths_keeps_them = refl
 
-a_reset_of_colours_leaves_none : reset_known 2 (reds (2 ∷ 1 ∷ [])) ≡ []
+a_reset_of_colours_leaves_none : known_after_reset 2 (reds (2 ∷ 1 ∷ [])) ≡ []
 a_reset_of_colours_leaves_none = refl

@@ -1,5 +1,5 @@
 use Rattle.nap_list.specs.Agreement.{AgreeingFits}
-use Rattle.nap_list.specs.Laws.{WalksJoin, FitsJoin, StartAgrees, TakingNothing, LegalNeverBreaks, BatchStands, TextLeaves, TypedMade}
+use Rattle.nap_list.specs.Laws.{WalksJoin, FitsJoin, StartAgrees, CurrentAttributesChangeNothing, LegalIsNowhereIllegal, BatchIsCurrent, TextLeaves, TextEntriesAreWellMade}
 use Rattle.nap_list.specs.Walks as walks
 use Rattle.nap_list.proofs.Agreement as agreement
 use Rattle.nap_list.proofs.Breaks as breaks
@@ -19,17 +19,17 @@ agreeing_fits = agreement.agreeing_fits
 pub start_agrees : StartAgrees
 start_agrees = agreement.start_agrees
 
-pub taking_nothing : TakingNothing
+pub taking_nothing : CurrentAttributesChangeNothing
 taking_nothing = agreement.taking_nothing
 
-pub legal_never_breaks : LegalNeverBreaks
+pub legal_never_breaks : LegalIsNowhereIllegal
 legal_never_breaks = breaks.legal_never_breaks
 
-pub batch_stands : BatchStands
+pub batch_stands : BatchIsCurrent
 batch_stands = batches.batch_stands
 
 pub text_leaves : TextLeaves
 text_leaves = batches.text_leaves
 
-pub typed_made : TypedMade
+pub typed_made : TextEntriesAreWellMade
 typed_made = batches.typed_made

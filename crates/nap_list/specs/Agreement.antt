@@ -3,70 +3,71 @@ use Rattle.nap_list.specs.declared.attribute.Base.{Base}
 use Rattle.nap_list.specs.declared.attribute.Base.TheVariants as bases
 use Rattle.nap_list.specs.declared.attribute.Colour.{Colour}
 use Rattle.nap_list.specs.declared.attribute.Colour.TheVariants as colours
-use Rattle.nap_list.specs.declared.attribute.Held.{Held}
+use Rattle.nap_list.specs.declared.attribute.Attributes.{Attributes}
 use Rattle.nap_list.specs.declared.state.Drawing.{Drawing}
-use Rattle.nap_list.specs.declared.state.Opened.{Opened}
+use Rattle.nap_list.specs.declared.state.OpenDefinition.{OpenDefinition}
 use Rattle.nap_list.specs.declared.state.State.{State}
 use Rattle.nap_list.specs.declared.entry.Entry.{Entry}
-use Rattle.nap_list.specs.Entry.{held, IsCode, WellMade}
-use Rattle.nap_list.specs.State.{PenFits, TextureFits, Comes, Fits, base_shown, after}
+use Rattle.nap_list.specs.Entry.{attributes, IsCode, WellMade}
+use Rattle.nap_list.specs.State.{PenFits, TextureFits, MayCome, Fits, base_after, after}
 
--- An interpreter of a stream keeps values of its own, of which the entries so far may not have shown all. Its values
--- agree with those shown where an entry made of them would fit.
+-- A reader of a stream has attributes of its own, which the entries so far need not have shown. They agree with those
+-- of the entries if an entry made from them would fit.
 
--- an own base is the one shown
+-- an own colour of mode 0 is the one that the entries left
 abbrev pub BaseAgrees : Base → Base → Type 0
 BaseAgrees (bases.Own origin) shown = shown ≡ bases.Own origin
 BaseAgrees (bases.Direct grb) shown = ⊤
 
--- a colour by a reset is the one shown
+-- a colour selected by a reset is the one that the entries left
 abbrev pub ColourAgrees : Colour → Colour → Type 0
 ColourAgrees (colours.ByReset preset) shown = shown ≡ colours.ByReset preset
 ColourAgrees _ shown = ⊤
 
 -- a colour of mode 0 is the base
-abbrev pub InMode : Base → Colour → Type 0
-InMode base (colours.Own origin) = base ≡ bases.Own origin
-InMode base (colours.Direct grb) = base ≡ bases.Direct grb
-InMode base _ = ⊤
+abbrev pub ModeZeroIsBase : Base → Colour → Type 0
+ModeZeroIsBase base (colours.Own origin) = base ≡ bases.Own origin
+ModeZeroIsBase base (colours.Direct grb) = base ≡ bases.Direct grb
+ModeZeroIsBase base _ = ⊤
 
--- the values agree with those shown
+-- the attributes agree with those that the entries left
 pub record Agrees (d shown : Drawing) : Type 0 where
   pub pen : PenFits shown.pen (Some d.pen)
   pub base : BaseAgrees d.base shown.base
   pub colour : ColourAgrees d.colour shown.colour
-  pub mode : InMode d.base d.colour
+  pub mode : ModeZeroIsBase d.base d.colour
   pub texture : TextureFits shown.texture (Some d.texture)
 
--- the same definition is open, and the values saved agree
-abbrev pub DefinitionsAgree : Option Opened → Option Opened → Type 0
+-- both have the same open definition, and the saved attributes agree
+abbrev pub DefinitionsAgree : Option OpenDefinition → Option OpenDefinition → Type 0
 DefinitionsAgree None None = ⊤
 DefinitionsAgree (Some opened) (Some shown) = (opened.what ≡ shown.what) × Agrees opened.saved shown.saved
 DefinitionsAgree _ _ = ⊥
 
--- the state agrees with the one shown
+-- the state agrees with the one that the entries left
 pub record StatesAgree (s shown : State) : Type 0 where
   pub drawing : Agrees s.drawing shown.drawing
   pub definition : DefinitionsAgree s.definition shown.definition
   pub last : s.last ≡ shown.last
   pub known : s.known ≡ shown.known
-  -- (as it is after any entries that fit)
+  -- (true after any entries that fit)
   pub made : IfSome shown.last (λ last. IsCode last.code)
 
--- all held values are the standing ones
-pub record Holds (h : Held) (d : Drawing) : Type 0 where
+-- every attribute that is held equals the current one
+pub record EqualCurrent (h : Attributes) (d : Drawing) : Type 0 where
   pub pen : IfSome h.pen (λ pen. pen ≡ d.pen)
   pub pel : IfSome h.pel (λ pel. pel ≡ d.pel)
   pub colour : IfSome h.colour (λ colour. colour ≡ d.colour)
   pub texture : IfSome h.texture (λ texture. texture ≡ d.texture)
   pub text : IfSome h.text (λ text. text ≡ d.text)
 
--- all held values are the standing ones, and a direct colour is the base too: taking them changes nothing
-pub record Stands (h : Held) (d : Drawing) : Type 0 where
-  pub holds : Holds h d
-  pub base : base_shown d.base h.colour ≡ d.base
+-- every attribute that is held is current; a direct colour is the base too, so that applying them changes nothing
+pub record AreCurrent (h : Attributes) (d : Drawing) : Type 0 where
+  pub holds : EqualCurrent h d
+  pub base : base_after d.base h.colour ≡ d.base
 
--- an entry that holds the standing values fits the state shown, and the states agree again after it
+-- if a state agrees with the one that the entries left, an entry with its current attributes fits, and the states agree
+-- again after it
 abbrev pub AgreeingFits : Type 0
-AgreeingFits = (s shown : State) (e : Entry) → StatesAgree s shown → Holds (held e) s.drawing → WellMade e → Comes s e →
+AgreeingFits = (s shown : State) (e : Entry) → StatesAgree s shown → EqualCurrent (attributes e) s.drawing → WellMade e → MayCome s e →
     Fits shown e × StatesAgree (after s e) (after shown e)

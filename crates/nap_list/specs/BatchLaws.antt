@@ -9,53 +9,53 @@ use Rattle.nap_list.specs.declared.batch.Batch.{Batch}
 use Rattle.nap_list.specs.declared.batch.Batch.TheVariants as batches
 use Rattle.nap_list.specs.declared.state.Drawing.{Drawing}
 use Rattle.nap_list.specs.State.{hand_of}
-use Rattle.nap_list.specs.Batches.{point_on, line_on, lines_on, text_in, typed, listed, last_of}
+use Rattle.nap_list.specs.Batches.{point_entry, line_entry, polyline_entries, text_entries_in, text_entry, batch_entries, last_point}
 
--- Laws of the entries of a batch: how many they are, and their parts.
+-- Laws about the entries of a batch: their number and their parts.
 
-pub lines_count : (d : Drawing) (from : Coordinates) (points : List Coordinates) → length (lines_on d from points) ≡ length points
-unfolding lines_on
+pub lines_count : (d : Drawing) (from : Coordinates) (points : List Coordinates) → length (polyline_entries d from points) ≡ length points
+unfolding polyline_entries
 lines_count d from [] = refl
 lines_count d from (p ∷ ps) = ap suc (lines_count d p ps)
 
-pub text_count : (set : CharSet) (hand : Hand) (codes : List ℕ) → length (text_in set hand codes) ≡ length codes
-unfolding text_in
+pub text_count : (set : CharSet) (hand : Hand) (codes : List ℕ) → length (text_entries_in set hand codes) ≡ length codes
+unfolding text_entries_in
 text_count set hand [] = refl
 text_count set hand (c ∷ cs) = ap suc (text_count set (record hand { pen = After }) cs)
 
--- a batch of each kind has as many entries as points or codes
+-- a batch has as many entries as points or codes
 
-pub sized_points : (b : Batch) (points : _) (d : _) → b ≡ batches.Points points d → length (listed b) ≡ length points.now
-sized_points b points d is = rw is (length-map points.now (point_on d.now))
+pub sized_points : (b : Batch) (points : _) (d : _) → b ≡ batches.Points points d → length (batch_entries b) ≡ length points.now
+sized_points b points d is = rw is (length-map points.now (point_entry d.now))
 
-pub sized_lines : (b : Batch) (from : _) (points : _) (d : _) → b ≡ batches.Lines from points d → length (listed b) ≡ length points.now
+pub sized_lines : (b : Batch) (from : _) (points : _) (d : _) → b ≡ batches.Lines from points d → length (batch_entries b) ≡ length points.now
 sized_lines b from points d is = rw is (lines_count d.now from points.now)
 
-pub sized_text : (b : Batch) (set : _) (codes : _) (pen : _) (d : _) → b ≡ batches.Text set codes pen d → length (listed b) ≡ length codes.now
+pub sized_text : (b : Batch) (set : _) (codes : _) (pen : _) (d : _) → b ≡ batches.Text set codes pen d → length (batch_entries b) ≡ length codes.now
 sized_text b set codes pen d is = rw is (text_count set (record (hand_of d.now) { pen = pen }) codes.now)
 
-pub points_front : (d : Drawing) (points : List Coordinates) (n : ℕ) → map (point_on d) (take n points) ≡ take n (map (point_on d) points)
+pub points_front : (d : Drawing) (points : List Coordinates) (n : ℕ) → map (point_entry d) (take n points) ≡ take n (map (point_entry d) points)
 points_front d points zero = refl
 points_front d [] (suc n) = refl
-points_front d (p ∷ ps) (suc n) = ap (λ list. point_on d p ∷ list) (points_front d ps n)
+points_front d (p ∷ ps) (suc n) = ap (λ list. point_entry d p ∷ list) (points_front d ps n)
 
-pub lines_front : (d : Drawing) (from : Coordinates) (points : List Coordinates) (n : ℕ) → lines_on d from (take n points) ≡ take n (lines_on d from points)
-unfolding lines_on
+pub lines_front : (d : Drawing) (from : Coordinates) (points : List Coordinates) (n : ℕ) → polyline_entries d from (take n points) ≡ take n (polyline_entries d from points)
+unfolding polyline_entries
 lines_front d from points zero = refl
 lines_front d from [] (suc n) = refl
-lines_front d from (p ∷ ps) (suc n) = ap (λ list. line_on d from p ∷ list) (lines_front d p ps n)
+lines_front d from (p ∷ ps) (suc n) = ap (λ list. line_entry d from p ∷ list) (lines_front d p ps n)
 
-pub text_front : (set : CharSet) (hand : Hand) (codes : List ℕ) (n : ℕ) → text_in set hand (take n codes) ≡ take n (text_in set hand codes)
-unfolding text_in
+pub text_front : (set : CharSet) (hand : Hand) (codes : List ℕ) (n : ℕ) → text_entries_in set hand (take n codes) ≡ take n (text_entries_in set hand codes)
+unfolding text_entries_in
 text_front set hand codes zero = refl
 text_front set hand [] (suc n) = refl
-text_front set hand (c ∷ cs) (suc n) = ap (λ list. typed set hand c ∷ list) (text_front set (record hand { pen = After }) cs n)
+text_front set hand (c ∷ cs) (suc n) = ap (λ list. text_entry set hand c ∷ list) (text_front set (record hand { pen = After }) cs n)
 
-pub points_rest : (d : Drawing) (points : List Coordinates) (n : ℕ) → map (point_on d) (drop n points) ≡ drop n (map (point_on d) points)
-points_rest d points n = sym (drop-map (point_on d) n points)
+pub points_rest : (d : Drawing) (points : List Coordinates) (n : ℕ) → map (point_entry d) (drop n points) ≡ drop n (map (point_entry d) points)
+points_rest d points n = sym (drop-map (point_entry d) n points)
 
-pub lines_rest : (d : Drawing) (from : Coordinates) (points : List Coordinates) (n : ℕ) → lines_on d (last_of from (take n points)) (drop n points) ≡ drop n (lines_on d from points)
-unfolding lines_on last_of
+pub lines_rest : (d : Drawing) (from : Coordinates) (points : List Coordinates) (n : ℕ) → polyline_entries d (last_point from (take n points)) (drop n points) ≡ drop n (polyline_entries d from points)
+unfolding polyline_entries last_point
 lines_rest d from points zero = refl
 lines_rest d from [] (suc n) = refl
 lines_rest d from (p ∷ ps) (suc n) = lines_rest d p ps n

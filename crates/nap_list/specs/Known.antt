@@ -4,13 +4,13 @@ use Rattle.std.specs.Ordering.{on, eq_of_both}
 use Rattle.nap_values.specs.Colours.{Components}
 use Rattle.nap_list.specs.declared.known.MapColour.{MapColour}
 
--- The colours of the map that are known: the last set first.
+-- The known colours of the colour map, the last set first.
 
--- whether two colours are the same
+-- whether two colours are equal
 abbrev pub same_parts : Components → Components → Bool
 same_parts = eq_of_both (on (λ c. c.g) nat_eq) (eq_of_both (on (λ c. c.r) nat_eq) (on (λ c. c.b) nat_eq))
 
--- whether they are the same, at the same address
+-- whether two colours are equal and at the same address
 abbrev pub same_colour_at : MapColour → MapColour → Bool
 same_colour_at = eq_of_both (on (λ c. c.addr) nat_eq) (on (λ c. c.grb) same_parts)
 
@@ -18,18 +18,19 @@ same_colour_at = eq_of_both (on (λ c. c.addr) nat_eq) (on (λ c. c.grb) same_pa
 abbrev pub is_known : ℕ → Components → List MapColour → Bool
 is_known a grb known = list_any (λ c. same_colour_at c (record { addr = a; grb = grb })) known
 
--- those of other addresses
-abbrev pub elsewhere : ℕ → List MapColour → List MapColour
-elsewhere a known = filter (λ c. not (c.addr == a)) known
+-- the known colours at other addresses
+abbrev pub without_address : ℕ → List MapColour → List MapColour
+without_address a known = filter (λ c. not (c.addr == a)) known
 
--- the colour code in a reset's first word
+-- the colour code in the first word of RESET
 abbrev pub colour_code : ℕ → ℕ
 colour_code first = first / 2 % 4
 
--- those behind a reset: where it chooses colours, none
-abbrev pub reset_known : ℕ → List MapColour → List MapColour
-reset_known first known = if colour_code first == 0 then known else []
+-- the known colours after RESET: none if it chooses colours
+abbrev pub known_after_reset : ℕ → List MapColour → List MapColour
+known_after_reset first known = if colour_code first == 0 then known else []
 
--- one more: it comes first, in place of an older one of its address, and at most fifteen others stay
-abbrev pub setting : ℕ → Components → List MapColour → List MapColour
-setting a grb known = record { addr = a; grb = grb } ∷ take 15 (elsewhere a known)
+-- the known colours after a colour was set: it comes first, an older one of its address is removed, and at most 15
+-- others stay
+abbrev pub with_known_colour : ℕ → Components → List MapColour → List MapColour
+with_known_colour a grb known = record { addr = a; grb = grb } ∷ take 15 (without_address a known)

@@ -16,5 +16,5 @@ pub mod BatchLaws
 pub mod Putting
 pub mod PuttingLaws
 pub mod Shapes
-pub mod Shown
+pub mod SinkModels
 pub mod Walks

@@ -1,19 +1,20 @@
 use Rattle.std.specs.Prelude.{ℕ}
 
--- The limits of our profile. The law `limits` says that the constants of the code are these.
+-- The limits of the profile (PROFILE.md, Limits). The law `limits` says that the constants in the code have these
+-- values.
 
--- the most points of an arc or a polygon, the start among them
+-- the greatest number of points of an arc or polygon, its start included
 abbrev pub points_limit : ℕ
 points_limit = 2001
 
--- the most displacements of one, which lead on from its start
+-- the greatest number of displacements of an arc or polygon
 abbrev pub steps_limit : ℕ
 steps_limit = 2000
 
--- the most reads of one input
+-- the greatest number of reads of one input
 abbrev pub reads_limit : ℕ
 reads_limit = 1048576
 
--- the most colours of the map that are known
+-- the greatest number of known colours
 abbrev pub known_limit : ℕ
 known_limit = 16

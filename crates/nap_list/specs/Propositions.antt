@@ -10,15 +10,15 @@ use Rattle.nap_list.specs.declared.attribute.Pen.TheVariants as pens
 use Rattle.nap_list.specs.declared.attribute.Texture.{Texture}
 use Rattle.nap_list.specs.declared.state.Drawing.{Drawing}
 use Rattle.nap_list.specs.declared.state.LastChar.{LastChar}
-use Rattle.nap_list.specs.declared.state.Opened.{Opened}
+use Rattle.nap_list.specs.declared.state.OpenDefinition.{OpenDefinition}
 use Rattle.nap_list.specs.declared.state.State.{State}
 use Rattle.nap_list.specs.Entry.{IsCode}
 use Rattle.nap_list.specs.State.{PenFits, MaskFits, TextureFits}
-use Rattle.nap_list.specs.Agreement.{BaseAgrees, ColourAgrees, InMode, Agrees, DefinitionsAgree, StatesAgree}
+use Rattle.nap_list.specs.Agreement.{BaseAgrees, ColourAgrees, ModeZeroIsBase, Agrees, DefinitionsAgree, StatesAgree}
 
--- Each of these facts has one proof at most, so a value may carry it.
+-- Each of these facts has at most one proof, so a ghost field may hold it.
 
-pub PenFits-prop : (pen : Pen) (held : Option Pen) → IsProp (PenFits pen held)
+pub PenFits-prop : (pen : Pen) (attributes : Option Pen) → IsProp (PenFits pen attributes)
 PenFits-prop pen None = hlevel props
 PenFits-prop pen (Some pens.Start) = hlevel props
 PenFits-prop pen (Some pens.After) = hlevel props
@@ -28,7 +28,7 @@ pub MaskFits-prop : (texture : Texture) (mask : Option Displacement) → IsProp 
 MaskFits-prop texture None = hlevel props
 MaskFits-prop texture (Some mask) = hlevel props
 
-pub TextureFits-prop : (texture : Texture) (held : Option Texture) → IsProp (TextureFits texture held)
+pub TextureFits-prop : (texture : Texture) (attributes : Option Texture) → IsProp (TextureFits texture attributes)
 TextureFits-prop texture None = hlevel props
 TextureFits-prop texture (Some wanted) = MaskFits-prop texture wanted.mask
 
@@ -43,12 +43,12 @@ ColourAgrees-prop (colours.Direct grb) shown = hlevel props
 ColourAgrees-prop (colours.Front addr) shown = hlevel props
 ColourAgrees-prop (colours.Pair front back) shown = hlevel props
 
-pub InMode-prop : (base : Base) (colour : Colour) → IsProp (InMode base colour)
-InMode-prop base (colours.Own origin) = hlevel props
-InMode-prop base (colours.Direct grb) = hlevel props
-InMode-prop base (colours.ByReset preset) = hlevel props
-InMode-prop base (colours.Front addr) = hlevel props
-InMode-prop base (colours.Pair front back) = hlevel props
+pub ModeZeroIsBase-prop : (base : Base) (colour : Colour) → IsProp (ModeZeroIsBase base colour)
+ModeZeroIsBase-prop base (colours.Own origin) = hlevel props
+ModeZeroIsBase-prop base (colours.Direct grb) = hlevel props
+ModeZeroIsBase-prop base (colours.ByReset preset) = hlevel props
+ModeZeroIsBase-prop base (colours.Front addr) = hlevel props
+ModeZeroIsBase-prop base (colours.Pair front back) = hlevel props
 
 pub Agrees-prop : (d shown : Drawing) → IsProp (Agrees d shown)
 Agrees-prop d shown = hlevel (
@@ -56,11 +56,11 @@ Agrees-prop d shown = hlevel (
   PenFits-prop shown.pen (Some d.pen),
   BaseAgrees-prop d.base shown.base,
   ColourAgrees-prop d.colour shown.colour,
-  InMode-prop d.base d.colour,
+  ModeZeroIsBase-prop d.base d.colour,
   TextureFits-prop shown.texture (Some d.texture),
 )
 
-pub DefinitionsAgree-prop : (opened shown : Option Opened) → IsProp (DefinitionsAgree opened shown)
+pub DefinitionsAgree-prop : (opened shown : Option OpenDefinition) → IsProp (DefinitionsAgree opened shown)
 DefinitionsAgree-prop None None = hlevel props
 DefinitionsAgree-prop None (Some shown) = hlevel props
 DefinitionsAgree-prop (Some opened) None = hlevel props

@@ -6,29 +6,29 @@ use Rattle.nap_list.specs.declared.sink.SinkFault.TheVariants as faults
 use Rattle.nap_list.specs.declared.sink.BatchFault.{BatchFault}
 use Rattle.nap_list.specs.State.{walk}
 
--- What a sink took of a list that was put, entry by entry or as a batch.
+-- What a sink took of a list, entry by entry or as a batch.
 
--- what a sink shows: the members of the trait, apart from it
-pub record SinkShows (S : Type 0) : Type 1 where
+-- a sink as contracts see it: the members of the trait as a record
+pub record SinkModel (S : Type 0) : Type 1 where
   pub state : S → State
   pub wants : S → List Entry → Type 0
   pub failed : S → Bool
   pub took : S → List Entry → S → Type 0
   pub broke : S → List Entry → Entry → S → Type 0
 
-abbrev pub shows : {S : Type 0} → (S → State) → (S → List Entry → Type 0) → (S → Bool) → (S → List Entry → S → Type 0) → (S → List Entry → Entry → S → Type 0) → SinkShows S
-shows state wants failed took broke = record { state = state; wants = wants; failed = failed; took = took; broke = broke }
+abbrev pub sink_model : {S : Type 0} → (S → State) → (S → List Entry → Type 0) → (S → Bool) → (S → List Entry → S → Type 0) → (S → List Entry → Entry → S → Type 0) → SinkModel S
+sink_model state wants failed took broke = record { state = state; wants = wants; failed = failed; took = took; broke = broke }
 
--- a front of the list was taken, and the next entry wasn't
+-- the sink took a prefix of the list, and not the next entry
 abbrev pub Stops : {S : Type 0} → (S → List Entry → S → Type 0) → S → List Entry → S → Type 0
 Stops took s list t = (front : List Entry) × (next : Entry) × (rest : List Entry) × (list ≡ front ++ next ∷ rest) × took s front t
 
--- a front of the list was taken, and the next entry broke
+-- the sink took a prefix of the list, and its device failed during the next entry
 abbrev pub Breaks : {S : Type 0} → (S → List Entry → Entry → S → Type 0) → S → List Entry → S → Type 0
 Breaks broke s list t = (front : List Entry) × (next : Entry) × (rest : List Entry) × (list ≡ front ++ next ∷ rest) × broke s front next t
 
--- how far a list is put: these entries were taken, and the rest is left
-pub record Putting {S : Type 0} (h : SinkShows S) (s t : S) (whole rest : List Entry) : Type 0 where
+-- the progress of putting a list: the sink took these entries, and the rest is left
+pub record Putting {S : Type 0} (h : SinkModel S) (s t : S) (whole rest : List Entry) : Type 0 where
   pub done : List Entry
   pub parts : whole ≡ done ++ rest
   pub taken : h.took s done t
@@ -36,8 +36,8 @@ pub record Putting {S : Type 0} (h : SinkShows S) (s t : S) (whole rest : List E
   pub same : h.failed t ≡ true → t ≡ s
   pub none : h.failed s ≡ true → (done ≡ []) × (t ≡ s)
 
--- so many entries of the list were taken, and the next one wasn't, up to which memory may be wanting
-pub record StopsAfter {S : Type 0} (h : SinkShows S) (s : S) (list : List Entry) (n : ℕ) (t : S) : Type 0 where
+-- the sink took this many entries of the list, and memory ran out for the next one
+pub record StopsAfter {S : Type 0} (h : SinkModel S) (s : S) (list : List Entry) (n : ℕ) (t : S) : Type 0 where
   pub front : List Entry
   pub next : Entry
   pub rest : List Entry
@@ -46,7 +46,7 @@ pub record StopsAfter {S : Type 0} (h : SinkShows S) (s : S) (list : List Entry)
   pub taken : h.took s front t
   pub wants : h.wants s (front ++ next ∷ [])
 
--- so many entries of the list were taken, and the next one broke
+-- the sink took this many entries of the list, and its device failed during the next one
 pub record BreaksAfter {S : Type 0} (broke : S → List Entry → Entry → S → Type 0) (s : S) (list : List Entry) (n : ℕ) (t : S) : Type 0 where
   pub front : List Entry
   pub next : Entry
@@ -55,41 +55,42 @@ pub record BreaksAfter {S : Type 0} (broke : S → List Entry → Entry → S �
   pub count : length front ≡ n
   pub broken : broke s front next t
 
--- where the putting of a list halts: a sink whose device had failed takes nothing
-abbrev pub HaltsAfter : {S : Type 0} → SinkShows S → List Entry → S → S → ℕ → SinkFault → Type 0
+-- where the putting of a list halts; a sink whose device had failed takes nothing
+abbrev pub HaltsAfter : {S : Type 0} → SinkModel S → List Entry → S → S → ℕ → SinkFault → Type 0
 HaltsAfter h list s t n faults.Memory = StopsAfter h s list n t
 HaltsAfter h list s t n faults.Write = ((h.failed s ≡ true) × (t ≡ s) × (n ≡ 0)) ⊎ BreaksAfter h.broke s list n t
 
--- what the fault tells of the device: one that fails with want of memory works, and one that had failed took nothing
-pub record Tells {S : Type 0} (h : SinkShows S) (s t : S) (n : ℕ) (fault : SinkFault) : Type 0 where
+-- what the fault says about the device: with lack of memory it hasn't failed; a sink whose device had failed takes
+-- nothing
+pub record FaultMatchesDevice {S : Type 0} (h : SinkModel S) (s t : S) (n : ℕ) (fault : SinkFault) : Type 0 where
   pub write : fault ≡ faults.Write → h.failed t ≡ true
   pub memory : fault ≡ faults.Memory → h.failed t ≡ false
   pub none : h.failed s ≡ true → (fault ≡ faults.Write) × (t ≡ s) × (n ≡ 0)
 
--- all of the list was taken; a sink whose device had failed was put nothing
-pub record TakesAll {S : Type 0} (h : SinkShows S) (list : List Entry) (s t : S) : Type 0 where
+-- the sink took all of the list; if its device had failed, the list is empty
+pub record TakesAll {S : Type 0} (h : SinkModel S) (list : List Entry) (s t : S) : Type 0 where
   pub took : h.took s list t
   pub state : h.state t ≡ walk (h.state s) list
   pub works : h.failed s ≡ false → h.failed t ≡ false
   pub none : h.failed s ≡ true → (list ≡ []) × (t ≡ s)
 
--- the list was put: all of it was taken, or so many of its entries
-abbrev pub Put : {S : Type 0} → SinkShows S → List Entry → S → S → Result (Unit {0}) BatchFault → Type 0
+-- the result of putting a list: the sink took all of it, or the number of entries in the error
+abbrev pub Put : {S : Type 0} → SinkModel S → List Entry → S → S → Result (Unit {0}) BatchFault → Type 0
 Put h list s t (Ok _) = TakesAll h list s t
-Put h list s t (Err stop) = HaltsAfter h list s t stop.taken stop.fault × Tells h s t stop.taken stop.fault
+Put h list s t (Err stop) = HaltsAfter h list s t stop.taken stop.fault × FaultMatchesDevice h s t stop.taken stop.fault
 
--- so many entries were taken of as many as these, and memory ran out if they aren't all
+-- the result for a sink that took this many entries of a list of that length: lack of memory unless it took all
 abbrev pub UnlessAll : ℕ → ℕ → Result (Unit {0}) BatchFault → Type 0
 UnlessAll taken count (Ok _) = count ≤ taken
 UnlessAll taken count (Err stop) = (stop ≡ record { taken = taken; fault = faults.Memory }) × (taken < count)
 
--- the list was put, and an error doesn't tell how many of its entries were taken
-abbrev pub PutSome : {S A : Type 0} → SinkShows S → List Entry → S → S → Result A SinkFault → Type 0
+-- the result of putting a list, where the error doesn't have the number of entries taken
+abbrev pub PutSome : {S A : Type 0} → SinkModel S → List Entry → S → S → Result A SinkFault → Type 0
 PutSome h list s t (Ok _) = TakesAll h list s t
-PutSome h list s t (Err fault) = (n : ℕ) × HaltsAfter h list s t n fault × Tells h s t n fault
+PutSome h list s t (Err fault) = (n : ℕ) × HaltsAfter h list s t n fault × FaultMatchesDevice h s t n fault
 
--- What a sink answers of one entry that it doesn't take.
-pub record NotTaken {S : Type 0} (h : SinkShows S) (s t : S) (x : Entry) (fault : SinkFault) : Type 0 where
+-- What a sink answers for an entry that it doesn't take.
+pub record NotTaken {S : Type 0} (h : SinkModel S) (s t : S) (x : Entry) (fault : SinkFault) : Type 0 where
   pub memory : IsErrOf {T = Unit {0}} (Err fault) faults.Memory → t ≡ s
   pub wants : IsErrOf {T = Unit {0}} (Err fault) faults.Memory → h.wants s (x ∷ [])
   pub refuses : h.failed s ≡ true → IsErrOf {T = Unit {0}} (Err fault) faults.Write
@@ -98,16 +99,16 @@ pub record NotTaken {S : Type 0} (h : SinkShows S) (s t : S) (x : Entry) (fault 
   pub broke : IsErrOf {T = Unit {0}} (Err fault) faults.Write → h.failed s ≡ false → h.broke s [] x t
   pub still : IsErrOf {T = Unit {0}} (Err fault) faults.Write → h.failed s ≡ true → t ≡ s
 
--- What every sink keeps.
+-- The laws that every sink keeps.
 
--- one list was taken after another
-abbrev pub TookMore : {S : Type 0} → SinkShows S → Type 0
+-- two lists taken one after the other are taken as one
+abbrev pub TookMore : {S : Type 0} → SinkModel S → Type 0
 TookMore {S} h = (s t u : S) (d e : List Entry) → h.took s d t → h.took t e u → h.took s (d ++ e) u
 
--- a failure came after a list was taken
-abbrev pub TookBroke : {S : Type 0} → SinkShows S → Type 0
+-- a failure after a list that was taken is a failure after the whole
+abbrev pub TookBroke : {S : Type 0} → SinkModel S → Type 0
 TookBroke {S} h = (s t u : S) (d e : List Entry) (x : Entry) → h.took s d t → h.broke t e x u → h.broke s (d ++ e) x u
 
--- what is wanted behind a list that was taken is wanted for all that is put
-abbrev pub WantsMore : {S : Type 0} → SinkShows S → Type 0
+-- lack of memory for entries after a list that was taken is lack of memory for the whole
+abbrev pub WantsMore : {S : Type 0} → SinkModel S → Type 0
 WantsMore {S} h = (s t : S) (d e f : List Entry) → h.took s d t → h.wants t e → h.wants s (d ++ (e ++ f))

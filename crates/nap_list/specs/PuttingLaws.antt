@@ -9,39 +9,39 @@ use Rattle.nap_list.specs.declared.sink.SinkFault.TheVariants.{Memory, Write}
 use Rattle.nap_list.specs.declared.sink.BatchFault.{BatchFault}
 use Rattle.nap_list.specs.State.{Fits, AllFit, after, walk}
 use Rattle.nap_list.specs.Walks.{walks_join, fits_join}
-use Rattle.nap_list.specs.Putting.{SinkShows, Put, PutSome, Putting, Stops, Breaks, StopsAfter, HaltsAfter, TakesAll, TookMore, TookBroke, WantsMore, NotTaken, UnlessAll}
+use Rattle.nap_list.specs.Putting.{SinkModel, Put, PutSome, Putting, Stops, Breaks, StopsAfter, HaltsAfter, TakesAll, TookMore, TookBroke, WantsMore, NotTaken, UnlessAll}
 
--- Laws of what a sink takes of a list, part by part.
+-- Laws about what a sink took of a list, part by part.
 
-module _ {S : Type 0} (g : SinkShows S) where
-  -- nothing is put yet
+module _ {S : Type 0} (g : SinkModel S) where
+  -- nothing of the list was put yet
   pub put_begins : (s : S) (whole : List Entry) → g.took s [] s → Putting g s s whole whole
   unfolding walk
   put_begins s whole none = record { done = []; parts = refl; taken = none; state = refl; same = λ _. refl; none = λ _. (refl, refl) }
 
   module _ (s t : S) (whole list : List Entry) (putting : Putting g s t whole list) where
-    -- the whole in its parts
+    -- the list is its two parts joined
     parts_are : (front rest : List Entry) → list ≡ front ++ rest → whole ≡ putting.done ++ (front ++ rest)
     parts_are front rest is = putting.parts ∙ ap (λ (list : List Entry). putting.done ++ list) is
 
-    -- what is left fits
+    -- the rest of the list fits
     pub rest_fits : AllFit (g.state s) whole → AllFit (g.state t) list
     rest_fits fit =
         let all : AllFit (g.state s) (putting.done ++ list) = subst (AllFit (g.state s)) putting.parts fit in
         subst (λ (t : State). AllFit t list) (sym putting.state) ((fits_join (g.state s) putting.done list).0 all).1
 
-    -- a sink whose device had failed was put nothing
+    -- a sink whose device had failed has taken nothing
     still_failed : g.failed s ≡ true → g.failed t ≡ true
     still_failed set = ap g.failed (putting.none set).1 ∙ set
 
-    -- where the device has failed, nothing was taken
+    -- where the device has failed, the sink has taken nothing
     none_done : g.failed t ≡ true → (g.failed s ≡ true) × (putting.done ≡ []) × (t ≡ s)
     none_done set =
         let before = ap g.failed (sym (putting.same set)) ∙ set in
         let none = putting.none before in
         (before, none.0, none.1)
 
-    -- a front of what is left was taken
+    -- a prefix of the rest was taken
     pub put_goes : TookMore g → (u : S) (front rest : List Entry) → list ≡ front ++ rest → TakesAll g front t u → Putting g s u whole rest
     put_goes law u front rest is takes = record {
       done = putting.done ++ front;
@@ -74,7 +74,7 @@ module _ {S : Type 0} (g : SinkShows S) where
         broken = law s t u putting.done breaks.front breaks.next putting.taken breaks.broken;
       })
 
-      -- the putting of what is left halted
+      -- the putting of the rest halted
       pub put_halts : (n : ℕ) (fault : SinkFault) → Put g list t u (Err (record { taken = n; fault = fault })) →
           Put g whole s u (Err (record { taken = length putting.done + n; fault = fault }))
       put_halts n fault put = (
@@ -89,7 +89,7 @@ module _ {S : Type 0} (g : SinkShows S) where
         },
       )
 
-    -- all was put
+    -- all of the list was put
     pub put_ends : list ≡ [] → TakesAll g whole s t
     put_ends is =
         let all = sym (parts_are [] [] is ∙ append-nil putting.done) in
@@ -100,7 +100,7 @@ module _ {S : Type 0} (g : SinkShows S) where
           none = λ set. let none = putting.none set in (sym all ∙ none.0, none.1);
         }
 
-  -- an entry was taken
+  -- one entry was taken
   pub takes_one : (t u : S) (x : Entry) → g.took t (x ∷ []) u → g.state u ≡ after (g.state t) x → (g.failed u ≡ true → IsErrOf {T = Unit {0}} (Ok tt) Write) →
       (g.failed t ≡ true → IsErrOf {T = Unit {0}} (Ok tt) Write) → TakesAll g (x ∷ []) t u
   unfolding walk
@@ -129,11 +129,11 @@ module _ {S : Type 0} (g : SinkShows S) where
     record { write = λ _. put.write refl; memory = λ e. (let bad : ⊥ = cc in absurd bad); none = λ set. (refl, put.still refl set, refl) },
   )
 
-  -- an error that tells how many were taken
+  -- the error has the number of entries taken
   pub some_put : (A : Type 0) (s t : S) (list : List Entry) (n : ℕ) (fault : SinkFault) → Put g list s t (Err (record { taken = n; fault = fault })) → PutSome {A = A} g list s t (Err fault)
   some_put A s t list n fault put = (n, put.0, put.1)
 
-  -- memory was wanted behind the first entries of a list, so many of them, in a sink that works
+  -- memory ran out after the first entries of a list, with a sink whose device hasn't failed
   pub stops_behind : (s t : S) (list : List Entry) (n : ℕ) → n < length list → g.failed s ≡ false → g.failed t ≡ false → g.took s (take n list) t →
       ((x : Entry) → g.wants s (take n list ++ x ∷ [])) → Put g list s t (Err (record { taken = n; fault = Memory }))
   stops_behind s t list n less clear works took wants = (
@@ -148,7 +148,7 @@ module _ {S : Type 0} (g : SinkShows S) where
       by [] is = absurd (omega (arith, size, ap length is, length-append (take n list) []))
       by (x ∷ rest) is = record { front = take n list; next = x; rest = rest; parts = is; count = size; taken = took; wants = wants x }
 
-  -- a sink that works took the first entries of a list, so many of them
+  -- the first entries of a list were taken, by a sink whose device hasn't failed
   pub some_taken : (s t : S) (list : List Entry) (n : ℕ) (r : Result (Unit {0}) BatchFault) → UnlessAll n (length list) r → g.failed s ≡ false → g.failed t ≡ false →
       g.took s (take n list) t → g.state t ≡ walk (g.state s) (take n list) → (n < length list → (x : Entry) → g.wants s (take n list ++ x ∷ [])) → Put g list s t r
   some_taken s t list n (Ok x) most clear works took state wants =
@@ -162,7 +162,7 @@ module _ {S : Type 0} (g : SinkShows S) where
   some_taken s t list n (Err stop) ends clear works took state wants =
       subst (λ (stop : BatchFault). Put g list s t (Err stop)) (sym ends.0) (stops_behind s t list n ends.1 clear works took (wants ends.1))
 
-  -- behind the first entries of a list, so many of them, the next one wasn't taken
+  -- after the first entries of a list, the next one wasn't taken
   pub next_stops : (s t : S) (whole : List Entry) (n : ℕ) → n < length whole → Putting g s t whole (drop n whole) → g.took t [] t → TookMore g → TookBroke g → WantsMore g →
       (u : S) (x : Entry) (rest : List Entry) (e : SinkFault) → drop n whole ≡ x ∷ rest → NotTaken g t u x e → Put g whole s u (Err (record { taken = n; fault = e }))
   next_stops s t whole n less putting none more law wants u x rest e is put =
@@ -173,13 +173,13 @@ module _ {S : Type 0} (g : SinkShows S) where
       count : length putting.done + 0 ≡ n
       count = omega (arith, less, ap length putting.parts, length-append putting.done (drop n whole), length-drop n whole)
 
-  -- one entry more was put
+  -- one more entry was put
   pub one_goes : (s t : S) (whole list : List Entry) → Putting g s t whole list → TookMore g → (u : S) (x : Entry) (rest : List Entry) → list ≡ x ∷ rest →
       g.took t (x ∷ []) u → g.state u ≡ after (g.state t) x → (g.failed u ≡ true → IsErrOf {T = Unit {0}} (Ok tt) Write) →
       (g.failed t ≡ true → IsErrOf {T = Unit {0}} (Ok tt) Write) → Putting g s u whole rest
   one_goes s t whole list putting more u x rest is took state only refuses = put_goes s t whole list putting more u (x ∷ []) rest is (takes_one t u x took state only refuses)
 
-  -- one entry more wasn't taken
+  -- one more entry wasn't taken
   pub one_stops : (A : Type 0) (s t : S) (whole list : List Entry) → Putting g s t whole list → g.took t [] t → TookMore g → TookBroke g → WantsMore g →
       (u : S) (x : Entry) (rest : List Entry) (e : SinkFault) → list ≡ x ∷ rest → NotTaken g t u x e → PutSome {A = A} g whole s u (Err e)
   one_stops A s t whole list putting none more law wants u x rest e is put =
@@ -187,7 +187,7 @@ module _ {S : Type 0} (g : SinkShows S) where
       let halts = put_halts s t whole list putting more law wants u 0 e first in
       some_put A s u whole (length putting.done + 0) e halts
 
-  -- what an error says that doesn't tell how many were taken
+  -- an error without the number of entries taken
 
   pub some_stops : (A : Type 0) (s t : S) (list : List Entry) → PutSome {A = A} g list s t (Err Memory) → Stops g.took s list t
   some_stops A s t list put = let stops = put.1 in (stops.front, stops.next, stops.rest, stops.parts, stops.taken)
@@ -209,7 +209,7 @@ module _ {S : Type 0} (g : SinkShows S) where
   unfolding AllFit
   one_fits s t whole list rest x putting is fit = (subst (AllFit (g.state t)) is (rest_fits s t whole list putting fit)).0
 
-  -- an entry was put alone
+  -- one entry was put alone
   pub one_put : (s t : S) (x : Entry) (r : Result (Unit {0}) SinkFault) → g.took s [] s → OnOk r (g.took s (x ∷ []) t) → OnOk r (g.state t ≡ after (g.state s) x) →
       (IsErrOf r Memory → t ≡ s) → (IsErrOf r Memory → g.wants s (x ∷ [])) → (g.failed s ≡ true → IsErrOf r Write) → (IsErrOf r Write → g.failed t ≡ true) →
       (g.failed t ≡ true → IsErrOf r Write) → (IsErrOf r Write → g.failed s ≡ false → g.broke s [] x t) → (IsErrOf r Write → g.failed s ≡ true → t ≡ s) → PutSome g (x ∷ []) s t r
@@ -218,7 +218,7 @@ module _ {S : Type 0} (g : SinkShows S) where
       let put : NotTaken g s t x e = record { memory = memory; wants = wants; refuses = refuses; write = write; only_write = only; broke = broke; still = still } in
       some_put (Unit {0}) s t (x ∷ []) 0 e (stops_at_first s t x [] e none put)
 
-  -- memory was wanted for one entry, in a sink that works
+  -- memory ran out for one entry, with a sink whose device hasn't failed
   pub wanting_put : (s : S) (x : Entry) (r : Result (Unit {0}) SinkFault) → IsErrAnd r (λ fault. fault ≡ Memory) → g.took s [] s → g.failed s ≡ false → g.wants s (x ∷ []) →
       PutSome g (x ∷ []) s s r
   wanting_put s x (Ok _) is none works wants = absurd is
@@ -234,7 +234,7 @@ module _ {S : Type 0} (g : SinkShows S) where
       } in
       subst (λ (fault : SinkFault). PutSome {A = Unit {0}} g (x ∷ []) s s (Err fault)) (sym is) (some_put (Unit {0}) s s (x ∷ []) 0 Memory (stops_at_first s s x [] Memory none not))
 
-  -- a list was put behind what was put
+  -- a list was put after what was put
   pub rest_put : (A : Type 0) (s t : S) (whole list : List Entry) → Putting g s t whole list → TookMore g → TookBroke g → WantsMore g → (u : S) (r : Result A SinkFault) →
       PutSome g list t u r → PutSome g whole s u r
   rest_put A s t whole list putting more law wants u (Ok _) put = put_ends s u whole [] (put_goes s t whole list putting more u list [] (sym (append-nil list)) put) refl

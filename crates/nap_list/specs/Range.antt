@@ -23,18 +23,18 @@ use Rattle.nap_list.specs.declared.entry.Entry.TheVariants as entries
 use Rattle.nap_list.specs.declared.state.Drawing.{Drawing}
 use Rattle.nap_list.specs.declared.state.Definition.{Definition}
 use Rattle.nap_list.specs.declared.state.Definition.TheVariants as definitions
-use Rattle.nap_list.specs.declared.state.Opened.{Opened}
+use Rattle.nap_list.specs.declared.state.OpenDefinition.{OpenDefinition}
 use Rattle.nap_list.specs.declared.state.State.{State}
 use Rattle.nap_list.specs.declared.known.MapColour.{MapColour}
 
--- The parts of entries and of states are values of their types. So it is of all that a program has, which the types of the
--- definitions don't tell: they hold any number.
+-- The parts of entries and states are in the ranges of their types. This holds for all values of the program; the types
+-- of the definitions hold any numbers and don't say so.
 
--- a number of an entry of the colour map
+-- an address of the colour map
 abbrev pub IsAddress : ℕ → Type 0
 IsAddress number = number < 16777216
 
--- a number of a byte
+-- a byte
 abbrev pub IsByte : ℕ → Type 0
 IsByte number = number < 256
 
@@ -83,7 +83,7 @@ abbrev pub StepInRange : TextStep → Type 0
 StepInRange (steps.Aps a b) = IsByte a × IsByte b
 StepInRange _ = ⊤
 
--- The parts of an entry are values of their types.
+-- The parts of an entry are in the ranges of their types.
 abbrev pub InRange : Entry → Type 0
 InRange (entries.Point at pel colour) = IsInSquare at × IsInRange pel × ColourInRange colour
 InRange (entries.Line from to ink) = IsInSquare from × IsInSquare to × InkInRange ink
@@ -104,11 +104,11 @@ InRange (entries.Clear pen) = PenInRange pen
 InRange (entries.GlyphStart code) = IsByte code
 InRange _ = ⊤
 
--- The parts of each entry are values of their types.
+-- The parts of each entry are in the ranges of their types.
 abbrev pub AllInRange : List Entry → Type 0
 AllInRange es = All InRange es
 
--- The parts of the values that stand are values of their types.
+-- The current attributes are in the ranges of their types.
 pub record DrawingInRange (d : Drawing) : Type 0 where
   pub pen : PenInRange d.pen
   pub pel : IsInRange d.pel
@@ -121,15 +121,15 @@ abbrev pub DefinitionInRange : Definition → Type 0
 DefinitionInRange (definitions.Glyph code) = IsByte code
 DefinitionInRange _ = ⊤
 
-pub record OpenedInRange (opened : Opened) : Type 0 where
+pub record OpenedInRange (opened : OpenDefinition) : Type 0 where
   pub what : DefinitionInRange opened.what
   pub saved : DrawingInRange opened.saved
 
--- The parts of a colour of the map are values of their types.
+-- An address and a colour of the colour map are in the ranges of their types.
 abbrev pub MapColourInRange : MapColour → Type 0
 MapColourInRange known = IsAddress known.addr × HasSixteenBitParts known.grb
 
--- The parts of a state are values of their types.
+-- The parts of a state are in the ranges of their types.
 pub record StateInRange (s : State) : Type 0 where
   pub drawing : DrawingInRange s.drawing
   pub definition : IfSome s.definition OpenedInRange

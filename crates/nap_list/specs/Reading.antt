@@ -3,8 +3,8 @@ use Rattle.std.specs.Io.KnownBytes.{IsAtEnd}
 use Rattle.nap_list.specs.declared.device.inlet.Inlet as inlet
 use Rattle.nap_list.specs.Limits.{reads_limit}
 
--- What an input shows of having been read for a while: the bytes left, whether it failed before and by now, and how
--- often it was read since.
+-- What an input shows about a series of reads: the bytes left, whether it had failed before and has failed now, and the
+-- number of reads.
 pub record Reading : Type 0 where
   pub left : Option (List ℕ)
   pub failed_before : Bool
@@ -19,27 +19,28 @@ reading i before after = record {
   reads = i.calls after - i.calls before;
 }
 
--- no read failed: the flag of the input is what it was
+-- no read failed in the series
 abbrev pub NoneFailed : Reading → Type 0
 NoneFailed r = r.failed ≡ r.failed_before
 
--- a read failed, and there were no more reads than bytes of p and one
+-- a read failed, and there was at most one read more than bytes of p
 pub record ReadFailed (r : Reading) (p : List ℕ) : Type 0 where
   pub failed : r.failed ≡ true
   pub some : 0 < r.reads
   pub gave : r.reads ≤ length p + 1
 
--- the input was read as often as it may be, no read failed, and p has as many bytes or more
+-- the input was read as often as allowed, no read failed, and p has at least as many bytes
 pub record ReadTooOften (r : Reading) (p : List ℕ) : Type 0 where
   pub none_failed : NoneFailed r
   pub often : r.reads ≡ reads_limit
   pub gave : reads_limit ≤ length p
 
--- reading came to an end before the input did
+-- the series ended before the input did
 abbrev pub IsCutOff : Reading → List ℕ → Type 0
 IsCutOff r p = ReadFailed r p ⊎ ReadTooOften r p
 
--- The bytes p were read, which was all; no read failed, and there were no more reads than bytes and one.
+-- The series read the bytes p, which is all of the input; no read failed, and there was at most one read more than
+-- bytes.
 pub record IsReadWhole (r : Reading) (p : List ℕ) : Type 0 where
   pub none_failed : NoneFailed r
   pub end : IsAtEnd r.left

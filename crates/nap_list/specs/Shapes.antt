@@ -9,36 +9,36 @@ use Rattle.nap_list.specs.declared.shape.ShapeKind.TheVariants as kinds
 use Rattle.nap_list.specs.declared.state.Drawing.{Drawing}
 use Rattle.nap_list.specs.State.{ink_of}
 
--- Arcs and polygons, and where they leave the pen.
+-- Arcs and polygons, and the pen after them.
 
--- a way of one step, there and back: a circle
-abbrev pub round : List Coordinates → List Coordinates
-round (p ∷ q ∷ []) = p ∷ q ∷ p ∷ []
-round points = points
+-- the points of an arc, closed to a circle if there are only two
+abbrev pub circle_closed : List Coordinates → List Coordinates
+circle_closed (p ∷ q ∷ []) = p ∷ q ∷ p ∷ []
+circle_closed points = points
 
--- the points of an arc or a polygon that goes through these
+-- the points of an arc or polygon through these points
 abbrev pub outline : ShapeKind → List Coordinates → List Coordinates
-outline kinds.Arc points = round points
+outline kinds.Arc points = circle_closed points
 outline kinds.Poly points = points
 
--- an arc or a polygon of these points
+-- an arc or polygon through these points, with these attributes
 abbrev pub shape_entry : ShapeKind → Bool → List Coordinates → Ink → Entry
 shape_entry kinds.Arc filled points ink = entries.Arc filled points ink
 shape_entry kinds.Poly filled points ink = entries.Poly filled points ink
 
--- the same with the values that stand
+-- an arc or polygon through these points, with the current attributes
 abbrev pub shape_on : ShapeKind → Bool → Drawing → List Coordinates → Entry
 shape_on kind filled d points = shape_entry kind filled points (ink_of d)
 
--- where the pen is once an arc or a polygon of these points is drawn, the first of which is this one
+-- the pen after an arc or polygon through these points, of which this is the first
 abbrev pub shape_end : ShapeKind → Coordinates → List Coordinates → Coordinates
 shape_end kinds.Arc p points = unwrap_or (slice_get points (length points - 1)) p
 shape_end kinds.Poly p points = p
 
--- the points of a shape, from its first on
+-- the points of a shape, its start included
 abbrev pub shape_points : Shape → List Coordinates
 shape_points shape = outline shape.kind (shape.from ∷ shape.others.now)
 
 -- the entry of a shape
-abbrev pub drawn_shape : Shape → Entry
-drawn_shape shape = shape_on shape.kind shape.filled shape.drawing.now (shape_points shape)
+abbrev pub entry_of_shape : Shape → Entry
+entry_of_shape shape = shape_on shape.kind shape.filled shape.drawing.now (shape_points shape)

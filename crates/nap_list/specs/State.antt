@@ -12,21 +12,21 @@ use Rattle.nap_list.specs.declared.attribute.Colour.TheVariants as colours
 use Rattle.nap_list.specs.declared.attribute.CharSize.TheVariants as sizes
 use Rattle.nap_list.specs.declared.attribute.Texture.{Texture}
 use Rattle.nap_list.specs.declared.attribute.TextLook.{TextLook}
-use Rattle.nap_list.specs.declared.attribute.Held.{Held}
+use Rattle.nap_list.specs.declared.attribute.Attributes.{Attributes}
 use Rattle.nap_list.specs.declared.attribute.Ink.{Ink}
 use Rattle.nap_list.specs.declared.attribute.Hand.{Hand}
 use Rattle.nap_list.specs.declared.entry.Entry.{Entry}
 use Rattle.nap_list.specs.declared.entry.Entry.TheVariants as entries
 use Rattle.nap_list.specs.declared.state.Drawing.{Drawing}
 use Rattle.nap_list.specs.declared.state.Definition.TheVariants as definitions
-use Rattle.nap_list.specs.declared.state.Opened.{Opened}
+use Rattle.nap_list.specs.declared.state.OpenDefinition.{OpenDefinition}
 use Rattle.nap_list.specs.declared.state.LastChar.{LastChar}
 use Rattle.nap_list.specs.declared.state.State.{State}
 use Rattle.nap_list.specs.declared.known.MapColour.{MapColour}
-use Rattle.nap_list.specs.Entry.{held, WellMade}
-use Rattle.nap_list.specs.Known.{colour_code, is_known, setting, reset_known}
+use Rattle.nap_list.specs.Entry.{attributes, WellMade}
+use Rattle.nap_list.specs.Known.{colour_code, is_known, with_known_colour, known_after_reset}
 
--- the values before any entry
+-- the attributes at the start (PROFILE.md, The drawing state)
 
 abbrev pub start_texture : Texture
 start_texture = record { word = 0; mask = None }
@@ -44,83 +44,83 @@ start_drawing = record {
   text = start_text;
 }
 
--- what lines and areas are drawn with
+-- the current attributes for lines and areas
 abbrev pub ink_of : Drawing → Ink
 ink_of d = record { pel = d.pel; colour = d.colour; texture = d.texture }
 
--- what text is drawn with
+-- the current attributes for text
 abbrev pub hand_of : Drawing → Hand
 hand_of d = record { pen = d.pen; colour = d.colour; text = d.text }
 
--- the state before any entry
+-- the state of the empty list
 abbrev pub start : State
 start = record { drawing = start_drawing; definition = None; last = None; known = [] }
 
--- a held pen fits: one that is no point has to stand already
+-- the pen of an entry fits: one that isn't a point has to be current
 abbrev pub PenFits : Pen → Option Pen → Type 0
 PenFits pen (Some pens.Start) = pen ≡ pens.Start
 PenFits pen (Some pens.After) = pen ≡ pens.After
 PenFits _ _ = ⊤
 
--- a held colour fits: an own colour has to be the base, and one by a reset has to stand already
+-- the colour of an entry fits: an own colour has to be the base, and one selected by a reset has to be current
 abbrev pub ColourFits : Drawing → Option Colour → Type 0
 ColourFits d (Some (colours.Own origin)) = d.base ≡ bases.Own origin
 ColourFits d (Some (colours.ByReset preset)) = d.colour ≡ colours.ByReset preset
 ColourFits _ _ = ⊤
 
--- a mask fits: having none has to stand already
+-- the mask of an entry fits: none has to be current
 abbrev pub MaskFits : Texture → Option Displacement → Type 0
 MaskFits t None = t.mask ≡ None
 MaskFits _ _ = ⊤
 
--- a held texture fits where its mask does
+-- the texture of an entry fits if its mask does
 abbrev pub TextureFits : Texture → Option Texture → Type 0
 TextureFits t (Some wanted) = MaskFits t wanted.mask
 TextureFits t None = ⊤
 
--- all the held values fit
-pub record HeldFits (d : Drawing) (h : Held) : Type 0 where
+-- all attributes of an entry fit
+pub record AttributesFit (d : Drawing) (h : Attributes) : Type 0 where
   pub pen : PenFits d.pen h.pen
   pub colour : ColourFits d h.colour
   pub texture : TextureFits d.texture h.texture
 
--- the entry comes where it may
-abbrev pub Comes : State → Entry → Type 0
-Comes s (entries.ToEol hand) = IsSome s.last
-Comes s (entries.GlyphStart code) = s.definition ≡ None
-Comes s (entries.MaskStart mask) = s.definition ≡ None
-Comes s entries.DefEnd = IsSome s.definition
-Comes s (entries.Map a grb) = is_known a grb s.known ≡ false
-Comes s _ = ⊤
+-- the entry is well made and comes where its kind may come
+abbrev pub MayCome : State → Entry → Type 0
+MayCome s (entries.ToEol hand) = IsSome s.last
+MayCome s (entries.GlyphStart code) = s.definition ≡ None
+MayCome s (entries.MaskStart mask) = s.definition ≡ None
+MayCome s entries.DefEnd = IsSome s.definition
+MayCome s (entries.Map a grb) = is_known a grb s.known ≡ false
+MayCome s _ = ⊤
 
 -- the entry may come next
 pub record Fits (s : State) (e : Entry) : Type 0 where
-  pub values : HeldFits s.drawing (held e)
+  pub values : AttributesFit s.drawing (attributes e)
   pub made : WellMade e
-  pub comes : Comes s e
+  pub comes : MayCome s e
 
--- a direct colour that is held becomes the base
-abbrev pub base_shown : Base → Option Colour → Base
-base_shown base (Some (colours.Direct grb)) = bases.Direct grb
-base_shown base _ = base
+-- the base after an entry: a direct colour replaces it
+abbrev pub base_after : Base → Option Colour → Base
+base_after base (Some (colours.Direct grb)) = bases.Direct grb
+base_after base _ = base
 
--- the held values become the standing ones
-abbrev pub taking : Drawing → Held → Drawing
-taking d h = record {
+-- the attributes after those of an entry were made current
+abbrev pub with_attributes : Drawing → Attributes → Drawing
+with_attributes d h = record {
   pen = unwrap_or h.pen d.pen;
   pel = unwrap_or h.pel d.pel;
-  base = base_shown d.base h.colour;
+  base = base_after d.base h.colour;
   colour = unwrap_or h.colour d.colour;
   texture = unwrap_or h.texture d.texture;
   text = unwrap_or h.text d.text;
 }
 
--- the effects that an entry can have on the values
+-- the effects of entries on the attributes
 
 abbrev pub with_pen : Pen → Drawing → Drawing
 with_pen pen d = record d { pen = pen }
 
--- the pen at a point, where there is one
+-- the pen at a point, if there is one
 abbrev pub with_pen_at : Option Coordinates → Drawing → Drawing
 with_pen_at None d = d
 with_pen_at (Some point) d = with_pen (pens.At point) d
@@ -128,11 +128,12 @@ with_pen_at (Some point) d = with_pen (pens.At point) d
 abbrev pub with_colour : Colour → Drawing → Drawing
 with_colour colour d = record d { colour = colour }
 
--- the corner straight across from the first
+-- the x of the second point and the y of the first: where a rectangle leaves the pen
 abbrev pub corner : Coordinates → Coordinates → Coordinates
 corner from to = record { x = to.x; y = from.y }
 
--- b1 of the first word puts the pel back, b2 and b3 choose the colours, b1 and b4 of the second put text look and texture back
+-- RESET: b1 of the first word resets the pel, b2 and b3 choose colours; b1 and b4 of the second reset text attributes
+-- and texture
 abbrev pub reset : ℕ → ℕ → Drawing → Drawing
 reset first second d = record {
   pen = pens.After;
@@ -146,58 +147,58 @@ reset first second d = record {
   text = if second % 2 == 1 then start_text else d.text;
 }
 
--- the values saved at the opening of a definition, where one is open
-abbrev pub saved_values : Option Opened → Drawing → Drawing
-saved_values None d = d
-saved_values (Some opened) d = opened.saved
+-- the attributes saved at the start of the open definition, if one is open
+abbrev pub restored_drawing : Option OpenDefinition → Drawing → Drawing
+restored_drawing None d = d
+restored_drawing (Some opened) d = opened.saved
 
--- the effect of each kind of entry on the values
-abbrev pub drawn : Option Opened → Drawing → Entry → Drawing
-drawn o d (entries.Point at pel colour) = with_pen (pens.At at) d
-drawn o d (entries.Line from to ink) = with_pen (pens.At to) d
-drawn o d (entries.Arc filled points ink) = with_pen_at (slice_get points (length points - 1)) d
-drawn o d (entries.Rect filled from to ink) = with_pen (pens.At (corner from to)) d
-drawn o d (entries.Poly filled points ink) = with_pen_at (slice_get points 0) d
-drawn o d (entries.Char set code hand) = with_pen pens.After d
-drawn o d (entries.TextMove step hand) = with_pen pens.After d
-drawn o d (entries.ToEol hand) = with_pen pens.After d
-drawn o d (entries.Clear pen) = with_pen pens.After d
-drawn o d (entries.Field area pen) = with_pen pens.After d
-drawn o d (entries.Reset first second pen) = reset first second d
-drawn o d (entries.Map addr grb) = with_colour (colours.Front addr) d
-drawn o d (entries.GlyphStart code) = with_pen pens.Start d
-drawn o d (entries.MaskStart mask) = with_pen pens.Start d
-drawn o d entries.DefEnd = saved_values o d
-drawn o d _ = d
+-- the effect of an entry on the attributes
+abbrev pub effect_on_drawing : Option OpenDefinition → Drawing → Entry → Drawing
+effect_on_drawing o d (entries.Point at pel colour) = with_pen (pens.At at) d
+effect_on_drawing o d (entries.Line from to ink) = with_pen (pens.At to) d
+effect_on_drawing o d (entries.Arc filled points ink) = with_pen_at (slice_get points (length points - 1)) d
+effect_on_drawing o d (entries.Rect filled from to ink) = with_pen (pens.At (corner from to)) d
+effect_on_drawing o d (entries.Poly filled points ink) = with_pen_at (slice_get points 0) d
+effect_on_drawing o d (entries.Char set code hand) = with_pen pens.After d
+effect_on_drawing o d (entries.TextMove step hand) = with_pen pens.After d
+effect_on_drawing o d (entries.ToEol hand) = with_pen pens.After d
+effect_on_drawing o d (entries.Clear pen) = with_pen pens.After d
+effect_on_drawing o d (entries.Field area pen) = with_pen pens.After d
+effect_on_drawing o d (entries.Reset first second pen) = reset first second d
+effect_on_drawing o d (entries.Map addr grb) = with_colour (colours.Front addr) d
+effect_on_drawing o d (entries.GlyphStart code) = with_pen pens.Start d
+effect_on_drawing o d (entries.MaskStart mask) = with_pen pens.Start d
+effect_on_drawing o d entries.DefEnd = restored_drawing o d
+effect_on_drawing o d _ = d
 
--- the definition that is open after an entry; a start saves the values
-abbrev pub definition_after : Option Opened → Drawing → Entry → Option Opened
+-- the open definition after an entry; its start saves the attributes
+abbrev pub definition_after : Option OpenDefinition → Drawing → Entry → Option OpenDefinition
 definition_after o d (entries.GlyphStart code) = Some (record { what = definitions.Glyph code; saved = d })
 definition_after o d (entries.MaskStart mask) = Some (record { what = definitions.Mask mask; saved = d })
 definition_after o d entries.DefEnd = None
 definition_after o d _ = o
 
--- the entry, where it is a character
+-- the entry, if it is a character
 abbrev pub last_after : Entry → Option LastChar
 last_after (entries.Char set code hand) = Some (record { set = set; code = code })
 last_after _ = None
 
--- the colours of the map that are known behind an entry: a new one is, and a reset that chooses colours leaves none
+-- the known colours after an entry: MAP adds one, and RESET clears them if it chooses colours
 abbrev pub known_after : List MapColour → Entry → List MapColour
-known_after known (entries.Map a grb) = setting a grb known
-known_after known (entries.Reset first second pen) = reset_known first known
+known_after known (entries.Map a grb) = with_known_colour a grb known
+known_after known (entries.Reset first second pen) = known_after_reset first known
 known_after known _ = known
 
--- the state that an entry leaves: it takes the held values, and then has its effect
+-- the state after an entry: its attributes become current, and then it has its effect
 abbrev pub after : State → Entry → State
 after s e = record {
-  drawing = drawn s.definition (taking s.drawing (held e)) e;
-  definition = definition_after s.definition (taking s.drawing (held e)) e;
+  drawing = effect_on_drawing s.definition (with_attributes s.drawing (attributes e)) e;
+  definition = definition_after s.definition (with_attributes s.drawing (attributes e)) e;
   last = last_after e;
   known = known_after s.known e;
 }
 
--- the state that a list of entries leaves
+-- the state after a list of entries
 unfoldable pub walk : State → List Entry → State
 walk s [] = s
 walk s (e ∷ es) = walk (after s e) es
@@ -222,12 +223,12 @@ pub record Misfit (index : ℕ) (es : List Entry) : Type 0 where
   pub before : AllFit start front
   pub misfit : Fits (walk start front) entry → ⊥
 
--- each entry fits, and a definition is left open behind the last
+-- each entry fits, and a definition is left open at the end
 pub record LeftOpen (index : ℕ) (es : List Entry) : Type 0 where
   pub place : length es ≡ index
   pub fit : AllFit start es
   pub opened : IsSome (walk start es).definition
 
--- where a list that isn't legal goes wrong
-abbrev pub BreaksAt : ℕ → List Entry → Type 0
-BreaksAt index es = Misfit index es ⊎ LeftOpen index es
+-- the index where a list is illegal: of the first entry that doesn't fit, or the length
+abbrev pub IsIllegalAt : ℕ → List Entry → Type 0
+IsIllegalAt index es = Misfit index es ⊎ LeftOpen index es

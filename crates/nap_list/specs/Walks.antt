@@ -6,7 +6,7 @@ use Rattle.nap_list.specs.Laws.{WalksJoin, FitsJoin}
 
 -- How walks and fitting lists join.
 
--- a walk goes on from where the list before it leads
+-- the walk of two lists joined is the walk of the second from where the first ends
 pub walk-append : (s : State) (xs ys : List Entry) → walk s (xs ++ ys) ≡ walk (walk s xs) ys
 unfolding walk
 walk-append s [] ys = refl
@@ -16,7 +16,7 @@ pub walk_more : (s : State) (xs : List Entry) (x : Entry) → walk s (xs ++ x �
 unfolding walk
 walk_more s xs x = walk-append s xs (x ∷ [])
 
--- lists fit one after the other exactly where they fit joined
+-- two lists fit one after the other exactly if they fit joined
 
 pub fit-append : (s : State) (xs ys : List Entry) → AllFit s xs → AllFit (walk s xs) ys → AllFit s (xs ++ ys)
 unfolding walk AllFit

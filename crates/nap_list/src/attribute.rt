@@ -1,87 +1,89 @@
-//! What entries are drawn with.
+//! The attributes that entries are drawn with (PROFILE.md, The drawing state).
 use nap_codes::Size;
 use nap_values::{Addr, Grb, Move, Point, Word};
 
-/// Where drawing goes on from.
+/// The drawing point (pen): where the next shape may start (PROFILE.md, The drawing state).
 #[derive(Clone, Copy, PartialEq, Eq, Debug, Drop)]
 pub enum Pen {
-    /// Nothing has moved it yet, in the stream or in the definition that is open.
+    /// At the origin: nothing has set it yet, in the stream or in the open definition.
     Start,
     /// At this point.
     At(Point),
-    /// Where text, a field, a clearing or a reset left it, which only a terminal knows.
+    /// At a position that only a terminal knows: text, RESET, CS or FIELD came last.
     After,
 }
 
-/// Since when a terminal's own colour stands.
+/// When the terminal's own colour was last selected by the terminal.
 #[derive(Clone, Copy, PartialEq, Eq, Debug, Drop)]
 pub enum Origin {
-    /// Since the start: no reset has chosen a colour of its own.
+    /// At the start: no reset has selected it.
     AtStart,
-    /// Since a reset, which chose it.
+    /// At a reset, which selected it.
     AfterReset,
 }
 
-/// The colour of mode 0 (SELECT COLOR).
+/// The colour of colour mode 0, which stays while another mode is in use (PROFILE.md, Colours).
 #[derive(Clone, Copy, PartialEq, Eq, Debug, Drop)]
 pub enum Base {
-    /// The terminal's own.
+    /// The terminal's own colour.
     Own(Origin),
-    /// By its parts.
+    /// A colour by its components (SET COLOR).
     Direct(Grb),
 }
 
-/// A choice of colour that a reset makes, by its code.
+/// A colour that RESET selects by its colour code (PROFILE.md, RESET).
 #[derive(Clone, Copy, PartialEq, Eq, Debug, Drop)]
 pub enum Preset {
-    /// By the code 2.
+    /// Colour code 2.
     Two,
-    /// By the code 3.
+    /// Colour code 3.
     Three,
 }
 
-/// The colour that an entry is drawn in. `Own` and `Direct` are of mode 0, `Front` of mode 1 and `Pair`, the front before
-/// the back, of mode 2 (SELECT COLOR).
+/// The colour in use (PROFILE.md, Colours). `Own` and `Direct` belong to colour mode 0, `Front` to mode 1, and `Pair`,
+/// foreground before background, to mode 2.
 #[derive(Clone, Copy, PartialEq, Eq, Debug, Drop)]
 pub enum Colour {
-    /// The terminal's own.
+    /// The terminal's own colour.
     Own(Origin),
-    /// By its parts.
+    /// A colour by its components (SET COLOR).
     Direct(Grb),
-    /// At an address of the colour map.
+    /// The foreground at this address of the colour map.
     Front(Addr),
-    /// At two addresses of the colour map.
+    /// The foreground and the background at these addresses of the colour map.
     Pair(Addr, Addr),
-    /// The one that a reset chose.
+    /// A colour that a reset selected.
     ByReset(Preset),
 }
 
-/// How lines and areas are filled in (TEXTURE): its word, and the mask's size where one was given.
+/// The texture of lines and areas: the word of TEXTURE, and the size of the mask if one was given (PROFILE.md, The
+/// drawing state).
 #[derive(Clone, Copy, PartialEq, Eq, Debug, Drop)]
 pub struct Texture {
     /// The word of TEXTURE.
     pub word: Word,
-    /// The mask's size, `None` where none was given.
+    /// The size of the mask, or `None` if none was given.
     pub mask: Option<Move>,
 }
 
-/// The size of a character: one with a name of its own, or one that TEXT gave.
+/// The size of a character: one of the named sizes, or one that TEXT gave.
 #[derive(Clone, Copy, PartialEq, Eq, Debug, Drop)]
 pub enum CharSize {
-    /// By its name.
+    /// A named size.
     Named(Size),
-    /// By its width and height.
+    /// A width and height.
     Given(Move),
 }
 
-/// How characters look: the two words and the size of TEXT, and the modes of the C1 set that are on.
+/// The text attributes: the two words and the size of TEXT, and the four modes of the C1 set (PROFILE.md, The drawing
+/// state).
 #[derive(Clone, Copy, PartialEq, Eq, Debug, Drop)]
 pub struct TextLook {
     /// The first word of TEXT.
     pub first: Word,
     /// The second word of TEXT.
     pub second: Word,
-    /// How large a character is.
+    /// The size of a character.
     pub size: CharSize,
     /// Whether REVERSE VIDEO is on.
     pub reverse: bool,
@@ -93,53 +95,53 @@ pub struct TextLook {
     pub scroll: bool,
 }
 
-/// What lines and areas are drawn with.
+/// The attributes that lines and areas are drawn with.
 #[derive(Clone, Copy, PartialEq, Eq, Debug, Drop)]
 pub struct Ink {
-    /// The size of the drawing point.
+    /// The size of the logical pel.
     pub pel: Move,
     /// The colour.
     pub colour: Colour,
-    /// How it is filled in.
+    /// The texture.
     pub texture: Texture,
 }
 
-/// What characters are drawn with.
+/// The attributes that characters are drawn with.
 #[derive(Clone, Copy, PartialEq, Eq, Debug, Drop)]
 pub struct Hand {
-    /// Where the text goes on from.
+    /// The drawing point (pen) before the text.
     pub pen: Pen,
     /// The colour.
     pub colour: Colour,
-    /// How the characters look.
+    /// The text attributes.
     pub text: TextLook,
 }
 
-/// The whole unit square, or the part of it between two opposite corners (FIELD).
+/// The active field: the whole unit screen, or a part of it between two opposite corners (FIELD).
 #[derive(Clone, Copy, PartialEq, Eq, Debug, Drop)]
 pub enum Area {
-    /// The whole square.
+    /// The whole unit screen.
     Whole,
     /// A part of it.
     Part {
         /// One corner.
         from: Point,
-        /// The corner opposite to it.
+        /// The opposite corner.
         to: Point,
     },
 }
 
-/// The values that an entry holds, `None` for those that it doesn't depend on.
+/// The attributes that an entry depends on, with `None` for each of the others (PROFILE.md, The display list).
 #[derive(Clone, Copy, PartialEq, Eq, Debug, Drop)]
-pub struct Held {
-    /// The pen that stood before it.
+pub struct Attributes {
+    /// The drawing point (pen) before the entry.
     pub pen: Option<Pen>,
-    /// The size of the drawing point.
+    /// The size of the logical pel.
     pub pel: Option<Move>,
     /// The colour.
     pub colour: Option<Colour>,
-    /// How lines and areas are filled in.
+    /// The texture.
     pub texture: Option<Texture>,
-    /// How characters look.
+    /// The text attributes.
     pub text: Option<TextLook>,
 }

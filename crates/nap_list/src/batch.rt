@@ -1,9 +1,9 @@
-//! Entries that a sink takes together.
+//! Batches: entries that a sink takes together.
 #![tactic(auto, using(crate::specs::BatchLaws::lines_count, crate::specs::BatchLaws::text_count), unfolding(crate::specs::State::walk))]
 
 ghost use Rattle.std.specs.Prelude.{◌≡◌, ◌↔◌, ◌<◌, ◌≤◌, ◌+◌, List, [], ◌∷◌, IsTrue, length, take, drop};
 ghost use Rattle.nap_list.specs.declared.entry.Entry.{Entry};
-ghost use Rattle.nap_list.specs.Batches.{EachStands, FirstStands, last_of, last_typed, listed, marked, typed};
+ghost use Rattle.nap_list.specs.Batches.{EachIsCurrent, FirstIsCurrent, last_point, last_char_of_text, batch_entries, with_pen_and_last, text_entry};
 ghost use Rattle.nap_list.specs.State.{walk};
 
 use crate::attribute::{Hand, Pen};
@@ -12,22 +12,22 @@ use crate::state::{Drawing, LastChar, State};
 use nap_codes::{CharSet, format_effector};
 use nap_values::Point;
 
-/// Entries of one kind, one behind another, that are drawn with the same values.
+/// Consecutive entries of one kind, drawn with the same attributes.
 #[derive(Clone, Copy, Drop)]
 pub enum Batch<'a> {
-    /// A point at each of the points.
+    /// A point at each of these points.
     Points {
         points: &'a [Point],
         drawing: &'a Drawing,
     },
-    /// Lines: from this point to the first, and on from each to the next.
+    /// Lines from `from` to the first point, and from each point to the next.
     Lines {
         from: Point,
         points: &'a [Point],
         drawing: &'a Drawing,
     },
-    /// The characters of a text, and the format effectors of one byte among them: the first at this pen, each further one
-    /// with the pen as text leaves it.
+    /// The characters of a text, and format effectors of one byte among them. The first is at this pen; each further
+    /// one is at the pen that the one before it leaves.
     Text {
         set: CharSet,
         codes: &'a [u8],
@@ -37,34 +37,34 @@ pub enum Batch<'a> {
 }
 
 impl Drawing {
-    /// Whether each value stands already that the first entry of a batch holds.
+    /// Whether the attributes of a batch's first entry are already current.
     #[inline(always)]
-    pub fn stands_first(&self, batch: &Batch) -> bool
-        ensures { IsTrue result ↔ FirstStands batch.now self.now }
+    pub fn first_is_current(&self, batch: &Batch) -> bool
+        ensures { IsTrue result ↔ FirstIsCurrent batch.now self.now }
     {
         match batch {
             Batch::Points { drawing, .. } => {
-                self.pel == drawing.pel && self.colour_stands(drawing.colour)
+                self.pel == drawing.pel && self.is_current_colour(drawing.colour)
             }
             Batch::Lines { drawing, .. } => {
                 self.pel == drawing.pel
                     && self.texture == drawing.texture
-                    && self.colour_stands(drawing.colour)
+                    && self.is_current_colour(drawing.colour)
             }
             Batch::Text { pen, drawing, .. } => {
                 self.pen == *pen
-                    && self.text.stands(&drawing.text)
-                    && self.colour_stands(drawing.colour)
+                    && self.text.is_look(&drawing.text)
+                    && self.is_current_colour(drawing.colour)
             }
         }
     }
 }
 
 impl<'a> Batch<'a> {
-    /// How many entries these are.
+    /// Returns the number of entries.
     #[inline(always)]
     pub fn len(&self) -> usize
-        ensures { result ≡ length (listed self.now) }
+        ensures { result ≡ length (batch_entries self.now) }
     {
         match self {
             Batch::Points { points, .. } => points.len(),
@@ -73,24 +73,24 @@ impl<'a> Batch<'a> {
         }
     }
 
-    /// Whether there are none.
+    /// Whether there are no entries.
     #[inline(always)]
     pub fn is_empty(&self) -> bool
-        ensures { IsTrue result ↔ (listed self.now ≡ []) }
+        ensures { IsTrue result ↔ (batch_entries self.now ≡ []) }
     {
         self.len() == 0
     }
 
-    /// The entry at an index.
+    /// Returns the entry at an index.
     #[inline(always)]
     #[tactic(auto, using(crate::specs::BatchLaws::lines_count, crate::specs::BatchLaws::text_count, crate::proofs::Batches::points_at, crate::proofs::Batches::lines_at))]
     pub fn entry(&self, index: usize) -> Entry
-        requires { index < length (listed self.now) }
-        ensures { drop index (listed self.now) ≡ result ∷ drop (index + 1) (listed self.now) }
+        requires { index < length (batch_entries self.now) }
+        ensures { drop index (batch_entries self.now) ≡ result ∷ drop (index + 1) (batch_entries self.now) }
     {
         match self {
             Batch::Points { points, drawing } => Entry::Point {
-                at: item(points, index),
+                at: item_at(points, index),
                 pel: drawing.pel,
                 colour: drawing.colour,
             },
@@ -99,8 +99,8 @@ impl<'a> Batch<'a> {
                 points,
                 drawing,
             } => Entry::Line {
-                from: start_at(*from, points, index),
-                to: item(points, index),
+                from: line_start(*from, points, index),
+                to: item_at(points, index),
                 ink: drawing.ink(),
             },
             Batch::Text {
@@ -115,16 +115,16 @@ impl<'a> Batch<'a> {
                     colour: drawing.colour,
                     text: drawing.text,
                 };
-                typed(*set, hand, item(codes, index))
+                text_entry(*set, hand, item_at(codes, index))
             }
         }
     }
 }
 
-/// What a byte of a text draws in a hand: the move that it is by itself, or else the character of the set.
+/// Returns the entry of a byte of a text: a move for a format effector, else a character of the set.
 #[inline(always)]
-fn typed(set: CharSet, hand: Hand, code: u8) -> Entry
-    ensures { result ≡ typed set hand code }
+fn text_entry(set: CharSet, hand: Hand, code: u8) -> Entry
+    ensures { result ≡ text_entry set hand code }
 {
     match format_effector(code) {
         Some(step) => Entry::TextMove { step, hand },
@@ -132,10 +132,10 @@ fn typed(set: CharSet, hand: Hand, code: u8) -> Entry
     }
 }
 
-/// The character that a byte of a text leaves as the last: none behind a move.
+/// Returns the character that a byte of a text leaves as the last one, or `None` for a format effector.
 #[inline(always)]
-pub fn last_typed(set: CharSet, code: u8) -> Option<LastChar>
-    ensures { result ≡ last_typed set code }
+pub fn last_char_of_text(set: CharSet, code: u8) -> Option<LastChar>
+    ensures { result ≡ last_char_of_text set code }
 {
     match format_effector(code) {
         Some(_) => None,
@@ -143,21 +143,21 @@ pub fn last_typed(set: CharSet, code: u8) -> Option<LastChar>
     }
 }
 
-/// The item at an index.
+/// Returns the item at an index.
 #[inline(always)]
-fn item<X: Copy>(items: &[X], index: usize) -> X
+fn item_at<X: Copy>(items: &[X], index: usize) -> X
     requires { index < length items.now }
     ensures { drop index items.now ≡ result ∷ drop (index + 1) items.now }
 {
     items[index]
 }
 
-/// Where the line at an index begins, of lines from this point to the first and on from each to the next.
+/// Returns the start of the line at an index, for lines from `from` to the first point and from each point to the next.
 #[inline(always)]
-#[tactic(auto, using(crate::proofs::Batches::last_of_front), unfolding(crate::specs::Batches::last_of))]
-pub fn start_at(from: Point, points: &[Point], index: usize) -> Point
+#[tactic(auto, using(crate::proofs::Batches::last_of_front), unfolding(crate::specs::Batches::last_point))]
+pub fn line_start(from: Point, points: &[Point], index: usize) -> Point
     requires { index ≤ length points.now }
-    ensures { result ≡ last_of from (take index points.now) }
+    ensures { result ≡ last_point from (take index points.now) }
 {
     if index == 0 {
         return from;
@@ -166,49 +166,49 @@ pub fn start_at(from: Point, points: &[Point], index: usize) -> Point
 }
 
 impl State {
-    /// Goes on to the pen and the last character that the entry of a batch at an index leaves.
+    /// Advances the pen and the last character past the entry of a batch at this index; all else stays.
     #[inline(always)]
-    fn mark(&mut self, batch: &Batch, index: usize)
-        requires { index < length (listed batch.now) }
-        ensures { (e : Entry) (es : List Entry) → drop index (listed batch.now) ≡ e ∷ es → self.new ≡ marked self.old e self.old.drawing }
+    fn step_pen(&mut self, batch: &Batch, index: usize)
+        requires { index < length (batch_entries batch.now) }
+        ensures { (e : Entry) (es : List Entry) → drop index (batch_entries batch.now) ≡ e ∷ es → self.new ≡ with_pen_and_last self.old e self.old.drawing }
     {
         match batch {
             Batch::Points { points, .. } | Batch::Lines { points, .. } => {
-                self.drawing.pen = Pen::At(item(points, index));
+                self.drawing.pen = Pen::At(item_at(points, index));
                 self.last = None;
             }
             Batch::Text { set, codes, .. } => {
-                let code = item(codes, index);
+                let code = item_at(codes, index);
                 self.drawing.pen = Pen::After;
-                self.last = last_typed(*set, code);
+                self.last = last_char_of_text(*set, code);
             }
         }
     }
 
-    /// Goes on to the state that the first entries of a batch leave, so many of them.
+    /// Advances past the first `count` entries of a batch.
     #[inline(always)]
-    pub fn step_front(&mut self, batch: &Batch, count: usize)
-        requires few { count ≤ length (listed batch.now) }
-        ensures { self.new ≡ walk self.old (take count (listed batch.now)) }
+    pub fn step_first(&mut self, batch: &Batch, count: usize)
+        requires few { count ≤ length (batch_entries batch.now) }
+        ensures { self.new ≡ walk self.old (take count (batch_entries batch.now)) }
     {
         if let Some(last) = count.checked_sub(1) {
-            self.drawing.show(&batch.entry(0));
-            self.mark(batch, last);
+            self.drawing.apply_attributes(&batch.entry(0));
+            self.step_pen(batch, last);
         }
     }
 
-    /// Goes on to the state that so many entries of a batch leave, from this one on, where the values of each stand.
+    /// Advances past `count` entries of a batch from `first`, whose attributes are already current.
     #[inline(always)]
-    pub fn pass_on(&mut self, batch: &Batch, first: usize, count: usize)
-        requires some { first ≤ length (listed batch.now) }
-        requires few { count + first ≤ length (listed batch.now) }
-        requires stand { EachStands self.old (drop first (listed batch.now)) }
-        ensures { self.new ≡ walk self.old (take count (drop first (listed batch.now))) }
+    pub fn step_from(&mut self, batch: &Batch, first: usize, count: usize)
+        requires some { first ≤ length (batch_entries batch.now) }
+        requires few { count + first ≤ length (batch_entries batch.now) }
+        requires stand { EachIsCurrent self.old (drop first (batch_entries batch.now)) }
+        ensures { self.new ≡ walk self.old (take count (drop first (batch_entries batch.now))) }
     {
         if let Some(further) = count.checked_sub(1) {
-            // (their number fits, so this does)
+            // The number of entries fits a `usize`, so the sum does.
             let _len = batch.len();
-            self.mark(batch, first + further);
+            self.step_pen(batch, first + further);
         }
     }
 }

@@ -1,7 +1,7 @@
-//! A sink that counts.
+//! A sink that counts entries.
 ghost use Rattle.std.specs.Prelude.{◌≡◌, ◌+◌, ◌-◌, ◌^◌, false};
 ghost use Rattle.nap_list.specs.State.{start};
-ghost use Rattle.nap_list.specs.Counting.{Counts, Uncounted, counts_more, counts_none, uncounted_more};
+ghost use Rattle.nap_list.specs.Counting.{CountsEntries, Uncounted, counts_more, counts_none, uncounted_more};
 
 use crate::batch::Batch;
 use crate::entry::Entry;
@@ -10,7 +10,7 @@ use crate::sink::{BatchFault, Sink, SinkFault};
 use crate::state::State;
 use std::alloc::Global;
 
-/// Counts the entries that it takes, and keeps none. There is no memory for a count that a `u64` can't hold.
+/// Counts the entries that it takes, and keeps none. Answers lack of memory if the count would exceed a `u64`.
 #[derive(Drop)]
 pub struct CountSink {
     count: u64,
@@ -18,7 +18,7 @@ pub struct CountSink {
 }
 
 impl CountSink {
-    /// A sink that has taken nothing.
+    /// Returns a sink that has taken no entry.
     pub fn new() -> CountSink
         ensures { result ≡ record { count = 0; state = start } }
     {
@@ -28,15 +28,15 @@ impl CountSink {
         }
     }
 
-    /// How many entries more the count can hold.
+    /// Returns the number of further entries that the count can hold.
     #[inline(always)]
-    fn left(&self) -> u64
+    fn space_left(&self) -> u64
         ensures { self.now.count + result ≡ 2 ^ 64 - 1 }
     {
         u64::MAX - self.count
     }
 
-    /// How many entries it took.
+    /// Returns the number of entries taken.
     pub fn count(&self) -> u64
         ensures { result ≡ self.now.count }
     {
@@ -51,7 +51,7 @@ impl Sink for CountSink {
 
     ghost failed = { λ s. false };
 
-    ghost took = { λ s d t. Counts s d t };
+    ghost took = { λ s d t. CountsEntries s d t };
 
     ghost broke = { λ s d e t. ⊥ };
 
@@ -67,10 +67,10 @@ impl Sink for CountSink {
 
     #[inline(always)]
     fn put_batch(&mut self, batch: &Batch) -> Result<(), BatchFault> {
-        let taken = (batch.len() as u64).min(self.left()) as usize;
+        let taken = (batch.len() as u64).min(self.space_left()) as usize;
         self.count += taken as u64;
-        self.state.step_front(batch, taken);
-        BatchFault::unless_all(taken, batch)
+        self.state.step_first(batch, taken);
+        BatchFault::error_unless_all(taken, batch)
     }
 
     #[inline(always)]

@@ -1,4 +1,4 @@
-//! Where bytes come from, and where they go.
+//! Devices: inlets and outlets.
 use thiserror::Error;
 
 mod inlet;
@@ -11,7 +11,7 @@ pub use outlet::Outlet;
 pub use source::Source;
 pub use target::Target;
 
-/// A device failed. Why is the device's own matter.
+/// A device failed. The reason isn't passed on.
 #[derive(Clone, Copy, PartialEq, Eq, Debug, Drop, Error)]
 #[error("the device failed")]
 pub struct DeviceFault;

@@ -1,151 +1,153 @@
-//! The entries of a display list.
+//! The entries of a display list (PROFILE.md, The display list).
 ghost use Rattle.std.specs.Prelude.{◌≡◌, ◌↔◌, IsTrue};
-ghost use Rattle.nap_list.specs.Entry.{IsCode, ink_values, hand_values, colour_alone, pen_alone, held, WellMade};
+ghost use Rattle.nap_list.specs.Entry.{IsCode, ink_attributes, hand_attributes, colour_only, pen_only, attributes, WellMade};
 
-use crate::attribute::{Area, Colour, Hand, Held, Ink, Pen};
+use crate::attribute::{Area, Attributes, Colour, Hand, Ink, Pen};
 use crate::points::{Points, SHAPE_POINTS};
 use nap_codes::{CharSet, CursorKind, Mask, TextStep};
 use nap_values::{Addr, Grb, Move, Point, Word};
 
-/// One act of drawing, with the values that it depends on and with absolute points.
+/// An entry of a display list: one act, with the attributes that it depends on and with absolute points (PROFILE.md,
+/// The display list).
 #[derive(PartialEq, Eq, Debug, Drop)]
 pub enum Entry {
-    /// A point, as large as the pel.
+    /// A point, as large as the logical pel.
     Point {
-        /// Where it is.
+        /// Its position.
         at: Point,
-        /// The size of the drawing point.
+        /// The size of the logical pel.
         pel: Move,
-        /// Its colour.
+        /// The colour.
         colour: Colour,
     },
     /// A straight line.
     Line {
-        /// Where it begins.
+        /// The start.
         from: Point,
-        /// Where it ends, and the pen with it.
+        /// The end, where the pen is afterwards.
         to: Point,
-        /// What it is drawn with.
+        /// The attributes that it is drawn with.
         ink: Ink,
     },
-    /// An arc through its points in turn, with 3 to `SHAPE_POINTS` of them.
+    /// An arc through 3 to `SHAPE_POINTS` points.
     Arc {
-        /// Whether its inside is filled, too.
+        /// Whether it is filled.
         filled: bool,
-        /// The start, what it goes through, and the end.
+        /// The start, the points between, and the end.
         points: Points,
-        /// What it is drawn with.
+        /// The attributes that it is drawn with.
         ink: Ink,
     },
-    /// A rectangle by two opposite corners.
+    /// A rectangle, given by two opposite corners.
     Rect {
-        /// Whether its inside is filled, too.
+        /// Whether it is filled.
         filled: bool,
-        /// The corner that it begins at.
+        /// The first corner.
         from: Point,
-        /// The corner opposite to it.
+        /// The opposite corner.
         to: Point,
-        /// What it is drawn with.
+        /// The attributes that it is drawn with.
         ink: Ink,
     },
-    /// A polygon that closes itself, with 2 to `SHAPE_POINTS` points.
+    /// A closed polygon of 2 to `SHAPE_POINTS` points.
     Poly {
-        /// Whether its inside is filled, too.
+        /// Whether it is filled.
         filled: bool,
-        /// The start, and the further corners.
+        /// The start and the further corners.
         points: Points,
-        /// What it is drawn with.
+        /// The attributes that it is drawn with.
         ink: Ink,
     },
-    /// A character by its code in the set, from `20` to `7F`.
+    /// A character.
     Char {
-        /// The set that the code is of.
+        /// The character set.
         set: CharSet,
-        /// The byte of the character.
+        /// The byte of the character in the set, from `20` to `7F`.
         code: u8,
-        /// What it is drawn with.
+        /// The attributes that it is drawn with.
         hand: Hand,
     },
-    /// A move of the active position of text (format effectors). Only a terminal knows where the pen is then.
+    /// A format effector, which moves the active position of text. Afterwards the pen is at a position that only a
+    /// terminal knows.
     TextMove {
-        /// Which move it is.
+        /// The format effector.
         step: TextStep,
-        /// What characters are drawn with there.
+        /// The attributes of text there.
         hand: Hand,
     },
-    /// The character before it, repeated to the end of the line (REPEAT TO EOL).
+    /// REPEAT TO EOL: the last character, repeated to the end of the line.
     ToEol {
-        /// What the characters are drawn with.
+        /// The attributes that the characters are drawn with.
         hand: Hand,
     },
-    /// A new colour at an address of the colour map (SET COLOR).
+    /// SET COLOR in colour mode 1 or 2: a new colour at an address of the colour map.
     Map {
         /// The address.
         addr: Addr,
-        /// The colour that stands there from here on.
+        /// The new colour.
         grb: Grb,
     },
-    /// A blink process from the colour to the one at the address, with its times in tenths of a second.
+    /// BLINK: a blink process from the colour in use to the one at an address, with times in tenths of a second.
     Blink {
-        /// The address of the colour that it blinks to.
+        /// The address of the other colour.
         addr: Addr,
         /// The time on.
         on: Word,
         /// The time off.
         off: Word,
-        /// The delay before it.
+        /// The delay before it starts.
         delay: Word,
-        /// The colour that it blinks from.
+        /// The colour in use.
         colour: Colour,
     },
-    /// The end of blinking (BLINK without operands).
+    /// BLINK without operands: the end of all blink processes.
     BlinkEnd {
-        /// The colour that stands there.
+        /// The colour in use.
         colour: Colour,
     },
     /// BLINK START or BLINK STOP of the C1 set.
     BlinkMark {
         /// Whether it is BLINK START.
         on: bool,
-        /// The colour that stands there.
+        /// The colour in use.
         colour: Colour,
     },
-    /// A pause in tenths of a second.
+    /// WAIT: a pause, in tenths of a second.
     Wait(Word),
-    /// The bell.
+    /// BEL: the bell.
     Bell,
-    /// How the cursor shows from here on.
+    /// FLASH CURSOR, STEADY CURSOR or CURSOR OFF.
     Cursor(CursorKind),
-    /// The active field (FIELD). Only a terminal knows where the pen is then.
+    /// FIELD: the active field. Afterwards the pen is at a position that only a terminal knows.
     Field {
-        /// The part of the square that it is.
+        /// The field.
         area: Area,
-        /// The pen that stood before it.
+        /// The pen before it.
         pen: Pen,
     },
-    /// RESET with both of its words. Only a terminal knows where the pen is then.
+    /// RESET. Afterwards the pen is at a position that only a terminal knows.
     Reset {
         /// The first word.
         first: Word,
         /// The second word.
         second: Word,
-        /// The pen that stood before it.
+        /// The pen before it.
         pen: Pen,
     },
-    /// The screen is cleared (CS). Only a terminal knows where the pen is then.
+    /// CS: the screen is cleared. Afterwards the pen is at a position that only a terminal knows.
     Clear {
-        /// The pen that stood before it.
+        /// The pen before it.
         pen: Pen,
     },
-    /// The entries up to `DefEnd` draw the glyph of this code, from `20` to `7F` (DEF DRCS).
+    /// DEF DRCS: the entries up to `DefEnd` draw the glyph of this code, from `20` to `7F`.
     GlyphStart(u8),
-    /// The entries up to `DefEnd` draw this mask (DEF TEXTURE).
+    /// DEF TEXTURE: the entries up to `DefEnd` draw this mask.
     MaskStart(Mask),
-    /// The end of the definition that is open. The values saved at its start stand again.
+    /// The end of the open definition, which restores the attributes saved at its start.
     DefEnd,
 }
 
-const NOTHING: Held = Held {
+const NO_ATTRIBUTES: Attributes = Attributes {
     pen: None,
     pel: None,
     colour: None,
@@ -160,88 +162,88 @@ fn is_code(code: u8) -> bool
 }
 
 impl Ink {
-    fn held(self) -> Held
-        ensures { result ≡ ink_values self }
+    fn attributes(self) -> Attributes
+        ensures { result ≡ ink_attributes self }
     {
-        Held {
+        Attributes {
             pel: Some(self.pel),
             colour: Some(self.colour),
             texture: Some(self.texture),
-            ..NOTHING
+            ..NO_ATTRIBUTES
         }
     }
 }
 
 impl Hand {
-    fn held(self) -> Held
-        ensures { result ≡ hand_values self }
+    fn attributes(self) -> Attributes
+        ensures { result ≡ hand_attributes self }
     {
-        Held {
+        Attributes {
             pen: Some(self.pen),
             colour: Some(self.colour),
             text: Some(self.text),
-            ..NOTHING
+            ..NO_ATTRIBUTES
         }
     }
 }
 
 impl Colour {
-    fn held(self) -> Held
-        ensures { result ≡ colour_alone self }
+    fn attributes(self) -> Attributes
+        ensures { result ≡ colour_only self }
     {
-        Held {
+        Attributes {
             colour: Some(self),
-            ..NOTHING
+            ..NO_ATTRIBUTES
         }
     }
 }
 
 impl Pen {
-    fn held(self) -> Held
-        ensures { result ≡ pen_alone self }
+    fn attributes(self) -> Attributes
+        ensures { result ≡ pen_only self }
     {
-        Held {
+        Attributes {
             pen: Some(self),
-            ..NOTHING
+            ..NO_ATTRIBUTES
         }
     }
 }
 
 impl Entry {
-    /// The values that the entry holds.
-    pub fn held(&self) -> Held
-        ensures { result ≡ held self.now }
+    /// Returns the attributes that the entry holds.
+    pub fn attributes(&self) -> Attributes
+        ensures { result ≡ attributes self.now }
     {
         match self {
-            Entry::Point { pel, colour, .. } => Held {
+            Entry::Point { pel, colour, .. } => Attributes {
                 pel: Some(*pel),
                 colour: Some(*colour),
-                ..NOTHING
+                ..NO_ATTRIBUTES
             },
-            Entry::Line { ink, .. } => ink.held(),
-            Entry::Arc { ink, .. } => ink.held(),
-            Entry::Rect { ink, .. } => ink.held(),
-            Entry::Poly { ink, .. } => ink.held(),
-            Entry::Char { hand, .. } => hand.held(),
-            Entry::TextMove { hand, .. } => hand.held(),
-            Entry::ToEol { hand } => hand.held(),
-            Entry::Blink { colour, .. } => colour.held(),
-            Entry::BlinkEnd { colour } => colour.held(),
-            Entry::BlinkMark { colour, .. } => colour.held(),
-            Entry::Field { pen, .. } => pen.held(),
-            Entry::Reset { pen, .. } => pen.held(),
-            Entry::Clear { pen } => pen.held(),
+            Entry::Line { ink, .. } => ink.attributes(),
+            Entry::Arc { ink, .. } => ink.attributes(),
+            Entry::Rect { ink, .. } => ink.attributes(),
+            Entry::Poly { ink, .. } => ink.attributes(),
+            Entry::Char { hand, .. } => hand.attributes(),
+            Entry::TextMove { hand, .. } => hand.attributes(),
+            Entry::ToEol { hand } => hand.attributes(),
+            Entry::Blink { colour, .. } => colour.attributes(),
+            Entry::BlinkEnd { colour } => colour.attributes(),
+            Entry::BlinkMark { colour, .. } => colour.attributes(),
+            Entry::Field { pen, .. } => pen.attributes(),
+            Entry::Reset { pen, .. } => pen.attributes(),
+            Entry::Clear { pen } => pen.attributes(),
             Entry::Map { .. }
             | Entry::Wait(_)
             | Entry::Bell
             | Entry::Cursor(_)
             | Entry::GlyphStart(_)
             | Entry::MaskStart(_)
-            | Entry::DefEnd => NOTHING,
+            | Entry::DefEnd => NO_ATTRIBUTES,
         }
     }
 
-    /// Whether the number of its points and its codes are in range.
+    /// Whether the number of points and the codes of the entry are in range.
     pub fn is_well_made(&self) -> bool
         ensures { IsTrue result ↔ WellMade self.now }
     {

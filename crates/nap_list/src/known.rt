@@ -1,23 +1,23 @@
-//! The colours of the map that are known.
+//! The known colours of the colour map (PROFILE.md, Known colours of the map).
 ghost use Rattle.std.specs.Prelude.{◌≡◌, []};
 ghost use Rattle.std.specs.Cmp.Lexicographic.{pointwise};
 ghost use Rattle.std.specs.Cmp.Rules.{comparing};
 ghost use Rattle.std.proofs.Common.{rules};
-ghost use Rattle.nap_list.specs.Known.{same_colour_at, is_known, setting, reset_known};
+ghost use Rattle.nap_list.specs.Known.{same_colour_at, is_known, with_known_colour, known_after_reset};
 
 use arrayvec::ArrayVec;
 use nap_values::{Addr, Grb, Word};
 use std::marker::Model;
 
-/// How many colours are known at most (our profile).
+/// The greatest number of known colours (PROFILE.md, Limits).
 pub const KNOWN: usize = 16;
 
-/// An address of the colour map, and the colour that was set there.
+/// An address of the colour map, with the colour that was set there.
 #[derive(Clone, Copy, PartialEq, Eq, Debug, Drop)]
 pub struct MapColour {
     /// The address.
     pub addr: Addr,
-    /// Its colour.
+    /// The colour.
     pub grb: Grb,
 }
 
@@ -30,7 +30,8 @@ impl Default for MapColour {
     }
 }
 
-/// The colours of the map that are known: at most 16, the last set first, and each address once.
+/// The known colours of the colour map: at most 16, the last set first, each address once (PROFILE.md, Known colours of
+/// the map).
 #[derive(Drop)]
 pub struct Known {
     colours: ArrayVec<MapColour, KNOWN>,
@@ -46,7 +47,7 @@ impl Model for Known {
 }
 
 impl Known {
-    /// None.
+    /// Returns no known colours.
     pub fn new() -> Known
         ensures { result ≡ [] }
     {
@@ -55,7 +56,7 @@ impl Known {
         }
     }
 
-    /// The same again. It takes no memory.
+    /// Returns a copy, which takes no memory.
     pub fn copy(&self) -> Known
         ensures { result ≡ self.now }
     {
@@ -72,18 +73,18 @@ impl Known {
         self.colours.iter().any(|known| *known == wanted)
     }
 
-    /// Takes a colour at an address: it comes first, in place of an older one of the address, and no more than 16 stay.
+    /// Sets the colour at an address: puts it first, removes an older colour of the address, and keeps at most 16.
     pub fn set(&mut self, addr: Addr, grb: Grb)
-        ensures { self.new ≡ setting addr grb self.old }
+        ensures { self.new ≡ with_known_colour addr grb self.old }
     {
         self.colours.retain(|old| old.addr != addr);
         self.colours.truncate(KNOWN - 1);
         self.colours.insert(0, MapColour { addr, grb });
     }
 
-    /// What RESET does, by its first word: where it chooses colours, none is known any more (our profile).
+    /// Applies RESET with this first word: if it chooses colours, no colour is known afterwards (PROFILE.md, RESET).
     pub fn reset(&mut self, first: Word)
-        ensures { self.new ≡ reset_known first self.old }
+        ensures { self.new ≡ known_after_reset first self.old }
     {
         if first.get() / 2 % 4 != 0 {
             self.colours.clear();

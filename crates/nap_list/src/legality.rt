@@ -1,15 +1,16 @@
-//! Which lists are legal.
+//! Legality of display lists.
 ghost use Rattle.std.specs.Prelude.{◌↔◌, ℕ, IsOk, IsErrOf};
-ghost use Rattle.nap_list.specs.State.{Legal, BreaksAt};
+ghost use Rattle.nap_list.specs.State.{Legal, IsIllegalAt};
 
 use crate::entry::Entry;
 use crate::state::State;
 
-/// Whether each entry fits the state that those before it leave, and no definition is left open. The error is the index
-/// of the first entry that doesn't fit, or the length where only a definition is left open.
+/// Checks that each entry fits the state that those before it leave, and that no definition is left open (PROFILE.md,
+/// Which entries fit). The error is the index of the first entry that doesn't fit, or the length if only a definition
+/// is left open.
 pub fn legal(entries: &[Entry]) -> Result<(), usize>
     ensures ok { IsOk result ↔ Legal entries.now }
-    ensures err { (index : ℕ) → IsErrOf result index ↔ BreaksAt index entries.now }
+    ensures err { (index : ℕ) → IsErrOf result index ↔ IsIllegalAt index entries.now }
 {
     let mut state = State::start();
     for (index, entry) in entries.iter().enumerate() {

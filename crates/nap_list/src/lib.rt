@@ -1,4 +1,5 @@
-//! Display lists: their entries, the state that an entry leaves, which lists are legal, and both ends of a stream.
+//! Display lists: their entries, the state that they leave, legality; sinks, which take entries; and devices, which
+//! give and take bytes (PROFILE.md, The display list).
 #![tactic(auto)]
 
 mod attribute;
@@ -15,9 +16,9 @@ mod sink;
 mod state;
 
 pub use attribute::{
-    Area, Base, CharSize, Colour, Hand, Held, Ink, Origin, Pen, Preset, TextLook, Texture,
+    Area, Attributes, Base, CharSize, Colour, Hand, Ink, Origin, Pen, Preset, TextLook, Texture,
 };
-pub use batch::{Batch, last_typed, start_at};
+pub use batch::{Batch, last_char_of_text, line_start};
 pub use count_sink::CountSink;
 pub use device::{DeviceFault, Inlet, Outlet, READS, Source, Target};
 pub use entry::Entry;
@@ -26,4 +27,4 @@ pub use legality::legal;
 pub use points::{Points, SHAPE_POINTS};
 pub use shape::{Shape, ShapeKind};
 pub use sink::{BatchFault, ListSink, Sink, SinkFault};
-pub use state::{Definition, Drawing, LastChar, Opened, State, corner};
+pub use state::{Definition, Drawing, LastChar, OpenDefinition, State, corner};

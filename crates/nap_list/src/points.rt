@@ -9,10 +9,10 @@ use nap_values::Point;
 use std::alloc::{AllocError, Global};
 use std::marker::Model;
 
-/// The most points of an arc or a polygon, the start among them (our profile).
+/// The greatest number of points of an arc or polygon, its start included (PROFILE.md, Limits).
 pub const SHAPE_POINTS: usize = 2_001;
 
-/// The points of a shape, in the order in which they are drawn.
+/// The points of a shape, in drawing order.
 #[derive(Debug, Drop)]
 pub struct Points {
     points: Vec<Point>,
@@ -28,7 +28,7 @@ impl Model for Points {
 }
 
 impl Points {
-    /// No points, and no memory taken.
+    /// Returns an empty list, which takes no memory.
     pub fn new(alloc: Global) -> Points
         ensures { result ≡ [] }
     {
@@ -37,7 +37,7 @@ impl Points {
         }
     }
 
-    /// No points, and the room for this many taken at once.
+    /// Returns an empty list with memory for `capacity` points.
     pub fn with_capacity(alloc: Global, capacity: usize) -> Result<Points, AllocError>
         ensures { IfOk result (λ points. points ≡ []) }
     {
@@ -46,7 +46,7 @@ impl Points {
         })
     }
 
-    /// Adds a point at the end.
+    /// Appends a point. An error changes nothing.
     pub fn push(&mut self, point: Point) -> Result<(), AllocError>
         ensures ok { OnOk result (self.new ≡ self.old ++ point ∷ []) }
         ensures err { OnErr result (self.new ≡ self.old) }
@@ -55,7 +55,7 @@ impl Points {
         Ok(())
     }
 
-    /// All the points.
+    /// Returns all points.
     pub fn as_slice(&self) -> &[Point]
         ensures { result.now ≡ self.now }
     {

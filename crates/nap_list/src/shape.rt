@@ -1,6 +1,6 @@
-//! Arcs and polygons whose points and values are lent.
+//! Arcs and polygons with borrowed points and attributes.
 ghost use Rattle.std.specs.Prelude.{◌≡◌, ◌∷◌, IfOk, OnOk, None, Some, slice_get};
-ghost use Rattle.nap_list.specs.Shapes.{drawn_shape, round, shape_end, shape_entry, shape_points};
+ghost use Rattle.nap_list.specs.Shapes.{entry_of_shape, circle_closed, shape_end, shape_entry, shape_points};
 ghost use Rattle.nap_list.specs.State.{after};
 
 use crate::attribute::{Ink, Pen};
@@ -10,27 +10,27 @@ use crate::state::{Drawing, State};
 use nap_values::Point;
 use std::alloc::{AllocError, Global};
 
-/// Which outline goes through points in turn.
+/// Whether a shape is an arc or a polygon.
 #[derive(Clone, Copy, PartialEq, Eq, Debug, Drop)]
 pub enum ShapeKind {
-    /// An arc; one of a single step goes back to its start.
+    /// An arc; with a single displacement it returns to its start (a circle).
     Arc,
-    /// A polygon that closes itself.
+    /// A closed polygon.
     Poly,
 }
 
-/// An arc or a polygon with its points lent, drawn with the values that stand.
+/// An arc or polygon with borrowed points, drawn with the current attributes.
 #[derive(Clone, Copy, Drop)]
 pub struct Shape<'a> {
-    /// Which of the two it is.
+    /// Arc or polygon.
     pub kind: ShapeKind,
-    /// Whether its inside is filled, too.
+    /// Whether it is filled.
     pub filled: bool,
-    /// Where it begins.
+    /// The start.
     pub from: Point,
-    /// The points that it goes on through.
+    /// The points after the start.
     pub others: &'a [Point],
-    /// The values that stand.
+    /// The current attributes.
     pub drawing: &'a Drawing,
 }
 
@@ -54,27 +54,27 @@ impl ShapeKind {
 }
 
 impl<'a> Shape<'a> {
-    /// The points that its entry has. An error takes no memory.
+    /// Returns the points of its entry. An error takes no memory.
     fn points(&self, alloc: Global) -> Result<Points, AllocError>
         ensures { IfOk result (λ points. points ≡ shape_points self.now) }
     {
-        let mut points = trace(alloc, self.from, self.others)?;
+        let mut points = points_from(alloc, self.from, self.others)?;
         match self.kind {
-            ShapeKind::Arc => round(&mut points, self.from)?,
+            ShapeKind::Arc => close_circle(&mut points, self.from)?,
             ShapeKind::Poly => {}
         }
         Ok(points)
     }
 
-    /// Its entry, with points of its own. An error takes no memory.
+    /// Returns its entry, with points of its own. An error takes no memory.
     pub fn entry(&self, alloc: Global) -> Result<Entry, AllocError>
-        ensures { IfOk result (λ entry. entry ≡ drawn_shape self.now) }
+        ensures { IfOk result (λ entry. entry ≡ entry_of_shape self.now) }
     {
         let points = self.points(alloc)?;
         Ok(self.kind.entry(self.filled, points, self.drawing.ink()))
     }
 
-    /// Where the pen is once it is drawn.
+    /// Returns the position of the pen after it.
     #[inline(always)]
     pub fn end(&self) -> Point
         ensures { result ≡ shape_end self.now.kind self.now.from (shape_points self.now) }
@@ -88,8 +88,8 @@ impl<'a> Shape<'a> {
     }
 }
 
-/// The point, and those that follow.
-fn trace(alloc: Global, from: Point, points: &[Point]) -> Result<Points, AllocError>
+/// Returns a point followed by others.
+fn points_from(alloc: Global, from: Point, points: &[Point]) -> Result<Points, AllocError>
     ensures { IfOk result (λ made. made ≡ from ∷ points.now) }
 {
     let mut made = Points::with_capacity(alloc, points.len().saturating_add(2))?;
@@ -100,10 +100,10 @@ fn trace(alloc: Global, from: Point, points: &[Point]) -> Result<Points, AllocEr
     Ok(made)
 }
 
-/// A way of one step goes back to its start.
-fn round(points: &mut Points, start: Point) -> Result<(), AllocError>
+/// Appends the start to an arc of one displacement, which makes it a circle.
+fn close_circle(points: &mut Points, start: Point) -> Result<(), AllocError>
     requires { slice_get points.old 0 ≡ Some start }
-    ensures { OnOk result (points.new ≡ round points.old) }
+    ensures { OnOk result (points.new ≡ circle_closed points.old) }
 {
     if points.as_slice().len() == 2 {
         points.push(start)?;
@@ -112,12 +112,12 @@ fn round(points: &mut Points, start: Point) -> Result<(), AllocError>
 }
 
 impl State {
-    /// Goes on to the state that a shape leaves.
+    /// Advances past a shape.
     #[inline(always)]
     pub fn step_shape(&mut self, shape: &Shape)
-        ensures { self.new ≡ after self.old (drawn_shape shape.now) }
+        ensures { self.new ≡ after self.old (entry_of_shape shape.now) }
     {
-        self.drawing.take_ink(&shape.drawing.ink());
+        self.drawing.apply_ink(&shape.drawing.ink());
         self.drawing.pen = Pen::At(shape.end());
         self.last = None;
     }

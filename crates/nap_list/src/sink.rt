@@ -1,13 +1,13 @@
-//! What takes entries, one after another.
+//! Sinks, which take entries one after another or in batches.
 ghost use Rattle.std.specs.Prelude.{◌≡◌, List, [], ◌∷◌, ◌++◌, Bool, true, false, OnOk, IsErrOf, length};
 ghost use Rattle.std.proofs.Common.{sym, ap, ◌∙◌, append-nil, append_assoc};
 ghost use Rattle.nap_list.specs.declared.state.State.{State};
 ghost use Rattle.nap_list.specs.declared.entry.Entry.{Entry};
 ghost use Rattle.nap_list.specs.declared.sink.SinkFault.TheVariants.{Memory};
 ghost use Rattle.nap_list.specs.State.{AllFit, Fits, after, start, walk};
-ghost use Rattle.nap_list.specs.Batches.{listed};
-ghost use Rattle.nap_list.specs.Putting.{Put, PutSome, UnlessAll, shows};
-ghost use Rattle.nap_list.specs.Shapes.{drawn_shape};
+ghost use Rattle.nap_list.specs.Batches.{batch_entries};
+ghost use Rattle.nap_list.specs.Putting.{Put, PutSome, UnlessAll, sink_model};
+ghost use Rattle.nap_list.specs.Shapes.{entry_of_shape};
 
 use crate::batch::Batch;
 use crate::entry::Entry;
@@ -17,13 +17,13 @@ use std::alloc::{AllocError, AllocFailed, Global};
 use std::marker::Model;
 use thiserror::Error;
 
-/// Why an entry was not taken.
+/// Why a sink didn't take an entry.
 #[derive(Clone, Copy, PartialEq, Eq, Debug, Drop, Error)]
 pub enum SinkFault {
-    /// There was no memory for it.
+    /// Memory ran out.
     #[error("no memory")]
     Memory,
-    /// The device behind the sink failed.
+    /// The sink's device failed.
     #[error("the device failed")]
     Write,
 }
@@ -44,20 +44,20 @@ impl<T: Drop> From<AllocFailed<T>> for SinkFault {
     }
 }
 
-/// Why a batch was not taken whole.
+/// Why a sink didn't take all of a batch.
 #[derive(Clone, Copy, PartialEq, Eq, Debug, Drop)]
 pub struct BatchFault {
-    /// How many of its entries were taken.
+    /// The number of entries taken.
     pub taken: usize,
-    /// Why the next one was not.
+    /// Why the next one wasn't.
     pub fault: SinkFault,
 }
 
 impl BatchFault {
-    /// The answer of a sink that took so many entries of a batch: an error if these aren't all, since memory ran out.
+    /// Returns lack of memory as the error if `taken` is less than the number of entries of the batch.
     #[inline(always)]
-    pub fn unless_all(taken: usize, batch: &Batch) -> Result<(), BatchFault>
-        ensures { UnlessAll taken (length (listed batch.now)) result }
+    pub fn error_unless_all(taken: usize, batch: &Batch) -> Result<(), BatchFault>
+        ensures { UnlessAll taken (length (batch_entries batch.now)) result }
     {
         if taken < batch.len() {
             return Err(BatchFault {
@@ -69,25 +69,25 @@ impl BatchFault {
     }
 }
 
-/// Takes the entries of a display list in their order. It need not keep them.
+/// Takes the entries of a display list in order. It need not keep them.
 pub trait Sink {
     /// The state that the next entry has to fit.
     ghost state: { Self → State };
 
-    /// Memory may be wanting for these entries.
+    /// Whether memory may run out for these entries.
     ghost wants: { Self → List Entry → Type 0 };
 
-    /// Whether its device has failed.
+    /// Whether the device has failed.
     ghost failed: { Self → Bool };
 
-    /// The second sink comes from the first by taking the list.
+    /// The second sink is the first one after it took the list.
     ghost took: { Self → List Entry → Self → Type 0 };
 
-    /// The second sink comes from the first by taking the list, and then a failure amid the entry.
+    /// The second sink is the first one after it took the list, and failed during the entry.
     ghost broke: { Self → List Entry → Entry → Self → Type 0 };
 
-    /// Takes one entry. An error takes none, though a device that fails may have got a part of what stands for it. A sink
-    /// whose device has failed takes nothing more.
+    /// Takes one entry. After an error it has taken none, but its device may have part of the entry's bytes. Once its
+    /// device has failed, a sink takes nothing more.
     fn put(&mut self, entry: Entry) -> Result<(), SinkFault>
         requires { Fits (state self.old) entry }
         ensures took { OnOk result (took self.old (entry ∷ []) self.new) }
@@ -101,10 +101,10 @@ pub trait Sink {
         ensures broke { IsErrOf result SinkFault.Write → failed self.old ≡ false → broke self.old [] entry self.new }
         ensures still { IsErrOf result SinkFault.Write → failed self.old ≡ true → self.new ≡ self.old };
 
-    /// Takes entries together, as `put` takes them one after another. An error tells how many it took.
+    /// Takes the entries of a batch, as `put` takes them one after another. The error has the number of entries taken.
     fn put_batch(&mut self, batch: &Batch) -> Result<(), BatchFault>
-        requires { AllFit (state self.old) (listed batch.now) }
-        ensures { Put (shows state wants failed took broke) (listed batch.now) self.old self.new result }
+        requires { AllFit (state self.old) (batch_entries batch.now) }
+        ensures { Put (sink_model state wants failed took broke) (batch_entries batch.now) self.old self.new result }
     {
         for taken in 0..batch.len() {
             if let Err(fault) = self.put(batch.entry(taken)) {
@@ -114,25 +114,25 @@ pub trait Sink {
         Ok(())
     }
 
-    /// Takes a shape whose points are lent, as `put` takes its entry. A sink that keeps the entry has points of its own for it.
+    /// Takes a shape with borrowed points, as `put` takes its entry. A sink that keeps the entry copies the points.
     fn put_shape(&mut self, alloc: Global, shape: &Shape) -> Result<(), SinkFault>
-        requires { Fits (state self.old) (drawn_shape shape.now) }
-        ensures { PutSome (shows state wants failed took broke) (drawn_shape shape.now ∷ []) self.old self.new result };
+        requires { Fits (state self.old) (entry_of_shape shape.now) }
+        ensures { PutSome (sink_model state wants failed took broke) (entry_of_shape shape.now ∷ []) self.old self.new result };
 
-    /// Nothing was taken.
+    /// Taking nothing changes nothing.
     ghost took_none: { (s : Self) → took s [] s };
 
-    /// One list was taken after another.
+    /// Two lists taken one after the other are taken as one.
     ghost took_more: { (s t u : Self) (d e : List Entry) → took s d t → took t e u → took s (d ++ e) u };
 
-    /// If memory may run out for entries after a list was taken, it may run out for the list, these entries and more.
+    /// If memory may run out for entries after a list, it may run out for the list, these entries and any more.
     ghost wants_more: { (s t : Self) (d e f : List Entry) → took s d t → wants t e → wants s (d ++ (e ++ f)) };
 
-    /// A failure came after a list was taken.
+    /// A failure after a list that was taken is a failure after the whole.
     ghost took_broke: { (s t u : Self) (d e : List Entry) (x : Entry) → took s d t → broke t e x u → broke s (d ++ e) x u };
 }
 
-/// Keeps the entries in memory, and fails only if memory runs out.
+/// Keeps the entries in memory. Fails only if memory runs out.
 #[derive(Drop)]
 pub struct ListSink {
     list: Vec<Entry>,
@@ -148,7 +148,7 @@ impl Model for ListSink {
 }
 
 impl ListSink {
-    /// A sink that has taken nothing, no memory either.
+    /// Returns a sink that has taken no entry, and no memory.
     pub fn new(alloc: Global) -> ListSink
         ensures { result ≡ [] }
     {
@@ -157,14 +157,14 @@ impl ListSink {
         }
     }
 
-    /// The entries that were taken.
+    /// Returns the entries taken.
     pub fn entries(&self) -> &[Entry]
         ensures { result.now ≡ self.now }
     {
         self.list.as_slice()
     }
 
-    /// The list of the entries that were taken.
+    /// Returns the list of the entries taken.
     pub fn into_list(self) -> Vec<Entry>
         ensures { result.items ≡ self }
     {

@@ -1,35 +1,35 @@
-//! The state that a list of entries leaves.
+//! The state that a list of entries leaves (PROFILE.md, The drawing state).
 ghost use Rattle.std.specs.Prelude.{◌≡◌, ◌↔◌, IsTrue, Some};
-ghost use Rattle.nap_list.specs.Entry.{held, ink_values, hand_values, colour_alone};
-ghost use Rattle.nap_list.specs.Agreement.{Stands};
-ghost use Rattle.nap_list.specs.State.{start_texture, start_text, start_drawing, start, corner, PenFits, ColourFits, TextureFits, HeldFits, Comes, Fits, taking, with_pen, ink_of, hand_of, saved_values, reset, drawn, definition_after, last_after, known_after, after, base_shown};
+ghost use Rattle.nap_list.specs.Entry.{attributes, ink_attributes, hand_attributes, colour_only};
+ghost use Rattle.nap_list.specs.Agreement.{AreCurrent};
+ghost use Rattle.nap_list.specs.State.{start_texture, start_text, start_drawing, start, corner, PenFits, ColourFits, TextureFits, AttributesFit, MayCome, Fits, with_attributes, with_pen, ink_of, hand_of, restored_drawing, reset, effect_on_drawing, definition_after, last_after, known_after, after, base_after};
 
 use crate::attribute::{
-    Base, CharSize, Colour, Hand, Held, Ink, Origin, Pen, Preset, TextLook, Texture,
+    Attributes, Base, CharSize, Colour, Hand, Ink, Origin, Pen, Preset, TextLook, Texture,
 };
 use crate::entry::Entry;
 use crate::known::Known;
 use nap_codes::{CharSet, Mask, Size};
 use nap_values::{Move, Point, Word};
 
-/// The values that stand, which the next entry may hold.
+/// The current attributes, which the next entry may hold (PROFILE.md, The drawing state).
 #[derive(Clone, Copy, PartialEq, Eq, Drop)]
 pub struct Drawing {
-    /// Where drawing goes on from.
+    /// The drawing point (pen).
     pub pen: Pen,
-    /// The size of the drawing point.
+    /// The size of the logical pel.
     pub pel: Move,
-    /// The colour of mode 0.
+    /// The colour of colour mode 0.
     pub base: Base,
-    /// The colour to draw with.
+    /// The colour in use.
     pub colour: Colour,
-    /// How lines and areas are filled in.
+    /// The texture.
     pub texture: Texture,
-    /// How characters look.
+    /// The text attributes.
     pub text: TextLook,
 }
 
-/// What is being defined.
+/// What a definition defines.
 #[derive(Clone, Copy, PartialEq, Eq, Drop)]
 pub enum Definition {
     /// The glyph of this code.
@@ -38,34 +38,34 @@ pub enum Definition {
     Mask(Mask),
 }
 
-/// A definition that isn't ended, with the values at its start.
+/// A definition that isn't ended, with the attributes before it.
 #[derive(Clone, Copy, PartialEq, Eq, Drop)]
-pub struct Opened {
-    /// What the entries up to its end draw.
+pub struct OpenDefinition {
+    /// What is defined.
     pub what: Definition,
-    /// The values that stand again after it.
+    /// The attributes before it, which its end restores.
     pub saved: Drawing,
 }
 
-/// A character, without what it was drawn with.
+/// A character, without attributes.
 #[derive(Clone, Copy, PartialEq, Eq, Drop)]
 pub struct LastChar {
-    /// The set that its code is of.
+    /// The character set.
     pub set: CharSet,
     /// The byte of the character.
     pub code: u8,
 }
 
-/// What a list of entries leaves.
+/// The state that a list of entries leaves.
 #[derive(PartialEq, Eq, Drop)]
 pub struct State {
-    /// The values that stand.
+    /// The current attributes.
     pub drawing: Drawing,
-    /// The definition that is open.
-    pub definition: Option<Opened>,
-    /// The last entry, where it was a character.
+    /// The open definition, if any.
+    pub definition: Option<OpenDefinition>,
+    /// The last entry, if it is a character.
     pub last: Option<LastChar>,
-    /// The colours of the map that are known.
+    /// The known colours of the colour map.
     pub known: Known,
 }
 
@@ -95,7 +95,7 @@ impl TextLook {
         }
     }
 
-    fn modes_stand(&self, wanted: &TextLook) -> bool
+    fn has_modes_of(&self, wanted: &TextLook) -> bool
         ensures { IsTrue result ↔ (self.now.reverse ≡ wanted.now.reverse) × (self.now.underline ≡ wanted.now.underline) × (self.now.wrap ≡ wanted.now.wrap) × (self.now.scroll ≡ wanted.now.scroll) }
     {
         self.reverse == wanted.reverse
@@ -104,21 +104,21 @@ impl TextLook {
             && self.scroll == wanted.scroll
     }
 
-    pub(crate) fn stands(&self, wanted: &TextLook) -> bool
+    pub(crate) fn is_look(&self, wanted: &TextLook) -> bool
         ensures { IsTrue result ↔ wanted.now ≡ self.now }
     {
         self.first == wanted.first
             && self.second == wanted.second
             && self.size == wanted.size
-            && self.modes_stand(wanted)
+            && self.has_modes_of(wanted)
     }
 }
 
 impl Base {
-    /// The colour of mode 0 once this colour is taken, which is of mode 0 where it is direct.
+    /// Returns the colour of mode 0 after selecting `colour`: a direct colour replaces it.
     #[inline(always)]
-    fn behind(self, colour: &Colour) -> Base
-        ensures { result ≡ base_shown self (Some colour.now) }
+    fn base_after(self, colour: &Colour) -> Base
+        ensures { result ≡ base_after self (Some colour.now) }
     {
         match colour {
             Colour::Direct(grb) => Base::Direct(*grb),
@@ -128,7 +128,7 @@ impl Base {
 }
 
 impl Drawing {
-    /// The values before any entry.
+    /// Returns the attributes at the start.
     pub fn start() -> Drawing
         ensures { result ≡ start_drawing }
     {
@@ -142,7 +142,7 @@ impl Drawing {
         }
     }
 
-    /// What lines and areas are drawn with.
+    /// Returns the current attributes for lines and areas.
     pub fn ink(&self) -> Ink
         ensures { result ≡ ink_of self.now }
     {
@@ -153,7 +153,7 @@ impl Drawing {
         }
     }
 
-    /// What text is drawn with.
+    /// Returns the current attributes for text.
     pub fn hand(&self) -> Hand
         ensures { result ≡ hand_of self.now }
     {
@@ -193,15 +193,17 @@ impl Drawing {
         }
     }
 
-    fn held_fits(&self, held: &Held) -> bool
-        ensures { IsTrue result ↔ HeldFits self.now held.now }
+    fn attributes_fit(&self, attributes: &Attributes) -> bool
+        ensures { IsTrue result ↔ AttributesFit self.now attributes.now }
     {
-        self.pen_fits(held.pen) && self.colour_fits(held.colour) && self.texture_fits(held.texture)
+        self.pen_fits(attributes.pen)
+            && self.colour_fits(attributes.colour)
+            && self.texture_fits(attributes.texture)
     }
 
-    /// Whether a colour stands, which is the colour of mode 0 where it is direct.
-    pub(crate) fn colour_stands(&self, colour: Colour) -> bool
-        ensures { IsTrue result ↔ Stands (colour_alone colour) self.now }
+    /// Whether a colour is current; a direct colour has to be the colour of mode 0 too.
+    pub(crate) fn is_current_colour(&self, colour: Colour) -> bool
+        ensures { IsTrue result ↔ AreCurrent (colour_only colour) self.now }
     {
         let in_mode = match colour {
             Colour::Direct(grb) => self.base == Base::Direct(grb),
@@ -210,33 +212,33 @@ impl Drawing {
         in_mode && self.colour == colour
     }
 
-    fn ink_stands(&self, ink: &Ink) -> bool
-        ensures { IsTrue result ↔ Stands (ink_values ink.now) self.now }
+    fn is_current_ink(&self, ink: &Ink) -> bool
+        ensures { IsTrue result ↔ AreCurrent (ink_attributes ink.now) self.now }
     {
-        self.pel == ink.pel && self.texture == ink.texture && self.colour_stands(ink.colour)
+        self.pel == ink.pel && self.texture == ink.texture && self.is_current_colour(ink.colour)
     }
 
-    fn hand_stands(&self, hand: &Hand) -> bool
-        ensures { IsTrue result ↔ Stands (hand_values hand.now) self.now }
+    fn is_current_hand(&self, hand: &Hand) -> bool
+        ensures { IsTrue result ↔ AreCurrent (hand_attributes hand.now) self.now }
     {
-        self.pen == hand.pen && self.text.stands(&hand.text) && self.colour_stands(hand.colour)
+        self.pen == hand.pen && self.text.is_look(&hand.text) && self.is_current_colour(hand.colour)
     }
 
-    /// Whether each value that the entry holds stands already, so that it needs no bring. No `Held` is built for it.
-    pub fn stands(&self, entry: &Entry) -> bool
-        ensures { IsTrue result ↔ Stands (held entry.now) self.now }
+    /// Whether all attributes that an entry holds are current, so that it needs no prelude. Builds no `Attributes`.
+    pub fn is_current(&self, entry: &Entry) -> bool
+        ensures { IsTrue result ↔ AreCurrent (attributes entry.now) self.now }
     {
         match entry {
-            Entry::Point { pel, colour, .. } => self.pel == *pel && self.colour_stands(*colour),
+            Entry::Point { pel, colour, .. } => self.pel == *pel && self.is_current_colour(*colour),
             Entry::Line { ink, .. }
             | Entry::Arc { ink, .. }
             | Entry::Rect { ink, .. }
-            | Entry::Poly { ink, .. } => self.ink_stands(ink),
+            | Entry::Poly { ink, .. } => self.is_current_ink(ink),
             Entry::Char { hand, .. } | Entry::TextMove { hand, .. } | Entry::ToEol { hand } =>
-                self.hand_stands(hand),
+                self.is_current_hand(hand),
             Entry::Blink { colour, .. }
             | Entry::BlinkEnd { colour }
-            | Entry::BlinkMark { colour, .. } => self.colour_stands(*colour),
+            | Entry::BlinkMark { colour, .. } => self.is_current_colour(*colour),
             Entry::Field { pen, .. } | Entry::Reset { pen, .. } | Entry::Clear { pen } => {
                 self.pen == *pen
             }
@@ -251,51 +253,51 @@ impl Drawing {
     }
 
     #[inline(always)]
-    fn take_colour(&mut self, colour: &Colour)
-        ensures { self.new ≡ taking self.old (colour_alone colour.now) }
+    fn apply_colour(&mut self, colour: &Colour)
+        ensures { self.new ≡ with_attributes self.old (colour_only colour.now) }
     {
-        self.base = self.base.behind(colour);
+        self.base = self.base.base_after(colour);
         self.colour = *colour;
     }
 
     #[inline(always)]
-    pub(crate) fn take_ink(&mut self, ink: &Ink)
-        ensures { self.new ≡ taking self.old (ink_values ink.now) }
+    pub(crate) fn apply_ink(&mut self, ink: &Ink)
+        ensures { self.new ≡ with_attributes self.old (ink_attributes ink.now) }
     {
         self.pel = ink.pel;
         self.texture = ink.texture;
-        self.take_colour(&ink.colour);
+        self.apply_colour(&ink.colour);
     }
 
     #[inline(always)]
-    fn take_hand(&mut self, hand: &Hand)
-        ensures { self.new ≡ taking self.old (hand_values hand.now) }
+    fn apply_hand(&mut self, hand: &Hand)
+        ensures { self.new ≡ with_attributes self.old (hand_attributes hand.now) }
     {
         self.pen = hand.pen;
         self.text = hand.text;
-        self.take_colour(&hand.colour);
+        self.apply_colour(&hand.colour);
     }
 
-    /// Takes the values that an entry holds.
+    /// Makes the attributes of an entry current.
     #[inline(always)]
-    pub(crate) fn show(&mut self, entry: &Entry)
-        ensures { self.new ≡ taking self.old (held entry.now) }
+    pub(crate) fn apply_attributes(&mut self, entry: &Entry)
+        ensures { self.new ≡ with_attributes self.old (attributes entry.now) }
     {
         match entry {
             Entry::Point { pel, colour, .. } => {
                 self.pel = *pel;
-                self.take_colour(colour);
+                self.apply_colour(colour);
             }
             Entry::Line { ink, .. }
             | Entry::Arc { ink, .. }
             | Entry::Rect { ink, .. }
-            | Entry::Poly { ink, .. } => self.take_ink(ink),
+            | Entry::Poly { ink, .. } => self.apply_ink(ink),
             Entry::Char { hand, .. } | Entry::TextMove { hand, .. } | Entry::ToEol { hand } => {
-                self.take_hand(hand);
+                self.apply_hand(hand);
             }
             Entry::Blink { colour, .. }
             | Entry::BlinkEnd { colour }
-            | Entry::BlinkMark { colour, .. } => self.take_colour(colour),
+            | Entry::BlinkMark { colour, .. } => self.apply_colour(colour),
             Entry::Field { pen, .. } | Entry::Reset { pen, .. } | Entry::Clear { pen } => {
                 self.pen = *pen;
             }
@@ -309,7 +311,7 @@ impl Drawing {
         }
     }
 
-    /// What RESET does to the values, by its two words (our profile).
+    /// Applies RESET, with its two words, to the attributes (PROFILE.md, RESET).
     pub fn reset(&mut self, first: Word, second: Word)
         ensures { self.new ≡ reset first second self.old }
     {
@@ -347,16 +349,17 @@ impl Drawing {
     }
 }
 
-/// Where a rectangle between two opposite corners leaves the pen: straight across from the first.
+/// Returns the position of the pen after a rectangle between two opposite corners: the x of the second and the y of the
+/// first.
 #[inline]
 pub fn corner(from: Point, to: Point) -> Point
     ensures { result ≡ corner from to }
 {
-    from.across(to)
+    from.with_x_of(to)
 }
 
 impl State {
-    /// The state before any entry.
+    /// Returns the state of the empty list.
     pub fn start() -> State
         ensures { result ≡ start }
     {
@@ -368,7 +371,7 @@ impl State {
         }
     }
 
-    /// The same state again. It takes no memory.
+    /// Returns a copy, which takes no memory.
     pub fn copy(&self) -> State
         ensures { result ≡ self.now }
     {
@@ -380,8 +383,8 @@ impl State {
         }
     }
 
-    fn comes(&self, entry: &Entry) -> bool
-        ensures { IsTrue result ↔ Comes self.now entry.now }
+    fn may_come(&self, entry: &Entry) -> bool
+        ensures { IsTrue result ↔ MayCome self.now entry.now }
     {
         match entry {
             Entry::ToEol { .. } => self.last.is_some(),
@@ -393,27 +396,29 @@ impl State {
         }
     }
 
-    /// Whether the entry may come next.
+    /// Whether the entry may come next (PROFILE.md, Which entries fit).
     pub fn fits(&self, entry: &Entry) -> bool
         ensures { IsTrue result ↔ Fits self.now entry.now }
     {
-        self.drawing.held_fits(&entry.held()) && entry.is_well_made() && self.comes(entry)
+        self.drawing.attributes_fit(&entry.attributes())
+            && entry.is_well_made()
+            && self.may_come(entry)
     }
 
-    /// Opens a definition, whose drawing begins with the pen at the start.
-    fn open(&mut self, what: Definition)
+    /// Opens a definition: saves the attributes, and puts the pen at the start.
+    fn open_definition(&mut self, what: Definition)
         ensures { self.new ≡ record self.old { drawing = with_pen Pen.Start self.old.drawing; definition = Some (record { what = what; saved = self.old.drawing }) } }
     {
-        self.definition = Some(Opened {
+        self.definition = Some(OpenDefinition {
             what,
             saved: self.drawing,
         });
         self.drawing.pen = Pen::Start;
     }
 
-    /// Ends the definition that is open, and puts the values back.
-    fn close(&mut self)
-        ensures { self.new ≡ record self.old { drawing = saved_values self.old.definition self.old.drawing; definition = None } }
+    /// Ends the open definition, and restores the attributes.
+    fn close_definition(&mut self)
+        ensures { self.new ≡ record self.old { drawing = restored_drawing self.old.definition self.old.drawing; definition = None } }
     {
         if let Some(opened) = self.definition {
             self.drawing = opened.saved;
@@ -421,10 +426,10 @@ impl State {
         self.definition = None;
     }
 
-    /// The effect of the entry on the values and on the definition that is open.
+    /// Applies the effect of an entry to the attributes and the open definition.
     #[inline(always)]
-    fn act(&mut self, entry: &Entry)
-        ensures { self.new ≡ record self.old { drawing = drawn self.old.definition self.old.drawing entry.now; definition = definition_after self.old.definition self.old.drawing entry.now } }
+    fn apply_effect(&mut self, entry: &Entry)
+        ensures { self.new ≡ record self.old { drawing = effect_on_drawing self.old.definition self.old.drawing entry.now; definition = definition_after self.old.definition self.old.drawing entry.now } }
     {
         match entry {
             Entry::Point { at, .. } => self.drawing.pen = Pen::At(*at),
@@ -447,9 +452,9 @@ impl State {
             | Entry::Clear { .. } => self.drawing.pen = Pen::After,
             Entry::Reset { first, second, .. } => self.drawing.reset(*first, *second),
             Entry::Map { addr, .. } => self.drawing.colour = Colour::Front(*addr),
-            Entry::GlyphStart(code) => self.open(Definition::Glyph(*code)),
-            Entry::MaskStart(mask) => self.open(Definition::Mask(*mask)),
-            Entry::DefEnd => self.close(),
+            Entry::GlyphStart(code) => self.open_definition(Definition::Glyph(*code)),
+            Entry::MaskStart(mask) => self.open_definition(Definition::Mask(*mask)),
+            Entry::DefEnd => self.close_definition(),
             Entry::Blink { .. }
             | Entry::BlinkEnd { .. }
             | Entry::BlinkMark { .. }
@@ -459,9 +464,9 @@ impl State {
         }
     }
 
-    /// What an entry does to the colours of the map that are known.
+    /// Applies the effect of an entry to the known colours.
     #[inline(always)]
-    fn learn(&mut self, entry: &Entry)
+    fn update_known(&mut self, entry: &Entry)
         ensures { self.new ≡ record self.old { known = known_after self.old.known entry.now } }
     {
         match entry {
@@ -471,19 +476,19 @@ impl State {
         }
     }
 
-    /// Goes on to the state that an entry leaves that fits.
+    /// Advances past an entry that fits.
     #[inline(always)]
     pub fn step(&mut self, entry: &Entry)
         requires { Fits self.old entry.now }
         ensures { self.new ≡ after self.old entry.now }
     {
-        self.drawing.show(entry);
-        self.act(entry);
-        self.learn(entry);
+        self.drawing.apply_attributes(entry);
+        self.apply_effect(entry);
+        self.update_known(entry);
         self.last = last_char(entry);
     }
 
-    /// The state that an entry leaves that fits.
+    /// Returns the state after an entry that fits.
     pub fn after(&self, entry: &Entry) -> State
         requires { Fits self.now entry.now }
         ensures { result ≡ after self.now entry.now }

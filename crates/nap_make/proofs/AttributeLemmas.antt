@@ -15,7 +15,7 @@ use Rattle.nap_list.specs.declared.attribute.Texture.{Texture}
 use Rattle.nap_list.specs.Range.{ColourInRange, HandInRange, InkInRange, PenInRange, TextInRange, TextureInRange}
 use Rattle.nap_lines.specs.Lines.{colour_text, grb_text, hand_text, ink_text, look_text, mask_size_text, move_text, pen_text, texture_text}
 use Rattle.nap_make.specs.Fields.{MaskInRange, colour_field, look_field, pel_field, pen_field, texture_field}
-use Rattle.nap_make.specs.Reading.{Both, pair_text}
+use Rattle.nap_make.specs.Reading.{BothFit, pair_text}
 use Rattle.nap_make.proofs.ColourLemmas.{from_right}
 use Rattle.nap_make.proofs.LayoutLemmas.{Alike, Layout}
 use Rattle.nap_make.proofs.LookLemmas.{look_visible}
@@ -31,7 +31,7 @@ number_visible n fits = decimal_spells IsVisible (λ d low high. omega (arith, l
 pub texture_parts : Layout IsWord decimal 47 MaskInRange mask_size_text
 texture_parts = record { apart = λ n fits. decimal_spells (λ x. x ≢ 47) (λ d low high is. omega (arith, low, is)) n (omega (arith, fits)) }
 
-pub texture_pair : Alike (λ (t : Texture). (t.word, t.mask)) TextureInRange texture_text (Both IsWord MaskInRange) (pair_text decimal 47 mask_size_text)
+pub texture_pair : Alike (λ (t : Texture). (t.word, t.mask)) TextureInRange texture_text (BothFit IsWord MaskInRange) (pair_text decimal 47 mask_size_text)
 texture_pair = record {
   there = λ t fits. (fits.word, fits.mask);
   back = λ t fits. record { word = fits.0; mask = fits.1 };
@@ -94,11 +94,11 @@ look_field_visible = key_spells TextInRange look_text (codes "text=") (omega ari
 pub ink_end : Layout ColourInRange colour_field 32 TextureInRange texture_field
 ink_end = record { apart = spaceless ColourInRange colour_field colour_field_visible }
 
-pub ink_parts : Layout IsInRange pel_field 32 (Both ColourInRange TextureInRange) (pair_text colour_field 32 texture_field)
+pub ink_parts : Layout IsInRange pel_field 32 (BothFit ColourInRange TextureInRange) (pair_text colour_field 32 texture_field)
 ink_parts = record { apart = spaceless IsInRange pel_field pel_field_visible }
 
 pub ink_triple : Alike (λ (i : Ink). (i.pel, (i.colour, i.texture))) InkInRange ink_text
-    (Both IsInRange (Both ColourInRange TextureInRange)) (pair_text pel_field 32 (pair_text colour_field 32 texture_field))
+    (BothFit IsInRange (BothFit ColourInRange TextureInRange)) (pair_text pel_field 32 (pair_text colour_field 32 texture_field))
 ink_triple = record {
   there = λ i fits. (fits.pel, (fits.colour, fits.texture));
   back = λ i fits. record { pel = fits.0; colour = fits.1.0; texture = fits.1.1 };
@@ -108,11 +108,11 @@ ink_triple = record {
 pub hand_end : Layout ColourInRange colour_field 32 TextInRange look_field
 hand_end = record { apart = spaceless ColourInRange colour_field colour_field_visible }
 
-pub hand_parts : Layout PenInRange pen_field 32 (Both ColourInRange TextInRange) (pair_text colour_field 32 look_field)
+pub hand_parts : Layout PenInRange pen_field 32 (BothFit ColourInRange TextInRange) (pair_text colour_field 32 look_field)
 hand_parts = record { apart = spaceless PenInRange pen_field pen_field_visible }
 
 pub hand_triple : Alike (λ (h : Hand). (h.pen, (h.colour, h.text))) HandInRange hand_text
-    (Both PenInRange (Both ColourInRange TextInRange)) (pair_text pen_field 32 (pair_text colour_field 32 look_field))
+    (BothFit PenInRange (BothFit ColourInRange TextInRange)) (pair_text pen_field 32 (pair_text colour_field 32 look_field))
 hand_triple = record {
   there = λ h fits. (fits.pen, (fits.colour, fits.text));
   back = λ h fits. record { pen = fits.0; colour = fits.1.0; text = fits.1.1 };

@@ -31,7 +31,7 @@ use Rattle.nap_make.specs.Entries.{IsProper, line_from}
 use Rattle.nap_make.specs.Fields.{MaskInRange, colour_field, look_field, modes_text, pel_field, pen_field, points_before, texture_field}
 use Rattle.nap_make.specs.Names.{name_of, name_text}
 use Rattle.nap_make.specs.Numbers.{IsSigned}
-use Rattle.nap_make.specs.Reading.{Always, Both, pair_text}
+use Rattle.nap_make.specs.Reading.{AnyValue, BothFit, pair_text}
 use Rattle.nap_make.proofs.AttributeLemmas.{hand_end, hand_parts, hand_triple, ink_end, ink_parts, ink_triple, texture_pair, texture_parts}
 use Rattle.nap_make.proofs.ColourLemmas.{grb_triple, part_pair, part_triple}
 use Rattle.nap_make.proofs.EntryLemmas.{rest_or_alone}
@@ -48,7 +48,7 @@ use Rattle.nap_make.proofs.SpellLemmas.{low_neg, low_pos}
 abbrev pub AtMost : {V : Type 0} → ℕ → (V → Type 0) → (V → List ℕ) → Type 0
 AtMost {V = V} n P f = (v : V) → P v → length (f v) ≤ n
 
-both_bound : {A B : Type 0} {P : A → Type 0} {f : A → List ℕ} {b : ℕ} {Q : B → Type 0} {g : B → List ℕ} (m n : ℕ) → Layout P f b Q g → AtMost m P f → AtMost n Q g → AtMost (m + 1 + n) (Both P Q) (pair_text f b g)
+both_bound : {A B : Type 0} {P : A → Type 0} {f : A → List ℕ} {b : ℕ} {Q : B → Type 0} {g : B → List ℕ} (m n : ℕ) → Layout P f b Q g → AtMost m P f → AtMost n Q g → AtMost (m + 1 + n) (BothFit P Q) (pair_text f b g)
 both_bound {f = f} {b = b} {g = g} m n layout one two v fits =
     let size : length (f v.0 ++ b ∷ g v.1) ≡ length (f v.0) + length (b ∷ g v.1) = length-append (f v.0) (b ∷ g v.1) in
     omega (arith, size, one v.0 fits.0, two v.1 fits.1)
@@ -121,7 +121,7 @@ size_bound (sizes.Named named_sizes.Tall) fits = omega arith
 size_bound (sizes.Named named_sizes.Double) fits = omega arith
 size_bound (sizes.Given size) fits = move_bound size fits
 
-modes_bound : AtMost 4 Always modes_text
+modes_bound : AtMost 4 AnyValue modes_text
 modes_bound m any = let size : length (modes_text m) ≡ 4 = ap (λ (s : List ℕ). length s) (modes_bytes m) in omega (arith, size)
 
 look_bound : AtMost 28 TextInRange look_text
@@ -148,7 +148,7 @@ ink_bound = alike_bound 82 ink_triple (both_bound 21 60 ink_parts pel_field_boun
 hand_bound : AtMost 85 HandInRange hand_text
 hand_bound = alike_bound 85 hand_triple (both_bound 19 65 hand_parts pen_field_bound (both_bound 31 33 hand_end colour_field_bound look_field_bound))
 
-stretch_bound : AtMost 114 (Both IsInSquare (Both IsInSquare InkInRange)) (pair_text point_text 32 (pair_text point_text 32 ink_text))
+stretch_bound : AtMost 114 (BothFit IsInSquare (BothFit IsInSquare InkInRange)) (pair_text point_text 32 (pair_text point_text 32 ink_text))
 stretch_bound = both_bound 15 98 stretch_parts point_bound (both_bound 15 82 stretch_end point_bound ink_bound)
 
 points_bound : (points : List Coordinates) (last : List ℕ) → All IsInSquare points → length (points_before points last) ≤ 16 * length points + length last

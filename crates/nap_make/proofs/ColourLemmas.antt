@@ -6,11 +6,11 @@ use Rattle.nap_list.specs.declared.attribute.Colour.{Colour}
 use Rattle.nap_list.specs.declared.attribute.Colour.TheVariants as colours
 use Rattle.nap_list.specs.Range.{IsAddress}
 use Rattle.nap_lines.specs.Lines.{grb_text, colour_text}
-use Rattle.nap_make.specs.Cutting.{Cuts}
+use Rattle.nap_make.specs.Cutting.{SplitsAtByte}
 use Rattle.nap_make.specs.declared.colour.ColourKind.{ColourKind}
 use Rattle.nap_make.specs.declared.colour.ColourKind.TheVariants as kinds
 use Rattle.nap_make.specs.Fields.{IsNumbered, kind_name}
-use Rattle.nap_make.specs.Reading.{WritesNone, Both, pair_text}
+use Rattle.nap_make.specs.Reading.{WritesNone, BothFit, pair_text}
 use Rattle.nap_make.proofs.CutLemmas.{cut_text}
 use Rattle.nap_make.proofs.LayoutLemmas.{Alike, Layout}
 use Rattle.nap_make.proofs.SpellLemmas.{above, apart_below, decimal_spells}
@@ -24,10 +24,10 @@ from_right a b c d e = append_assoc (a ++ b ++ c) d e ∙ append_assoc (a ++ b) 
 pub part_pair : Layout (λ n. n < 65536) decimal 44 (λ n. n < 65536) decimal
 part_pair = record { apart = λ n fits. decimal_spells (λ x. x ≢ 44) (λ d low high is. omega (arith, low, is)) n (omega (arith, fits)) }
 
-pub part_triple : Layout (λ n. n < 65536) decimal 44 (Both (λ n. n < 65536) (λ n. n < 65536)) (pair_text decimal 44 decimal)
+pub part_triple : Layout (λ n. n < 65536) decimal 44 (BothFit (λ n. n < 65536) (λ n. n < 65536)) (pair_text decimal 44 decimal)
 part_triple = record { apart = part_pair.apart }
 
-pub grb_triple : Alike (λ (c : Components). (c.g, (c.r, c.b))) HasSixteenBitParts grb_text (Both (λ n. n < 65536) (Both (λ n. n < 65536) (λ n. n < 65536))) (pair_text decimal 44 (pair_text decimal 44 decimal))
+pub grb_triple : Alike (λ (c : Components). (c.g, (c.r, c.b))) HasSixteenBitParts grb_text (BothFit (λ n. n < 65536) (BothFit (λ n. n < 65536) (λ n. n < 65536))) (pair_text decimal 44 (pair_text decimal 44 decimal))
 grb_triple = record {
   there = λ c fits. (fits.0, (fits.1, fits.2));
   back = λ c fits. (fits.0, fits.1.0, fits.1.1);
@@ -40,7 +40,7 @@ grb_triple = record {
 abbrev pub NoNumbers : ColourKind → List ℕ → Type 0
 NoNumbers kinds.Direct more = WritesNone HasSixteenBitParts grb_text more
 NoNumbers kinds.Front more = WritesNone IsAddress decimal more
-NoNumbers kinds.Pair more = WritesNone (Both IsAddress IsAddress) (pair_text decimal 44 decimal) more
+NoNumbers kinds.Pair more = WritesNone (BothFit IsAddress IsAddress) (pair_text decimal 44 decimal) more
 
 -- a text is that of a colour by its numbers, before and behind its colon
 abbrev pub HasKind : Colour → List ℕ → List ℕ → Type 0
@@ -54,7 +54,7 @@ kind_apart kinds.Direct = apart_below 58 58 (codes "direct") (omega arith) (abov
 kind_apart kinds.Front = apart_below 58 58 (codes "front") (omega arith) (above 58 (codes "front") (omega arith))
 kind_apart kinds.Pair = apart_below 58 58 (codes "pair") (omega arith) (above 58 (codes "pair") (omega arith))
 
-pub has_kind : (bytes name more : List ℕ) (c : Colour) → Cuts 58 bytes name more → IsNumbered c → bytes ≡ colour_text c → HasKind c name more
+pub has_kind : (bytes name more : List ℕ) (c : Colour) → SplitsAtByte 58 bytes name more → IsNumbered c → bytes ≡ colour_text c → HasKind c name more
 has_kind bytes name more (colours.Own origin) cut fits is = absurd fits
 has_kind bytes name more (colours.ByReset preset) cut fits is = absurd fits
 has_kind bytes name more (colours.Direct grb) cut fits is = cut_text 58 bytes name more (codes "direct") (grb_text grb) cut (kind_apart kinds.Direct) is
@@ -63,14 +63,14 @@ has_kind bytes name more (colours.Pair front back) cut fits is =
     cut_text 58 bytes name more (codes "pair") (pair_text decimal 44 decimal (front, back)) cut (kind_apart kinds.Pair)
     (is ∙ ap (λ (s : List ℕ). codes "pair:" ++ s) (append_assoc (decimal front) (codes ",") (decimal back)))
 
-pub no_colon : (bytes : List ℕ) → ((front back : List ℕ) → Cuts 58 bytes front back → ⊥) → WritesNone IsNumbered colour_text bytes
+pub no_colon : (bytes : List ℕ) → ((front back : List ℕ) → SplitsAtByte 58 bytes front back → ⊥) → WritesNone IsNumbered colour_text bytes
 no_colon bytes none (colours.Own origin) fits is = fits
 no_colon bytes none (colours.ByReset preset) fits is = fits
 no_colon bytes none (colours.Direct grb) fits is = none (codes "direct") (grb_text grb) (record { joins = is; first = kind_apart kinds.Direct })
 no_colon bytes none (colours.Front addr) fits is = none (codes "front") (decimal addr) (record { joins = is; first = kind_apart kinds.Front })
 no_colon bytes none (colours.Pair front back) fits is = none (codes "pair") (decimal front ++ codes "," ++ decimal back) (record { joins = is; first = kind_apart kinds.Pair })
 
-pub no_kind : (bytes name more : List ℕ) → Cuts 58 bytes name more → ((k : ColourKind) → name ≢ kind_name k) → WritesNone IsNumbered colour_text bytes
+pub no_kind : (bytes name more : List ℕ) → SplitsAtByte 58 bytes name more → ((k : ColourKind) → name ≢ kind_name k) → WritesNone IsNumbered colour_text bytes
 no_kind bytes name more cut none c fits is = by c (has_kind bytes name more c cut fits is)
   where
     by : (c : Colour) → HasKind c name more → ⊥
@@ -92,7 +92,7 @@ kinds_tell kinds.Front kinds.Pair is = cc
 kinds_tell kinds.Pair kinds.Direct is = cc
 kinds_tell kinds.Pair kinds.Front is = cc
 
-pub no_numbers : (bytes name more : List ℕ) (k : ColourKind) → Cuts 58 bytes name more → name ≡ kind_name k → NoNumbers k more → WritesNone IsNumbered colour_text bytes
+pub no_numbers : (bytes name more : List ℕ) (k : ColourKind) → SplitsAtByte 58 bytes name more → name ≡ kind_name k → NoNumbers k more → WritesNone IsNumbered colour_text bytes
 no_numbers bytes name more k cut named none c fits is = by c fits (has_kind bytes name more c cut fits is)
   where
     at : (j : ColourKind) → name ≡ kind_name j → NoNumbers j more

@@ -1,7 +1,7 @@
 use Rattle.std.proofs.Common.{ℕ, ◌≡◌, ◌≢◌, List, [], ◌∷◌, ◌++◌, refl, sym, subst, ◌∙◌}
 use Rattle.std.specs.Prelude.{All}
 use Rattle.std.proofs.lemmas.List.Elements.{All-head, All-tail}
-use Rattle.nap_make.specs.Cutting.{Cuts}
+use Rattle.nap_make.specs.Cutting.{SplitsAtByte}
 
 -- A list is cut in one way.
 
@@ -14,7 +14,7 @@ one_cut b (x ∷ f) k (y ∷ g) l none also same =
     (cc, more.1)
 
 -- the parts of a list that was cut are those of a text that has no such byte in front of its own
-pub cut_text : (b : ℕ) (xs f k g l : List ℕ) → Cuts b xs f k → All (λ x. x ≢ b) g → xs ≡ g ++ b ∷ l → (f ≡ g) × (k ≡ l)
+pub cut_text : (b : ℕ) (xs f k g l : List ℕ) → SplitsAtByte b xs f k → All (λ x. x ≢ b) g → xs ≡ g ++ b ∷ l → (f ≡ g) × (k ≡ l)
 cut_text b xs f k g l cut none is = one_cut b f k g l cut.first none (sym cut.joins ∙ is)
 
 -- a list without such a byte isn't cut

@@ -3,7 +3,7 @@ use Rattle.std.specs.Prelude.{All, Option}
 use Rattle.nap_list.specs.declared.entry.Entry.{Entry}
 use Rattle.nap_list.specs.declared.entry.Entry.TheVariants as entry
 use Rattle.nap_lines.specs.Lines.{line}
-use Rattle.nap_make.specs.Cutting.{Cuts}
+use Rattle.nap_make.specs.Cutting.{SplitsAtByte}
 use Rattle.nap_make.specs.declared.name.Name.{Name}
 use Rattle.nap_make.specs.declared.name.Name.TheVariants as names
 use Rattle.nap_make.specs.Entries.{IsProper, ReadsLine, line_from}
@@ -19,7 +19,7 @@ rest_or_alone entry.DefEnd = inr (inr refl)
 rest_or_alone _ = inl tt
 
 -- bytes without a space that aren't the two names that stand alone
-pub no_name_alone : (bytes : List ℕ) → ((front back : List ℕ) → Cuts 32 bytes front back → ⊥) → bytes ≢ codes "BELL" → bytes ≢ codes "END" → WritesNone IsProper line bytes
+pub no_name_alone : (bytes : List ℕ) → ((front back : List ℕ) → SplitsAtByte 32 bytes front back → ⊥) → bytes ≢ codes "BELL" → bytes ≢ codes "END" → WritesNone IsProper line bytes
 no_name_alone bytes whole bell end e proper is = by (rest_or_alone e)
   where
     by : HasRest e ⊎ ((line e ≡ codes "BELL") ⊎ (line e ≡ codes "END")) → ⊥
@@ -28,12 +28,12 @@ no_name_alone bytes whole bell end e proper is = by (rest_or_alone e)
     by (inr (inr alone)) = end (is ∙ alone)
 
 -- bytes that are a name, but not one that stands alone
-pub other_name : (bytes : List ℕ) (n : Name) → ((front back : List ℕ) → Cuts 32 bytes front back → ⊥) → bytes ≡ name_text n → n ≢ names.Bell → n ≢ names.End → WritesNone IsProper line bytes
+pub other_name : (bytes : List ℕ) (n : Name) → ((front back : List ℕ) → SplitsAtByte 32 bytes front back → ⊥) → bytes ≡ name_text n → n ≢ names.Bell → n ≢ names.End → WritesNone IsProper line bytes
 other_name bytes n whole named_so bell end =
     no_name_alone bytes whole (λ is. bell (names_tell n names.Bell (sym named_so ∙ is))) (λ is. end (names_tell n names.End (sym named_so ∙ is)))
 
 -- bytes that no name stands before the space of
-pub no_such_name : (bytes name rest : List ℕ) → Cuts 32 bytes name rest → ((n : Name) → name ≢ name_text n) → WritesNone IsProper line bytes
+pub no_such_name : (bytes name rest : List ℕ) → SplitsAtByte 32 bytes name rest → ((n : Name) → name ≢ name_text n) → WritesNone IsProper line bytes
 no_such_name bytes name rest cut none e proper is = by (rest_or_none e)
   where
     by : HasRest e ⊎ All (λ x. x ≢ 32) (line e) → ⊥
@@ -41,8 +41,8 @@ no_such_name bytes name rest cut none e proper is = by (rest_or_none e)
     by (inr whole) = no_cut 32 (line e) name rest whole (sym is ∙ cut.joins)
 
 -- bytes that a name stands before the space of
-pub has_name : (bytes name rest : List ℕ) (n : Name) → Cuts 32 bytes name rest → name ≡ name_text n → bytes ≡ line_from n rest
+pub has_name : (bytes name rest : List ℕ) (n : Name) → SplitsAtByte 32 bytes name rest → name ≡ name_text n → bytes ≡ line_from n rest
 has_name bytes name rest n cut is = cut.joins ∙ ap (λ (s : List ℕ). s ++ 32 ∷ rest) is
 
-pub read_as : (bytes name rest : List ℕ) (n : Name) (r : Option Entry) → Cuts 32 bytes name rest → name ≡ name_text n → ReadsLine (line_from n rest) r → ReadsLine bytes r
+pub read_as : (bytes name rest : List ℕ) (n : Name) (r : Option Entry) → SplitsAtByte 32 bytes name rest → name ≡ name_text n → ReadsLine (line_from n rest) r → ReadsLine bytes r
 read_as bytes name rest n r cut is told = subst (λ (s : List ℕ). ReadsLine s r) (sym (has_name bytes name rest n cut is)) told

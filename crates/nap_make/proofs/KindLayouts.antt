@@ -16,7 +16,7 @@ use Rattle.nap_list.specs.Entry.{IsCode, StepMade}
 use Rattle.nap_list.specs.Range.{AreaInRange, ColourInRange, HandInRange, InkInRange, IsAddress, IsByte, PenInRange, StepInRange}
 use Rattle.nap_lines.specs.Lines.{area_text, code_text, grb_text, hand_text, ink_text, point_text, set_text, step_text}
 use Rattle.nap_make.specs.Fields.{IsPlainStep, colour_field, pel_field, pen_field}
-use Rattle.nap_make.specs.Reading.{WritesNone, Always, Both, pair_text}
+use Rattle.nap_make.specs.Reading.{WritesNone, AnyValue, BothFit, pair_text}
 use Rattle.nap_make.proofs.AttributeLemmas.{number_visible, pel_field_visible}
 use Rattle.nap_make.proofs.CodeLemmas.{code_visible}
 use Rattle.nap_make.proofs.KindLemmas.{times_text}
@@ -49,13 +49,13 @@ code_byte n fits = omega (arith, fits)
 pub dot_end : Layout IsInRange pel_field 32 ColourInRange colour_field
 dot_end = record { apart = spaceless IsInRange pel_field pel_field_visible }
 
-pub dot_parts : Layout IsInSquare point_text 32 (Both IsInRange ColourInRange) (pair_text pel_field 32 colour_field)
+pub dot_parts : Layout IsInSquare point_text 32 (BothFit IsInRange ColourInRange) (pair_text pel_field 32 colour_field)
 dot_parts = record { apart = point_apart }
 
 pub stretch_end : Layout IsInSquare point_text 32 InkInRange ink_text
 stretch_end = record { apart = point_apart }
 
-pub stretch_parts : Layout IsInSquare point_text 32 (Both IsInSquare InkInRange) (pair_text point_text 32 ink_text)
+pub stretch_parts : Layout IsInSquare point_text 32 (BothFit IsInSquare InkInRange) (pair_text point_text 32 ink_text)
 stretch_parts = record { apart = point_apart }
 
 pub set_visible : (set : CharSet) → All IsVisible (set_text set)
@@ -64,16 +64,16 @@ set_visible char_sets.Supplementary = above 32 (codes "supplementary") (omega ar
 set_visible char_sets.Mosaic = above 32 (codes "mosaic") (omega arith)
 set_visible char_sets.Drcs = above 32 (codes "drcs") (omega arith)
 
-pub set_apart : (set : CharSet) → Always set → All (λ x. x ≢ 32) (set_text set)
-set_apart = spaceless Always set_text (λ set any. set_visible set)
+pub set_apart : (set : CharSet) → AnyValue set → All (λ x. x ≢ 32) (set_text set)
+set_apart = spaceless AnyValue set_text (λ set any. set_visible set)
 
 pub letter_end : Layout IsCode code_text 32 HandInRange hand_text
 letter_end = record { apart = λ n fits. code_apart n (code_byte n fits) }
 
-pub letter_parts : Layout Always set_text 32 (Both IsCode HandInRange) (pair_text code_text 32 hand_text)
+pub letter_parts : Layout AnyValue set_text 32 (BothFit IsCode HandInRange) (pair_text code_text 32 hand_text)
 letter_parts = record { apart = set_apart }
 
-pub position_parts : Layout IsCode code_text 32 (Both IsCode HandInRange) (pair_text code_text 32 hand_text)
+pub position_parts : Layout IsCode code_text 32 (BothFit IsCode HandInRange) (pair_text code_text 32 hand_text)
 position_parts = record { apart = λ n fits. code_apart n (code_byte n fits) }
 
 pub plain_visible : Spells IsVisible IsPlainStep step_text
@@ -91,26 +91,26 @@ plain_parts = record { apart = spaceless IsPlainStep step_text plain_visible }
 pub map_parts : Layout IsAddress decimal 32 HasSixteenBitParts grb_text
 map_parts = record { apart = addr_apart }
 
-pub blink_end : Layout (Both IsWord (Both IsWord IsWord)) times_text 32 ColourInRange colour_field
+pub blink_end : Layout (BothFit IsWord (BothFit IsWord IsWord)) times_text 32 ColourInRange colour_field
 blink_end = record {
-  apart = spaceless (Both IsWord (Both IsWord IsWord)) times_text
-      (both_spell IsVisible IsWord decimal 44 (Both IsWord IsWord) (pair_text decimal 44 decimal) word_visible (omega arith)
+  apart = spaceless (BothFit IsWord (BothFit IsWord IsWord)) times_text
+      (both_spell IsVisible IsWord decimal 44 (BothFit IsWord IsWord) (pair_text decimal 44 decimal) word_visible (omega arith)
       (both_spell IsVisible IsWord decimal 44 IsWord decimal word_visible (omega arith) word_visible));
 }
 
-pub blink_parts : Layout IsAddress decimal 32 (Both (Both IsWord (Both IsWord IsWord)) ColourInRange) (pair_text times_text 32 colour_field)
+pub blink_parts : Layout IsAddress decimal 32 (BothFit (BothFit IsWord (BothFit IsWord IsWord)) ColourInRange) (pair_text times_text 32 colour_field)
 blink_parts = record { apart = addr_apart }
 
 pub corners_end : Layout IsInSquare point_text 32 PenInRange pen_field
 corners_end = record { apart = point_apart }
 
-pub corners_parts : Layout IsInSquare point_text 32 (Both IsInSquare PenInRange) (pair_text point_text 32 pen_field)
+pub corners_parts : Layout IsInSquare point_text 32 (BothFit IsInSquare PenInRange) (pair_text point_text 32 pen_field)
 corners_parts = record { apart = point_apart }
 
 pub reset_end : Layout IsWord decimal 32 PenInRange pen_field
 reset_end = record { apart = word_apart }
 
-pub reset_parts : Layout IsWord decimal 32 (Both IsWord PenInRange) (pair_text decimal 32 pen_field)
+pub reset_parts : Layout IsWord decimal 32 (BothFit IsWord PenInRange) (pair_text decimal 32 pen_field)
 reset_parts = record { apart = word_apart }
 
 -- Texts that begin otherwise.
@@ -131,7 +131,7 @@ position_joined row column hand = ap (λ (s : List ℕ). codes "APS " ++ s) (app
 
 -- where a text has an APS, its bytes and what is drawn with there are none
 pub no_position : (rest others : List ℕ) → rest ≡ codes "APS " ++ others →
-    WritesNone (Both IsCode (Both IsCode HandInRange)) (pair_text code_text 32 (pair_text code_text 32 hand_text)) others → WritesNone (Both StepMade HandInRange) (pair_text step_text 32 hand_text) rest
+    WritesNone (BothFit IsCode (BothFit IsCode HandInRange)) (pair_text code_text 32 (pair_text code_text 32 hand_text)) others → WritesNone (BothFit StepMade HandInRange) (pair_text step_text 32 hand_text) rest
 no_position rest others begins none v fits is = by v.0 fits.0 (sym begins ∙ is)
   where
     by : (step : TextStep) → StepMade step → codes "APS " ++ others ≡ step_text step ++ 32 ∷ hand_text v.1 → ⊥
@@ -146,7 +146,7 @@ no_position rest others begins none v fits is = by v.0 fits.0 (sym begins ∙ is
 
 -- where it has none, it is no other move
 pub no_plain : (rest : List ℕ) → ((more : List ℕ) → rest ≢ codes "APS " ++ more) →
-    WritesNone (Both IsPlainStep HandInRange) (pair_text step_text 32 hand_text) rest → WritesNone (Both StepMade HandInRange) (pair_text step_text 32 hand_text) rest
+    WritesNone (BothFit IsPlainStep HandInRange) (pair_text step_text 32 hand_text) rest → WritesNone (BothFit StepMade HandInRange) (pair_text step_text 32 hand_text) rest
 no_plain rest other none v fits is = by v.0 fits.0 is
   where
     by : (step : TextStep) → StepMade step → rest ≡ step_text step ++ 32 ∷ hand_text v.1 → ⊥
@@ -188,7 +188,7 @@ pub part_joined : (from to pen : List ℕ) → from ++ codes " " ++ to ++ 32 ∷
 part_joined from to pen = append_assoc (from ++ codes " ") to (32 ∷ pen) ∙ append_assoc from (codes " ") (to ++ 32 ∷ pen)
 
 -- where a text has the whole area, its pen is none
-pub no_whole : (rest others : List ℕ) → rest ≡ codes "whole " ++ others → WritesNone PenInRange pen_field others → WritesNone (Both AreaInRange PenInRange) (pair_text area_text 32 pen_field) rest
+pub no_whole : (rest others : List ℕ) → rest ≡ codes "whole " ++ others → WritesNone PenInRange pen_field others → WritesNone (BothFit AreaInRange PenInRange) (pair_text area_text 32 pen_field) rest
 no_whole rest others begins none v fits is = by v.0 fits.0 (sym begins ∙ is)
   where
     by : (area : Area) → AreaInRange area → codes "whole " ++ others ≡ area_text area ++ 32 ∷ pen_field v.1 → ⊥
@@ -199,7 +199,7 @@ no_whole rest others begins none v fits is = by v.0 fits.0 (sym begins ∙ is)
 
 -- where it has two corners, these or its pen are none
 pub no_corners : (rest : List ℕ) → ((more : List ℕ) → rest ≢ codes "whole " ++ more) →
-    WritesNone (Both IsInSquare (Both IsInSquare PenInRange)) (pair_text point_text 32 (pair_text point_text 32 pen_field)) rest → WritesNone (Both AreaInRange PenInRange) (pair_text area_text 32 pen_field) rest
+    WritesNone (BothFit IsInSquare (BothFit IsInSquare PenInRange)) (pair_text point_text 32 (pair_text point_text 32 pen_field)) rest → WritesNone (BothFit AreaInRange PenInRange) (pair_text area_text 32 pen_field) rest
 no_corners rest other none v fits is = by v.0 fits.0 is
   where
     by : (area : Area) → AreaInRange area → rest ≡ area_text area ++ 32 ∷ pen_field v.1 → ⊥

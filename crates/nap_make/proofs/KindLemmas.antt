@@ -15,7 +15,7 @@ use Rattle.nap_make.specs.declared.name.Name.TheVariants as names
 use Rattle.nap_make.specs.Entries.{IsProper, line_from}
 use Rattle.nap_make.specs.Fields.{ShapeFits, colour_field, pel_field, pen_field, points_before, shape_text}
 use Rattle.nap_make.specs.Names.{arc_name, mark_name, name_of, name_text, poly_name, rect_name}
-use Rattle.nap_make.specs.Reading.{WritesNone, IsWritten, Always, Both, pair_text}
+use Rattle.nap_make.specs.Reading.{WritesNone, IsWritten, AnyValue, BothFit, pair_text}
 use Rattle.nap_make.proofs.ColourLemmas.{from_right}
 use Rattle.nap_make.proofs.CutLemmas.{no_cut, one_cut}
 use Rattle.nap_make.proofs.NameLemmas.{name_apart, names_tell}
@@ -101,30 +101,30 @@ abbrev pub PolyFits : List Coordinates × Ink → Type 0
 PolyFits s = ShapeFits s × (2 ≤ length s.0)
 
 abbrev pub NoneBehind : Name → List ℕ → Type 0
-NoneBehind names.Point rest = WritesNone (Both IsInSquare (Both IsInRange ColourInRange)) (pair_text point_text 32 (pair_text pel_field 32 colour_field)) rest
-NoneBehind names.Line rest = WritesNone (Both IsInSquare (Both IsInSquare InkInRange)) (pair_text point_text 32 (pair_text point_text 32 ink_text)) rest
+NoneBehind names.Point rest = WritesNone (BothFit IsInSquare (BothFit IsInRange ColourInRange)) (pair_text point_text 32 (pair_text pel_field 32 colour_field)) rest
+NoneBehind names.Line rest = WritesNone (BothFit IsInSquare (BothFit IsInSquare InkInRange)) (pair_text point_text 32 (pair_text point_text 32 ink_text)) rest
 NoneBehind names.ArcOutlined rest = WritesNone ArcFits shape_text rest
 NoneBehind names.ArcFilled rest = WritesNone ArcFits shape_text rest
-NoneBehind names.RectOutlined rest = WritesNone (Both IsInSquare (Both IsInSquare InkInRange)) (pair_text point_text 32 (pair_text point_text 32 ink_text)) rest
-NoneBehind names.RectFilled rest = WritesNone (Both IsInSquare (Both IsInSquare InkInRange)) (pair_text point_text 32 (pair_text point_text 32 ink_text)) rest
+NoneBehind names.RectOutlined rest = WritesNone (BothFit IsInSquare (BothFit IsInSquare InkInRange)) (pair_text point_text 32 (pair_text point_text 32 ink_text)) rest
+NoneBehind names.RectFilled rest = WritesNone (BothFit IsInSquare (BothFit IsInSquare InkInRange)) (pair_text point_text 32 (pair_text point_text 32 ink_text)) rest
 NoneBehind names.PolyOutlined rest = WritesNone PolyFits shape_text rest
 NoneBehind names.PolyFilled rest = WritesNone PolyFits shape_text rest
-NoneBehind names.Char rest = WritesNone (Both Always (Both IsCode HandInRange)) (pair_text set_text 32 (pair_text code_text 32 hand_text)) rest
-NoneBehind names.Move rest = WritesNone (Both StepMade HandInRange) (pair_text step_text 32 hand_text) rest
+NoneBehind names.Char rest = WritesNone (BothFit AnyValue (BothFit IsCode HandInRange)) (pair_text set_text 32 (pair_text code_text 32 hand_text)) rest
+NoneBehind names.Move rest = WritesNone (BothFit StepMade HandInRange) (pair_text step_text 32 hand_text) rest
 NoneBehind names.ToEol rest = WritesNone HandInRange hand_text rest
-NoneBehind names.Map rest = WritesNone (Both IsAddress HasSixteenBitParts) (pair_text decimal 32 grb_text) rest
-NoneBehind names.Blink rest = WritesNone (Both IsAddress (Both (Both IsWord (Both IsWord IsWord)) ColourInRange)) (pair_text decimal 32 (pair_text times_text 32 colour_field)) rest
+NoneBehind names.Map rest = WritesNone (BothFit IsAddress HasSixteenBitParts) (pair_text decimal 32 grb_text) rest
+NoneBehind names.Blink rest = WritesNone (BothFit IsAddress (BothFit (BothFit IsWord (BothFit IsWord IsWord)) ColourInRange)) (pair_text decimal 32 (pair_text times_text 32 colour_field)) rest
 NoneBehind names.BlinkEnd rest = WritesNone ColourInRange colour_field rest
 NoneBehind names.BlinkStart rest = WritesNone ColourInRange colour_field rest
 NoneBehind names.BlinkStop rest = WritesNone ColourInRange colour_field rest
 NoneBehind names.Wait rest = WritesNone IsWord decimal rest
 NoneBehind names.Bell rest = Unit {0}
-NoneBehind names.Cursor rest = WritesNone Always cursor_text rest
-NoneBehind names.Field rest = WritesNone (Both AreaInRange PenInRange) (pair_text area_text 32 pen_field) rest
-NoneBehind names.Reset rest = WritesNone (Both IsWord (Both IsWord PenInRange)) (pair_text decimal 32 (pair_text decimal 32 pen_field)) rest
+NoneBehind names.Cursor rest = WritesNone AnyValue cursor_text rest
+NoneBehind names.Field rest = WritesNone (BothFit AreaInRange PenInRange) (pair_text area_text 32 pen_field) rest
+NoneBehind names.Reset rest = WritesNone (BothFit IsWord (BothFit IsWord PenInRange)) (pair_text decimal 32 (pair_text decimal 32 pen_field)) rest
 NoneBehind names.Clear rest = WritesNone PenInRange pen_field rest
 NoneBehind names.Glyph rest = WritesNone IsCode code_text rest
-NoneBehind names.Mask rest = WritesNone Always mask_text rest
+NoneBehind names.Mask rest = WritesNone AnyValue mask_text rest
 NoneBehind names.End rest = Unit {0}
 
 -- what an entry's line has behind its name is some entry's

@@ -1,8 +1,8 @@
 use Rattle.std.proofs.Common.{ℕ, ◌≡◌, ◌≢◌, List, ◌∷◌, ◌++◌, ap, ap₂, sym, subst, ◌∙◌}
 use Rattle.std.specs.Prelude.{Option, Some, None, All, IsSome, IfSome, ◌↔◌}
 use Rattle.std.proofs.lemmas.List.{append_cancel_left}
-use Rattle.nap_make.specs.Cutting.{Cuts}
-use Rattle.nap_make.specs.Reading.{WritesNone, IsWritten, Reads, Both, pair_text}
+use Rattle.nap_make.specs.Cutting.{SplitsAtByte}
+use Rattle.nap_make.specs.Reading.{WritesNone, IsWritten, Reads, BothFit, pair_text}
 use Rattle.nap_make.proofs.CutLemmas.{one_cut, cut_text}
 
 -- A text of two parts: one without this byte, the byte, and another.
@@ -12,22 +12,22 @@ pub record Layout {A B : Type 0} (P : A → Type 0) (f : A → List ℕ) (b : �
 -- Bytes are no such text if the byte isn't in them, and if one part is that of no value.
 
 pub no_byte : {A B : Type 0} {P : A → Type 0} {f : A → List ℕ} {b : ℕ} {Q : B → Type 0} {g : B → List ℕ} {xs : List ℕ} → Layout P f b Q g →
-    ((x y : List ℕ) → Cuts b xs x y → ⊥) → WritesNone (Both P Q) (pair_text f b g) xs
+    ((x y : List ℕ) → SplitsAtByte b xs x y → ⊥) → WritesNone (BothFit P Q) (pair_text f b g) xs
 no_byte {f = f} {g = g} layout none v fits is = none (f v.0) (g v.1) (record { joins = is; first = layout.apart v.0 fits.0 })
 
 pub no_first : {A B : Type 0} {P : A → Type 0} {f : A → List ℕ} {b : ℕ} {Q : B → Type 0} {g : B → List ℕ} {xs x y : List ℕ} → Layout P f b Q g →
-    Cuts b xs x y → WritesNone P f x → WritesNone (Both P Q) (pair_text f b g) xs
+    SplitsAtByte b xs x y → WritesNone P f x → WritesNone (BothFit P Q) (pair_text f b g) xs
 no_first {f = f} {b = b} {g = g} {xs = xs} {x = x} {y = y} layout cut none v fits is =
     none v.0 fits.0 (cut_text b xs x y (f v.0) (g v.1) cut (layout.apart v.0 fits.0) is).0
 
 pub no_second : {A B : Type 0} {P : A → Type 0} {f : A → List ℕ} {b : ℕ} {Q : B → Type 0} {g : B → List ℕ} {xs x y : List ℕ} → Layout P f b Q g →
-    Cuts b xs x y → WritesNone Q g y → WritesNone (Both P Q) (pair_text f b g) xs
+    SplitsAtByte b xs x y → WritesNone Q g y → WritesNone (BothFit P Q) (pair_text f b g) xs
 no_second {f = f} {b = b} {g = g} {xs = xs} {x = x} {y = y} layout cut none v fits is =
     none v.1 fits.1 (cut_text b xs x y (f v.0) (g v.1) cut (layout.apart v.0 fits.0) is).1
 
 -- and they are if both parts are
 pub both_written : {A B : Type 0} {P : A → Type 0} {f : A → List ℕ} {b : ℕ} {Q : B → Type 0} {g : B → List ℕ} {xs x y : List ℕ} {v : A} {w : B} → Layout P f b Q g →
-    Cuts b xs x y → IsWritten P f x v → IsWritten Q g y w → IsWritten (Both P Q) (pair_text f b g) xs (v, w)
+    SplitsAtByte b xs x y → IsWritten P f x v → IsWritten Q g y w → IsWritten (BothFit P Q) (pair_text f b g) xs (v, w)
 both_written {b = b} layout cut one two = record {
   fitting = (one.fitting, two.fitting);
   written = cut.joins ∙ ap₂ (λ (s t : List ℕ). s ++ b ∷ t) one.written two.written;
@@ -61,7 +61,7 @@ reads_keyed P f key xs rest (Some v) is told = record { fitting = told.fitting; 
 abbrev pub Tells : {V : Type 0} → (V → Type 0) → (V → List ℕ) → Type 0
 Tells {V = V} P f = (v w : V) → P v → P w → f v ≡ f w → v ≡ w
 
-pub both_tell : {A B : Type 0} {P : A → Type 0} {f : A → List ℕ} {b : ℕ} {Q : B → Type 0} {g : B → List ℕ} → Layout P f b Q g → Tells P f → Tells Q g → Tells (Both P Q) (pair_text f b g)
+pub both_tell : {A B : Type 0} {P : A → Type 0} {f : A → List ℕ} {b : ℕ} {Q : B → Type 0} {g : B → List ℕ} → Layout P f b Q g → Tells P f → Tells Q g → Tells (BothFit P Q) (pair_text f b g)
 both_tell {A = A} {B = B} {f = f} {b = b} {g = g} layout one two v w v_fits w_fits is =
     let parts = one_cut b (f v.0) (g v.1) (f w.0) (g w.1) (layout.apart v.0 v_fits.0) (layout.apart w.0 w_fits.0) is in
     ap₂ (λ (x : A) (y : B). (x, y)) (one v.0 w.0 v_fits.0 w_fits.0 parts.0) (two v.1 w.1 v_fits.1 w_fits.1 parts.1)

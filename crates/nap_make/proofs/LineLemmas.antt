@@ -18,7 +18,7 @@ use Rattle.nap_lines.specs.Listing.{lines}
 use Rattle.nap_make.specs.declared.name.Name.TheVariants as names
 use Rattle.nap_make.specs.Fields.{colour_field, look_field, pel_field, pen_field, points_before, texture_field}
 use Rattle.nap_make.specs.Names.{name_of, name_text}
-use Rattle.nap_make.specs.Reading.{Always, Both, pair_text}
+use Rattle.nap_make.specs.Reading.{AnyValue, BothFit, pair_text}
 use Rattle.nap_make.proofs.AttributeLemmas.{colour_field_visible, grb_visible, hand_end, hand_parts, hand_triple, ink_end, ink_parts, ink_triple, look_field_visible, number_visible, pel_field_visible, pen_field_visible, texture_field_visible}
 use Rattle.nap_make.proofs.CodeLemmas.{code_visible}
 use Rattle.nap_make.proofs.CutLemmas.{no_cut, one_cut}
@@ -72,7 +72,7 @@ word_in n fits = in_line (decimal n) (number_visible n (omega (arith, fits)))
 code_in : Spells IsInLine IsByte code_text
 code_in n fits = in_line (code_text n) (code_visible n fits)
 
-stretch_in : Spells IsInLine (Both IsInSquare (Both IsInSquare InkInRange)) (pair_text point_text 32 (pair_text point_text 32 ink_text))
+stretch_in : Spells IsInLine (BothFit IsInSquare (BothFit IsInSquare InkInRange)) (pair_text point_text 32 (pair_text point_text 32 ink_text))
 stretch_in = layout_spells IsInLine stretch_parts space point_in (layout_spells IsInLine stretch_end space point_in ink_in)
 
 points_in : (points : List Coordinates) (last : List ℕ) → All IsInSquare points → All IsInLine last → All IsInLine (points_before points last)
@@ -120,7 +120,7 @@ rest_in (entry.Arc filled points ink) fits = points_in points (ink_text ink) fit
 rest_in (entry.Rect filled from to ink) fits = stretch_in (from, (to, ink)) (fits.0, (fits.1, fits.2))
 rest_in (entry.Poly filled points ink) fits = points_in points (ink_text ink) fits.0 (ink_in ink fits.1)
 rest_in (entry.Char set code hand) fits =
-    both_spell IsInLine Always set_text 32 (Both IsByte HandInRange) (pair_text code_text 32 hand_text) (λ s any. in_line (set_text s) (set_visible s)) space
+    both_spell IsInLine AnyValue set_text 32 (BothFit IsByte HandInRange) (pair_text code_text 32 hand_text) (λ s any. in_line (set_text s) (set_visible s)) space
     (both_spell IsInLine IsByte code_text 32 HandInRange hand_text code_in space hand_in) (set, (code, hand)) (tt, fits)
 rest_in (entry.TextMove step hand) fits = both_spell IsInLine StepInRange step_text 32 HandInRange hand_text step_in space hand_in (step, hand) fits
 rest_in (entry.ToEol hand) fits = hand_in hand fits

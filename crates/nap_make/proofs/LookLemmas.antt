@@ -10,7 +10,7 @@ use Rattle.nap_list.specs.Range.{SizeInRange, TextInRange}
 use Rattle.nap_lines.specs.Lines.{flag_text, look_text, size_text}
 use Rattle.nap_make.specs.declared.look.TextModes.{TextModes}
 use Rattle.nap_make.specs.Fields.{modes_text}
-use Rattle.nap_make.specs.Reading.{WritesNone, IsWritten, Always, Both, pair_text}
+use Rattle.nap_make.specs.Reading.{WritesNone, IsWritten, AnyValue, BothFit, pair_text}
 use Rattle.nap_make.proofs.ColourLemmas.{from_right}
 use Rattle.nap_make.proofs.LayoutLemmas.{Alike, Layout}
 use Rattle.nap_make.proofs.PlaceLemmas.{move_spells}
@@ -27,22 +27,22 @@ modes_bytes m = rw (flag_byte m.reverse 114, flag_byte m.underline 117, flag_byt
 
 -- a byte that no flag is isn't there in the text of modes
 no_flag : (xs : List ℕ) (i letter : ℕ) (on : TextModes → Bool) → ((m : TextModes) → get_or (modes_text m) i 0 ≡ cond (on m) letter 45) →
-    ((b : Bool) → get_or xs i 0 ∷ [] ≢ flag_text b (letter ∷ [])) → WritesNone Always modes_text xs
+    ((b : Bool) → get_or xs i 0 ∷ [] ≢ flag_text b (letter ∷ [])) → WritesNone AnyValue modes_text xs
 no_flag xs i letter on at none m fits is = none (on m) (ap (λ (x : ℕ). x ∷ []) (ap (λ (s : List ℕ). get_or s i 0) is ∙ at m) ∙ sym (flag_byte (on m) letter))
 
-pub no_reverse : (xs : List ℕ) → ((b : Bool) → get_or xs 0 0 ∷ [] ≢ flag_text b (114 ∷ [])) → WritesNone Always modes_text xs
+pub no_reverse : (xs : List ℕ) → ((b : Bool) → get_or xs 0 0 ∷ [] ≢ flag_text b (114 ∷ [])) → WritesNone AnyValue modes_text xs
 no_reverse xs none = no_flag xs 0 114 (λ m. m.reverse) (λ m. ap (λ (s : List ℕ). get_or s 0 0) (modes_bytes m)) none
 
-pub no_underline : (xs : List ℕ) → ((b : Bool) → get_or xs 1 0 ∷ [] ≢ flag_text b (117 ∷ [])) → WritesNone Always modes_text xs
+pub no_underline : (xs : List ℕ) → ((b : Bool) → get_or xs 1 0 ∷ [] ≢ flag_text b (117 ∷ [])) → WritesNone AnyValue modes_text xs
 no_underline xs none = no_flag xs 1 117 (λ m. m.underline) (λ m. ap (λ (s : List ℕ). get_or s 1 0) (modes_bytes m)) none
 
-pub no_wrap : (xs : List ℕ) → ((b : Bool) → get_or xs 2 0 ∷ [] ≢ flag_text b (119 ∷ [])) → WritesNone Always modes_text xs
+pub no_wrap : (xs : List ℕ) → ((b : Bool) → get_or xs 2 0 ∷ [] ≢ flag_text b (119 ∷ [])) → WritesNone AnyValue modes_text xs
 no_wrap xs none = no_flag xs 2 119 (λ m. m.wrap) (λ m. ap (λ (s : List ℕ). get_or s 2 0) (modes_bytes m)) none
 
-pub no_scroll : (xs : List ℕ) → ((b : Bool) → get_or xs 3 0 ∷ [] ≢ flag_text b (115 ∷ [])) → WritesNone Always modes_text xs
+pub no_scroll : (xs : List ℕ) → ((b : Bool) → get_or xs 3 0 ∷ [] ≢ flag_text b (115 ∷ [])) → WritesNone AnyValue modes_text xs
 no_scroll xs none = no_flag xs 3 115 (λ m. m.scroll) (λ m. ap (λ (s : List ℕ). get_or s 3 0) (modes_bytes m)) none
 
-pub not_four : (xs : List ℕ) → length xs ≢ 4 → WritesNone Always modes_text xs
+pub not_four : (xs : List ℕ) → length xs ≢ 4 → WritesNone AnyValue modes_text xs
 not_four xs other m fits is = other (ap (λ (s : List ℕ). length s) (is ∙ modes_bytes m))
 
 four_bytes : (xs : List ℕ) → length xs ≡ 4 → xs ≡ get_or xs 0 0 ∷ get_or xs 1 0 ∷ get_or xs 2 0 ∷ get_or xs 3 0 ∷ []
@@ -58,7 +58,7 @@ flag_is : (x letter : ℕ) (on : Bool) → x ∷ [] ≡ flag_text on (letter ∷
 flag_is x letter on is = ap (λ (s : List ℕ). get_or s 0 0) (is ∙ flag_byte on letter)
 
 pub modes_written : (xs : List ℕ) (m : TextModes) → length xs ≡ 4 → get_or xs 0 0 ∷ [] ≡ flag_text m.reverse (114 ∷ []) → get_or xs 1 0 ∷ [] ≡ flag_text m.underline (117 ∷ []) →
-    get_or xs 2 0 ∷ [] ≡ flag_text m.wrap (119 ∷ []) → get_or xs 3 0 ∷ [] ≡ flag_text m.scroll (115 ∷ []) → IsWritten Always modes_text xs m
+    get_or xs 2 0 ∷ [] ≡ flag_text m.wrap (119 ∷ []) → get_or xs 3 0 ∷ [] ≡ flag_text m.scroll (115 ∷ []) → IsWritten AnyValue modes_text xs m
 modes_written xs m four r u w s =
     let first = flag_is (get_or xs 0 0) 114 m.reverse r in
     let second = flag_is (get_or xs 1 0) 117 m.underline u in
@@ -78,14 +78,14 @@ size_spells R digit comma minus letter (sizes.Named named_sizes.Tall) fits = All
 size_spells R digit comma minus letter (sizes.Named named_sizes.Double) fits = All-weaker (λ x. 96 < x) R letter (codes "double") (above 96 (codes "double") (omega arith))
 size_spells R digit comma minus letter (sizes.Given size) fits = move_spells R digit comma minus size fits
 
-words_spell : (R : ℕ → Type 0) → OfDigits R → R 44 → Spells R (Both IsWord IsWord) (pair_text decimal 44 decimal)
+words_spell : (R : ℕ → Type 0) → OfDigits R → R 44 → Spells R (BothFit IsWord IsWord) (pair_text decimal 44 decimal)
 words_spell R digit comma =
     both_spell R IsWord decimal 44 IsWord decimal (λ n fits. decimal_spells R digit n (omega (arith, fits))) comma (λ n fits. decimal_spells R digit n (omega (arith, fits)))
 
-pub size_modes : Layout SizeInRange size_text 47 Always modes_text
+pub size_modes : Layout SizeInRange size_text 47 AnyValue modes_text
 size_modes = record { apart = size_spells (λ x. x ≢ 47) (λ d low high is. omega (arith, low, is)) (λ is. omega (arith, is)) (λ is. omega (arith, is)) (λ x low is. omega (arith, low, is)) }
 
-pub look_parts : Layout (Both IsWord IsWord) (pair_text decimal 44 decimal) 47 (Both SizeInRange Always) (pair_text size_text 47 modes_text)
+pub look_parts : Layout (BothFit IsWord IsWord) (pair_text decimal 44 decimal) 47 (BothFit SizeInRange AnyValue) (pair_text size_text 47 modes_text)
 look_parts = record { apart = words_spell (λ x. x ≢ 47) (λ d low high is. omega (arith, low, is)) (λ is. omega (arith, is)) }
 
 abbrev pub modes_of : TextLook → TextModes
@@ -97,7 +97,7 @@ look_joined first second size modes =
     ∙ ap (λ (s : List ℕ). s ++ 47 ∷ (size ++ 47 ∷ modes)) (append_assoc first (codes ",") second)
 
 pub look_triple : Alike (λ (t : TextLook). ((t.first, t.second), (t.size, modes_of t))) TextInRange look_text
-    (Both (Both IsWord IsWord) (Both SizeInRange Always)) (pair_text (pair_text decimal 44 decimal) 47 (pair_text size_text 47 modes_text))
+    (BothFit (BothFit IsWord IsWord) (BothFit SizeInRange AnyValue)) (pair_text (pair_text decimal 44 decimal) 47 (pair_text size_text 47 modes_text))
 look_triple = record {
   there = λ t fits. ((fits.first, fits.second), (fits.size, tt));
   back = λ t fits. record { first = fits.0.0; second = fits.0.1; size = fits.1.0 };
@@ -118,8 +118,8 @@ modes_visible m =
 
 pub look_visible : Spells IsVisible TextInRange look_text
 look_visible t fits = rw (look_joined (decimal t.first) (decimal t.second) (size_text t.size) (modes_text (modes_of t)))
-    (both_spell IsVisible (Both IsWord IsWord) (pair_text decimal 44 decimal) 47 (Both SizeInRange Always) (pair_text size_text 47 modes_text)
+    (both_spell IsVisible (BothFit IsWord IsWord) (pair_text decimal 44 decimal) 47 (BothFit SizeInRange AnyValue) (pair_text size_text 47 modes_text)
     (words_spell IsVisible (λ d low high. omega (arith, low)) (omega arith)) (omega arith)
-    (both_spell IsVisible SizeInRange size_text 47 Always modes_text
+    (both_spell IsVisible SizeInRange size_text 47 AnyValue modes_text
     (size_spells IsVisible (λ d low high. omega (arith, low)) (omega arith) (omega arith) (λ x low. omega (arith, low))) (omega arith) (λ m any. modes_visible m))
     ((t.first, t.second), (t.size, modes_of t)) ((fits.first, fits.second), (fits.size, tt)))

@@ -25,7 +25,7 @@ use Rattle.nap_make.specs.declared.name.Name.{Name}
 use Rattle.nap_make.specs.declared.name.Name.TheVariants as names
 use Rattle.nap_make.specs.Fields.{IsPlainStep, colour_field, pel_field, pen_field, points_before, shape_text}
 use Rattle.nap_make.specs.Names.{name_of}
-use Rattle.nap_make.specs.Reading.{Always, Both, pair_text}
+use Rattle.nap_make.specs.Reading.{AnyValue, BothFit, pair_text}
 use Rattle.nap_make.proofs.CutLemmas.{one_cut}
 use Rattle.nap_make.proofs.KindLayouts.{blink_end, blink_parts, code_apart, corners_end, corners_parts, dot_end, dot_parts, map_parts, part_joined, plain_parts, position_joined, reset_end, other_start, point_without, reset_parts, set_apart, stretch_end, stretch_parts}
 use Rattle.nap_make.proofs.KindLemmas.{rest_of, times_text}
@@ -68,27 +68,27 @@ abbrev ShapeInRange : List Coordinates × Ink → Type 0
 ShapeInRange s = All IsInSquare s.0 × InkInRange s.1
 
 abbrev pub PartsInRange : (n : Name) → Parts n → Type 0
-PartsInRange names.Point w = Both IsInSquare (Both IsInRange ColourInRange) w
-PartsInRange names.Line w = Both IsInSquare (Both IsInSquare InkInRange) w
+PartsInRange names.Point w = BothFit IsInSquare (BothFit IsInRange ColourInRange) w
+PartsInRange names.Line w = BothFit IsInSquare (BothFit IsInSquare InkInRange) w
 PartsInRange names.ArcOutlined w = ShapeInRange w
 PartsInRange names.ArcFilled w = ShapeInRange w
-PartsInRange names.RectOutlined w = Both IsInSquare (Both IsInSquare InkInRange) w
-PartsInRange names.RectFilled w = Both IsInSquare (Both IsInSquare InkInRange) w
+PartsInRange names.RectOutlined w = BothFit IsInSquare (BothFit IsInSquare InkInRange) w
+PartsInRange names.RectFilled w = BothFit IsInSquare (BothFit IsInSquare InkInRange) w
 PartsInRange names.PolyOutlined w = ShapeInRange w
 PartsInRange names.PolyFilled w = ShapeInRange w
-PartsInRange names.Char w = Both Always (Both IsByte HandInRange) w
-PartsInRange names.Move w = Both StepInRange HandInRange w
+PartsInRange names.Char w = BothFit AnyValue (BothFit IsByte HandInRange) w
+PartsInRange names.Move w = BothFit StepInRange HandInRange w
 PartsInRange names.ToEol w = HandInRange w
-PartsInRange names.Map w = Both IsAddress HasSixteenBitParts w
-PartsInRange names.Blink w = Both IsAddress (Both (Both IsWord (Both IsWord IsWord)) ColourInRange) w
+PartsInRange names.Map w = BothFit IsAddress HasSixteenBitParts w
+PartsInRange names.Blink w = BothFit IsAddress (BothFit (BothFit IsWord (BothFit IsWord IsWord)) ColourInRange) w
 PartsInRange names.BlinkEnd w = ColourInRange w
 PartsInRange names.BlinkStart w = ColourInRange w
 PartsInRange names.BlinkStop w = ColourInRange w
 PartsInRange names.Wait w = IsWord w
 PartsInRange names.Bell w = Unit {0}
 PartsInRange names.Cursor w = Unit {0}
-PartsInRange names.Field w = Both AreaInRange PenInRange w
-PartsInRange names.Reset w = Both IsWord (Both IsWord PenInRange) w
+PartsInRange names.Field w = BothFit AreaInRange PenInRange w
+PartsInRange names.Reset w = BothFit IsWord (BothFit IsWord PenInRange) w
 PartsInRange names.Clear w = PenInRange w
 PartsInRange names.Glyph w = IsByte w
 PartsInRange names.Mask w = Unit {0}
@@ -228,7 +228,7 @@ step_kind : (s : TextStep) → IsPlainStep s ⊎ ((row : ℕ) × (column : ℕ) 
 step_kind (steps.Aps row column) = inr (row, column, refl)
 step_kind s = inl tt
 
-bytes_pair : Layout IsByte code_text 32 (Both IsByte HandInRange) (pair_text code_text 32 hand_text)
+bytes_pair : Layout IsByte code_text 32 (BothFit IsByte HandInRange) (pair_text code_text 32 hand_text)
 bytes_pair = record { apart = code_apart }
 
 bytes_end : Layout IsByte code_text 32 HandInRange hand_text
@@ -238,12 +238,12 @@ bytes_end = record { apart = code_apart }
 abbrev aps_text : ℕ × (ℕ × Hand) → List ℕ
 aps_text v = step_text (steps.Aps v.0 v.1.0) ++ 32 ∷ hand_text v.1.1
 
-aps_tells : Tells (Both IsByte (Both IsByte HandInRange)) aps_text
+aps_tells : Tells (BothFit IsByte (BothFit IsByte HandInRange)) aps_text
 aps_tells v w v_fits w_fits is =
     let text = sym (position_joined (code_text v.0) (code_text v.1.0) (hand_text v.1.1)) ∙ is ∙ position_joined (code_text w.0) (code_text w.1.0) (hand_text w.1.1) in
     both_tell bytes_pair code_tells (both_tell bytes_end code_tells hand_tells) v w v_fits w_fits (append_cancel_left (codes "APS ") _ _ text)
 
-moves_tell : Tells (Both StepInRange HandInRange) (pair_text step_text 32 hand_text)
+moves_tell : Tells (BothFit StepInRange HandInRange) (pair_text step_text 32 hand_text)
 moves_tell v w v_fits w_fits is = by (step_kind v.0) (step_kind w.0)
   where
     by : IsPlainStep v.0 ⊎ ((row : ℕ) × (column : ℕ) × (v.0 ≡ steps.Aps row column)) → IsPlainStep w.0 ⊎ ((row : ℕ) × (column : ℕ) × (w.0 ≡ steps.Aps row column)) → v ≡ w
@@ -276,15 +276,15 @@ areas_tell (areas.Part a b) (areas.Part c d) p q a_fits b_fits p_fits q_fits is 
     let same = both_tell corners_parts point_tells (both_tell corners_end point_tells pen_field_tells) (a, (b, p)) (c, (d, q)) (a_fits.0, (a_fits.1, p_fits)) (b_fits.0, (b_fits.1, q_fits)) text in
     (ap (λ (t : Coordinates × (Coordinates × Pen)). areas.Part t.0 t.1.0) same, ap (λ (t : Coordinates × (Coordinates × Pen)). t.1.1) same)
 
-fields_tell : Tells (Both AreaInRange PenInRange) (pair_text area_text 32 pen_field)
+fields_tell : Tells (BothFit AreaInRange PenInRange) (pair_text area_text 32 pen_field)
 fields_tell v w v_fits w_fits is =
     let same = areas_tell v.0 w.0 v.1 w.1 v_fits.0 w_fits.0 v_fits.1 w_fits.1 is in
     ap₂ (λ (a : Area) (p : Pen). (a, p)) same.0 same.1
 
-stretch_tells : Tells (Both IsInSquare (Both IsInSquare InkInRange)) (pair_text point_text 32 (pair_text point_text 32 ink_text))
+stretch_tells : Tells (BothFit IsInSquare (BothFit IsInSquare InkInRange)) (pair_text point_text 32 (pair_text point_text 32 ink_text))
 stretch_tells = both_tell stretch_parts point_tells (both_tell stretch_end point_tells ink_tells)
 
-letter_pair : Layout Always set_text 32 (Both IsByte HandInRange) (pair_text code_text 32 hand_text)
+letter_pair : Layout AnyValue set_text 32 (BothFit IsByte HandInRange) (pair_text code_text 32 hand_text)
 letter_pair = record { apart = set_apart }
 
 parts_tell : (n : Name) → Tells (PartsInRange n) (parts_text n)

@@ -7,7 +7,7 @@ use Rattle.nap_values.specs.Laws.{IsWord}
 use Rattle.nap_list.specs.Range.{IsAddress}
 use Rattle.nap_lines.specs.Lines.{point_text, move_text}
 use Rattle.nap_make.specs.Numbers.{IsSigned}
-use Rattle.nap_make.specs.Reading.{IsWritten, Reads, Both, pair_text}
+use Rattle.nap_make.specs.Reading.{IsWritten, Reads, BothFit, pair_text}
 use Rattle.nap_make.proofs.LayoutLemmas.{Alike, Layout, Tells, alike_tell, both_tell, reads_tried}
 use Rattle.nap_make.proofs.SignedLemmas.{signed_tells}
 use Rattle.nap_make.proofs.SpellLemmas.{IsVisible, OfDigits, Spells, both_spell, decimal_spells, signed_spells}
@@ -20,7 +20,7 @@ coordinates = record { apart = λ n fits. decimal_spells (λ x. x ≢ 44) (λ d 
 pub word_pair : Layout IsWord decimal 44 IsWord decimal
 word_pair = record { apart = λ n fits. decimal_spells (λ x. x ≢ 44) (λ d low high is. omega (arith, low, is)) n (omega (arith, fits)) }
 
-pub word_triple : Layout IsWord decimal 44 (Both IsWord IsWord) (pair_text decimal 44 decimal)
+pub word_triple : Layout IsWord decimal 44 (BothFit IsWord IsWord) (pair_text decimal 44 decimal)
 word_triple = record { apart = word_pair.apart }
 
 pub addr_pair : Layout IsAddress decimal 44 IsAddress decimal
@@ -31,10 +31,10 @@ signs = record { apart = signed_spells (λ x. x ≢ 44) (λ d low high is. omega
 
 -- Points and displacements as pairs of numbers.
 
-pub point_pair : Alike (λ (p : Coordinates). (p.x, p.y)) IsInSquare point_text (Both (λ n. n < 8388608) (λ n. n < 8388608)) (pair_text decimal 44 decimal)
+pub point_pair : Alike (λ (p : Coordinates). (p.x, p.y)) IsInSquare point_text (BothFit (λ n. n < 8388608) (λ n. n < 8388608)) (pair_text decimal 44 decimal)
 point_pair = record { there = λ p fits. fits; back = λ p fits. fits; same = λ p. append_assoc (decimal p.x) (codes ",") (decimal p.y) }
 
-pub move_pair : Alike (λ (m : Displacement). (m.x, m.y)) IsInRange move_text (Both IsSigned IsSigned) (pair_text signed_decimal 44 signed_decimal)
+pub move_pair : Alike (λ (m : Displacement). (m.x, m.y)) IsInRange move_text (BothFit IsSigned IsSigned) (pair_text signed_decimal 44 signed_decimal)
 move_pair = record {
   there = λ m fits. ((fits.0, fits.1), (fits.2, fits.3));
   back = λ m fits. (fits.0.0, fits.0.1, fits.1.0, fits.1.1);

@@ -7,7 +7,7 @@ use Rattle.std.proofs.lemmas.Int.{ints}
 use Rattle.std.proofs.lemmas.List.Elements.{All-append, All-cons, All-nil, All-weaker}
 use Rattle.std.proofs.lemmas.Str.Parse.{digit_from_value}
 use Rattle.nap_make.specs.Numbers.{IsSigned}
-use Rattle.nap_make.specs.Reading.{Both, pair_text}
+use Rattle.nap_make.specs.Reading.{BothFit, pair_text}
 
 -- Which bytes a text has.
 
@@ -36,7 +36,7 @@ pub signed_spells : (R : ℕ → Type 0) → OfDigits R → R 45 → Spells R Is
 signed_spells R digit minus (pos n) fits = decimal_spells R digit n (omega (arith, low_pos n fits))
 signed_spells R digit minus (negsuc n) fits = All-cons R 45 (decimal (suc n)) minus (decimal_spells R digit (suc n) (omega (arith, low_neg n fits)))
 
-pub both_spell : {A B : Type 0} (R : ℕ → Type 0) (P : A → Type 0) (f : A → List ℕ) (b : ℕ) (Q : B → Type 0) (g : B → List ℕ) → Spells R P f → R b → Spells R Q g → Spells R (Both P Q) (pair_text f b g)
+pub both_spell : {A B : Type 0} (R : ℕ → Type 0) (P : A → Type 0) (f : A → List ℕ) (b : ℕ) (Q : B → Type 0) (g : B → List ℕ) → Spells R P f → R b → Spells R Q g → Spells R (BothFit P Q) (pair_text f b g)
 both_spell R P f b Q g one byte two v fits = All-append R (f v.0) (b ∷ g v.1) (one v.0 fits.0) (All-cons R b (g v.1) byte (two v.1 fits.1))
 
 -- each byte of a list is above this, as a product that computes

@@ -29,7 +29,7 @@ use Rattle.nap_list.specs.Range.{ColourInRange, HandInRange, InkInRange, IsAddre
 use Rattle.nap_lines.specs.Lines.{code_text, colour_text, cursor_text, grb_text, hand_text, ink_text, look_text, mask_size_text, mask_text, move_text, pen_text, point_text, set_text, size_text, texture_text}
 use Rattle.nap_make.specs.declared.look.TextModes.{TextModes}
 use Rattle.nap_make.specs.Fields.{MaskInRange, colour_field, look_field, modes_text, pel_field, pen_field, texture_field}
-use Rattle.nap_make.specs.Reading.{Always, Both, pair_text}
+use Rattle.nap_make.specs.Reading.{AnyValue, BothFit, pair_text}
 use Rattle.nap_make.proofs.AttributeLemmas.{hand_end, hand_parts, hand_triple, ink_end, ink_parts, ink_triple, texture_pair, texture_parts}
 use Rattle.nap_make.proofs.CodeLemmas.{digit_tells}
 use Rattle.nap_make.proofs.ColourLemmas.{grb_triple, part_pair, part_triple}
@@ -66,7 +66,7 @@ word_tells m n m_fits n_fits is = decimal_injective m n (omega (arith, m_fits)) 
 pub addr_tells : Tells IsAddress decimal
 addr_tells m n m_fits n_fits is = decimal_injective m n (omega (arith, m_fits)) (omega (arith, n_fits)) is
 
-pub times_tell : Tells (Both IsWord (Both IsWord IsWord)) (pair_text decimal 44 (pair_text decimal 44 decimal))
+pub times_tell : Tells (BothFit IsWord (BothFit IsWord IsWord)) (pair_text decimal 44 (pair_text decimal 44 decimal))
 times_tell = both_tell word_triple word_tells (both_tell word_pair word_tells word_tells)
 
 pub grb_tells : Tells HasSixteenBitParts grb_text
@@ -84,36 +84,36 @@ code_tells m n m_fits n_fits is =
 
 -- Values that have a word of their own.
 
-pub set_tells : Tells Always set_text
-set_tells = told_by Always set_text (value_in_table ((codes "primary", char_sets.Primary) ∷ (codes "supplementary", char_sets.Supplementary) ∷ (codes "mosaic", char_sets.Mosaic) ∷ []) char_sets.Drcs) again
+pub set_tells : Tells AnyValue set_text
+set_tells = told_by AnyValue set_text (value_in_table ((codes "primary", char_sets.Primary) ∷ (codes "supplementary", char_sets.Supplementary) ∷ (codes "mosaic", char_sets.Mosaic) ∷ []) char_sets.Drcs) again
   where
-    again : (set : CharSet) → Always set → value_in_table ((codes "primary", char_sets.Primary) ∷ (codes "supplementary", char_sets.Supplementary) ∷ (codes "mosaic", char_sets.Mosaic) ∷ []) char_sets.Drcs (set_text set) ≡ set
+    again : (set : CharSet) → AnyValue set → value_in_table ((codes "primary", char_sets.Primary) ∷ (codes "supplementary", char_sets.Supplementary) ∷ (codes "mosaic", char_sets.Mosaic) ∷ []) char_sets.Drcs (set_text set) ≡ set
     again char_sets.Primary any = refl
     again char_sets.Supplementary any = refl
     again char_sets.Mosaic any = refl
     again char_sets.Drcs any = refl
 
-pub cursor_tells : Tells Always cursor_text
-cursor_tells = told_by Always cursor_text (value_in_table ((codes "flash", cursors.Flash) ∷ (codes "steady", cursors.Steady) ∷ []) cursors.Off) again
+pub cursor_tells : Tells AnyValue cursor_text
+cursor_tells = told_by AnyValue cursor_text (value_in_table ((codes "flash", cursors.Flash) ∷ (codes "steady", cursors.Steady) ∷ []) cursors.Off) again
   where
-    again : (kind : CursorKind) → Always kind → value_in_table ((codes "flash", cursors.Flash) ∷ (codes "steady", cursors.Steady) ∷ []) cursors.Off (cursor_text kind) ≡ kind
+    again : (kind : CursorKind) → AnyValue kind → value_in_table ((codes "flash", cursors.Flash) ∷ (codes "steady", cursors.Steady) ∷ []) cursors.Off (cursor_text kind) ≡ kind
     again cursors.Flash any = refl
     again cursors.Steady any = refl
     again cursors.Off any = refl
 
-pub mask_tells : Tells Always mask_text
-mask_tells = told_by Always mask_text (value_in_table ((codes "A", masks.A) ∷ (codes "B", masks.B) ∷ (codes "C", masks.C) ∷ []) masks.D) again
+pub mask_tells : Tells AnyValue mask_text
+mask_tells = told_by AnyValue mask_text (value_in_table ((codes "A", masks.A) ∷ (codes "B", masks.B) ∷ (codes "C", masks.C) ∷ []) masks.D) again
   where
-    again : (mask : Mask) → Always mask → value_in_table ((codes "A", masks.A) ∷ (codes "B", masks.B) ∷ (codes "C", masks.C) ∷ []) masks.D (mask_text mask) ≡ mask
+    again : (mask : Mask) → AnyValue mask → value_in_table ((codes "A", masks.A) ∷ (codes "B", masks.B) ∷ (codes "C", masks.C) ∷ []) masks.D (mask_text mask) ≡ mask
     again masks.A any = refl
     again masks.B any = refl
     again masks.C any = refl
     again masks.D any = refl
 
-named_tells : Tells Always (λ (n : Size). size_text (sizes.Named n))
-named_tells = told_by Always (λ (n : Size). size_text (sizes.Named n)) (value_in_table ((codes "small", named_sizes.Small) ∷ (codes "medium", named_sizes.Medium) ∷ (codes "normal", named_sizes.Normal) ∷ (codes "tall", named_sizes.Tall) ∷ []) named_sizes.Double) again
+named_tells : Tells AnyValue (λ (n : Size). size_text (sizes.Named n))
+named_tells = told_by AnyValue (λ (n : Size). size_text (sizes.Named n)) (value_in_table ((codes "small", named_sizes.Small) ∷ (codes "medium", named_sizes.Medium) ∷ (codes "normal", named_sizes.Normal) ∷ (codes "tall", named_sizes.Tall) ∷ []) named_sizes.Double) again
   where
-    again : (n : Size) → Always n → value_in_table ((codes "small", named_sizes.Small) ∷ (codes "medium", named_sizes.Medium) ∷ (codes "normal", named_sizes.Normal) ∷ (codes "tall", named_sizes.Tall) ∷ []) named_sizes.Double (size_text (sizes.Named n)) ≡ n
+    again : (n : Size) → AnyValue n → value_in_table ((codes "small", named_sizes.Small) ∷ (codes "medium", named_sizes.Medium) ∷ (codes "normal", named_sizes.Normal) ∷ (codes "tall", named_sizes.Tall) ∷ []) named_sizes.Double (size_text (sizes.Named n)) ≡ n
     again named_sizes.Small any = refl
     again named_sizes.Medium any = refl
     again named_sizes.Normal any = refl
@@ -204,7 +204,7 @@ flag_tells true false letter other is = absurd (other is)
 flag_tells false true letter other is = absurd (other (sym is))
 flag_tells false false letter other is = refl
 
-modes_tell : Tells Always modes_text
+modes_tell : Tells AnyValue modes_text
 modes_tell m n any also is =
     let bytes = sym (modes_bytes m) ∙ is ∙ modes_bytes n in
     let reverse = flag_tells m.reverse n.reverse 114 (λ e. omega (arith, e)) (ap (λ (s : List ℕ). get_or s 0 0) bytes) in

@@ -17,7 +17,7 @@ use Rattle.nap_make.specs.declared.colour.ColourKind.{ColourKind}
 use Rattle.nap_make.specs.declared.colour.ColourKind.TheVariants as kinds
 use Rattle.nap_make.specs.declared.look.TextModes.{TextModes}
 
--- Fields with their keys.
+-- The fields with their keys.
 
 abbrev pub pel_field : Displacement → List ℕ
 pel_field pel = codes "pel=" ++ move_text pel
@@ -34,25 +34,25 @@ pen_field pen = codes "pen=" ++ pen_text pen
 abbrev pub look_field : TextLook → List ℕ
 look_field look = codes "text=" ++ look_text look
 
--- Parts of fields.
+-- The parts of fields.
 
--- the size of a mask, if there is one, is in range
+-- the size of a mask is in range, if there is one
 abbrev pub MaskInRange : Option Displacement → Type 0
 MaskInRange mask = IfSome mask IsInRange
 
--- the name of a colour that has numbers
+-- the name of a colour that is written with numbers
 abbrev pub kind_name : ColourKind → List ℕ
 kind_name kinds.Direct = codes "direct"
 kind_name kinds.Front = codes "front"
 kind_name kinds.Pair = codes "pair"
 
--- a colour that has numbers, in range
+-- a colour that is written with numbers, in range
 abbrev pub IsNumbered : Colour → Type 0
 IsNumbered (colours.Own origin) = ⊥
 IsNumbered (colours.ByReset preset) = ⊥
 IsNumbered c = ColourInRange c
 
--- a move of the active position without bytes of its own
+-- a format effector of one byte
 abbrev pub IsPlainStep : TextStep → Type 0
 IsPlainStep (steps.Aps row column) = ⊥
 IsPlainStep _ = ⊤
@@ -61,20 +61,20 @@ IsPlainStep _ = ⊤
 abbrev pub size_name : Size → List ℕ
 size_name size = size_text (sizes.Named size)
 
--- four flags, each by its letter
+-- the four flags: the letter of each that is on, else `-`
 abbrev pub modes_text : TextModes → List ℕ
 modes_text m = flag_text m.reverse (codes "r") ++ flag_text m.underline (codes "u") ++ flag_text m.wrap (codes "w") ++ flag_text m.scroll (codes "s")
 
--- points, a space behind each, and then these bytes
+-- points, a space after each, and then these bytes
 abbrev pub points_before : List Coordinates → List ℕ → List ℕ
 points_before [] last = last
 points_before (p ∷ points) last = point_text p ++ 32 ∷ points_before points last
 
--- points of a shape, and what it is drawn with
+-- the points and the part INK of a shape
 abbrev pub shape_text : List Coordinates × Ink → List ℕ
 shape_text s = points_before s.0 (ink_text s.1)
 
--- not too many points for a shape, and what it is drawn with, are in range
+-- the points and the attributes of a shape are in range, and not more than a shape may have
 pub record ShapeFits (s : List Coordinates × Ink) : Type 0 where
   pub points : All IsInSquare s.0
   pub few : length s.0 ≤ points_limit

@@ -5,22 +5,22 @@ use Rattle.nap_lines.specs.Lines.{line}
 use Rattle.nap_lines.specs.Listing.{lines}
 use Rattle.nap_make.specs.Entries.{IsProper}
 
--- entries in range that have equal lines are equal
+-- entries in range with equal lines are equal
 abbrev pub LineTellsEntry : Type 0
 LineTellsEntry = (e f : Entry) → InRange e → InRange f → line e ≡ line f → e ≡ f
 
--- lists in range that have equal lines are equal
+-- lists in range with equal lines are equal
 abbrev pub LinesTellLists : Type 0
 LinesTellLists = (d e : List Entry) → AllInRange d → AllInRange e → lines d ≡ lines e → d ≡ e
 
--- the most bytes of a line: those of a polygon through as many points as there may be, each part as long as it may be
+-- the greatest number of bytes of a line: of a polygon with the most points, with each number as long as it may be
 abbrev pub longest_line : ℕ
 longest_line = 32112
 
--- No line of a well-made entry in range is longer.
+-- No line of a well-made entry in range is longer than that.
 abbrev pub LinesAreBounded : Type 0
 LinesAreBounded = (e : Entry) → IsProper e → length (line e) ≤ longest_line
 
--- No line of a well-made entry in range has the end of a line in it.
+-- No line of a well-made entry in range contains LF.
 abbrev pub LinesHaveNoEnds : Type 0
 LinesHaveNoEnds = (e : Entry) → IsProper e → All (λ b. b ≢ 10) (line e)

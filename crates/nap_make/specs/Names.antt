@@ -32,7 +32,7 @@ name_text names.Glyph = codes "GLYPH"
 name_text names.Mask = codes "MASK"
 name_text names.End = codes "END"
 
--- Names of lines that have two.
+-- The names of kinds of entries that have two.
 
 abbrev pub arc_name : Bool → Name
 arc_name filled = if filled then names.ArcFilled else names.ArcOutlined
@@ -70,7 +70,7 @@ name_of (entry.GlyphStart code) = names.Glyph
 name_of (entry.MaskStart mask) = names.Mask
 name_of entry.DefEnd = names.End
 
--- the name of an arc's or a polygon's line
+-- the name of an arc's or polygon's line
 abbrev pub NamesShape : Name → Type 0
 NamesShape names.ArcOutlined = Unit {0}
 NamesShape names.ArcFilled = Unit {0}

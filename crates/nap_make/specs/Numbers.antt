@@ -1,17 +1,17 @@
 use Rattle.std.specs.Prelude.{ℕ, ℤ, ◌≡◌, ◌<◌, ◌≤ℤ◌, ◌<ℤ◌, pos, negsuc, List}
 use Rattle.std.specs.Str.Parse.{IsNumeral, digits_value}
 
--- a number of at most eight digits
+-- a number of at most eight decimal digits
 abbrev pub IsShort : ℕ → Type 0
 IsShort n = n < 100000000
 
--- at most eight digits write this number, perhaps with zeros in front
+-- at most eight decimal digits write this number, with leading zeros or without
 pub record IsNumeralOf (digits : List ℕ) (n : ℕ) : Type 0 where
   pub numeral : IsNumeral 10 digits
   pub value : digits_value 10 digits ≡ n
   pub short : IsShort n
 
--- a number of 24 bits with a sign
+-- a signed number of 24 bits
 abbrev pub IsSigned : ℤ → Type 0
 IsSigned z = (negsuc 8388607 ≤ℤ z) × (z <ℤ pos 8388608)
 

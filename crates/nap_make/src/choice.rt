@@ -1,14 +1,14 @@
-//! Values that have a word of their own.
+//! Parsing of values that have names.
 ghost use Rattle.std.specs.Prelude.{◌≡◌, ◌≢◌, MatchOption};
 ghost use Rattle.nap_lines.specs.Lines.{set_text, cursor_text, mask_text, step_text};
 ghost use Rattle.nap_make.specs.Fields.{IsPlainStep};
-ghost use Rattle.nap_make.specs.Reading.{Reads, Always};
+ghost use Rattle.nap_make.specs.Reading.{Reads, AnyValue};
 
 use nap_codes::{CharSet, CursorKind, Mask, TextStep};
 
-/// The code set of characters that is written so.
+/// Parses the name of a character set.
 pub(crate) fn char_set(bytes: &[u8]) -> Option<CharSet>
-    ensures { Reads Always set_text bytes.now result }
+    ensures { Reads AnyValue set_text bytes.now result }
 {
     match bytes {
         b"primary" => Some(CharSet::Primary),
@@ -19,9 +19,9 @@ pub(crate) fn char_set(bytes: &[u8]) -> Option<CharSet>
     }
 }
 
-/// How the cursor shows, as it is written so.
+/// Parses the name of a state of the cursor.
 pub(crate) fn cursor_kind(bytes: &[u8]) -> Option<CursorKind>
-    ensures { Reads Always cursor_text bytes.now result }
+    ensures { Reads AnyValue cursor_text bytes.now result }
 {
     match bytes {
         b"flash" => Some(CursorKind::Flash),
@@ -31,9 +31,9 @@ pub(crate) fn cursor_kind(bytes: &[u8]) -> Option<CursorKind>
     }
 }
 
-/// The mask that is written so.
+/// Parses the letter of a mask.
 pub(crate) fn mask(bytes: &[u8]) -> Option<Mask>
-    ensures { Reads Always mask_text bytes.now result }
+    ensures { Reads AnyValue mask_text bytes.now result }
 {
     match bytes {
         b"A" => Some(Mask::A),
@@ -44,7 +44,7 @@ pub(crate) fn mask(bytes: &[u8]) -> Option<Mask>
     }
 }
 
-/// The move of the active position that is written so, but for APS.
+/// Parses the name of a format effector, except APS.
 pub(crate) fn plain_step(bytes: &[u8]) -> Option<TextStep>
     ensures { Reads IsPlainStep step_text bytes.now result }
 {

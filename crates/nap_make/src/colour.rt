@@ -1,4 +1,4 @@
-//! Colours.
+//! Parsing of colours.
 ghost use Rattle.std.specs.Prelude.{◌≡◌, ◌≢◌, ◌<◌, MatchOption, decimal};
 ghost use Rattle.nap_values.specs.Colours.{HasSixteenBitParts};
 ghost use Rattle.nap_list.specs.Range.{ColourInRange};
@@ -6,29 +6,29 @@ ghost use Rattle.nap_lines.specs.Lines.{grb_text, colour_text};
 ghost use Rattle.nap_make.specs.Fields.{IsNumbered};
 ghost use Rattle.nap_make.specs.Reading.{Reads};
 
-use crate::cutting::cut;
+use crate::cutting::split_at_byte;
 use crate::number::{addr, number_below, two_addrs};
 use nap_list::{Colour, Origin, Preset};
 use nap_values::Grb;
 
-/// The colour that is written so by its parts.
+/// Parses the components of a colour.
 pub(crate) fn grb(bytes: &[u8]) -> Option<Grb>
     ensures { Reads HasSixteenBitParts grb_text bytes.now result }
 {
-    let (g, others) = cut(bytes, b',')?;
-    let (r, b) = cut(others, b',')?;
+    let (g, others) = split_at_byte(bytes, b',')?;
+    let (r, b) = split_at_byte(others, b',')?;
     let g = number_below(g, Grb::LIMIT)?;
     let r = number_below(r, Grb::LIMIT)?;
     let b = number_below(b, Grb::LIMIT)?;
     Grb::try_new(g, r, b)
 }
 
-/// Which numbers a colour has.
+/// The kinds of colours that are written with numbers.
 #[derive(Clone, Copy, PartialEq, Eq, Debug, Drop)]
 pub(crate) enum ColourKind {
-    /// Its parts.
+    /// Three components.
     Direct,
-    /// An address.
+    /// One address.
     Front,
     /// Two addresses.
     Pair,
@@ -38,7 +38,7 @@ impl ColourKind {
     ghost use Rattle.nap_make.specs.Fields.{kind_name};
     ghost use Rattle.nap_make.specs.declared.colour.ColourKind.{ColourKind};
 
-    /// The kind with this name.
+    /// Returns the kind with this name.
     fn named(name: &[u8]) -> Option<ColourKind>
         ensures { MatchOption result ((k : ColourKind) → name.now ≢ kind_name k) (λ k. name.now ≡ kind_name k) }
     {
@@ -51,11 +51,11 @@ impl ColourKind {
     }
 }
 
-/// The colour that is written so by its numbers.
+/// Parses a colour that is written with numbers.
 fn colour_by_numbers(bytes: &[u8]) -> Option<Colour>
     ensures { Reads IsNumbered colour_text bytes.now result }
 {
-    let (name, numbers) = cut(bytes, b':')?;
+    let (name, numbers) = split_at_byte(bytes, b':')?;
     let kind = ColourKind::named(name)?;
     match kind {
         ColourKind::Direct => {
@@ -73,7 +73,7 @@ fn colour_by_numbers(bytes: &[u8]) -> Option<Colour>
     }
 }
 
-/// The colour that is written so.
+/// Parses a colour.
 pub(crate) fn colour(bytes: &[u8]) -> Option<Colour>
     ensures { Reads ColourInRange colour_text bytes.now result }
 {

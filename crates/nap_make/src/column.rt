@@ -1,11 +1,11 @@
-//! Where a line that is no entry's goes wrong.
+//! The column of the first field that makes a line no entry's.
 ghost use Rattle.std.specs.Prelude.{◌≤◌, IfOk, IsTrue, length};
 ghost use Rattle.nap_make.specs.Entries.{BeginsLine, Extends, TellsColumn};
 
 use crate::attribute::{colour_field, look_field, pel_field, pen_field, texture_field};
 use crate::choice::{char_set, cursor_kind, mask, plain_step};
 use crate::colour::grb;
-use crate::cutting::{after, cut, is};
+use crate::cutting::{equals, rest_after, split_at_byte};
 use crate::name::Name;
 use crate::number::{addr, code, three_words, word};
 use crate::place::point;
@@ -14,7 +14,7 @@ use crate::shape::first_point;
 use nap_list::SHAPE_POINTS;
 use std::alloc::{AllocError, Global};
 
-/// What a field of a line has to be.
+/// A field that a line has to have.
 #[derive(Clone, Copy, PartialEq, Eq, Debug, Drop)]
 enum Field {
     Addr,
@@ -37,11 +37,11 @@ enum Field {
 }
 
 impl Field {
-    /// Whether bytes are such a field.
+    /// Whether the bytes are such a field.
     fn is_read(self, bytes: &[u8]) -> bool {
         match self {
             Field::Addr => addr(bytes).is_some(),
-            Field::Aps => is(bytes, b"APS"),
+            Field::Aps => equals(bytes, b"APS"),
             Field::Code => code(bytes).is_some(),
             Field::Colour => colour_field(bytes).is_some(),
             Field::Cursor => cursor_kind(bytes).is_some(),
@@ -55,12 +55,12 @@ impl Field {
             Field::Step => plain_step(bytes).is_some(),
             Field::Texture => texture_field(bytes).is_some(),
             Field::Times => three_words(bytes).is_some(),
-            Field::Whole => is(bytes, b"whole"),
+            Field::Whole => equals(bytes, b"whole"),
             Field::Word => word(bytes).is_some(),
         }
     }
 
-    /// Such a field.
+    /// Returns an example of the field.
     fn sample(self) -> &'static str {
         match self {
             Field::Addr | Field::Word => "0",
@@ -82,12 +82,12 @@ impl Field {
     }
 }
 
-/// The fields of what lines and areas are drawn with.
+/// The fields of the part INK.
 const INK: &[Field] = &[Field::Pel, Field::Colour, Field::Texture];
 
-/// The fields of a move of text, which has bytes of its own if it is APS.
+/// Returns the fields of a TextMove's line, which for APS has two bytes more.
 fn fields_of_move(rest: &[u8]) -> &'static [Field] {
-    if after(rest, b"APS ").is_some() {
+    if rest_after(rest, b"APS ").is_some() {
         return &[
             Field::Aps,
             Field::Code,
@@ -100,15 +100,15 @@ fn fields_of_move(rest: &[u8]) -> &'static [Field] {
     &[Field::Step, Field::Pen, Field::Colour, Field::Look]
 }
 
-/// The fields of a field of the screen.
+/// Returns the fields of a Field's line.
 fn fields_of_area(rest: &[u8]) -> &'static [Field] {
-    if after(rest, b"whole ").is_some() {
+    if rest_after(rest, b"whole ").is_some() {
         return &[Field::Whole, Field::Pen];
     }
     &[Field::Point, Field::Point, Field::Pen]
 }
 
-/// The fields behind a name, but for the points of a shape.
+/// Returns the fields after a name, without the points of a shape.
 fn fields_of(name: Name, rest: &[u8]) -> &'static [Field] {
     match name {
         Name::Point => &[Field::Point, Field::Pel, Field::Colour],
@@ -143,7 +143,7 @@ fn fields_of(name: Name, rest: &[u8]) -> &'static [Field] {
     }
 }
 
-/// Points of a shape that has too few, and what it is drawn with.
+/// The points that a shape with too few lacks, and the part INK.
 const POINTS: &[Field] = &[
     Field::Point,
     Field::Point,
@@ -153,29 +153,29 @@ const POINTS: &[Field] = &[
     Field::Texture,
 ];
 
-/// What isn't as it should be: how many bytes there are of it, and the fields that should stand there.
+/// A fault in a line: how many bytes follow from where it begins, and the fields that should be there.
 #[derive(Clone, Copy, Drop)]
-struct Wrong {
-    /// How many bytes there are from where it begins.
+struct FieldFault {
+    /// The number of bytes from where the fault begins.
     size: usize,
-    /// The fields that should stand there.
+    /// The fields that should be there.
     fields: &'static [Field],
 }
 
-/// What isn't as it should be where these fields should stand.
-fn wrong_fields(fields: &'static [Field], bytes: &[u8]) -> Wrong
+/// Returns the first fault where these fields should be.
+fn wrong_fields(fields: &'static [Field], bytes: &[u8]) -> FieldFault
     ensures { result.size ≤ length bytes.now }
 {
     let mut rest = bytes;
     for (place, field) in fields.iter().enumerate() {
-        let wrong = Wrong {
+        let wrong = FieldFault {
             size: rest.len(),
             fields: &fields[place..],
         };
         if place + 1 == fields.len() {
             return wrong;
         }
-        match cut(rest, b' ') {
+        match split_at_byte(rest, b' ') {
             Some((text, more)) => {
                 if !field.is_read(text) {
                     return wrong;
@@ -185,14 +185,14 @@ fn wrong_fields(fields: &'static [Field], bytes: &[u8]) -> Wrong
             None => return wrong,
         }
     }
-    Wrong {
+    FieldFault {
         size: rest.len(),
         fields: &[],
     }
 }
 
-/// What isn't as it should be behind the name of a shape that has at least so many points.
-fn wrong_shape(least: usize, rest: &[u8]) -> Wrong
+/// Returns the first fault after the name of a shape with at least this many points.
+fn wrong_shape(least: usize, rest: &[u8]) -> FieldFault
     ensures { result.size ≤ length rest.now }
 {
     let mut left = rest;
@@ -201,7 +201,7 @@ fn wrong_shape(least: usize, rest: &[u8]) -> Wrong
             Some(next) => left = next.1,
             None => {
                 if count < least {
-                    return Wrong {
+                    return FieldFault {
                         size: left.len(),
                         fields: POINTS,
                     };
@@ -213,8 +213,8 @@ fn wrong_shape(least: usize, rest: &[u8]) -> Wrong
     wrong_fields(INK, left)
 }
 
-/// What isn't as it should be behind a name and its space.
-fn wrong_behind(name: Name, rest: &[u8]) -> Wrong
+/// Returns the first fault after a name and its space.
+fn wrong_after_name(name: Name, rest: &[u8]) -> FieldFault
     ensures { result.size ≤ length rest.now }
 {
     match name {
@@ -224,31 +224,31 @@ fn wrong_behind(name: Name, rest: &[u8]) -> Wrong
     }
 }
 
-/// What isn't as it should be of a line.
-fn wrong_part(bytes: &[u8]) -> Wrong
+/// Returns the first fault of a line.
+fn wrong_part(bytes: &[u8]) -> FieldFault
     ensures { result.size ≤ length bytes.now }
 {
-    match cut(bytes, b' ') {
+    match split_at_byte(bytes, b' ') {
         Some((name, rest)) => match Name::of(name) {
-            Some(Name::Bell | Name::End) => Wrong {
+            Some(Name::Bell | Name::End) => FieldFault {
                 size: rest.len() + 1,
                 fields: &[],
             },
-            Some(name) => wrong_behind(name, rest),
-            None => Wrong {
+            Some(name) => wrong_after_name(name, rest),
+            None => FieldFault {
                 size: bytes.len(),
                 fields: &[],
             },
         },
-        None => Wrong {
+        None => FieldFault {
             size: bytes.len(),
             fields: &[],
         },
     }
 }
 
-/// These bytes, and such fields behind them.
-fn completed(alloc: Global, front: &[u8], fields: &[Field]) -> Result<Vec<u8>, AllocError>
+/// Returns the bytes followed by examples of the fields.
+fn with_sample_fields(alloc: Global, front: &[u8], fields: &[Field]) -> Result<Vec<u8>, AllocError>
     ensures { IfOk result (λ text. Extends front.now text.items) }
 {
     let mut text = Vec::new(alloc);
@@ -264,11 +264,11 @@ fn completed(alloc: Global, front: &[u8], fields: &[Field]) -> Result<Vec<u8>, A
     Ok(text)
 }
 
-/// Whether a line that has such fields behind these bytes is an entry's.
+/// Whether the bytes followed by examples of the fields are the line of an entry.
 fn begins_line(alloc: Global, front: &[u8], fields: &[Field]) -> bool
     ensures { IsTrue result → BeginsLine front.now }
 {
-    match completed(alloc, front, fields) {
+    match with_sample_fields(alloc, front, fields) {
         Ok(text) => match read(alloc, text.as_slice()) {
             Ok(Some(_)) => true,
             Ok(None) => false,
@@ -278,8 +278,8 @@ fn begins_line(alloc: Global, front: &[u8], fields: &[Field]) -> bool
     }
 }
 
-/// The column, from one on, of the first field of a line that isn't as it should be, so that what is before it begins an
-/// entry's line.
+/// Returns the column, counted from 1, of the first field that makes the line no entry's. What is before it begins the
+/// line of an entry.
 pub(crate) fn column(alloc: Global, bytes: &[u8]) -> usize
     ensures { TellsColumn bytes.now result }
 {

@@ -1,10 +1,10 @@
-//! Bytes in two parts.
+//! Splitting of bytes.
 ghost use Rattle.std.specs.Prelude.{◌≡◌, ◌≢◌, ◌++◌, ◌↔◌, ℕ, List, IsTrue, MatchOption};
-ghost use Rattle.nap_make.specs.Cutting.{Cuts};
+ghost use Rattle.nap_make.specs.Cutting.{SplitsAtByte};
 
-/// What comes before the first such byte, and after it.
-pub fn cut(bytes: &[u8], byte: u8) -> Option<(&[u8], &[u8])>
-    ensures { MatchOption result ((front back : List ℕ) → Cuts byte bytes.now front back → ⊥) (λ parts. Cuts byte bytes.now parts.0.now parts.1.now) }
+/// Returns what is before the first byte of this value, and what is after it.
+pub fn split_at_byte(bytes: &[u8], byte: u8) -> Option<(&[u8], &[u8])>
+    ensures { MatchOption result ((front back : List ℕ) → SplitsAtByte byte bytes.now front back → ⊥) (λ parts. SplitsAtByte byte bytes.now parts.0.now parts.1.now) }
 {
     let mut at = 0;
     while at < bytes.len() {
@@ -16,15 +16,15 @@ pub fn cut(bytes: &[u8], byte: u8) -> Option<(&[u8], &[u8])>
     None
 }
 
-/// What comes after a front.
-pub(crate) fn after<'a>(bytes: &'a [u8], front: &[u8]) -> Option<&'a [u8]>
+/// Returns what follows a prefix.
+pub(crate) fn rest_after<'a>(bytes: &'a [u8], front: &[u8]) -> Option<&'a [u8]>
     ensures { MatchOption result ((rest : List ℕ) → bytes.now ≢ front.now ++ rest) (λ rest. bytes.now ≡ front.now ++ rest.now) }
 {
     bytes.strip_prefix(front)
 }
 
-/// Whether bytes are this text.
-pub(crate) fn is(bytes: &[u8], text: &[u8]) -> bool
+/// Whether the bytes are this text.
+pub(crate) fn equals(bytes: &[u8], text: &[u8]) -> bool
     ensures { IsTrue result ↔ (bytes.now ≡ text.now) }
 {
     bytes == text

@@ -7,7 +7,7 @@ use crate::reading::read;
 use nap_list::Entry;
 use std::alloc::Global;
 
-/// The well-made entry whose line these bytes are, without its end.
+/// Returns the well-made entry whose line these bytes are, without LF (PROFILE.md, Lines that make a page).
 pub fn entry_of_line(alloc: Global, bytes: &[u8]) -> Result<Entry, LineFault>
     ensures { TellsLine bytes.now result }
 {

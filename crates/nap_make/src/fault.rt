@@ -4,10 +4,10 @@ use thiserror::Error;
 /// Why a line gives no entry.
 #[derive(Clone, Copy, PartialEq, Eq, Debug, Drop, Error)]
 pub enum LineFault {
-    /// It is the line of none: a column, from one on, before which it could be one's.
+    /// No entry has this line. What is before the column, counted from 1, begins the line of an entry.
     #[error("no line of a list, at column {0}")]
     Line(usize),
-    /// There was no memory for its points.
+    /// Memory ran out for the points of a shape.
     #[error("no memory")]
     Memory,
 }

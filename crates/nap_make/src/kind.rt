@@ -1,4 +1,4 @@
-//! The entries of each name, by what is behind it.
+//! Parsing of the rest of a line, by the name that it begins with (PROFILE.md, Lines of list).
 ghost use Rattle.std.specs.Prelude.{◌≡◌, MatchOption};
 ghost use Rattle.nap_values.specs.Coordinates.{IsInSquare};
 ghost use Rattle.nap_list.specs.Entry.{IsCode};
@@ -7,12 +7,12 @@ ghost use Rattle.nap_lines.specs.Lines.{code_text, hand_text, ink_text, point_te
 ghost use Rattle.nap_make.specs.Entries.{ReadsLine, line_from};
 ghost use Rattle.nap_make.specs.Fields.{IsPlainStep, pen_field};
 ghost use Rattle.nap_make.specs.Names.{mark_name, rect_name};
-ghost use Rattle.nap_make.specs.Reading.{Reads, Both, pair_text};
+ghost use Rattle.nap_make.specs.Reading.{Reads, BothFit, pair_text};
 
 use crate::attribute::{colour_field, hand, ink, pel_field, pen_field};
 use crate::choice::{char_set, cursor_kind, mask, plain_step};
 use crate::colour::grb;
-use crate::cutting::{after, cut};
+use crate::cutting::{rest_after, split_at_byte};
 use crate::name::Name;
 use crate::number::{addr, code, three_words, word};
 use crate::place::point;
@@ -20,43 +20,43 @@ use nap_codes::TextStep;
 use nap_list::{Area, Entry, Hand, Ink, Pen};
 use nap_values::Point;
 
-/// A point.
-pub(crate) fn dot(rest: &[u8]) -> Option<Entry>
+/// Parses a Point after its name.
+pub(crate) fn point_entry(rest: &[u8]) -> Option<Entry>
     ensures { ReadsLine (line_from Name.Point rest.now) result }
 {
-    let (at, others) = cut(rest, b' ')?;
-    let (pel, colour) = cut(others, b' ')?;
+    let (at, others) = split_at_byte(rest, b' ')?;
+    let (pel, colour) = split_at_byte(others, b' ')?;
     let at = point(at)?;
     let pel = pel_field(pel)?;
     let colour = colour_field(colour)?;
     Some(Entry::Point { at, pel, colour })
 }
 
-/// Two points, and what is drawn with between them.
-fn stretch(bytes: &[u8]) -> Option<(Point, (Point, Ink))>
-    ensures { Reads (Both IsInSquare (Both IsInSquare InkInRange)) (pair_text point_text 32 (pair_text point_text 32 ink_text)) bytes.now result }
+/// Parses two points and the part INK.
+fn two_points_and_ink(bytes: &[u8]) -> Option<(Point, (Point, Ink))>
+    ensures { Reads (BothFit IsInSquare (BothFit IsInSquare InkInRange)) (pair_text point_text 32 (pair_text point_text 32 ink_text)) bytes.now result }
 {
-    let (from, others) = cut(bytes, b' ')?;
-    let (to, ink_text) = cut(others, b' ')?;
+    let (from, others) = split_at_byte(bytes, b' ')?;
+    let (to, ink_text) = split_at_byte(others, b' ')?;
     let from = point(from)?;
     let to = point(to)?;
     let ink = ink(ink_text)?;
     Some((from, (to, ink)))
 }
 
-/// A line.
-pub(crate) fn line(rest: &[u8]) -> Option<Entry>
+/// Parses a Line after its name.
+pub(crate) fn line_entry(rest: &[u8]) -> Option<Entry>
     ensures { ReadsLine (line_from Name.Line rest.now) result }
 {
-    let (from, (to, ink)) = stretch(rest)?;
+    let (from, (to, ink)) = two_points_and_ink(rest)?;
     Some(Entry::Line { from, to, ink })
 }
 
-/// A rectangle.
-pub(crate) fn rect(filled: bool, rest: &[u8]) -> Option<Entry>
+/// Parses a Rect after its name.
+pub(crate) fn rect_entry(filled: bool, rest: &[u8]) -> Option<Entry>
     ensures { ReadsLine (line_from (rect_name filled) rest.now) result }
 {
-    let (from, (to, ink)) = stretch(rest)?;
+    let (from, (to, ink)) = two_points_and_ink(rest)?;
     Some(Entry::Rect {
         filled,
         from,
@@ -65,47 +65,47 @@ pub(crate) fn rect(filled: bool, rest: &[u8]) -> Option<Entry>
     })
 }
 
-/// A character.
-pub(crate) fn letter(rest: &[u8]) -> Option<Entry>
+/// Parses a Char after its name.
+pub(crate) fn char_entry(rest: &[u8]) -> Option<Entry>
     ensures { ReadsLine (line_from Name.Char rest.now) result }
 {
-    let (set, others) = cut(rest, b' ')?;
-    let (digits, hand_text) = cut(others, b' ')?;
+    let (set, others) = split_at_byte(rest, b' ')?;
+    let (digits, hand_text) = split_at_byte(others, b' ')?;
     let set = char_set(set)?;
     let code = code(digits)?;
     let hand = hand(hand_text)?;
     Some(Entry::Char { set, code, hand })
 }
 
-/// The two bytes of APS, and what characters are drawn with there.
-fn position(bytes: &[u8]) -> Option<(u8, (u8, Hand))>
-    ensures { Reads (Both IsCode (Both IsCode HandInRange)) (pair_text code_text 32 (pair_text code_text 32 hand_text)) bytes.now result }
+/// Parses the two bytes of APS and the part HAND.
+fn aps_bytes_and_hand(bytes: &[u8]) -> Option<(u8, (u8, Hand))>
+    ensures { Reads (BothFit IsCode (BothFit IsCode HandInRange)) (pair_text code_text 32 (pair_text code_text 32 hand_text)) bytes.now result }
 {
-    let (row, others) = cut(bytes, b' ')?;
-    let (column, hand_text) = cut(others, b' ')?;
+    let (row, others) = split_at_byte(bytes, b' ')?;
+    let (column, hand_text) = split_at_byte(others, b' ')?;
     let row = code(row)?;
     let column = code(column)?;
     let hand = hand(hand_text)?;
     Some((row, (column, hand)))
 }
 
-/// A move without bytes of its own, and what characters are drawn with there.
+/// Parses the name of a format effector, except APS, and the part HAND.
 fn plain_move(bytes: &[u8]) -> Option<(TextStep, Hand)>
-    ensures { Reads (Both IsPlainStep HandInRange) (pair_text step_text 32 hand_text) bytes.now result }
+    ensures { Reads (BothFit IsPlainStep HandInRange) (pair_text step_text 32 hand_text) bytes.now result }
 {
-    let (name, hand_text) = cut(bytes, b' ')?;
+    let (name, hand_text) = split_at_byte(bytes, b' ')?;
     let step = plain_step(name)?;
     let hand = hand(hand_text)?;
     Some((step, hand))
 }
 
-/// A move of the active position of text.
-pub(crate) fn text_move(rest: &[u8]) -> Option<Entry>
+/// Parses a TextMove after its name.
+pub(crate) fn text_move_entry(rest: &[u8]) -> Option<Entry>
     ensures { ReadsLine (line_from Name.Move rest.now) result }
 {
-    match after(rest, b"APS ") {
+    match rest_after(rest, b"APS ") {
         Some(others) => {
-            let (row, (column, hand)) = position(others)?;
+            let (row, (column, hand)) = aps_bytes_and_hand(others)?;
             let step = TextStep::Aps(row, column);
             Some(Entry::TextMove { step, hand })
         }
@@ -116,30 +116,30 @@ pub(crate) fn text_move(rest: &[u8]) -> Option<Entry>
     }
 }
 
-/// A character repeated to the end of the line.
-pub(crate) fn to_eol(rest: &[u8]) -> Option<Entry>
+/// Parses a ToEol after its name.
+pub(crate) fn to_eol_entry(rest: &[u8]) -> Option<Entry>
     ensures { ReadsLine (line_from Name.ToEol rest.now) result }
 {
     let hand = hand(rest)?;
     Some(Entry::ToEol { hand })
 }
 
-/// A colour of the map.
-pub(crate) fn map(rest: &[u8]) -> Option<Entry>
+/// Parses a Map after its name.
+pub(crate) fn map_entry(rest: &[u8]) -> Option<Entry>
     ensures { ReadsLine (line_from Name.Map rest.now) result }
 {
-    let (number, parts) = cut(rest, b' ')?;
+    let (number, parts) = split_at_byte(rest, b' ')?;
     let addr = addr(number)?;
     let grb = grb(parts)?;
     Some(Entry::Map { addr, grb })
 }
 
-/// A blink process.
-pub(crate) fn blink(rest: &[u8]) -> Option<Entry>
+/// Parses a Blink after its name.
+pub(crate) fn blink_entry(rest: &[u8]) -> Option<Entry>
     ensures { ReadsLine (line_from Name.Blink rest.now) result }
 {
-    let (number, others) = cut(rest, b' ')?;
-    let (times, colour) = cut(others, b' ')?;
+    let (number, others) = split_at_byte(rest, b' ')?;
+    let (times, colour) = split_at_byte(others, b' ')?;
     let addr = addr(number)?;
     let (on, (off, delay)) = three_words(times)?;
     let colour = colour_field(colour)?;
@@ -152,98 +152,98 @@ pub(crate) fn blink(rest: &[u8]) -> Option<Entry>
     })
 }
 
-/// The end of blinking.
-pub(crate) fn blink_end(rest: &[u8]) -> Option<Entry>
+/// Parses a BlinkEnd after its name.
+pub(crate) fn blink_end_entry(rest: &[u8]) -> Option<Entry>
     ensures { ReadsLine (line_from Name.BlinkEnd rest.now) result }
 {
     let colour = colour_field(rest)?;
     Some(Entry::BlinkEnd { colour })
 }
 
-/// The start or the end of a text that blinks.
-pub(crate) fn blink_mark(on: bool, rest: &[u8]) -> Option<Entry>
+/// Parses a BlinkMark after its name.
+pub(crate) fn blink_mark_entry(on: bool, rest: &[u8]) -> Option<Entry>
     ensures { ReadsLine (line_from (mark_name on) rest.now) result }
 {
     let colour = colour_field(rest)?;
     Some(Entry::BlinkMark { on, colour })
 }
 
-/// A pause.
-pub(crate) fn wait(rest: &[u8]) -> Option<Entry>
+/// Parses a Wait after its name.
+pub(crate) fn wait_entry(rest: &[u8]) -> Option<Entry>
     ensures { ReadsLine (line_from Name.Wait rest.now) result }
 {
     let tenths = word(rest)?;
     Some(Entry::Wait(tenths))
 }
 
-/// How the cursor shows.
-pub(crate) fn cursor(rest: &[u8]) -> Option<Entry>
+/// Parses a Cursor after its name.
+pub(crate) fn cursor_entry(rest: &[u8]) -> Option<Entry>
     ensures { ReadsLine (line_from Name.Cursor rest.now) result }
 {
     let kind = cursor_kind(rest)?;
     Some(Entry::Cursor(kind))
 }
 
-/// Two corners, and a pen.
-fn corners(bytes: &[u8]) -> Option<(Point, (Point, Pen))>
-    ensures { Reads (Both IsInSquare (Both IsInSquare PenInRange)) (pair_text point_text 32 (pair_text point_text 32 pen_field)) bytes.now result }
+/// Parses two corners and the field `push_pen=`.
+fn two_points_and_pen(bytes: &[u8]) -> Option<(Point, (Point, Pen))>
+    ensures { Reads (BothFit IsInSquare (BothFit IsInSquare PenInRange)) (pair_text point_text 32 (pair_text point_text 32 pen_field)) bytes.now result }
 {
-    let (from, others) = cut(bytes, b' ')?;
-    let (to, pen) = cut(others, b' ')?;
+    let (from, others) = split_at_byte(bytes, b' ')?;
+    let (to, pen) = split_at_byte(others, b' ')?;
     let from = point(from)?;
     let to = point(to)?;
     let pen = pen_field(pen)?;
     Some((from, (to, pen)))
 }
 
-/// The active field.
-pub(crate) fn field(rest: &[u8]) -> Option<Entry>
+/// Parses a Field after its name.
+pub(crate) fn field_entry(rest: &[u8]) -> Option<Entry>
     ensures { ReadsLine (line_from Name.Field rest.now) result }
 {
-    match after(rest, b"whole ") {
+    match rest_after(rest, b"whole ") {
         Some(others) => {
             let pen = pen_field(others)?;
             let area = Area::Whole;
             Some(Entry::Field { area, pen })
         }
         None => {
-            let (from, (to, pen)) = corners(rest)?;
+            let (from, (to, pen)) = two_points_and_pen(rest)?;
             let area = Area::Part { from, to };
             Some(Entry::Field { area, pen })
         }
     }
 }
 
-/// A reset.
-pub(crate) fn reset(rest: &[u8]) -> Option<Entry>
+/// Parses a Reset after its name.
+pub(crate) fn reset_entry(rest: &[u8]) -> Option<Entry>
     ensures { ReadsLine (line_from Name.Reset rest.now) result }
 {
-    let (first, others) = cut(rest, b' ')?;
-    let (second, pen) = cut(others, b' ')?;
+    let (first, others) = split_at_byte(rest, b' ')?;
+    let (second, pen) = split_at_byte(others, b' ')?;
     let first = word(first)?;
     let second = word(second)?;
     let pen = pen_field(pen)?;
     Some(Entry::Reset { first, second, pen })
 }
 
-/// A screen that is cleared.
-pub(crate) fn clear(rest: &[u8]) -> Option<Entry>
+/// Parses a Clear after its name.
+pub(crate) fn clear_entry(rest: &[u8]) -> Option<Entry>
     ensures { ReadsLine (line_from Name.Clear rest.now) result }
 {
     let pen = pen_field(rest)?;
     Some(Entry::Clear { pen })
 }
 
-/// The start of a glyph.
-pub(crate) fn glyph(rest: &[u8]) -> Option<Entry>
+/// Parses a GlyphStart after its name.
+pub(crate) fn glyph_entry(rest: &[u8]) -> Option<Entry>
     ensures { ReadsLine (line_from Name.Glyph rest.now) result }
 {
     let code = code(rest)?;
     Some(Entry::GlyphStart(code))
 }
 
-/// The start of a mask.
-pub(crate) fn mask_start(rest: &[u8]) -> Option<Entry>
+/// Parses a MaskStart after its name.
+pub(crate) fn mask_entry(rest: &[u8]) -> Option<Entry>
     ensures { ReadsLine (line_from Name.Mask rest.now) result }
 {
     let mask = mask(rest)?;

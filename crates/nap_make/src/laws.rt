@@ -1,7 +1,7 @@
-//! Laws of lines, as contracts of functions that do nothing.
+//! Laws about lines. Each is the contract of a function that does nothing.
 ghost use Rattle.nap_make.specs.Laws.{LineTellsEntry, LinesAreBounded, LinesHaveNoEnds, LinesTellLists};
 
-/// Entries in range that have equal lines are equal, and so are lists of them.
+/// Entries in range with equal lines are equal, and so are lists of them.
 pub fn lines_tell_apart()
     ensures entries { LineTellsEntry }
     ensures lists { LinesTellLists }
@@ -12,7 +12,7 @@ pub fn lines_are_bounded()
     ensures { LinesAreBounded }
 {}
 
-/// No line of a well-made entry in range has the end of a line in it.
+/// No line of a well-made entry in range contains LF.
 pub fn lines_have_no_ends()
     ensures { LinesHaveNoEnds }
 {}

@@ -1,4 +1,4 @@
-//! Entries of a display list by their lines.
+//! Parses the lines of `list` into entries (PROFILE.md, Lines that make a page).
 #![tactic(auto)]
 
 mod attribute;
@@ -17,6 +17,6 @@ mod place;
 mod reading;
 mod shape;
 
-pub use cutting::cut;
+pub use cutting::split_at_byte;
 pub use entry::entry_of_line;
 pub use fault::LineFault;

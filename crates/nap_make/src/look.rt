@@ -1,19 +1,19 @@
-//! How characters look.
+//! Parsing of text attributes.
 ghost use Rattle.std.specs.Prelude.{◌≡◌, ◌≢◌, ◌∷◌, [], Bool, MatchOption, decimal};
 ghost use Rattle.nap_list.specs.Range.{SizeInRange, TextInRange};
 ghost use Rattle.nap_lines.specs.Lines.{flag_text, size_text, look_text};
 ghost use Rattle.nap_make.specs.Fields.{modes_text, size_name};
-ghost use Rattle.nap_make.specs.Reading.{Reads, Always};
+ghost use Rattle.nap_make.specs.Reading.{Reads, AnyValue};
 
-use crate::cutting::cut;
+use crate::cutting::split_at_byte;
 use crate::number::two_words;
 use crate::place::displacement;
 use nap_codes::Size;
 use nap_list::{CharSize, TextLook};
 
-/// The size of a character that has this name.
+/// Parses a named size.
 fn named_size(bytes: &[u8]) -> Option<Size>
-    ensures { Reads Always size_name bytes.now result }
+    ensures { Reads AnyValue size_name bytes.now result }
 {
     match bytes {
         b"small" => Some(Size::Small),
@@ -25,7 +25,7 @@ fn named_size(bytes: &[u8]) -> Option<Size>
     }
 }
 
-/// The size of a character that is written so.
+/// Parses the size of a character.
 pub(crate) fn char_size(bytes: &[u8]) -> Option<CharSize>
     ensures { Reads SizeInRange size_text bytes.now result }
 {
@@ -38,20 +38,20 @@ pub(crate) fn char_size(bytes: &[u8]) -> Option<CharSize>
     }
 }
 
-/// Which modes of characters are on.
+/// The four flags of the text attributes.
 #[derive(Clone, Copy, PartialEq, Eq, Debug, Drop)]
 pub(crate) struct TextModes {
-    /// REVERSE VIDEO.
+    /// Whether REVERSE VIDEO is on.
     pub(crate) reverse: bool,
-    /// UNDERLINE.
+    /// Whether UNDERLINE is on.
     pub(crate) underline: bool,
-    /// WORD WRAP.
+    /// Whether WORD WRAP is on.
     pub(crate) wrap: bool,
-    /// SCROLL.
+    /// Whether SCROLL is on.
     pub(crate) scroll: bool,
 }
 
-/// The flag that is written so, on by its letter.
+/// Parses a flag: its letter if it is on, else `-`.
 fn flag(byte: u8, letter: u8) -> Option<bool>
     requires { letter ≢ 45 }
     ensures { MatchOption result ((on : Bool) → byte ∷ [] ≢ flag_text on (letter ∷ [])) (λ on. byte ∷ [] ≡ flag_text on (letter ∷ [])) }
@@ -65,9 +65,9 @@ fn flag(byte: u8, letter: u8) -> Option<bool>
     None
 }
 
-/// The modes that are written so.
+/// Parses the four flags.
 fn modes(bytes: &[u8]) -> Option<TextModes>
-    ensures { Reads Always modes_text bytes.now result }
+    ensures { Reads AnyValue modes_text bytes.now result }
 {
     if bytes.len() != 4 {
         return None;
@@ -84,12 +84,12 @@ fn modes(bytes: &[u8]) -> Option<TextModes>
     })
 }
 
-/// The look of characters that is written so.
+/// Parses the text attributes.
 pub(crate) fn look(bytes: &[u8]) -> Option<TextLook>
     ensures { Reads TextInRange look_text bytes.now result }
 {
-    let (words, others) = cut(bytes, b'/')?;
-    let (size, flags) = cut(others, b'/')?;
+    let (words, others) = split_at_byte(bytes, b'/')?;
+    let (size, flags) = split_at_byte(others, b'/')?;
     let (first, second) = two_words(words)?;
     let size = char_size(size)?;
     let modes = modes(flags)?;

@@ -1,9 +1,9 @@
-//! The names of lines.
+//! The names that lines begin with.
 ghost use Rattle.std.specs.Prelude.{◌≡◌, ◌≢◌, MatchOption};
 
-use crate::cutting::is;
+use crate::cutting::equals;
 
-/// The name that a line begins with.
+/// The name that a line begins with (PROFILE.md, Lines of list).
 #[derive(Clone, Copy, PartialEq, Eq, Debug, Drop)]
 pub(crate) enum Name {
     Point,
@@ -66,7 +66,7 @@ impl Name {
     ghost use Rattle.nap_make.specs.Names.{name_text};
     ghost use Rattle.nap_make.specs.declared.name.Name.{Name};
 
-    /// The name as it is written.
+    /// Returns the name as it is written.
     fn text(self) -> &'static str
         ensures { result.now ≡ name_text self }
     {
@@ -99,12 +99,12 @@ impl Name {
         }
     }
 
-    /// The name that is written so.
+    /// Parses a name.
     pub(crate) fn of(bytes: &[u8]) -> Option<Name>
         ensures { MatchOption result ((n : Name) → bytes.now ≢ name_text n) (λ n. bytes.now ≡ name_text n) }
     {
         for name in NAMES {
-            if is(bytes, name.text().as_bytes()) {
+            if equals(bytes, name.text().as_bytes()) {
                 return Some(name);
             }
         }

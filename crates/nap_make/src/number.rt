@@ -1,4 +1,4 @@
-//! Numbers.
+//! Parsing of numbers.
 ghost use Rattle.std.specs.Prelude.{◌≡◌, ◌≢◌, ◌<◌, ◌≤◌, ◌∷◌, ℕ, negsuc, pos, suc, MatchOption, decimal};
 ghost use Rattle.std.specs.Char.{digit_char};
 ghost use Rattle.std.specs.Fmt.{signed_decimal};
@@ -7,21 +7,21 @@ ghost use Rattle.nap_list.specs.Entry.{IsCode};
 ghost use Rattle.nap_list.specs.Range.{IsAddress};
 ghost use Rattle.nap_lines.specs.Lines.{code_text};
 ghost use Rattle.nap_make.specs.Numbers.{IsShort, IsNumeralOf, IsSigned, IsNibble};
-ghost use Rattle.nap_make.specs.Reading.{WritesNone, Reads, Both, pair_text};
+ghost use Rattle.nap_make.specs.Reading.{WritesNone, Reads, BothFit, pair_text};
 
-use crate::cutting::cut;
+use crate::cutting::split_at_byte;
 use nap_values::{Addr, Word};
 
-/// The most digits of a number.
+/// The greatest number of digits of a number.
 const DIGITS: usize = 8;
 
-/// A displacement goes less far than this up and to the right, and no farther down and to the left.
-const FAR: u32 = 8_388_608;
+/// Displacements are below this limit, and at least its negative.
+const DISPLACEMENT_LIMIT: u32 = 8_388_608;
 
-/// Each word is below this.
+/// Words are below this limit.
 const WORDS: u32 = Word::LIMIT as u32;
 
-/// The number that a few digits write.
+/// Parses at most eight decimal digits.
 fn numeral(digits: &[u8]) -> Option<u32>
     ensures { MatchOption result (WritesNone IsShort decimal digits.now) (IsNumeralOf digits.now) }
 {
@@ -41,7 +41,7 @@ fn numeral(digits: &[u8]) -> Option<u32>
     Some(value)
 }
 
-/// The number that is written so, below the limit.
+/// Parses a decimal number below the limit, without leading zeros.
 pub(crate) fn number_below(digits: &[u8], limit: u32) -> Option<u32>
     requires { limit ≤ 100000000 }
     ensures { Reads (λ n. n < limit) decimal digits.now result }
@@ -59,26 +59,26 @@ pub(crate) fn number_below(digits: &[u8], limit: u32) -> Option<u32>
     None
 }
 
-/// The number below zero that is written so behind its minus.
+/// Parses a negative number after its minus.
 fn negative(digits: &[u8]) -> Option<i32>
     ensures { MatchOption result ((n : ℕ) → IsSigned (negsuc n) → digits.now ≢ decimal (suc n)) (λ z. IsSigned z × (45 ∷ digits.now ≡ signed_decimal z)) }
 {
-    let size = number_below(digits, FAR + 1)?;
+    let size = number_below(digits, DISPLACEMENT_LIMIT + 1)?;
     if size == 0 {
         return None;
     }
     Some(-(size as i32))
 }
 
-/// The number that is written so, without a sign.
+/// Parses a number without a sign.
 fn positive(digits: &[u8]) -> Option<i32>
     ensures { MatchOption result ((n : ℕ) → IsSigned (pos n) → digits.now ≢ decimal n) (λ z. IsSigned z × (digits.now ≡ signed_decimal z)) }
 {
-    let size = number_below(digits, FAR)?;
+    let size = number_below(digits, DISPLACEMENT_LIMIT)?;
     Some(size as i32)
 }
 
-/// The number of 24 bits that is written so, with a minus if it is below zero.
+/// Parses a signed number of 24 bits.
 pub(crate) fn signed(bytes: &[u8]) -> Option<i32>
     ensures { Reads IsSigned signed_decimal bytes.now result }
 {
@@ -91,7 +91,7 @@ pub(crate) fn signed(bytes: &[u8]) -> Option<i32>
     negative(&bytes[1..])
 }
 
-/// The word that is written so.
+/// Parses a word.
 pub(crate) fn word(bytes: &[u8]) -> Option<Word>
     ensures { Reads IsWord decimal bytes.now result }
 {
@@ -99,27 +99,27 @@ pub(crate) fn word(bytes: &[u8]) -> Option<Word>
     Word::try_new(number as u8)
 }
 
-/// Two words with a comma between them.
+/// Parses two words separated by a comma.
 pub(crate) fn two_words(bytes: &[u8]) -> Option<(Word, Word)>
-    ensures { Reads (Both IsWord IsWord) (pair_text decimal 44 decimal) bytes.now result }
+    ensures { Reads (BothFit IsWord IsWord) (pair_text decimal 44 decimal) bytes.now result }
 {
-    let (first, second) = cut(bytes, b',')?;
+    let (first, second) = split_at_byte(bytes, b',')?;
     let first = word(first)?;
     let second = word(second)?;
     Some((first, second))
 }
 
-/// Three words with commas between them.
+/// Parses three words separated by commas.
 pub(crate) fn three_words(bytes: &[u8]) -> Option<(Word, (Word, Word))>
-    ensures { Reads (Both IsWord (Both IsWord IsWord)) (pair_text decimal 44 (pair_text decimal 44 decimal)) bytes.now result }
+    ensures { Reads (BothFit IsWord (BothFit IsWord IsWord)) (pair_text decimal 44 (pair_text decimal 44 decimal)) bytes.now result }
 {
-    let (first, others) = cut(bytes, b',')?;
+    let (first, others) = split_at_byte(bytes, b',')?;
     let first = word(first)?;
     let others = two_words(others)?;
     Some((first, others))
 }
 
-/// The address of the colour map that is written so.
+/// Parses an address of the colour map.
 pub(crate) fn addr(bytes: &[u8]) -> Option<Addr>
     ensures { Reads IsAddress decimal bytes.now result }
 {
@@ -127,17 +127,17 @@ pub(crate) fn addr(bytes: &[u8]) -> Option<Addr>
     Addr::try_new(number)
 }
 
-/// Two addresses with a comma between them.
+/// Parses two addresses separated by a comma.
 pub(crate) fn two_addrs(bytes: &[u8]) -> Option<(Addr, Addr)>
-    ensures { Reads (Both IsAddress IsAddress) (pair_text decimal 44 decimal) bytes.now result }
+    ensures { Reads (BothFit IsAddress IsAddress) (pair_text decimal 44 decimal) bytes.now result }
 {
-    let (first, second) = cut(bytes, b',')?;
+    let (first, second) = split_at_byte(bytes, b',')?;
     let first = addr(first)?;
     let second = addr(second)?;
     Some((first, second))
 }
 
-/// The value of a lower-case hexadecimal digit.
+/// Returns the value of a lower-case hexadecimal digit.
 fn nibble(digit: u8) -> Option<u8>
     ensures { MatchOption result ((d : ℕ) → IsNibble d → digit ≢ digit_char d) (λ d. IsNibble d × (digit ≡ digit_char d)) }
 {
@@ -148,7 +148,7 @@ fn nibble(digit: u8) -> Option<u8>
     }
 }
 
-/// The code of a character, from `20` to `7F`, that is written so.
+/// Parses the code of a character, from `20` to `7F`.
 pub(crate) fn code(bytes: &[u8]) -> Option<u8>
     ensures { Reads IsCode code_text bytes.now result }
 {

@@ -1,4 +1,4 @@
-//! Arcs and polygons.
+//! Parsing of arcs and polygons.
 ghost use Rattle.std.specs.Prelude.{◌≡◌, ◌≢◌, ◌∷◌, ◌++◌, ℕ, List, IfOk, MatchOption};
 ghost use Rattle.nap_values.specs.Coordinates.{Coordinates, IsInSquare};
 ghost use Rattle.nap_lines.specs.Lines.{point_text};
@@ -8,22 +8,22 @@ ghost use Rattle.nap_make.specs.Names.{arc_name, poly_name};
 ghost use Rattle.nap_make.specs.Reading.{Reads};
 
 use crate::attribute::ink;
-use crate::cutting::cut;
+use crate::cutting::split_at_byte;
 use crate::place::point;
 use nap_list::{Entry, Ink, Points, SHAPE_POINTS};
 use nap_values::Point;
 use std::alloc::{AllocError, Global};
 
-/// The point that comes first, and what is behind it and its space.
+/// Parses the first point, and returns what follows it and a space.
 pub(crate) fn first_point(bytes: &[u8]) -> Option<(Point, &[u8])>
     ensures { MatchOption result ((p : Coordinates) (more : List ℕ) → IsInSquare p → bytes.now ≢ point_text p ++ 32 ∷ more) (λ r. IsInSquare r.0 × (bytes.now ≡ point_text r.0 ++ 32 ∷ r.1.now)) }
 {
-    let (first, more) = cut(bytes, b' ')?;
+    let (first, more) = split_at_byte(bytes, b' ')?;
     let at = point(first)?;
     Some((at, more))
 }
 
-/// Points of a shape, and what it is drawn with.
+/// Parses the points and the part INK of a shape.
 fn points_and_ink(alloc: Global, bytes: &[u8]) -> Result<Option<(Points, Ink)>, AllocError>
     ensures { IfOk result (Reads ShapeFits shape_text bytes.now) }
 {
@@ -43,8 +43,12 @@ fn points_and_ink(alloc: Global, bytes: &[u8]) -> Result<Option<(Points, Ink)>, 
     }
 }
 
-/// An arc.
-pub(crate) fn arc(alloc: Global, filled: bool, rest: &[u8]) -> Result<Option<Entry>, AllocError>
+/// Parses an Arc after its name.
+pub(crate) fn arc_entry(
+    alloc: Global,
+    filled: bool,
+    rest: &[u8],
+) -> Result<Option<Entry>, AllocError>
     ensures { IfOk result (ReadsLine (line_from (arc_name filled) rest.now)) }
 {
     match points_and_ink(alloc, rest)? {
@@ -62,8 +66,12 @@ pub(crate) fn arc(alloc: Global, filled: bool, rest: &[u8]) -> Result<Option<Ent
     }
 }
 
-/// A polygon.
-pub(crate) fn poly(alloc: Global, filled: bool, rest: &[u8]) -> Result<Option<Entry>, AllocError>
+/// Parses a Poly after its name.
+pub(crate) fn poly_entry(
+    alloc: Global,
+    filled: bool,
+    rest: &[u8],
+) -> Result<Option<Entry>, AllocError>
     ensures { IfOk result (ReadsLine (line_from (poly_name filled) rest.now)) }
 {
     match points_and_ink(alloc, rest)? {

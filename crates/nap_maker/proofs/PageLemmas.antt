@@ -13,8 +13,8 @@ use Rattle.nap_list.specs.State.{start, AllFit}
 use Rattle.nap_list.specs.Sending.{sending, Writes, Grows}
 use Rattle.nap_canon.specs.declared.form.Form.TheVariants.{Two}
 use Rattle.nap_canon.specs.Converting.{IsFrontOf, count_of}
-use Rattle.nap_canon.specs.Sinking.{Begun, Broke, Canonical, Sends, Took, shown}
-use Rattle.nap_canon.specs.Text.{begun_tail, header, pieces, text, written}
+use Rattle.nap_canon.specs.Sinking.{StartsText, Broke, Canonical, Sends, Took, sending_of}
+use Rattle.nap_canon.specs.Text.{text_end_after_header, header, pieces, text, pieces_bytes}
 use Rattle.nap_canon.proofs.PublicLaws.{sink_writes_text}
 use Rattle.nap_make.specs.Entries.{IsProper}
 use Rattle.nap_line_reader.specs.declared.fault.MakeFault.{MakeFault}
@@ -22,11 +22,11 @@ use Rattle.nap_line_reader.specs.declared.fault.MakeFault.TheVariants as make_fa
 use Rattle.nap_line_reader.specs.declared.making.ListFault.{ListFault}
 use Rattle.nap_line_reader.specs.declared.making.ListFault.TheVariants as list_faults
 use Rattle.nap_line_reader.specs.Lists.{ComeFirst, LinesSoFar, MakesNone, ShowsNone}
-use Rattle.nap_line_reader.specs.Making.{Kept, Makes, MakesList, MakesNoList, StopsBy}
+use Rattle.nap_line_reader.specs.Making.{SinkTook, Makes, MakesList, MakesNoList, StopsBy}
 use Rattle.nap_maker.specs.declared.page.PageFault.{PageFault}
 use Rattle.nap_maker.specs.declared.page.PageFault.TheVariants as faults
 use Rattle.nap_maker.proofs.TextLemmas.{broken_sink_writes_front}
-use Rattle.nap_maker.specs.Pages.{Concludes, MakesPage, RefusesBy, RefusesLines, StopsWriting, answer_of}
+use Rattle.nap_maker.specs.Pages.{Concludes, MakesPage, RefusesBy, RefusesLines, StopsWriting, page_answer}
 
 -- no lines yet
 no_lines : LinesSoFar [] [] []
@@ -37,18 +37,18 @@ no_lines = record { proper = All-nil IsProper; fit = tt; parts = refl }
 shown_here : (p : List ℕ) (es : List Entry) (f : MakeFault) → ShowsNone p es f → MakesNone p es f
 shown_here p es f shows = subst (λ (q : List ℕ). MakesNone q es f) (append-nil p) (shows [])
 
-module _ {O : Type 0} (o : outlet.Ghosts O) (w : O) (s : Canonical O) (begins : Begun o w s) (works : o.failed s.outlet ≡ false) (g : Ghosts (Canonical O))
+module _ {O : Type 0} (o : outlet.Ghosts O) (w : O) (s : Canonical O) (begins : StartsText o w s) (works : o.failed s.outlet ≡ false) (g : Ghosts (Canonical O))
     (took_is : (t : Canonical O) (d : List Entry) → g.took s d t → Took o s d t)
     (broke_is : (t : Canonical O) (d : List Entry) (e : Entry) → g.broke s d e t → Broke o s d e t)
     (failed_is : (t : Canonical O) → g.failed t ≡ o.failed t.outlet) (p : List ℕ) (seen : Reading) where
   -- What went out is a front of the text of the lines.
   record WentOut (t : Canonical O) (made : Result (Unit {0}) ListFault) (q : List ℕ) : Type 0 where
-    pub grows : Grows (sending o w 0) q (shown o t)
+    pub grows : Grows (sending o w 0) q (sending_of o t)
     pub front : StopsWriting p q
-    pub right : t.written ≡ count_of q → o.failed t.outlet ≡ false → MakesPage p seen q false (answer_of t.written made)
+    pub right : t.written ≡ count_of q → o.failed t.outlet ≡ false → MakesPage p seen q false (page_answer t.written made)
 
   -- the text of the entries that a sink kept
-  kept_text : (t : Canonical O) (es : List Entry) → Kept g s es t → Grows (sending o w 0) (text es) (shown o t)
+  kept_text : (t : Canonical O) (es : List Entry) → SinkTook g s es t → Grows (sending o w 0) (text es) (sending_of o t)
   kept_text t es kept = (sink_writes_text o w s t es begins works (took_is t es kept.took)).grows
 
   whole_front : (es : List Entry) → ComeFirst p es → StopsWriting p (text es)
@@ -87,7 +87,7 @@ module _ {O : Type 0} (o : outlet.Ghosts O) (w : O) (s : Canonical O) (begins : 
   )
 
   -- the lines show that they make none
-  shows_wrong : (t : Canonical O) (f : MakeFault) (es : List Entry) → f ≢ make_faults.Write → seen.failed ≡ seen.failed_before → ComeFirst p es → ShowsNone p es f → Kept g s es t →
+  shows_wrong : (t : Canonical O) (f : MakeFault) (es : List Entry) → f ≢ make_faults.Write → seen.failed ≡ seen.failed_before → ComeFirst p es → ShowsNone p es f → SinkTook g s es t →
       (q : List ℕ) × WentOut t (Err (list_faults.Lines f)) q
   shows_wrong t f es own none_failed first shows kept = (
     text es,
@@ -133,7 +133,7 @@ module _ {O : Type 0} (o : outlet.Ghosts O) (w : O) (s : Canonical O) (begins : 
   -- the output as it is given back
   pub concluded : (t : Canonical O) (made : Result (Unit {0}) ListFault) (u : O) (answer : Result ℕ PageFault) → Makes g s p seen t made → Keeps (o.taken t.outlet) (o.taken u) →
       (o.failed t.outlet ≡ true → o.failed u ≡ true) → Concludes t.written made (o.failed u) answer →
-      (q : List ℕ) × Appends (o.taken w) (o.taken u) q × MakesPage p seen q (o.failed u) answer × Writes (sending o w 0) (shown o t)
+      (q : List ℕ) × Appends (o.taken w) (o.taken u) q × MakesPage p seen q (o.failed u) answer × Writes (sending o w 0) (sending_of o t)
   concluded t made u answer makes keeps fails ends =
       let (q, out) = went_out t made makes in (q, Appends-kept _ _ _ q out.grows.taken keeps, at q out (o.failed u) refl ends, out.grows.writes)
     where
@@ -141,7 +141,7 @@ module _ {O : Type 0} (o : outlet.Ghosts O) (w : O) (s : Canonical O) (begins : 
       works_on false is still = refl
       works_on true is still = let bad = sym (fails is) ∙ still in cc
 
-      counts : (q : List ℕ) → Grows (sending o w 0) q (shown o t) → t.written ≡ count_of q
+      counts : (q : List ℕ) → Grows (sending o w 0) q (sending_of o t) → t.written ≡ count_of q
       counts q h = omega (arith, h.count)
 
       at : (q : List ℕ) → WentOut t made q → (failed : Bool) → o.failed u ≡ failed → Concludes t.written made failed answer → MakesPage p seen q failed answer
@@ -149,15 +149,15 @@ module _ {O : Type 0} (o : outlet.Ghosts O) (w : O) (s : Canonical O) (begins : 
       at q out true is h = rw h (counts q out.grows, out.front)
 
 -- the header was not written
-pub header_fails : {O : Type 0} (o : outlet.Ghosts O) (w : O) (s : Canonical O) → Begun o w s → o.failed s.outlet ≡ true → (seen : Reading) (u : O) (answer : Result ℕ PageFault) →
+pub header_fails : {O : Type 0} (o : outlet.Ghosts O) (w : O) (s : Canonical O) → StartsText o w s → o.failed s.outlet ≡ true → (seen : Reading) (u : O) (answer : Result ℕ PageFault) →
     Keeps (o.taken s.outlet) (o.taken u) → o.failed u ≡ true → Concludes s.written (Ok tt) (o.failed u) answer →
-    (q : List ℕ) × Appends (o.taken w) (o.taken u) q × MakesPage [] seen q (o.failed u) answer × Writes (sending o w 0) (shown o s)
+    (q : List ℕ) × Appends (o.taken w) (o.taken u) q × MakesPage [] seen q (o.failed u) answer × Writes (sending o w 0) (sending_of o s)
 header_fails o w s begins fails seen u answer keeps failed ends =
-    let sent : Sends (sending o w 0) header true (shown o s) = subst (λ (broke : Bool). Sends (sending o w 0) header broke (shown o s)) fails begins.begins in
+    let sent : Sends (sending o w 0) header true (sending_of o s) = subst (λ (broke : Bool). Sends (sending o w 0) header broke (sending_of o s)) fails begins.begins in
     let q = take sent.part header in
     let front : IsFrontOf q (text []) = (
-      drop sent.part header ++ written begun_tail (pieces Two start []),
-      ap (λ (bytes : List ℕ). bytes ++ written begun_tail (pieces Two start [])) (sym (take-append-drop sent.part header)) ∙ append_assoc q (drop sent.part header) (written begun_tail (pieces Two start [])),
+      drop sent.part header ++ pieces_bytes text_end_after_header (pieces Two start []),
+      ap (λ (bytes : List ℕ). bytes ++ pieces_bytes text_end_after_header (pieces Two start [])) (sym (take-append-drop sent.part header)) ∙ append_assoc q (drop sent.part header) (pieces_bytes text_end_after_header (pieces Two start [])),
     ) in
     let is : answer ≡ Err (faults.Write s.written) = subst (λ (b : Bool). Concludes s.written (Ok tt) b answer) failed ends in (
       q,

@@ -6,65 +6,65 @@ use Rattle.std.specs.Io.KnownBytes.{Appends}
 use Rattle.nap_list.specs.declared.device.outlet.Outlet as outlet
 use Rattle.nap_list.specs.declared.entry.Entry.{Entry}
 use Rattle.nap_list.specs.declared.state.State.{State}
-use Rattle.nap_list.specs.Flushing.{FlushedOnce, flushed}
+use Rattle.nap_list.specs.Flushing.{FlushedOnce, flush_count}
 use Rattle.nap_list.specs.State.{start, walk}
 use Rattle.nap_list.specs.Sending.{sending, Writes, Grows, grows_more}
 use Rattle.nap_canon.specs.declared.form.Form.{Form}
 use Rattle.nap_canon.specs.declared.form.Form.TheVariants.{Two}
-use Rattle.nap_canon.specs.declared.tail.Tail.{Tail}
+use Rattle.nap_canon.specs.declared.text_end.TextEnd.{TextEnd}
 use Rattle.nap_canon.specs.Converting.{IsFrontOf}
-use Rattle.nap_canon.specs.Sinking.{Begun, Broke, Canonical, Took, bytes_behind, bytes_of, shown}
+use Rattle.nap_canon.specs.Sinking.{StartsText, Broke, Canonical, Took, entry_bytes_after, entry_bytes, sending_of}
 use Rattle.nap_canon.specs.SinkLaws.{took_none}
 use Rattle.nap_canon.specs.Spelling.{Piece}
-use Rattle.nap_canon.specs.Text.{begun_tail, entry_pieces, header, pieces, tail_after, text, written}
-use Rattle.nap_canon.specs.TextParts.{pieces-append, written-append}
+use Rattle.nap_canon.specs.Text.{text_end_after_header, entry_pieces, header, pieces, text_end_after, text, pieces_bytes}
+use Rattle.nap_canon.specs.TextParts.{pieces-append, pieces_bytes-append}
 use Rattle.nap_canon.proofs.PublicLaws.{sink_writes_text}
 
-module _ {O : Type 0} (o : outlet.Ghosts O) (w : O) (s : Canonical O) (begins : Begun o w s) (works : o.failed s.outlet ≡ false) where
+module _ {O : Type 0} (o : outlet.Ghosts O) (w : O) (s : Canonical O) (begins : StartsText o w s) (works : o.failed s.outlet ≡ false) where
   -- the header was written
-  header_went : Grows (sending o w 0) header (shown o s)
-  unfolding written pieces
-  header_went = subst (λ (bytes : List ℕ). Grows (sending o w 0) bytes (shown o s)) (append-nil header) (sink_writes_text o w s s [] begins works (took_none o s)).grows
+  header_went : Grows (sending o w 0) header (sending_of o s)
+  unfolding pieces_bytes pieces
+  header_went = subst (λ (bytes : List ℕ). Grows (sending o w 0) bytes (sending_of o s)) (append-nil header) (sink_writes_text o w s s [] begins works (took_none o s)).grows
 
   -- the bytes of entries are those of a text behind its header
-  behind_header : (d : List Entry) → bytes_of s d ≡ written begun_tail (pieces Two start d)
+  behind_header : (d : List Entry) → entry_bytes s d ≡ pieces_bytes text_end_after_header (pieces Two start d)
   behind_header d =
-      ap (λ (f : Form). written s.tail (pieces f s.state d)) begins.form_is
-      ∙ ap (λ (t : Tail). written t (pieces Two s.state d)) begins.tail
-      ∙ ap (λ (u : State). written begun_tail (pieces Two u d)) begins.state
+      ap (λ (f : Form). pieces_bytes s.tail (pieces f s.state d)) begins.form_is
+      ∙ ap (λ (t : TextEnd). pieces_bytes t (pieces Two s.state d)) begins.tail
+      ∙ ap (λ (u : State). pieces_bytes text_end_after_header (pieces Two u d)) begins.state
 
   -- the bytes of one more entry
-  behind_entries : (d : List Entry) (e : Entry) → bytes_behind s d e ≡ written (tail_after begun_tail (pieces Two start d)) (entry_pieces Two (walk start d) e)
+  behind_entries : (d : List Entry) (e : Entry) → entry_bytes_after s d e ≡ pieces_bytes (text_end_after text_end_after_header (pieces Two start d)) (entry_pieces Two (walk start d) e)
   behind_entries d e =
-      ap (λ (f : Form). written (tail_after s.tail (pieces f s.state d)) (entry_pieces f (walk s.state d) e)) begins.form_is
-      ∙ ap (λ (t : Tail). written (tail_after t (pieces Two s.state d)) (entry_pieces Two (walk s.state d) e)) begins.tail
-      ∙ ap (λ (u : State). written (tail_after begun_tail (pieces Two u d)) (entry_pieces Two (walk u d) e)) begins.state
+      ap (λ (f : Form). pieces_bytes (text_end_after s.tail (pieces f s.state d)) (entry_pieces f (walk s.state d) e)) begins.form_is
+      ∙ ap (λ (t : TextEnd). pieces_bytes (text_end_after t (pieces Two s.state d)) (entry_pieces Two (walk s.state d) e)) begins.tail
+      ∙ ap (λ (u : State). pieces_bytes (text_end_after text_end_after_header (pieces Two u d)) (entry_pieces Two (walk u d) e)) begins.state
 
   one_piece : (u : State) (e : Entry) → pieces Two u (e ∷ []) ≡ entry_pieces Two u e
   unfolding pieces
   one_piece u e = append-nil (entry_pieces Two u e)
 
   -- the text of one more entry
-  text_more : (d : List Entry) (e : Entry) → text (d ++ e ∷ []) ≡ text d ++ bytes_behind s d e
+  text_more : (d : List Entry) (e : Entry) → text (d ++ e ∷ []) ≡ text d ++ entry_bytes_after s d e
   text_more d e =
       let u = walk start d in
-      let tail = tail_after begun_tail (pieces Two start d) in
-      let front = written begun_tail (pieces Two start d) in
-      ap (λ (ps : List Piece). header ++ written begun_tail ps) (pieces-append Two start d (e ∷ []))
-      ∙ ap (λ (bytes : List ℕ). header ++ bytes) (written-append begun_tail (pieces Two start d) (pieces Two u (e ∷ [])))
-      ∙ ap (λ (ps : List Piece). header ++ (front ++ written tail ps)) (one_piece u e)
+      let tail = text_end_after text_end_after_header (pieces Two start d) in
+      let front = pieces_bytes text_end_after_header (pieces Two start d) in
+      ap (λ (ps : List Piece). header ++ pieces_bytes text_end_after_header ps) (pieces-append Two start d (e ∷ []))
+      ∙ ap (λ (bytes : List ℕ). header ++ bytes) (pieces_bytes-append text_end_after_header (pieces Two start d) (pieces Two u (e ∷ [])))
+      ∙ ap (λ (ps : List Piece). header ++ (front ++ pieces_bytes tail ps)) (one_piece u e)
       ∙ ap (λ (bytes : List ℕ). header ++ (front ++ bytes)) (sym (behind_entries d e))
-      ∙ sym (append_assoc header front (bytes_behind s d e))
+      ∙ sym (append_assoc header front (entry_bytes_after s d e))
 
   -- What went out of a sink that failed amid an entry is a front of the text up to there.
-  pub broken_sink_writes_front : (t : Canonical O) (d : List Entry) (e : Entry) → Broke o s d e t → (q : List ℕ) × Grows (sending o w 0) q (shown o t) × IsFrontOf q (text (d ++ e ∷ []))
+  pub broken_sink_writes_front : (t : Canonical O) (d : List Entry) (e : Entry) → Broke o s d e t → (q : List ℕ) × Grows (sending o w 0) q (sending_of o t) × IsFrontOf q (text (d ++ e ∷ []))
   broken_sink_writes_front t d e broke =
-      let bytes = bytes_behind s d e in
+      let bytes = entry_bytes_after s d e in
       let part = take broke.part bytes in
-      let all : header ++ (bytes_of s d ++ part) ≡ text d ++ part =
-      ap (λ (bs : List ℕ). header ++ (bs ++ part)) (behind_header d) ∙ sym (append_assoc header (written begun_tail (pieces Two start d)) part) in (
+      let all : header ++ (entry_bytes s d ++ part) ≡ text d ++ part =
+      ap (λ (bs : List ℕ). header ++ (bs ++ part)) (behind_header d) ∙ sym (append_assoc header (pieces_bytes text_end_after_header (pieces Two start d)) part) in (
         text d ++ part,
-        subst (λ (bs : List ℕ). Grows (sending o w 0) bs (shown o t)) all (grows_more (sending o w 0) (shown o s) (shown o t) header (bytes_of s d ++ part) header_went broke.grows),
+        subst (λ (bs : List ℕ). Grows (sending o w 0) bs (sending_of o t)) all (grows_more (sending o w 0) (sending_of o s) (sending_of o t) header (entry_bytes s d ++ part) header_went broke.grows),
         (
           drop broke.part bytes,
           text_more d e ∙ ap (λ (bs : List ℕ). text d ++ bs) (sym (take-append-drop broke.part bytes)) ∙ sym (append_assoc (text d) part (drop broke.part bytes)),
@@ -72,7 +72,7 @@ module _ {O : Type 0} (o : outlet.Ghosts O) (w : O) (s : Canonical O) (begins : 
       )
 
 -- the text that a sink wrote to an output that tells its bytes and had none
-pub text_written : {O : Type 0} (o : outlet.Ghosts O) (w : O) (s t : Canonical O) → Begun o w s → o.failed s.outlet ≡ false → (items : O → List ℕ) →
+pub text_written : {O : Type 0} (o : outlet.Ghosts O) (w : O) (s t : Canonical O) → StartsText o w s → o.failed s.outlet ≡ false → (items : O → List ℕ) →
     ((u : O) → o.taken u ≡ Some (items u)) → items w ≡ [] → (d : List Entry) → Took o s d t → items t.outlet ≡ text d
 text_written o w s t begins works items tells empty d took =
     let taken : Appends (o.taken w) (o.taken t.outlet) (text d) = (sink_writes_text o w s t d begins works took).grows.taken in
@@ -89,11 +89,11 @@ module _ {O : Type 0} (o : outlet.Ghosts O) (law : (x : O) → o.write_failed x 
       by true h = absurd (false≢true (sym works ∙ law w h))
       by false h = h
 
-  pub flushed_once : (t : Canonical O) (u : O) → Writes (sending o w 0) (shown o t) → o.flushes u ≡ flushed (o.failed t.outlet) (o.flushes t.outlet) →
+  pub flushed_once : (t : Canonical O) (u : O) → Writes (sending o w 0) (sending_of o t) → o.flushes u ≡ flush_count (o.failed t.outlet) (o.flushes t.outlet) →
       o.write_failed u ≡ o.write_failed t.outlet → FlushedOnce o w u
   flushed_once t u wrote flushes kept =
       let failed : o.failed t.outlet ≡ wrote.fails = wrote.failed ∙ ap (λ (b : Bool). b || wrote.fails) works in
       let write_failed : o.write_failed t.outlet ≡ wrote.fails = wrote.write_failed ∙ ap (λ (b : Bool). b || wrote.fails) unfailed in
       flushes
-      ∙ ap (λ (b : Bool). flushed b (o.flushes t.outlet)) (failed ∙ sym (kept ∙ write_failed))
-      ∙ ap (flushed (o.write_failed u)) wrote.flushes
+      ∙ ap (λ (b : Bool). flush_count b (o.flushes t.outlet)) (failed ∙ sym (kept ∙ write_failed))
+      ∙ ap (flush_count (o.write_failed u)) wrote.flushes

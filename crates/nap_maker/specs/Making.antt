@@ -3,7 +3,7 @@ use Rattle.nap_list.specs.declared.entry.Entry.{Entry}
 use Rattle.nap_canon.specs.Text.{text}
 use Rattle.nap_line_reader.specs.Lists.{AreLines}
 
--- The first bytes are the page that these lines make: the text of the list whose lines they are.
+-- The first bytes are the page that these lines make: the canonical text of the list with these lines.
 pub record IsMadeOf (c p : List ℕ) : Type 0 where
   pub entries : List Entry
   pub are : AreLines p entries

@@ -12,14 +12,15 @@ use Rattle.nap_maker.specs.declared.page.PageFault.{PageFault}
 use Rattle.nap_maker.specs.declared.page.PageFault.TheVariants as faults
 use Rattle.nap_maker.specs.Making.{IsMadeOf}
 
--- A page is made of lines: the bytes p were read, and the output took q.
+-- A page made of lines: the bytes p were read, and the output took q.
 
--- All of the lines were read, and q is the page that they make.
+-- All lines were read, and q is the page that they make.
 pub record MakesWhole (p : List ℕ) (seen : Reading) (q : List ℕ) : Type 0 where
   pub read : IsReadWhole seen p
   pub made : IsMadeOf q p
 
--- The lines make none, and q is the text of those before. Bytes are left unread only where those that were read show that.
+-- The lines aren't a list's, and q is the text of those before the wrong one. Bytes are left unread only if those that
+-- were read show it.
 pub record RefusesLines (p : List ℕ) (seen : Reading) (q : List ℕ) (fault : MakeFault) : Type 0 where
   pub none_failed : NoneFailed seen
   pub before : List Entry
@@ -27,7 +28,7 @@ pub record RefusesLines (p : List ℕ) (seen : Reading) (q : List ℕ) (fault : 
   pub text_is : q ≡ text before
   pub left : IsReadWhole seen p ⊎ ShowsNone p before fault
 
--- a failed write is no fault of the lines
+-- a failed write isn't a fault of the lines
 abbrev pub RefusesBy : List ℕ → Reading → List ℕ → MakeFault → Type 0
 RefusesBy p seen q make_faults.Write = ⊥
 RefusesBy p seen q fault = RefusesLines p seen q fault
@@ -41,14 +42,14 @@ pub record StopsReading (p : List ℕ) (seen : Reading) (q : List ℕ) : Type 0 
   pub none : All (λ b. b ≢ 10) rest
   pub text_is : q ≡ text entries
 
--- A write failed, or the flush, and q is a front of the text of lines that were read.
+-- A write or the flush failed, and q is a prefix of the text of lines that were read.
 pub record StopsWriting (p q : List ℕ) : Type 0 where
   pub entries : List Entry
   pub rest : List ℕ
   pub so_far : LinesSoFar p entries rest
   pub front : IsFrontOf q (text entries)
 
--- what is answered, where the output has failed or hasn't
+-- what is answered, by whether the output has failed
 abbrev pub MakesPage : List ℕ → Reading → List ℕ → Bool → Result ℕ PageFault → Type 0
 MakesPage p seen q false (Ok n) = (n ≡ count_of q) × MakesWhole p seen q
 MakesPage p seen q false (Err (faults.Lines fault n)) = (n ≡ count_of q) × RefusesBy p seen q fault
@@ -56,13 +57,13 @@ MakesPage p seen q false (Err (faults.Read n)) = (n ≡ count_of q) × StopsRead
 MakesPage p seen q true (Err (faults.Write n)) = (n ≡ count_of q) × StopsWriting p q
 MakesPage p seen q failed answer = ⊥
 
--- the answer of lines that were read so, where n bytes were written
-abbrev pub answer_of : ℕ → Result (Unit {0}) ListFault → Result ℕ PageFault
-answer_of n (Ok done) = Ok n
-answer_of n (Err (list_faults.Lines fault)) = Err (faults.Lines fault n)
-answer_of n (Err list_faults.Read) = Err (faults.Read n)
+-- the answer for lines that were read with this result, where n bytes were written
+abbrev pub page_answer : ℕ → Result (Unit {0}) ListFault → Result ℕ PageFault
+page_answer n (Ok done) = Ok n
+page_answer n (Err (list_faults.Lines fault)) = Err (faults.Lines fault n)
+page_answer n (Err list_faults.Read) = Err (faults.Read n)
 
--- a failed output takes the place of any other answer
+-- a failed output replaces any other answer
 abbrev pub Concludes : ℕ → Result (Unit {0}) ListFault → Bool → Result ℕ PageFault → Type 0
 Concludes n made true answer = answer ≡ Err (faults.Write n)
-Concludes n made false answer = answer ≡ answer_of n made
+Concludes n made false answer = answer ≡ page_answer n made

@@ -1,13 +1,13 @@
-//! Laws of pages that are made of lines, as contracts of functions that do nothing.
+//! Laws about pages made of lines. Each is the contract of a function that does nothing.
 ghost use Rattle.nap_maker.specs.Laws.{ListsTellStreams, MadePagesAgree};
 
-/// Accepted pages have equal canonical streams exactly where their lists have equal lines.
+/// Accepted pages have equal canonical streams exactly if their lists have equal lines.
 pub fn lists_tell_streams()
     ensures { ListsTellStreams }
 {}
 
-/// Lines make one page, whose list has them again, and which is its own canonical stream; and those of a list make the
-/// canonical stream of its page.
+/// Lines make at most one page; its list has these lines, and it is its own canonical stream. The lines of the list of
+/// an accepted page make the canonical stream of that page.
 pub fn made_pages_agree()
     ensures { MadePagesAgree }
 {}

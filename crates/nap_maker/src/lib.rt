@@ -1,4 +1,4 @@
-//! Pages that are made of the lines of a list.
+//! Pages made of the lines of a list (PROFILE.md, Lines that make a page).
 #![tactic(auto)]
 
 pub mod laws;

@@ -1,7 +1,7 @@
-//! Makes the page of the lines that an input gives.
+//! The page of the lines that an input gives.
 ghost use Rattle.std.specs.Prelude.{◌≡◌, ◌+◌, ◌^◌, ◌<◌, ◌≤◌, ℕ, List, true, false};
 ghost use Rattle.std.specs.Io.KnownBytes.{Appends, Consumes, Keeps};
-ghost use Rattle.nap_list.specs.Flushing.{FlushedOnce, flushed};
+ghost use Rattle.nap_list.specs.Flushing.{FlushedOnce, flush_count};
 ghost use Rattle.nap_list.specs.Limits.{reads_limit};
 ghost use Rattle.nap_list.specs.Reading.{reading};
 ghost use Rattle.nap_maker.specs.Pages.{Concludes, MakesPage};
@@ -12,32 +12,32 @@ use nap_list::{Inlet, Outlet};
 use std::alloc::Global;
 use thiserror::Error;
 
-/// Why no page was made, and how many bytes the output took before; the count stays at the greatest `u64`.
+/// Why no page was made, and how many bytes the output took before, saturating at the greatest `u64`.
 #[derive(Clone, Copy, PartialEq, Eq, Debug, Drop, Error)]
 pub enum PageFault {
-    /// The lines make none. The text of those before is written.
+    /// The lines aren't those of a list. The text of the lines before is written.
     #[error("{fault}, once {written} bytes were written")]
     Lines {
-        /// Why, and where.
+        /// The fault and its line.
         fault: MakeFault,
-        /// The bytes that the output took.
+        /// The number of bytes that the output took.
         written: u64,
     },
-    /// A read failed, or there were as many as one input may have. The text of the lines so far is written.
+    /// A read failed, or there were as many reads as one input may have. The text of the lines so far is written.
     #[error("the input failed, once {written} bytes were written")]
     Read {
-        /// The bytes that the output took.
+        /// The number of bytes that the output took.
         written: u64,
     },
-    /// A write failed, or the flush.
+    /// A write or the flush failed.
     #[error("the output failed, once it had taken {written} bytes")]
     Write {
-        /// The bytes that the output took.
+        /// The number of bytes that the output took.
         written: u64,
     },
 }
 
-/// The output once no more is written: it is flushed, unless a write has failed.
+/// Flushes the output, unless a write has failed, and returns it with the answer.
 fn conclude<O: Outlet + Drop>(
     sink: CanonSink<O>,
     made: Result<(), ListFault>,
@@ -45,7 +45,7 @@ fn conclude<O: Outlet + Drop>(
     ensures taken { Keeps (O.taken sink.outlet) (O.taken result.0) }
     ensures failed { O.failed sink.outlet ≡ true → O.failed result.0 ≡ true }
     ensures sent { O.failed result.0 ≡ false → O.sent result.0 ≡ true }
-    ensures flushes { O.flushes result.0 ≡ flushed (O.failed sink.outlet) (O.flushes sink.outlet) }
+    ensures flushes { O.flushes result.0 ≡ flush_count (O.failed sink.outlet) (O.flushes sink.outlet) }
     ensures write_failed { O.write_failed result.0 ≡ O.write_failed sink.outlet }
     ensures answer { Concludes sink.written made (O.failed result.0) result.1 }
 {
@@ -63,8 +63,9 @@ fn conclude<O: Outlet + Drop>(
     (output, answer)
 }
 
-/// Writes the page that the lines of an input make, as they are read, and flushes the output: the output again, and how
-/// many bytes it took. It keeps one line at most, so its memory doesn't grow with the page.
+/// Writes the page that the lines of an input make, as they are read, and flushes the output. Returns the output, and
+/// the number of bytes that it took. Keeps one line at most, so its memory doesn't grow with the page (PROFILE.md,
+/// Lines that make a page).
 pub fn make_page<I: Inlet, O: Outlet + Drop>(
     alloc: Global,
     input: &mut I,

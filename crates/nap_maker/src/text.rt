@@ -7,16 +7,16 @@ use nap_line_reader::{MakeFault, put_lines};
 use nap_list::Target;
 use std::alloc::Global;
 
-/// The page that lines make.
+/// A page made of lines.
 #[derive(Drop)]
 pub struct MadePage {
-    /// The bytes of the page, which are its canonical stream.
+    /// The bytes of the page, which is its own canonical stream.
     pub text: Vec<u8>,
-    /// How many entries it has, as many as there are lines.
+    /// The number of its entries, which is the number of lines.
     pub count: usize,
 }
 
-/// Why lines make no page that is kept in memory: where an output there fails, memory ran out.
+/// Returns the fault of lines whose page is made in memory, where a failed write is lack of memory.
 fn fault_of_text(fault: MakeFault) -> MakeFault
     ensures { result ≡ fault_of_text fault }
 {
@@ -26,7 +26,8 @@ fn fault_of_text(fault: MakeFault) -> MakeFault
     }
 }
 
-/// The page that these lines make, or why they make none. It is written in memory as the lines are read.
+/// Returns the page that these lines make, or why they make none. It is written to memory as the lines are read
+/// (PROFILE.md, Lines that make a page).
 pub fn page_of_lines(alloc: Global, lines: &[u8]) -> Result<MadePage, MakeFault>
     ensures { MatchResult result (IsPageMade lines.now) (DeniesLines lines.now) }
 {

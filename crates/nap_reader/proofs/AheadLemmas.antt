@@ -8,12 +8,12 @@ use Rattle.nap_codes.specs.Front as codes
 use Rattle.nap_draw.specs.Codes.{text}
 use Rattle.nap_list.specs.State.{after}
 use Rattle.nap_list.specs.declared.state.State.{State}
-use Rattle.nap_reader.specs.Below.{CharSet, DrawFault, Drawn, Entry, Ghosts, IsTyped, LexerState, Opcode, rule, run_limit}
+use Rattle.nap_reader.specs.Below.{CharSet, DrawFault, RuleResult, Entry, Ghosts, IsTextByte, LexerState, Opcode, rule, run_limit}
 use Rattle.nap_reader.specs.Carried.{NoCharacters}
 use Rattle.nap_reader.specs.Course as course
 use Rattle.nap_reader.specs.Steps.{IsText}
 use Rattle.nap_reader.specs.Stream.{run_front}
-use Rattle.nap_reader.proofs.Common.{AllCharacters, Continues, Holding, Machine, OpenRun, Outcome, Placed, Refusal, Unfinished, after_drawing, begun, between, drawn_front, is_operand_byte, onward, outcome_from, placed_at, placed_from, run_length}
+use Rattle.nap_reader.proofs.Common.{AllCharacters, Continues, ReadingState, Machine, OpenRun, Outcome, Placed, Refusal, Unfinished, after_drawing, begun, between, drawn_front, is_operand_byte, outcome_by_front, outcome_from, placed_at, placed_from, run_length}
 use Rattle.nap_reader.proofs.ReadingLemmas.{by_front, front_code, is_between, is_half, leads_entries, leads_more, over, rest_of_nothing}
 use Rattle.nap_reader.proofs.StreamLemmas.{outcome_from-front}
 use Rattle.nap_reader.proofs.TextLemmas.{comes, typed_in}
@@ -37,31 +37,31 @@ operands_run n (suc j) (b ∷ bs) few = at (is_operand_byte b) refl few (operand
 opens_nothing : (m : Machine) (op : Opcode) (x : Placed) (ys : List Placed) → m.mode ≡ between → codes.front m.sets (x.byte ∷ []) ≡ codes.whole (code.Op op) 1 m.sets →
     run_length ys ≡ length ys → (outcome_from m (x ∷ ys)).entries ≡ []
 opens_nothing m op x ys mode names all =
-    ap (λ (o : Outcome). o.entries) (outcome_from-front m (x ∷ ys) ∙ ap (onward outcome_from m (x ∷ ys)) (front_code m [] x ys mode refl names refl))
+    ap (λ (o : Outcome). o.entries) (outcome_from-front m (x ∷ ys) ∙ ap (outcome_by_front outcome_from m (x ∷ ys)) (front_code m [] x ys mode refl names refl))
     ∙ waits (take (run_length ys) ys) (drop (run_length ys) ys) (ap (λ (n : ℕ). drop n ys) all ∙ drop_all _ ys (omega arith))
   where
-    either : (long : Bool) (r : Refusal) (u : Unfinished) → (onward outcome_from m (x ∷ ys) (cond long (course.refuse r) (course.pause u))).entries ≡ []
+    either : (long : Bool) (r : Refusal) (u : Unfinished) → (outcome_by_front outcome_from m (x ∷ ys) (cond long (course.refuse r) (course.pause u))).entries ≡ []
     either true r u = refl
     either false r u = refl
 
-    waits : (run rest : List Placed) → rest ≡ [] → (onward outcome_from m (x ∷ ys) (run_front m op x.place run rest)).entries ≡ []
+    waits : (run rest : List Placed) → rest ≡ [] → (outcome_by_front outcome_from m (x ∷ ys) (run_front m op x.place run rest)).entries ≡ []
     waits run [] none = either (nat_lt run_limit (length run)) _ _
     waits run (y ∷ rest) none = let bad : ⊥ = cc in absurd bad
 
 -- an opcode comes
-module _ {S : Type 0} {g : Ghosts S} {s t : S} {h : Holding} (budget : ℕ) (p : List ℕ) (k : Continues g s (begun budget p) t h []) (no_body : h.open_body ≡ None) (rested : h.half ≡ []) (b : ℕ) (op : Opcode)
+module _ {S : Type 0} {g : Ghosts S} {s t : S} {h : ReadingState} (budget : ℕ) (p : List ℕ) (k : Continues g s (begun budget p) t h []) (no_body : h.open_body ≡ None) (rested : h.half ≡ []) (b : ℕ) (op : Opcode)
     (names : codes.front h.machine.sets (b ∷ []) ≡ codes.whole (code.Op op) 1 h.machine.sets) (other : is_operand_byte b ≡ false) where
-  abbrev behind : List ℕ → List Placed
-  behind bs = placed_from (suc (length p)) bs
+  abbrev bytes_after : List ℕ → List Placed
+  bytes_after bs = placed_from (suc (length p)) bs
 
   abbrev opcode : Placed
   opcode = placed_at b (length p)
 
   -- with any operands behind it these are the entries
   abbrev Alike : List Entry → Type 0
-  Alike es = (bs : List ℕ) → run_length (behind bs) ≡ length (behind bs) → (begun budget (p ++ b ∷ bs)).entries ≡ es
+  Alike es = (bs : List ℕ) → run_length (bytes_after bs) ≡ length (bytes_after bs) → (begun budget (p ++ b ∷ bs)).entries ≡ es
 
-  leads : (bs : List ℕ) → Continues g s (begun budget (p ++ b ∷ bs)) t h (opcode ∷ behind bs)
+  leads : (bs : List ℕ) → Continues g s (begun budget (p ++ b ∷ bs)) t h (opcode ∷ bytes_after bs)
   unfolding placed_from
   leads bs = leads_more budget p (b ∷ bs) k
 
@@ -76,23 +76,23 @@ module _ {S : Type 0} {g : Ghosts S} {s t : S} {h : Holding} (budget : ℕ) (p :
       none bs all =
           let empty : k.rest ≡ [] = rest_of_nothing k.rest ((is_half h k.rest no_body closed k.held).0 ∙ rested) in
           ap (λ (o : Outcome). o.entries) (leads_more budget p (b ∷ bs) k).leads
-          ∙ ap (λ (xs : List Placed). k.done ++ (outcome_from h.machine (xs ++ opcode ∷ behind bs)).entries) empty
-          ∙ ap (λ (es : List Entry). k.done ++ es) (opens_nothing h.machine op opcode (behind bs) (is_between h k.rest no_body k.held).mode names all)
+          ∙ ap (λ (xs : List Placed). k.done ++ (outcome_from h.machine (xs ++ opcode ∷ bytes_after bs)).entries) empty
+          ∙ ap (λ (es : List Entry). k.done ++ es) (opens_nothing h.machine op opcode (bytes_after bs) (is_between h k.rest no_body k.held).mode names all)
   by_run (Some open_run) is = at (rule h.machine.work open_run.op h.run) refl
     where
-      front_is : (by : Result Drawn DrawFault) → rule h.machine.work open_run.op h.run ≡ by → (bs : List ℕ) →
-          (begun budget (p ++ b ∷ bs)).entries ≡ k.done ++ (onward outcome_from h.machine (k.rest ++ opcode ∷ behind bs) (drawn_front h.machine open_run.place (opcode ∷ behind bs) by)).entries
+      front_is : (by : Result RuleResult DrawFault) → rule h.machine.work open_run.op h.run ≡ by → (bs : List ℕ) →
+          (begun budget (p ++ b ∷ bs)).entries ≡ k.done ++ (outcome_by_front outcome_from h.machine (k.rest ++ opcode ∷ bytes_after bs) (drawn_front h.machine open_run.place (opcode ∷ bytes_after bs) by)).entries
       front_is by e bs =
           let c = leads bs in
-          ap (λ (o : Outcome). o.entries) (by_front c (drawn_front h.machine open_run.place (opcode ∷ behind bs) by) (over no_body is c other by e))
+          ap (λ (o : Outcome). o.entries) (by_front c (drawn_front h.machine open_run.place (opcode ∷ bytes_after bs) by) (over no_body is c other by e))
 
-      at : (by : Result Drawn DrawFault) → rule h.machine.work open_run.op h.run ≡ by → (es : List Entry) × Alike es
+      at : (by : Result RuleResult DrawFault) → rule h.machine.work open_run.op h.run ≡ by → (es : List Entry) × Alike es
       at (Err fault) e = (k.done ++ [], λ bs all. front_is (Err fault) e bs)
       at (Ok drawn) e = (
         k.done ++ (drawn.entries ++ []),
         λ bs all.
             front_is (Ok drawn) e bs
-            ∙ ap (λ (es : List Entry). k.done ++ (drawn.entries ++ es)) (opens_nothing (after_drawing h.machine drawn) op opcode (behind bs) (is_between h k.rest no_body k.held).mode names all),
+            ∙ ap (λ (es : List Entry). k.done ++ (drawn.entries ++ es)) (opens_nothing (after_drawing h.machine drawn) op opcode (bytes_after bs) (is_between h k.rest no_body k.held).mode names all),
       )
 
   pub opcode_brings : (rest : List ℕ) (n : ℕ) → n ≡ prefix_len is_operand_byte rest → (j : ℕ) → 1 ≤ j → j ≤ 1 + n →
@@ -123,12 +123,12 @@ pub closed_by_characters : (lexer : LexerState) (set : CharSet) (open_run : Opti
 closed_by_characters lexer set None never chars = refl
 closed_by_characters lexer set (Some open_run) never chars = absurd (never set chars)
 
-pub text_brings : {S : Type 0} {g : Ghosts S} {s t : S} {h : Holding} {set : CharSet} (budget : ℕ) (p piece q : List ℕ) → Continues g s (begun budget p) t h [] → IsText h set q → take (length q) piece ≡ q →
+pub text_brings : {S : Type 0} {g : Ghosts S} {s t : S} {h : ReadingState} {set : CharSet} (budget : ℕ) (p piece q : List ℕ) → Continues g s (begun budget p) t h [] → IsText h set q → take (length q) piece ≡ q →
     (j : ℕ) → j ≤ length q → length (begun budget (p ++ take j piece)).entries ≡ length (begun budget p).entries + j
 text_brings {h = h} {set = set} budget p piece q k in_text front j few =
     let part = take j q in
     let same : take j piece ≡ part = sym (take-take j (length q) piece few) ∙ ap (take j) front in
-    let there = comes budget p k in_text part (All-take IsTyped j q in_text.typed) in
+    let there = comes budget p k in_text part (All-take IsTextByte j q in_text.typed) in
     let drew = text h.machine.work.state set part in
     let all : length (begun budget (p ++ take j piece)).entries ≡ length ((k.done ++ drew) ++ []) =
     ap (λ (bytes : List ℕ). length (begun budget (p ++ bytes)).entries) same ∙ ap (λ (o : Outcome). length o.entries) there in

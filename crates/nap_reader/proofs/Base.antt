@@ -1,6 +1,6 @@
 -- The lemmas about what is held and what comes, passed on from one place. Declares nothing.
 pub use Rattle.nap_reader.proofs.BreakLemmas.{EndsRun, First, body_ended, breaks_byte, breaks_inside, breaks_place, breaks_there, brings_breaks, broke_in_run, ended_is, ends_run, ends_works, lacks_there, refused_at_end, run_first, same_first, stops_at_end, uses_breaks}
-pub use Rattle.nap_reader.proofs.ComingLemmas.{behind_in_body, behind_in_piece, bound_grown, byte-spaced, byte_comes, bytes_of-spaced, came_coming, came_next, came_none, came_take, came_within, can_pass, comes_inside, comes_still, first_byte, first_of, fits, frames-push, frames-store, frames-unread, gives-all, gives-some, grown_by, grown_either, grown_few, grown_framed, grown_paired, grown_turned, last-frame, length-part, length-placed, length-spaced, length-unread-push, none_behind, none_left, part_inside, passed_rest, passed_to, place_at-spaced, same-frame, same-front, some_inside, split_bytes, state_of, taken_next, text_inside, text_next, unread-grown, unread-push, unread-store}
+pub use Rattle.nap_reader.proofs.NextByteLemmas.{behind_in_body, behind_in_piece, bound_grown, byte-placed_by_step, byte_comes, bytes_of-placed_by_step, came_coming, came_next, came_none, came_take, came_within, can_pass, comes_inside, comes_still, first_byte, first_of, fits, frames-push, frames-store, frames-unread, gives-all, gives-some, grown_by, grown_either, grown_few, grown_framed, grown_paired, grown_turned, last-frame, length-sublist, length-placed, length-placed_by_step, length-unread-push, none_behind, none_left, part_inside, passed_rest, passed_to, place_at-placed_by_step, same-frame, same-front, some_inside, split_bytes, state_of, taken_next, text_inside, text_next, unread-store_grown, unread-push, unread-store}
 pub use Rattle.nap_reader.proofs.LawLemmas.{more_bytes_keep_entries}
 pub use Rattle.nap_reader.proofs.OpenBodyLemmas.{IsPlain, body_begins, body_charged, body_over, body_shows, byte_eighth, byte_full, byte_kept, escape_full, escape_held, escape_kept, escape_unrefused, reads_on}
 pub use Rattle.nap_reader.proofs.OperandLemmas.{as_many_words, at_front, in_block, last_run_is, more_words, of_text_is, operands_in_front, other_mask, past_block, past_effector, past_graphic, run_over, same_words, whole_run_is, words_kept}

@@ -1,4 +1,4 @@
-use Rattle.nap_reader.proofs.Common.{ActsRun, BeginsAll, Bool, Breaks, BreaksAt, BreaksBetween, BreaksFrom, BreaksInBody, BreaksInRun, BreaksNext, BreaksPast, BreaksSome, BreaksWith, CanBreakAt, CanLackAt, Cause, ClosesInto, Continues, ContinuesPast, DrawFault, Drawn, Ends, Entry, Err, Executes, Ghosts, Holding, Input, IsCharged, IsHeldIn, IsLive, IsOpenBody, IsSome, IsTaken, List, Machine, Memory, None, Ok, OpenBody, OpenRun, Option, Outcome, Placed, Refusal, Result, RunAt, Some, StopsRun, TookPart, Unended, Unfinished, WantsMemory, Works, [], act, after_drawing, ap, append-nil, append_assoc, arith, asked, asks_if, at_word, begun, behind_run, body_broke, cause_of, charged_broke, closed_by, cond, draw_fault, ended_by, false, half_read, held_by, in_code, in_run, inl, inr, is_operand_byte, length, length-append, means, memory, next_broke, open_place, outcome_from, placed_at, placed_from, refl, refusal, rule, run_broke, run_limit, run_place, run_refused, some_broke, stream, subst, sym, true, unfinished_by, with_code, with_drawn, with_run, ℕ, ◌++◌, ◌<◌, ◌∙◌, ◌∷◌, ◌≡◌, ◌≢◌, ◌≤◌, ◌⊎◌}
+use Rattle.nap_reader.proofs.Common.{ActsRun, BeginsAll, Bool, Breaks, BreaksAt, BreaksBetween, BreaksFrom, BreaksInBody, BreaksInRun, BreaksNext, BreaksPast, BreaksSome, BreaksWith, CanBreakAt, CanLackAt, Cause, ClosesInto, Continues, ContinuesPast, DrawFault, RuleResult, Ends, Entry, Err, Executes, Ghosts, ReadingState, Input, IsCharged, ArePendingIn, IsLive, IsOpenBody, IsSome, IsTaken, List, Machine, Memory, None, Ok, OpenBody, OpenRun, Option, Outcome, Placed, Refusal, Result, RunAt, Some, StopsRun, TookPart, Unended, Unfinished, WantsMemory, Works, [], act, after_drawing, ap, append-nil, append_assoc, arith, state_after_request, clear_request_if, at_word, begun, behind_run, body_broke, cause_of, charged_broke, closed_by, cond, draw_fault, ended_by, false, half_read, reading_state_by, in_code, in_run, inl, inr, is_operand_byte, length, length-append, means, memory, next_broke, open_place, outcome_from, placed_at, placed_from, refl, refusal, rule, run_broke, run_limit, run_place, run_refused, some_broke, stream, subst, sym, true, unfinished_by, with_code, with_drawn, with_run, ℕ, ◌++◌, ◌<◌, ◌∙◌, ◌∷◌, ◌≡◌, ◌≢◌, ◌≤◌, ◌⊎◌}
 use Rattle.nap_draw.specs.Draws as draws
 use Rattle.nap_draw.specs.declared.fault.DrawFault.TheVariants as draw_faults
 use Rattle.nap_reader.specs.Stream as model
@@ -10,7 +10,7 @@ use Rattle.nap_reader.proofs.PartLemmas.{body_breaks_from, breaks_longer, rule_b
 use Rattle.nap_reader.proofs.StepLemmas.{passes_run}
 
 -- what is unfinished behind p is what is held
-module _ {S : Type 0} {g : Ghosts S} {s : S} {o : Outcome} {t : S} {h : Holding} (k : Continues g s o t h []) where
+module _ {S : Type 0} {g : Ghosts S} {s : S} {o : Outcome} {t : S} {h : ReadingState} (k : Continues g s o t h []) where
   pub unfinished_is : (body : Option OpenBody) (open_run : Option OpenRun) → h.open_body ≡ body → h.open_run ≡ open_run →
       o.unfinished ≡ Some (unfinished_by body open_run h.half h.run)
   unfinished_is body open_run opened is =
@@ -36,7 +36,7 @@ module _ {S : Type 0} {g : Ghosts S} {s : S} {o : Outcome} {t : S} {h : Holding}
 
   -- a body is open
   pub still_run : (body : OpenBody) → h.open_body ≡ Some body → h.open_run ≡ None
-  still_run body opened = let held : IsOpenBody k.rest body h = subst (IsHeldIn k.rest h) opened k.held in held.at.still
+  still_run body opened = let held : IsOpenBody k.rest body h = subst (ArePendingIn k.rest h) opened k.held in held.at.still
 
   pub body_still : (body : OpenBody) → h.open_body ≡ Some body → with_run o ≡ o
   body_still body opened = run_still (still_run body opened)
@@ -57,7 +57,7 @@ module _ {S : Type 0} {g : Ghosts S} {s : S} {o : Outcome} {t : S} {h : Holding}
       }
 
 -- an open run acts behind p
-module _ {S : Type 0} {g : Ghosts S} {s : S} {t : S} {h : Holding} {open_run : OpenRun} (budget : ℕ) (p : List ℕ) (no_body : h.open_body ≡ None) (is : h.open_run ≡ Some open_run) (k : Continues g s (begun budget p) t h []) where
+module _ {S : Type 0} {g : Ghosts S} {s : S} {t : S} {h : ReadingState} {open_run : OpenRun} (budget : ℕ) (p : List ℕ) (no_body : h.open_body ≡ None) (is : h.open_run ≡ Some open_run) (k : Continues g s (begun budget p) t h []) where
   abbrev o : Outcome
   o = begun budget p
 
@@ -66,13 +66,13 @@ module _ {S : Type 0} {g : Ghosts S} {s : S} {t : S} {h : Holding} {open_run : O
       ap (model.with_run_by o) (unfinished_is k None (Some open_run) no_body is)
       ∙ ap (λ (m : Machine). with_drawn o open_run.place (rule m.work open_run.op h.run)) (leads_machine k)
 
-  run_entries : (drawn : Drawn) → rule h.machine.work open_run.op h.run ≡ Ok drawn → (with_run o).entries ≡ k.done ++ drawn.entries
+  run_entries : (drawn : RuleResult) → rule h.machine.work open_run.op h.run ≡ Ok drawn → (with_run o).entries ≡ k.done ++ drawn.entries
   run_entries drawn by =
       ap (λ (y : Outcome). y.entries) (run_at_end ∙ ap (with_drawn o open_run.place) by)
       ∙ ap (λ (es : List Entry). es ++ drawn.entries) (leads_entries k)
 
   -- its entries come first of those with a byte that ends it
-  begins_all : (drawn : Drawn) → rule h.machine.work open_run.op h.run ≡ Ok drawn → BeginsAll budget p
+  begins_all : (drawn : RuleResult) → rule h.machine.work open_run.op h.run ≡ Ok drawn → BeginsAll budget p
   unfolding placed_from leads_more
   begins_all drawn by b other =
       let x : Placed = record { byte = b; place = length p } in
@@ -101,28 +101,28 @@ module _ {S : Type 0} {g : Ghosts S} {s : S} {t : S} {h : Holding} {open_run : O
       run_refused (ap (λ (x : Outcome). x.refusal) at) (subst (λ (es : List Entry). g.took s es u) (sym (ap (λ (x : Outcome). x.entries) at)) (subst (g.took s o.entries) (sym same) (leads_taken k))) refl
 
 -- with its entries taken, the byte that ends it is still to be read
-pub past_run : {S : Type 0} {g : Ghosts S} {s t u : S} {h h' : Holding} (budget : ℕ) (p : List ℕ) (k : Continues g s (begun budget p) t h []) → TookMore g → (acts : ActsRun g t h u h') → (b : ℕ) → is_operand_byte b ≡ false →
+pub past_run : {S : Type 0} {g : Ghosts S} {s t u : S} {h h' : ReadingState} (budget : ℕ) (p : List ℕ) (k : Continues g s (begun budget p) t h []) → TookMore g → (acts : ActsRun g t h u h') → (b : ℕ) → is_operand_byte b ≡ false →
     ContinuesPast g s (with_run (begun budget p)).entries (begun budget (p ++ b ∷ [])) u h' (record { byte = b; place = length p } ∷ [])
 unfolding placed_from leads_more leads_on
 past_run {g = g} {s = s} {t = t} {u = u} {h = h} {h' = h'} budget p k more acts b other =
     let x : Placed = record { byte = b; place = length p } in
     let m = after_drawing h.machine acts.drawn in
     let k' : Continues g s (begun budget (p ++ b ∷ [])) t h (x ∷ []) = leads_more budget p (b ∷ []) k in
-    subst (λ (h' : Holding). ContinuesPast g s (with_run (begun budget p)).entries (begun budget (p ++ b ∷ [])) u h' (x ∷ [])) (sym acts.holds) (record {
+    subst (λ (h' : ReadingState). ContinuesPast g s (with_run (begun budget p)).entries (begun budget (p ++ b ∷ [])) u h' (x ∷ [])) (sym acts.holds) (record {
       continues = leads_on k' u acts.drawn.entries (record h { machine = m; open_run = None; run = [] }) (x ∷ []) more (none_held acts.between acts.is k' m refl) (over acts.between acts.is k' other _ acts.by) acts.took acts.clear;
       done = sym (run_entries budget p acts.between acts.is k acts.drawn acts.by);
     })
 
 -- the opcode of an open run acts at the end, or doesn't
-module _ {S : Type 0} {g : Ghosts S} {s : S} {t : S} {h : Holding} (budget : ℕ) (p : List ℕ) (k : Continues g s (begun budget p) t h []) (laws : Lawful g) where
-  pub acts_at_end : {u : S} {h' : Holding} → ActsRun g t h u h' → Ends g s (with_run (begun budget p)) u h'
+module _ {S : Type 0} {g : Ghosts S} {s : S} {t : S} {h : ReadingState} (budget : ℕ) (p : List ℕ) (k : Continues g s (begun budget p) t h []) (laws : Lawful g) where
+  pub acts_at_end : {u : S} {h' : ReadingState} → ActsRun g t h u h' → Ends g s (with_run (begun budget p)) u h'
   acts_at_end {u} {h'} acts =
       let at = run_at_end budget p acts.between acts.is k ∙ ap (with_drawn (begun budget p) acts.open_run.place) acts.by in
-      let none = ap (λ (h : Holding). h.half) acts.holds ∙ (is_open_run h k.rest acts.open_run acts.between acts.is k.held).1 in
+      let none = ap (λ (h : ReadingState). h.half) acts.holds ∙ (is_open_run h k.rest acts.open_run acts.between acts.is k.held).1 in
       record {
         refusal = ap (λ (x : Outcome). x.refusal) at;
         taken = subst (λ (es : List Entry). g.took s es u) (sym (ap (λ (x : Outcome). x.entries) at)) (laws.more s t u (begun budget p).entries acts.drawn.entries (leads_taken k) acts.took);
-        work = ap (λ (x : Outcome). x.machine.work) at ∙ sym (ap (λ (h : Holding). h.machine.work) acts.holds);
+        work = ap (λ (x : Outcome). x.machine.work) at ∙ sym (ap (λ (h : ReadingState). h.machine.work) acts.holds);
         half = ap (λ (x : Outcome). x.unfinished) at ∙ ap (λ (half : List ℕ). Some (half_read half)) (sym none);
       }
 
@@ -137,7 +137,7 @@ module _ (budget : ℕ) (p : List ℕ) (live : (begun budget p).refusal ≡ None
       ap (ended_by (begun budget p) (length p)) live ∙ ap (model.with_end (with_run (begun budget p)) (length p)) none
 
 -- once nothing is unfinished but a code or a definition
-pub ended_is : {S : Type 0} {g : Ghosts S} {s t : S} {h : Holding} (budget : ℕ) (p : List ℕ) (fed : ℕ) → (begun budget p).refusal ≡ None → Ends g s (with_run (begun budget p)) t h → fed ≡ length p →
+pub ended_is : {S : Type 0} {g : Ghosts S} {s t : S} {h : ReadingState} (budget : ℕ) (p : List ℕ) (fed : ℕ) → (begun budget p).refusal ≡ None → Ends g s (with_run (begun budget p)) t h → fed ≡ length p →
     with_code (with_run (begun budget p)) fed (with_run (begun budget p)).unfinished ≡ means budget p
 ended_is budget p fed live k all = ap (λ (n : ℕ). with_code (with_run (begun budget p)) n (with_run (begun budget p)).unfinished) all ∙ sym (means_settled budget p live k.refusal)
 
@@ -150,7 +150,7 @@ refused_at_end {g = g} {s = s} budget p {u} {r} own live (run_refused refused to
     subst (λ (o : Outcome). IsTaken g s o u (Some r)) (sym same) (refused, took)
 
 -- an open body is refused at the end
-pub body_ended : {S : Type 0} {g : Ghosts S} {s : S} (budget : ℕ) (p : List ℕ) {t : S} {h : Holding} {body : OpenBody} (fed : ℕ) → Continues g s (begun budget p) t h [] → h.open_body ≡ Some body → fed ≡ length p → IsTaken g s (means budget p) t (Some (refusal Unended fed))
+pub body_ended : {S : Type 0} {g : Ghosts S} {s : S} (budget : ℕ) (p : List ℕ) {t : S} {h : ReadingState} {body : OpenBody} (fed : ℕ) → Continues g s (begun budget p) t h [] → h.open_body ≡ Some body → fed ≡ length p → IsTaken g s (means budget p) t (Some (refusal Unended fed))
 body_ended {g = g} {s = s} budget p {t} fed k opened all =
     let o : Outcome = begun budget p in
     let live = leads_unrefused k in
@@ -163,7 +163,7 @@ body_ended {g = g} {s = s} budget p {t} fed k opened all =
     (ap (λ (n : ℕ). Some (refusal Unended n)) (sym all), leads_taken k)
 
 -- what an opcode asks changes nothing of how a stream ends
-ends_asked : {S : Type 0} (g : Ghosts S) (s : S) (o : Outcome) (t : S) (h : Holding) (clears : Bool) → Ends g s o t (asked h (asks_if clears)) → Ends g s o t h
+ends_asked : {S : Type 0} (g : Ghosts S) (s : S) (o : Outcome) (t : S) (h : ReadingState) (clears : Bool) → Ends g s o t (state_after_request h (clear_request_if clears)) → Ends g s o t h
 ends_asked g s o t h true e = record { refusal = e.refusal; taken = e.taken; work = e.work; half = e.half }
 ends_asked g s o t h false e = e
 
@@ -173,16 +173,16 @@ pub record EndsRun {S : Type 0} {g : Ghosts S} (m new : struct.Machine S g) : Ty
   pub still : m.open_run ≡ None → new ≡ m
   pub acts : m.open_run ≢ None → (clears : Bool) × Executes m new clears
 
-pub ends_run : {S : Type 0} {g : Ghosts S} {m new : struct.Machine S g} (input : Input) → input.body ≡ None → Lawful g → EndsRun m new → (s : S) (budget : ℕ) (p : List ℕ) → Continues g s (begun budget p) m.sink (held_by m input) [] →
-    Ends g s (with_run (begun budget p)) new.sink (held_by new input)
+pub ends_run : {S : Type 0} {g : Ghosts S} {m new : struct.Machine S g} (input : Input) → input.body ≡ None → Lawful g → EndsRun m new → (s : S) (budget : ℕ) (p : List ℕ) → Continues g s (begun budget p) m.sink (reading_state_by m input) [] →
+    Ends g s (with_run (begun budget p)) new.sink (reading_state_by new input)
 ends_run {S} {g} {m} {new} input between laws e s budget p k = by m.open_run refl
   where
-    by : (open_run : Option OpenRun) → m.open_run ≡ open_run → Ends g s (with_run (begun budget p)) new.sink (held_by new input)
+    by : (open_run : Option OpenRun) → m.open_run ≡ open_run → Ends g s (with_run (begun budget p)) new.sink (reading_state_by new input)
     by None closed =
-        subst (λ (n : struct.Machine S g). Ends g s (with_run (begun budget p)) n.sink (held_by n input)) (sym (e.still closed)) (ends_still k between closed)
+        subst (λ (n : struct.Machine S g). Ends g s (with_run (begun budget p)) n.sink (reading_state_by n input)) (sym (e.still closed)) (ends_still k between closed)
     by (Some open_run) opened =
         let acted = e.acts (λ closed. let bad : Some open_run ≡ None = sym opened ∙ closed in cc) in
-        ends_asked g s (with_run (begun budget p)) new.sink (held_by new input) acted.0 (acts_at_end budget p k laws (acted.1.2 (held_by m input) between))
+        ends_asked g s (with_run (begun budget p)) new.sink (reading_state_by new input) acted.0 (acts_at_end budget p k laws (acted.1.2 (reading_state_by m input) between))
 
 -- The sink works where it did.
 pub ends_works : {S : Type 0} {g : Ghosts S} {m new : struct.Machine S g} → EndsRun m new → Works m new
@@ -210,7 +210,7 @@ run_first o (Some (model.half_code bytes)) = same_first o
 run_first o (Some model.open_body) = same_first o
 run_first o (Some (model.open_run op place run)) = drawn (rule o.machine.work op run)
   where
-    drawn : (by : Result Drawn DrawFault) → First o (model.with_drawn o place by)
+    drawn : (by : Result RuleResult DrawFault) → First o (model.with_drawn o place by)
     drawn (Ok d) = (d.entries, refl)
     drawn (Err fault) = same_first o
 
@@ -237,7 +237,7 @@ module _ {S : Type 0} {g : Ghosts S} {s : S} {u : S} (budget : ℕ) (p : List �
 
   -- a body is charged
   pub uses_breaks : (r : Refusal) → r.place ≡ length p → IsCharged budget p b → BreaksFrom g s (begun budget p).entries (begun budget (p ++ b ∷ [])) u (cause_of r.fault) → BreaksAt g s budget p b u r
-  uses_breaks r place charged h = inr (record { place = place; brings = inr (inr (inr charged)); wants = λ _. inl (inr (inr charged)); part = inr (charged, h) })
+  uses_breaks r place after_charge h = inr (record { place = place; brings = inr (inr (inr after_charge)); wants = λ _. inl (inr (inr after_charge)); part = inr (after_charge, h) })
 
   -- the opcode breaks whose run the byte ends
   pub run_breaks : {r : Refusal} → is_operand_byte b ≡ false → cause_of r.fault ≢ stream → ClosesInto g s budget p u r → BreaksAt g s budget p b u r
@@ -252,9 +252,9 @@ module _ {S : Type 0} {g : Ghosts S} {s : S} {u : S} (budget : ℕ) (p : List �
       uses_breaks r place (omega arith) (breaks_longer (begun budget p).entries more.0 (subst (λ (es : List Entry). BreaksFrom g s es (begun budget (p ++ b ∷ [])) u (cause_of r.fault)) more.1 from))
 
 -- where this was held
-module _ {S : Type 0} {g : Ghosts S} {s : S} {t : S} {h : Holding} (budget : ℕ) (p : List ℕ) (b : ℕ) (k : Continues g s (begun budget p) t h []) where
-  charged : (begun budget (p ++ b ∷ [])).machine.left < h.machine.left → IsCharged budget p b
-  charged less = let same = ap (λ (m : Machine). m.left) (leads_machine k) in omega (arith, less, same)
+module _ {S : Type 0} {g : Ghosts S} {s : S} {t : S} {h : ReadingState} (budget : ℕ) (p : List ℕ) (b : ℕ) (k : Continues g s (begun budget p) t h []) where
+  after_charge : (begun budget (p ++ b ∷ [])).machine.left < h.machine.left → IsCharged budget p b
+  after_charge less = let same = ap (λ (m : Machine). m.left) (leads_machine k) in omega (arith, less, same)
 
   -- the byte comes behind what is known
   pub past_still : ContinuesPast g s (begun budget p).entries (begun budget (p ++ b ∷ [])) t h (record { byte = b; place = length p } ∷ [])
@@ -271,14 +271,14 @@ module _ {S : Type 0} {g : Ghosts S} {s : S} {t : S} {h : Holding} (budget : ℕ
 
   pub still_breaks : {u : S} (r : Refusal) → h.open_run ≡ None → r.place ≡ length p → BreaksSome g s (begun budget p).entries (begun budget (p ++ b ∷ [])) u h.machine.left (cause_of r.fault) → BreaksAt g s budget p b u r
   still_breaks r is place (some_broke past) = brings_breaks budget p b r (still_same is) place past
-  still_breaks r is place (charged_broke less from) = uses_breaks budget p b r place (charged less) from
+  still_breaks r is place (charged_broke less from) = uses_breaks budget p b r place (after_charge less) from
 
   -- a body is open
   pub in_body_breaks : {u : S} {body : OpenBody} (r : Refusal) → h.open_body ≡ Some body → r.place ≡ length p → BreaksInBody g s (begun budget p).entries (begun budget (p ++ b ∷ [])) u h.machine.left (cause_of r.fault) → BreaksAt g s budget p b u r
   in_body_breaks r opened place (next_broke next) =
       let uses = body_open k _ opened in
       inr (record { place = place; brings = inr (inr (inl uses)); wants = λ _. inl (inr (inl uses)); part = inl (between budget p b (still_same (still_run k _ opened)) next) })
-  in_body_breaks r opened place (body_broke less from) = uses_breaks budget p b r place (charged less) from
+  in_body_breaks r opened place (body_broke less from) = uses_breaks budget p b r place (after_charge less) from
 
   -- the run that the byte joins could not grow
   pub growth_breaks : {open_run : OpenRun} → h.open_body ≡ None → h.open_run ≡ Some open_run → is_operand_byte b ≡ true → length h.run < run_limit → BreaksAt g s budget p b t (refusal Memory (length p))
@@ -298,7 +298,7 @@ module _ {S : Type 0} {g : Ghosts S} {s : S} {t : S} {h : Holding} (budget : ℕ
 module _ {S : Type 0} (g : Ghosts S) (s : S) (budget : ℕ) (p : List ℕ) (b : ℕ) (t : S) (r : Refusal) where
   charged_or : BreaksWith g s budget p b t (cause_of r.fault) → IsCharged budget p b ⊎ ((begun budget (p ++ b ∷ [])).refusal ≡ None)
   charged_or (inl between) = inr between.unrefused
-  charged_or (inr (charged, from)) = inl charged
+  charged_or (inr (after_charge, from)) = inl after_charge
 
   pub breaks_there : BreaksAt g s budget p b t r → CanBreakAt budget p b r.place
   breaks_there (inl (other, first, h)) = inl (other, h.place, h.part.unrefused)
@@ -320,19 +320,19 @@ broke_in_run budget p broke (run_broke all breaks is) = breaks
 -- What breaks with a byte, as it is seen from outside.
 
 -- the byte of the input behind p breaks
-module _ {S : Type 0} {g : Ghosts S} {s : S} {t : S} {h : Holding} (budget : ℕ) (p : List ℕ) (b : ℕ) (laws : Lawful g) (k : Continues g s (begun budget p) t h []) where
+module _ {S : Type 0} {g : Ghosts S} {s : S} {t : S} {h : ReadingState} (budget : ℕ) (p : List ℕ) (b : ℕ) (laws : Lawful g) (k : Continues g s (begun budget p) t h []) where
   pub breaks_byte : {u : S} {r : Refusal} → cause_of r.fault ≢ stream → Breaks g t h (placed_at b (length p)) u r → BreaksAt g s budget p b u r
   breaks_byte broke (at_word lacks) = rw (lacks.sink, lacks.why) (growth_breaks budget p b k lacks.between lacks.is lacks.word lacks.few)
   breaks_byte broke (in_run other stops) = run_breaks budget p b other broke (stops_at_end budget p k laws stops)
   breaks_byte {u} {r} broke (in_code closed code) = still_breaks budget p b k r closed code.place (code.part s _ _ (past_still budget p b k))
   breaks_byte {u} {r} broke (behind_run v h' other acts code) =
       let before = ap (λ (m : Machine). m.left) (leads_machine k) in
-      past_breaks budget p b r other code.place (omega (arith, before, ap (λ (h : Holding). h.machine.left) acts.holds))
+      past_breaks budget p b r other code.place (omega (arith, before, ap (λ (h : ReadingState). h.machine.left) acts.holds))
       (code.part s (with_run (begun budget p)).entries (begun budget (p ++ b ∷ [])) (past_run budget p k laws.more acts b other))
   breaks_byte {u} {r} broke (in_body body) = in_body_breaks budget p b k r body.is body.place (body.part s _ _ (past_still budget p b k))
 
 -- a byte of a body breaks
-module _ {S : Type 0} {g : Ghosts S} {s : S} {o : Outcome} {t : S} {h : Holding} {x : Placed} (laws : Lawful g) (k : Continues g s o t h (x ∷ [])) where
+module _ {S : Type 0} {g : Ghosts S} {s : S} {o : Outcome} {t : S} {h : ReadingState} {x : Placed} (laws : Lawful g) (k : Continues g s o t h (x ∷ [])) where
   pub breaks_inside : {u : S} {r : Refusal} → cause_of r.fault ≢ stream → Breaks g t h x u r → BreaksFrom g s [] o u (cause_of r.fault)
   breaks_inside broke (at_word lacks) = rw (lacks.sink, lacks.why) (breaks_longer [] k.done (wants_from (record { continues = k; done = refl })))
   breaks_inside {u} {r} broke (in_run other stops) =
@@ -346,7 +346,7 @@ module _ {S : Type 0} {g : Ghosts S} {s : S} {o : Outcome} {t : S} {h : Holding}
   breaks_inside broke (in_body body) = breaks_longer [] k.done (body_breaks_from (body.part s k.done o (record { continues = k; done = refl })))
 
 -- where it breaks
-pub breaks_place : {S : Type 0} {g : Ghosts S} {t : S} {h : Holding} {x : Placed} {u : S} {r : Refusal} (n : ℕ) → x.place ≡ n → RunAt n h.open_run → Breaks g t h x u r → r.place ≡ n
+pub breaks_place : {S : Type 0} {g : Ghosts S} {t : S} {h : ReadingState} {x : Placed} {u : S} {r : Refusal} (n : ℕ) → x.place ≡ n → RunAt n h.open_run → Breaks g t h x u r → r.place ≡ n
 breaks_place n here run (at_word lacks) = ap (λ (r : Refusal). r.place) lacks.why ∙ here
 breaks_place n here run (in_run other stops) = ap (λ (r : Refusal). r.place) stops.why ∙ subst (RunAt n) stops.is run
 breaks_place n here run (in_code closed code) = code.place ∙ here

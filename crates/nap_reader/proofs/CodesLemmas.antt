@@ -1,4 +1,4 @@
-use Rattle.nap_reader.proofs.Common.{All, All-head, AreCharacters, Bool, Call, Calls, CallsBy, CharSet, Code, CodeFault, CodeSets, CodeTakes, Codes, Continues, Define, DrawFault, Drawn, Entry, Ghosts, HaltsAfter, Holding, IsHeld, IsLive, IsOpcodeByte, IsText, IsTyped, Kind, LeadsOn, Leaves, LexerState, List, None, Nothing, Opcode, Option, Outcome, Passes, Placed, Refusal, Request, Result, RunAt, Sink, SinkFault, Some, Stop, StopsByte, Stray, Takes, TakesBy, Tells, TellsSink, Work, Works, [], ap, ap₂, arith, as_it_was, asked, at_byte, bytes_of, code_fault, code_front, code_rule, draw_fault, drawn, drawn_front, drop, false, false≢true, fault_of, front, in_body, in_code, in_text, inl, kind_of, length, length-append, length-map, one_byte_opcode, refl, refusal, shows_of, some_broke, subst, sym, take, take-append-le, take-map, text, true, with_machine, ℕ, ◌++◌, ◌<◌, ◌∙◌, ◌∷◌, ◌≡◌, ◌≢◌, ◌≤◌}
+use Rattle.nap_reader.proofs.Common.{All, All-head, AreCharacters, Bool, Call, Calls, CallsBy, CharSet, Code, CodeFault, CodeSets, CodeTakes, Codes, Continues, Define, DrawFault, RuleResult, Entry, Ghosts, HaltsAfter, ReadingState, ArePending, IsLive, IsOpcodeByte, IsText, IsTextByte, Kind, LeadsOn, Leaves, LexerState, List, None, Nothing, Opcode, Option, Outcome, Passes, Placed, Refusal, Request, Result, RunAt, Sink, SinkFault, Some, Stop, StopsByte, Stray, Takes, TakesBy, FaultMatchesDevice, FaultMatchesSink, Work, Works, [], ap, ap₂, arith, as_it_was, state_after_request, at_byte, bytes_of, code_fault, code_front, code_rule, draw_fault, rule_result, drawn_front, drop, false, false≢true, fault_of, front, in_body, in_code, in_text, inl, kind_of, length, length-append, length-map, one_byte_opcode, refl, refusal, sink_model_of, some_broke, subst, sym, take, take-append-le, take-map, text, true, with_machine, ℕ, ◌++◌, ◌<◌, ◌∙◌, ◌∷◌, ◌≡◌, ◌≢◌, ◌≤◌}
 use Rattle.nap_reader.proofs.Base.{Fails, IsAt, KindMade, Lawful, TookMore, acts_itself, binds_code, body_begins, byte_refused, code_breaks, code_ends, code_fault_own, code_goes_on, code_over, conveys_nothing, first_of, front_kind_made, is_between, leads_nowhere, leads_on, leads_past, leads_to_fault, leads_to_refusal, nothing_half, opcode_alone, opcode_of_kind, opens_drawn, place_at-append, run_opens}
 use Rattle.nap_codes.specs.declared.code.Code.TheVariants as code
 use Rattle.nap_codes.specs.Front as codes
@@ -15,14 +15,14 @@ use Rattle.nap_reader.specs.declared.machine.codes.CodeOutcome.TheVariants as ou
 -- One code, where nothing is open.
 
 -- some bytes act, and leave no run open
-leads_by : {S : Type 0} {g : Ghosts S} {t : S} {h : Holding} {u v : S} {h' k : Holding} {xs : List Placed} (next : List ℕ) → v ≡ u → k ≡ h' → 0 < length xs → h'.machine.left ≡ h.machine.left → h'.open_run ≡ None → Passes g t h xs u h' [] →
+leads_by : {S : Type 0} {g : Ghosts S} {t : S} {h : ReadingState} {u v : S} {h' k : ReadingState} {xs : List Placed} (next : List ℕ) → v ≡ u → k ≡ h' → 0 < length xs → h'.machine.left ≡ h.machine.left → h'.open_run ≡ None → Passes g t h xs u h' [] →
     LeadsOn g t h v k xs next
-leads_by {u = u} {h' = h'} next sink held some left closed passes = record {
+leads_by {u = u} {h' = h'} next sink held some left store_bound passes = record {
   conveys = record {
     sink = u;
     holding = h';
     left = left;
-    run = λ n all before. subst (RunAt n) (sym closed) tt;
+    run = λ n all before. subst (RunAt n) (sym store_bound) tt;
     passes = passes;
     none = λ none. absurd (omega (arith, some, ap length none));
   };
@@ -30,16 +30,16 @@ leads_by {u = u} {h' = h'} next sink held some left closed passes = record {
 }
 
 -- An opcode, where no code is half read.
-pub record StartsRun (h : Holding) (x : Placed) (op : Opcode) : Type 0 where
+pub record StartsRun (h : ReadingState) (x : Placed) (op : Opcode) : Type 0 where
   pub between : h.open_body ≡ None
-  pub closed : h.open_run ≡ None
+  pub store_bound : h.open_run ≡ None
   pub is : IsOpcodeByte h.half h.machine.sets x.byte op
 
 -- what is held once its run is open
-abbrev pub open_at : {h : Holding} {x : Placed} {op : Opcode} → StartsRun h x op → Holding
+abbrev pub open_at : {h : ReadingState} {x : Placed} {op : Opcode} → StartsRun h x op → ReadingState
 open_at {h} {x} {op} k = record h { half = []; open_run = Some (record { op = op; place = x.place }); run = [] }
 
-pub run_opened : {S : Type 0} {g : Ghosts S} {t v : S} {h held : Holding} {x : Placed} {op : Opcode} (k : StartsRun h x op) (next : List ℕ) → v ≡ t → held ≡ open_at k → LeadsOn g t h v held (x ∷ []) next
+pub run_opened : {S : Type 0} {g : Ghosts S} {t v : S} {h held : ReadingState} {x : Placed} {op : Opcode} (k : StartsRun h x op) (next : List ℕ) → v ≡ t → held ≡ open_at k → LeadsOn g t h v held (x ∷ []) next
 run_opened {t = t} {x = x} {op = op} k next sink same = record {
   conveys = record {
     sink = t;
@@ -58,40 +58,40 @@ pub data IsRuled (c : Code) (request : Request) : Type 0 where
   binds : (name : ℕ) (show : Bool) → kind_of c ≡ kinds.Binds name show → request ≡ Define name show → IsRuled c request
 
 -- what it draws
-abbrev pub drawn_by : List Entry → Work → Drawn
+abbrev pub drawn_by : List Entry → Work → RuleResult
 drawn_by entries work = record { entries = entries; work = work; clears = false }
 
 -- A byte ends a code.
-pub record EndsCode (h : Holding) (x : Placed) (c : Code) (after : CodeSets) : Type 0 where
+pub record EndsCode (h : ReadingState) (x : Placed) (c : Code) (after : CodeSets) : Type 0 where
   pub between : h.open_body ≡ None
-  pub closed : h.open_run ≡ None
+  pub store_bound : h.open_run ≡ None
   pub count : ℕ
   pub whole : codes.front h.machine.sets (h.half ++ x.byte ∷ []) ≡ codes.whole c count after
   pub length_is : count ≡ length (h.half ++ x.byte ∷ [])
 
 -- what is held once it was read, and has drawn so that the work is this
-abbrev pub drawn_at : Holding → CodeSets → Work → Holding
+abbrev pub drawn_at : ReadingState → CodeSets → Work → ReadingState
 drawn_at h after work = record h { machine = record h.machine { work = work; sets = after }; half = [] }
 
-abbrev pub read_at : Holding → CodeSets → Holding
+abbrev pub read_at : ReadingState → CodeSets → ReadingState
 read_at h after = drawn_at h after h.machine.work
 
-module _ {S : Type 0} (g : Ghosts S) (t : S) {h : Holding} {x : Placed} {c : Code} {after : CodeSets} (k : EndsCode h x c after) where
+module _ {S : Type 0} (g : Ghosts S) (t : S) {h : ReadingState} {x : Placed} {c : Code} {after : CodeSets} (k : EndsCode h x c after) where
   stands : {s : S} {o : Outcome} {pending : List Placed} (c' : Continues g s o t h (x ∷ pending)) {kind : Kind} → kind_of c ≡ kind → front h.machine (c'.rest ++ x ∷ pending) ≡ code_front (record h.machine { sets = after }) kind x.place pending
   stands {pending = pending} c' same = code_ends k.between k.closed c' c k.count after k.whole k.length_is ∙ ap (λ (kind : Kind). code_front (record h.machine { sets = after }) kind x.place pending) same
 
-  read_over : {s : S} {o : Outcome} {pending : List Placed} (c' : Continues g s o t h (x ∷ pending)) → IsHeld [] (read_at h after)
+  read_over : {s : S} {o : Outcome} {pending : List Placed} (c' : Continues g s o t h (x ∷ pending)) → ArePending [] (read_at h after)
   read_over c' = code_over k.between k.closed c' (read_at h after) k.between refl refl k.closed refl
 
   made : {kind : Kind} → kind_of c ≡ kind → KindMade kind
   made same = subst KindMade same (front_kind_made h.machine.sets (h.half ++ x.byte ∷ []) c k.count after k.whole)
 
   -- It adds nothing.
-  nothing_leads : {v : S} {held : Holding} (next : List ℕ) → v ≡ t → held ≡ read_at h after → kind_of c ≡ kinds.AddsNothing → LeadsOn g t h v held (x ∷ []) next
+  nothing_leads : {v : S} {held : ReadingState} (next : List ℕ) → v ≡ t → held ≡ read_at h after → kind_of c ≡ kinds.AddsNothing → LeadsOn g t h v held (x ∷ []) next
   nothing_leads next sink held kind = leads_by next sink held (omega arith) refl k.closed (λ s o pending c'. leads_past c' (read_at h after) pending (read_over c') (stands c' kind))
 
   -- It acts, or defines a macro, whose body comes next.
-  code_takes : {u : S} {request : Request} {entries : List Entry} {work : Work} {held : Holding} → IsRuled c request → held ≡ drawn_at h after work → Drew g (code_rule h.machine.work c) t (drawn_by entries work) u → TookMore g → (behind : List Placed) (many : ℕ) (r : Option Refusal) →
+  code_takes : {u : S} {request : Request} {entries : List Entry} {work : Work} {held : ReadingState} → IsRuled c request → held ≡ drawn_at h after work → Drew g (code_rule h.machine.work c) t (drawn_by entries work) u → TookMore g → (behind : List Placed) (many : ℕ) (r : Option Refusal) →
       TakesBy g t h u held (x ∷ behind) many 1 r request
   code_takes {u} {request} {entries} {work} {held} (acts acting kind is) same drew more behind many r =
       let h' = drawn_at h after work in
@@ -101,12 +101,12 @@ module _ {S : Type 0} (g : Ghosts S) (t : S) {h : Holding} {x : Placed} {c : Cod
       (stands c' (acts_itself c acting kind) ∙ ap (drawn_front (record h.machine { sets = after }) x.place pending) drew.is) drew.took drew.clear))
   code_takes {u} {request} {entries} {work} {held} (binds name show kind is) same drew more behind many r =
       let asks = Define name show in
-      let h' = asked (drawn_at h after work) asks in
+      let h' = state_after_request (drawn_at h after work) asks in
       let rule = ap (code_rule h.machine.work) (sym (binds_code c name show kind)) ∙ drew.is in
       subst (TakesBy g t h u held (x ∷ behind) many 1 r) (sym is) (
         omega arith,
         made kind,
-        leads_by (bytes_of behind) refl (ap (λ (h : Holding). asked h asks) same) (omega arith) refl k.closed
+        leads_by (bytes_of behind) refl (ap (λ (h : ReadingState). state_after_request h asks) same) (omega arith) refl k.closed
             (λ s o pending c'.
             leads_on c' u entries h' pending more
             (body_begins (record { name = name; show = show; escape = None }) h' refl refl (is_between h c'.rest k.between c'.held).body k.closed refl)
@@ -114,7 +114,7 @@ module _ {S : Type 0} (g : Ghosts S) (t : S) {h : Holding} {x : Placed} {c : Cod
       )
 
   -- Its rule is refused, or breaks.
-  stops_by : {u : S} {fault : DrawFault} (m : model.Machine) {by : Result Drawn DrawFault} → ((s : S) (o : Outcome) (pending : List Placed) (c' : Continues g s o t h (x ∷ pending)) → front h.machine (c'.rest ++ x ∷ pending) ≡ drawn_front m x.place pending by) →
+  stops_by : {u : S} {fault : DrawFault} (m : model.Machine) {by : Result RuleResult DrawFault} → ((s : S) (o : Outcome) (pending : List Placed) (c' : Continues g s o t h (x ∷ pending)) → front h.machine (c'.rest ++ x ∷ pending) ≡ drawn_front m x.place pending by) →
       Fails g by t u fault → Lawful g → StopsByte g t h x u (refusal (draw_fault fault) x.place)
   stops_by {u} {fault} m {by} acting fails laws = record {
     own = λ own s o pending c'. leads_to_fault c' u m x.place pending by (acting s o pending c') fault fails.drew own;
@@ -135,10 +135,10 @@ module _ {S : Type 0} (g : Ghosts S) (t : S) {h : Holding} {x : Placed} {c : Cod
   strays_stops kind = record { own = λ own s o pending c'. leads_to_refusal c' _ (stands c' kind); broke = λ broke. absurd (broke refl) }
 
   -- It calls a macro.
-  call_calls : {t₀ v : S} {h₀ held : Holding} {all : List Placed} {index name : ℕ} (behind : List Placed) → drop index all ≡ x ∷ behind → LeadsOn g t₀ h₀ t h (take index all) (bytes_of (drop index all)) → kind_of c ≡ kinds.Calls name →
+  call_calls : {t₀ v : S} {h₀ held : ReadingState} {all : List Placed} {index name : ℕ} (behind : List Placed) → drop index all ≡ x ∷ behind → LeadsOn g t₀ h₀ t h (take index all) (bytes_of (drop index all)) → kind_of c ≡ kinds.Calls name →
       v ≡ t → held ≡ read_at h after → Calls g t₀ h₀ v held all index name
   call_calls {t₀} {v} {h₀} {held} {all} {index} {name} behind is leads kind sink same =
-      subst (λ (v : S). Calls g t₀ h₀ v held all index name) (sym sink) (subst (λ (held : Holding). Calls g t₀ h₀ t held all index name) (sym same) (record {
+      subst (λ (v : S). Calls g t₀ h₀ v held all index name) (sym sink) (subst (λ (held : ReadingState). Calls g t₀ h₀ t held all index name) (sym same) (record {
         byte = x;
         behind = behind;
         is = is;
@@ -154,20 +154,20 @@ module _ {S : Type 0} (g : Ghosts S) (t : S) {h : Holding} {x : Placed} {c : Cod
       }))
 
 -- A byte that is refused.
-fault_stops : {S : Type 0} {g : Ghosts S} {t : S} {h : Holding} (x : Placed) {fault : CodeFault} {index : ℕ} → h.open_body ≡ None → h.open_run ≡ None → codes.front h.machine.sets (h.half ++ x.byte ∷ []) ≡ codes.refused fault index →
+fault_stops : {S : Type 0} {g : Ghosts S} {t : S} {h : ReadingState} (x : Placed) {fault : CodeFault} {index : ℕ} → h.open_body ≡ None → h.open_run ≡ None → codes.front h.machine.sets (h.half ++ x.byte ∷ []) ≡ codes.refused fault index →
     index ≡ length h.half → StopsByte g t h x t (refusal (code_fault fault) x.place)
-fault_stops x {fault} {index} between closed refused there = record {
-  own = λ own s o pending c. byte_refused between closed c fault index refused there;
+fault_stops x {fault} {index} between store_bound refused there = record {
+  own = λ own s o pending c. byte_refused between store_bound c fault index refused there;
   broke = λ broke. absurd (broke (code_fault_own fault));
 }
 
 -- A byte of a code that isn't whole.
-half_leads : {S : Type 0} {g : Ghosts S} {t v : S} {h held : Holding} (x : Placed) (next : List ℕ) → v ≡ t → held ≡ record h { half = h.half ++ x.byte ∷ [] } → h.open_body ≡ None → h.open_run ≡ None →
+half_leads : {S : Type 0} {g : Ghosts S} {t v : S} {h held : ReadingState} (x : Placed) (next : List ℕ) → v ≡ t → held ≡ record h { half = h.half ++ x.byte ∷ [] } → h.open_body ≡ None → h.open_run ≡ None →
     codes.front h.machine.sets (h.half ++ x.byte ∷ []) ≡ codes.unfinished → LeadsOn g t h v held (x ∷ []) next
-half_leads x next sink held between closed unfinished = leads_by next sink held (omega arith) refl closed (λ s o pending c. code_goes_on between closed c unfinished)
+half_leads x next sink held between store_bound unfinished = leads_by next sink held (omega arith) refl store_bound (λ s o pending c. code_goes_on between store_bound c unfinished)
 
 -- Characters, and the moves among them, where no code is half read.
-text_leads : {S : Type 0} {g : Ghosts S} {t u : S} {h held : Holding} {set : CharSet} {xs : List Placed} (next : List ℕ) → IsText h set (bytes_of xs) → held ≡ record h { machine = with_text h.machine set (bytes_of xs) } → TookMore g →
+text_leads : {S : Type 0} {g : Ghosts S} {t u : S} {h held : ReadingState} {set : CharSet} {xs : List Placed} (next : List ℕ) → IsText h set (bytes_of xs) → held ≡ record h { machine = with_text h.machine set (bytes_of xs) } → TookMore g →
     g.took t (draws_codes.text h.machine.work.state set (bytes_of xs)) u → (g.failed t ≡ false → g.failed u ≡ false) → LeadsOn g t h u held xs next
 text_leads {u = u} {xs = xs} next k same more took clear =
     leads_by next refl same (omega (arith, k.some, length-map xs (λ (x : Placed). x.byte))) refl k.closed (λ s o pending c. text_passes xs pending c k u more took clear)
@@ -192,13 +192,13 @@ half_takes {x = x} {zs = zs} unfinished left same live =
 -- It is refused.
 pub fault_takes : {S : Type 0} {g : Ghosts S} {old new : Machine S g} {x : Placed} {zs : List Placed} {ended : Bool} (fault : CodeFault) (index : ℕ) → codes.front old.lexer.sets (old.lexer.half ++ x.byte ∷ []) ≡ codes.refused fault index → index ≡ length old.lexer.half →
     old.open_run ≡ None → new.refusal ≡ Some (refusal (code_fault fault) x.place) → new.sink ≡ old.sink → Takes old new (x ∷ zs) ended 0 Stop
-fault_takes {g = g} {old = old} {x = x} {zs = zs} fault index refused there closed is same =
+fault_takes {g = g} {old = old} {x = x} {zs = zs} fault index refused there store_bound is same =
     stop_takes is same (omega arith) (own_tells g old.sink (lexer_is_own fault))
-    (λ h behind between over. at_byte x (zs ++ behind) refl (conveys_nothing g old.sink (with_machine h old)) (fault_stops x between closed refused there))
+    (λ h behind between over. at_byte x (zs ++ behind) refl (conveys_nothing g old.sink (with_machine h old)) (fault_stops x between store_bound refused there))
 
 -- It ends a code.
 pub record Lexes {S : Type 0} {g : Ghosts S} (old : Machine S g) (x : Placed) (c : Code) (after : CodeSets) : Type 0 where
-  pub closed : old.open_run ≡ None
+  pub store_bound : old.open_run ≡ None
   pub count : ℕ
   pub whole : codes.front old.lexer.sets (old.lexer.half ++ x.byte ∷ []) ≡ codes.whole c count after
   pub length_is : count ≡ length (old.lexer.half ++ x.byte ∷ [])
@@ -208,7 +208,7 @@ abbrev pub rested : CodeSets → LexerState
 rested after = record { sets = after; half = [] }
 
 module _ {S : Type 0} {g : Ghosts S} {old : Machine S g} {x : Placed} {c : Code} {after : CodeSets} (k : Lexes old x c after) where
-  ends : (h : Holding) → h.open_body ≡ None → EndsCode (with_machine h old) x c after
+  ends : (h : ReadingState) → h.open_body ≡ None → EndsCode (with_machine h old) x c after
   ends h between = record { between = between; closed = k.closed; count = k.count; whole = k.whole; length_is = k.length_is }
 
   -- The code adds nothing.
@@ -232,7 +232,7 @@ module _ {S : Type 0} {g : Ghosts S} {old : Machine S g} {x : Placed} {c : Code}
       leaves (binds name show kind is) = subst (Leaves old new) (sym is) (record { live = live; clear = drew.clear })
 
   -- It is refused by its rule, or breaks.
-  pub ruled_stops : {new : Machine S g} {zs : List Placed} {ended : Bool} {request : Request} {u : S} {fault : DrawFault} → IsRuled c request → Fails g (code_rule old.work c) old.sink u fault → TellsSink g old.sink u (draw_fault fault) → new.refusal ≡ Some (refusal (draw_fault fault) x.place) → new.sink ≡ u → Lawful g →
+  pub ruled_stops : {new : Machine S g} {zs : List Placed} {ended : Bool} {request : Request} {u : S} {fault : DrawFault} → IsRuled c request → Fails g (code_rule old.work c) old.sink u fault → FaultMatchesSink g old.sink u (draw_fault fault) → new.refusal ≡ Some (refusal (draw_fault fault) x.place) → new.sink ≡ u → Lawful g →
       Takes old new (x ∷ zs) ended 0 Stop
   ruled_stops {zs = zs} ruled fails told is same laws =
       stop_takes is same (omega arith) told (λ h behind between over. at_byte x (zs ++ behind) refl (conveys_nothing g old.sink (with_machine h old)) (code_stops g old.sink (ends h between) ruled fails laws))
@@ -264,7 +264,7 @@ pub record IsAlone {S : Type 0} {g : Ghosts S} (old : Machine S g) (c : Code) (a
   pub byte : ℕ
   pub rest : List ℕ
   pub is : bytes ≡ byte ∷ rest
-  pub closed : old.open_run ≡ None
+  pub store_bound : old.open_run ≡ None
   pub half : old.lexer.half ≡ []
   pub front : codes.front old.lexer.sets (byte ∷ []) ≡ codes.whole c 1 after
 
@@ -300,16 +300,16 @@ module _ {S : Type 0} {g : Ghosts S} {old : Machine S g} {c : Code} {after : Cod
   }
 
   -- It is refused, or breaks.
-  pub alone_stops : {new : Machine S g} {ended : Bool} {fault : DrawFault} → new.open_run ≡ old.open_run → kind_of c ≡ kinds.Acts c → Fails g (code_rule old.work c) old.sink new.sink fault → TellsSink g old.sink new.sink (draw_fault fault) → Lawful g → Codes old new bytes ended (outcomes.Stopped 0 (draw_fault fault) 0)
-  alone_stops {new} {ended} {fault} closed kind fails told laws = record {
+  pub alone_stops : {new : Machine S g} {ended : Bool} {fault : DrawFault} → new.open_run ≡ old.open_run → kind_of c ≡ kinds.Acts c → Fails g (code_rule old.work c) old.sink new.sink fault → FaultMatchesSink g old.sink new.sink (draw_fault fault) → Lawful g → Codes old new bytes ended (outcomes.Stopped 0 (draw_fault fault) 0)
+  alone_stops {new} {ended} {fault} store_bound kind fails told laws = record {
     within = (omega arith, alone_within);
-    closed = closed;
+    closed = store_bound;
     by = lexes_alone (λ xs. CodeTakes old new xs ended (outcomes.Stopped 0 (draw_fault fault) 0))
         (λ x ys lexes kept refuses. let ruled : IsRuled c Nothing = acts c kind refl in ruled_stops lexes ruled fails told refuses.is refuses.sink laws);
   }
 
 -- what a fault of a sink tells of it
-tells_sink : {S : Type 0} {g : Ghosts S} {s t : S} {n : ℕ} (fault : SinkFault) → Tells (shows_of g) s t n fault → TellsSink g s t (draw_fault (fault_of fault))
+tells_sink : {S : Type 0} {g : Ghosts S} {s t : S} {n : ℕ} (fault : SinkFault) → FaultMatchesDevice (sink_model_of g) s t n fault → FaultMatchesSink g s t (draw_fault (fault_of fault))
 tells_sink sink_faults.Memory tells = (λ is. cc, λ works fails. absurd (false≢true (sym (tells.memory refl) ∙ fails)))
 tells_sink sink_faults.Write tells = (λ is. tells.write refl, λ works fails. refl)
 
@@ -318,12 +318,12 @@ pub record IsTextOf {S : Type 0} {g : Ghosts S} (old : Machine S g) (set : CharS
   pub front : chars ≡ take (length chars) bytes
   pub few : length chars ≤ length bytes
   pub some : 0 < length chars
-  pub typed : All IsTyped chars
-  pub closed : old.open_run ≡ None
+  pub typed : All IsTextByte chars
+  pub store_bound : old.open_run ≡ None
   pub are : AreCharacters old.lexer set
 
 module _ {S : Type 0} {g : Ghosts S} {old : Machine S g} {set : CharSet} {bytes chars : List ℕ} (k : IsTextOf old set bytes chars) where
-  module _ (h : Holding) (between : h.open_body ≡ None) (xs behind : List Placed) (is : bytes_of xs ≡ bytes) where
+  module _ (h : ReadingState) (between : h.open_body ≡ None) (xs behind : List Placed) (is : bytes_of xs ≡ bytes) where
     few : length chars ≤ length xs
     few = omega (arith, k.few, ap length is, length-map xs (λ (x : Placed). x.byte))
 
@@ -337,11 +337,11 @@ module _ {S : Type 0} {g : Ghosts S} {old : Machine S g} {set : CharSet} {bytes 
       rested = k.are.rested;
       chars = k.are.chars;
       some = omega (arith, k.some, ap length same);
-      typed = subst (All IsTyped) (sym same) k.typed;
+      typed = subst (All IsTextByte) (sym same) k.typed;
     }
 
   -- They are taken.
-  pub text_taken : {new : Machine S g} {ended : Bool} → LeftBy old new (drawn old.work (text old.work.state set chars)).work old.lexer → g.took old.sink (text old.work.state set chars) new.sink → (g.failed old.sink ≡ false → g.failed new.sink ≡ false) → IsLive new →
+  pub text_taken : {new : Machine S g} {ended : Bool} → LeftBy old new (rule_result old.work (text old.work.state set chars)).work old.lexer → g.took old.sink (text old.work.state set chars) new.sink → (g.failed old.sink ≡ false → g.failed new.sink ≡ false) → IsLive new →
       TookMore g → Codes old new bytes ended (outcomes.Acted (length chars) false)
   text_taken {new} left took clear live more = record {
     within = (k.some, k.few);
@@ -359,13 +359,13 @@ module _ {S : Type 0} {g : Ghosts S} {old : Machine S g} {set : CharSet} {bytes 
   }
 
   -- Or one isn't, or breaks.
-  pub text_halts : {new : Machine S g} {ended : Bool} (fault : SinkFault) {index : ℕ} → new.open_run ≡ old.open_run → HaltsAfter (shows_of g) (text old.work.state set chars) old.sink new.sink index fault → Tells (shows_of g) old.sink new.sink index fault →
+  pub text_halts : {new : Machine S g} {ended : Bool} (fault : SinkFault) {index : ℕ} → new.open_run ≡ old.open_run → HaltsAfter (sink_model_of g) (text old.work.state set chars) old.sink new.sink index fault → FaultMatchesDevice (sink_model_of g) old.sink new.sink index fault →
       Codes old new bytes ended (outcomes.Stopped index (draw_fault (fault_of fault)) index)
-  text_halts {new} fault {index} closed halts tells =
+  text_halts {new} fault {index} store_bound halts tells =
       let less = halts_less g old.work.state set chars index old.sink new.sink fault k.some halts in
       record {
         within = (omega (arith, less, k.few), omega (arith, less, k.few));
-        closed = closed;
+        closed = store_bound;
         by = λ xs is kept refuses.
             stop_takes refuses.is refuses.sink (omega (arith, less, k.few, ap length is, length-map xs (λ (x : Placed). x.byte))) (tells_sink fault tells)
             (λ h behind between over.
@@ -373,18 +373,18 @@ module _ {S : Type 0} {g : Ghosts S} {old : Machine S g} {set : CharSet} {bytes 
               set = set;
               text_is = is_text h between xs behind is;
               fault = fault;
-              halts = subst (λ (bs : List ℕ). HaltsAfter (shows_of g) (text old.work.state set bs) old.sink new.sink index fault) (sym (same h between xs behind is)) halts;
+              halts = subst (λ (bs : List ℕ). HaltsAfter (sink_model_of g) (text old.work.state set bs) old.sink new.sink index fault) (sym (same h between xs behind is)) halts;
               why = refl;
             }));
       }
 
 -- Calls of macros whose name is at hand.
 
-module _ {S : Type 0} {g : Ghosts S} (old : Machine S g) {bytes : List ℕ} {count : ℕ} (k : CallsBy old.lexer bytes count) (closed : old.open_run ≡ None) (xs : List Placed) (is : bytes_of xs ≡ bytes) where
+module _ {S : Type 0} {g : Ghosts S} (old : Machine S g) {bytes : List ℕ} {count : ℕ} (k : CallsBy old.lexer bytes count) (store_bound : old.open_run ≡ None) (xs : List Placed) (is : bytes_of xs ≡ bytes) where
   all : bytes_of xs ≡ k.before ++ k.name ∷ k.behind
   all = is ∙ k.is
 
-  call_by : (h : Holding) (behind : List Placed) → h.open_body ≡ None → Calls g old.sink (with_machine h old) old.sink (with_machine h old) (xs ++ behind) (length k.before) k.name
+  call_by : (h : ReadingState) (behind : List Placed) → h.open_body ≡ None → Calls g old.sink (with_machine h old) old.sink (with_machine h old) (xs ++ behind) (length k.before) k.name
   call_by h behind between = by k.before refl
     where
       -- before the name, which is the byte behind these
@@ -393,7 +393,7 @@ module _ {S : Type 0} {g : Ghosts S} (old : Machine S g) {bytes : List ℕ} {cou
           let bytes : half ++ y.byte ∷ [] ≡ k.before ++ k.name ∷ [] = ap₂ (λ (bs : List ℕ) (b : ℕ). bs ++ b ∷ []) is byte in
           record {
             between = between;
-            closed = closed;
+            closed = store_bound;
             count = count;
             whole = ap (codes.front old.lexer.sets) bytes ∙ k.whole;
             length_is = k.counted ∙ sym (ap length bytes ∙ length-append k.before (k.name ∷ []));
@@ -413,7 +413,7 @@ module _ {S : Type 0} {g : Ghosts S} (old : Machine S g) {bytes : List ℕ} {cou
           let half : old.lexer.half ++ x.byte ∷ [] ≡ k.before = ap₂ (λ (bs : List ℕ) (c : ℕ). bs ++ c ∷ []) k.rested first ∙ sym one in
           subst (λ (xs : List Placed). Calls g old.sink (with_machine h old) old.sink (with_machine h old) (xs ++ behind) 1 k.name) (sym (xs_is ∙ ap (λ (zs : List Placed). x ∷ zs) ys_is))
           (call_calls g old.sink (named y (old.lexer.half ++ x.byte ∷ []) byte half) (zs ++ behind) refl
-          (half_leads x (bytes_of (y ∷ (zs ++ behind))) refl refl between closed (ap (codes.front old.lexer.sets) half ∙ k.waits)) refl refl rest)
+          (half_leads x (bytes_of (y ∷ (zs ++ behind))) refl refl between store_bound (ap (codes.front old.lexer.sets) half ∙ k.waits)) refl refl rest)
       by (b ∷ c ∷ more) many = absurd (omega (arith, ap length many, k.few))
 
   pub call_takes : IsLive old → (ended : Bool) → Takes old old xs ended count (Call k.name)
@@ -421,6 +421,6 @@ module _ {S : Type 0} {g : Ghosts S} (old : Machine S g) {bytes : List ℕ} {cou
     within = omega (arith, k.counted, ap length all, length-append k.before (k.name ∷ k.behind), length-map xs (λ (x : Placed). x.byte));
     leaves = record { live = live; clear = λ clear. clear };
     goes = λ some. inl (omega (arith, k.counted));
-    closed = λ nothing less. closed;
+    closed = λ nothing less. store_bound;
     by = λ h behind between over. (length k.before, k.counted, call_by h behind between);
   }

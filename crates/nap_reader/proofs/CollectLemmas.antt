@@ -1,4 +1,4 @@
-use Rattle.nap_reader.proofs.Common.{Answers, AnswersBy, Bool, BreaksAmong, BreaksWithin, Cause, Consumes, EndsBy, Entry, Err, Fault, FeedFault, Feeds, Ghosts, IsCutOff, IsReadOut, IsReadWhole, LacksMemoryFor, LacksWithin, List, None, NoneFailed, Option, Outcome, Reader, Reading, Refusal, RefusedBy, Result, Some, Stands, StopsAt, StopsBy, StopsInLast, WantsSome, [], ap, append-nil, append_assoc, arith, begun, budget_of, cause_of, device, ended_by, false, get_or, get_or_append_left, inl, inr, left_of, length, length-append, means, memory, or-false, reading, reads_limit, refl, refusal_of, sink_of, slice_index, stream, subst, sym, take, take-append-le, true, ℕ, ◌++◌, ◌+◌, ◌<◌, ◌||◌, ◌∙◌, ◌≡◌, ◌≢◌, ◌≤◌, ◌⊎◌}
+use Rattle.nap_reader.proofs.Common.{Answers, AnswersBy, Bool, BreaksAmong, BreaksWithin, Cause, Consumes, EndsBy, Entry, Err, Fault, FeedFault, Feeds, Ghosts, IsCutOff, IsDrained, IsReadWhole, LacksMemoryFor, LacksWithin, List, None, NoneFailed, Option, Outcome, Reader, Reading, Refusal, RefusedBy, Result, Some, HasRead, StopsAt, StopsBy, StopsInLast, WantsSome, [], ap, append-nil, append_assoc, arith, begun, budget_of, cause_of, device, ended_by, false, get_or, get_or_append_left, inl, inr, left_of, length, length-append, means, memory, or-false, reading, reads_limit, refl, refusal_of, sink_of, slice_index, stream, subst, sym, take, take-append-le, true, ℕ, ◌++◌, ◌+◌, ◌<◌, ◌||◌, ◌∙◌, ◌≡◌, ◌≢◌, ◌≤◌, ◌⊎◌}
 use Rattle.nap_list.specs.declared.device.inlet.Inlet as inlet
 use Rattle.nap_reader.specs.declared.feeding.FeedFault.TheVariants as feed_fault
 use Rattle.nap_reader.specs.declared.fault.Fault.TheVariants as fault
@@ -16,14 +16,14 @@ pub record Gave {I : Type 0} (i : inlet.Ghosts I) (start mid end : I) (p : List 
   pub once : i.calls end ≤ i.calls mid + 1
 
 -- nothing is refused that a reader stands for without a refusal
-pub going : {S : Type 0} {g : Ghosts S} {s : S} {p : List ℕ} (old reader : Reader S g) → Stands reader s p → budget_of reader ≡ budget_of old → refusal_of reader ≡ None → (begun (budget_of old) p).refusal ≡ None
+pub going : {S : Type 0} {g : Ghosts S} {s : S} {p : List ℕ} (old reader : Reader S g) → HasRead reader s p → budget_of reader ≡ budget_of old → refusal_of reader ≡ None → (begun (budget_of old) p).refusal ≡ None
 going {g = g} {s = s} {p = p} old reader h same none =
     subst (λ (budget : ℕ). (begun budget p).refusal ≡ None) same
     (subst (Answers g s (budget_of reader) p (sink_of reader) (left_of reader)) none h.answers).refusal
 
 module _ {I S : Type 0} {i : inlet.Ghosts I} {g : Ghosts S} {start mid end : I} {p : List ℕ} {old : Reader S g} {s : S} (so : Gave i start mid end p) where
   -- what was read was taken, and the input ended or failed
-  pub feeds_on : {new : Reader S g} (answer : Result (Unit {0}) FeedFault) → Stands new s p → budget_of new ≡ budget_of old → refusal_of new ≡ None →
+  pub feeds_on : {new : Reader S g} (answer : Result (Unit {0}) FeedFault) → HasRead new s p → budget_of new ≡ budget_of old → refusal_of new ≡ None →
       Consumes (i.left mid) (i.left end) [] → EndsBy p (reading i start end) None answer → StopsInLast g s (budget_of old) p [] (sink_of new) (left_of new) answer →
       Feeds i old new s p start end answer
   feeds_on {new} answer h same none gives ends stops = record {
@@ -44,8 +44,8 @@ module _ {I S : Type 0} {i : inlet.Ghosts I} {g : Ghosts S} {start mid end : I} 
   }
 
   -- the last piece was refused
-  pub feeds_refused : {reader new : Reader S g} {piece : List ℕ} {r : Refusal} {n : ℕ} → Stands reader s p → budget_of reader ≡ budget_of old → refusal_of reader ≡ None →
-      Stands new s (p ++ piece) → refusal_of new ≡ Some r → StopsAt reader new piece r n → NoneFailed (reading i start end) →
+  pub feeds_refused : {reader new : Reader S g} {piece : List ℕ} {r : Refusal} {n : ℕ} → HasRead reader s p → budget_of reader ≡ budget_of old → refusal_of reader ≡ None →
+      HasRead new s (p ++ piece) → refusal_of new ≡ Some r → StopsAt reader new piece r n → NoneFailed (reading i start end) →
       Consumes (i.left mid) (i.left end) piece → Feeds i old new s (p ++ piece) start end (Err (feed_fault.Refused r))
   feeds_refused {reader} {new} {piece} {r} {n} h same none after refused stops none_failed gives = record {
     stands = after;
@@ -85,7 +85,7 @@ pub record RefusedIn {S : Type 0} {g : Ghosts S} (reader : Reader S g) (s : S) (
   pub within : i < length last
   pub budget_is : budget_of reader ≡ budget
   pub refused : refusal_of reader ≡ Some r
-  pub stands : Stands reader s (before ++ last)
+  pub stands : HasRead reader s (before ++ last)
   pub stops : StopsBy g s budget (before ++ take i last) (get_or last i 0) (sink_of reader) (left_of reader) r (cause_of r.fault)
   pub fails : cause_of r.fault ≡ device → g.failed (sink_of reader) ≡ true
 
@@ -130,7 +130,7 @@ module _ {I S : Type 0} {i : inlet.Ghosts I} {g : Ghosts S} {old new : Reader S 
   refused_whole same fails more =
       let (n, within, stops) = h.stops in
       subst (λ (bytes : List ℕ). RefusedBy g s (budget_of old) (bytes ++ more) r (cause_of r.fault)) (sym h.last.parts)
-      (refused_behind more (record { within = within; budget_is = same; refused = h.ends.1; stands = subst (Stands new s) h.last.parts h.stands; stops = stops; fails = λ is. fails (device_fault r.fault is) }))
+      (refused_behind more (record { within = within; budget_is = same; refused = h.ends.1; stands = subst (HasRead new s) h.last.parts h.stands; stops = stops; fails = λ is. fails (device_fault r.fault is) }))
 
   -- each read of a refused stream gave a byte
   pub reads_few : (reading i initial final).reads ≤ length p
@@ -152,7 +152,7 @@ module _ {first second whole : Reading} (p more : List ℕ) (f : Follows first s
     gave = omega (arith, f.reads, few, h.gave, length-append p more);
   }
 
-  pub cut_off : (most : ℕ) → most + first.reads ≡ reads_limit → (fault : ReadFault) → IsReadOut most more second (Err fault) → IsCutOff whole (p ++ more)
+  pub cut_off : (most : ℕ) → most + first.reads ≡ reads_limit → (fault : ReadFault) → IsDrained most more second (Err fault) → IsCutOff whole (p ++ more)
   cut_off most all fault (inl h) =
       inl (record {
         failed = f.failed ∙ h.failed;

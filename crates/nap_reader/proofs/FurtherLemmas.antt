@@ -1,7 +1,7 @@
-use Rattle.nap_reader.proofs.Common.{Acted, Advances, All-map, Bool, Budget, Call, Calls, Came, CanAdvance, CannotShow, Clear, Comes, Continues, Counts, Define, Err, Fault, Frame, Ghosts, Goes, GoesOn, Holding, Input, IsHeld, IsLive, IsNext, IsNextByte, IsOver, IsSome, Latches, LeadsOn, Leaves, List, MatchResult, Memory, None, Nothing, Ok, OnOk, OpenBody, Option, Outcome, Passed, Passes, Placed, Reaches, Reader, Reads, ReadsPiece, ReadsTo, Refusal, RefusesPiece, Request, Result, Sets, Shows, Sink, Some, StillComes, Stop, Stops, StopsAt, StopsByte, StopsFrom, StopsPiece, StoreState, Takes, TakesBy, TakesPiece, Turn, Works, [], ahead, all_at, all_next, ap, append-nil, ap₂, arith, as_it_was, asked, at_byte, begun, behind, body_of, bound, budget_of, bytes_of, charged, coming, drop, drop-drop, drop_at, false, fed_of, front, held_by, holding_of, in_code, in_text, inl, inr, is_some, length, length-append, length-drop, length-take-le, machine_of, mode_of, nil_from_length, place_at, placed_at, placed_from, refl, refusal, refusal_of, shown_front, sink_of, spaced, subst, sym, take, take-append-drop, take_all, true, unread, unread_of, ℕ, ◌*◌, ◌++◌, ◌+◌, ◌-◌, ◌<◌, ◌^◌, ◌∙◌, ◌∷◌, ◌≡◌, ◌≢◌, ◌≤◌, ◌⊎◌}
-use Rattle.nap_reader.proofs.Base.{Lawful, TookMore, byte_comes, bytes_of-append, bytes_of-placed, bytes_of-spaced, call_breaks, came_coming, came_next, came_take, came_within, can_pass, cannot_stops, comes_still, conveys_nothing, fits, frames-unread, holds_nothing, is_between, is_half, leads_shown, length-all_at, length-placed, length-spaced, passed_rest, passed_to, place_at-append, place_at-spaced, stands_behind_stop, stands_by, text_next}
+use Rattle.nap_reader.proofs.Common.{Acted, Advances, All-map, Bool, Budget, Call, Calls, Came, CanAdvance, CannotShow, Clear, AreNextBytes, Continues, HasReadOn, Define, Err, Fault, Frame, Ghosts, Goes, GoesOn, ReadingState, Input, ArePending, IsLive, IsNext, IsNextByte, IsOver, IsSome, Latches, LeadsOn, Leaves, List, MatchResult, Memory, None, Nothing, Ok, OnOk, OpenBody, Option, Outcome, Passed, Passes, Placed, Reaches, Reader, Reads, ReadsPiece, ReadsTo, Refusal, RefusesPiece, Request, Result, StoresBody, Shows, Sink, Some, KeepsNextBytes, Stop, Stops, StopsAt, StopsByte, StopsFrom, StopsPiece, StoreState, Takes, TakesBy, TakesPiece, TakesSlice, Works, [], ahead, all_at, all_next, ap, append-nil, ap₂, arith, as_it_was, state_after_request, at_byte, begun, bytes_after, body_of, bound, budget_of, bytes_of, after_charge, next_bytes, drop, drop-drop, drop_at, false, fed_of, front, reading_state_by, reading_state, in_code, in_text, inl, inr, is_some, length, length-append, length-drop, length-take-le, machine_of, mode_of, nil_from_length, place_at, placed_at, placed_from, refl, refusal, refusal_of, shown_front, sink_of, placed_by_step, subst, sym, take, take-append-drop, take_all, true, unread, unread_of, ℕ, ◌*◌, ◌++◌, ◌+◌, ◌-◌, ◌<◌, ◌^◌, ◌∙◌, ◌∷◌, ◌≡◌, ◌≢◌, ◌≤◌, ◌⊎◌}
+use Rattle.nap_reader.proofs.Base.{Lawful, TookMore, byte_comes, bytes_of-append, bytes_of-placed, bytes_of-placed_by_step, call_breaks, came_coming, came_next, came_take, came_within, can_pass, cannot_stops, comes_still, conveys_nothing, fits, frames-unread, holds_nothing, is_between, is_half, leads_shown, length-all_at, length-placed, length-placed_by_step, passed_rest, passed_to, place_at-append, place_at-placed_by_step, stands_behind_stop, stands_by, text_next}
 use Rattle.nap_reader.specs.declared.machine.Machine.{Machine}
-use Rattle.nap_reader.specs.Coming.{Stays}
+use Rattle.nap_reader.specs.NextBytes.{Stays}
 use Rattle.nap_reader.proofs.PieceLemmas.{reaches_called, reaches_on}
 use Rattle.nap_reader.proofs.StopLemmas.{stops_reached}
 use Rattle.nap_reader.proofs.TakingLemmas.{place_at-drop, stops_behind}
@@ -15,21 +15,21 @@ reads_still reads same =
     let few = reads.few in
     record { within = omega (arith, reads.within, same.at); small = reads.small; few = omega (arith, few, same.at, same.fed) }
 
-pub counts_still : {old new : Input} {piece : List ℕ} → Reads old piece → Stays old new → Counts old new piece 0
+pub counts_still : {old new : Input} {piece : List ℕ} → Reads old piece → Stays old new → HasReadOn old new piece 0
 counts_still reads same =
     record { reads = reads_still reads same; budget = same.budget; fed = omega (arith, same.fed, same.at); turns = omega (arith, same.turns) }
 
-pub counts_then : {old mid new : Input} {piece : List ℕ} {n m : ℕ} (k : ℕ) → k ≤ n + m → Counts old mid piece n → Counts mid new piece m → Counts old new piece k
+pub counts_then : {old mid new : Input} {piece : List ℕ} {n m : ℕ} (k : ℕ) → k ≤ n + m → HasReadOn old mid piece n → HasReadOn mid new piece m → HasReadOn old new piece k
 counts_then k few first then = record { reads = then.reads; budget = then.budget ∙ first.budget; fed = omega (arith, first.fed, then.fed); turns = omega (arith, few, first.turns, then.turns) }
 
-pub counts_less : {old new : Input} {piece : List ℕ} {n : ℕ} (k : ℕ) → k ≤ n → Counts old new piece n → Counts old new piece k
+pub counts_less : {old new : Input} {piece : List ℕ} {n : ℕ} (k : ℕ) → k ≤ n → HasReadOn old new piece n → HasReadOn old new piece k
 counts_less k few counts = record { reads = counts.reads; budget = counts.budget; fed = counts.fed; turns = omega (arith, few, counts.turns) }
 
 -- how much may still be read
 abbrev pub to_come : Input → List ℕ → ℕ
 to_come input piece = input.fed + (length piece - input.at) + input.budget - input.turns
 
-pub less_comes : {old new : Input} {piece : List ℕ} {n : ℕ} → Reads old piece → Counts old new piece n → to_come new piece + n ≤ to_come old piece
+pub less_comes : {old new : Input} {piece : List ℕ} {n : ℕ} → Reads old piece → HasReadOn old new piece n → to_come new piece + n ≤ to_come old piece
 less_comes {old} {new} reads counts = omega (arith, reads.within, counts.reads.within, counts.budget, counts.fed, counts.turns, new.turned, new.within)
 
 -- 1 where something is open
@@ -39,7 +39,7 @@ is_open (Some a) = 1
 
 -- What comes next.
 
-pub coming_bytes : (input : Input) (piece : List ℕ) → bytes_of (coming input piece) ≡ bytes_of (unread_of input) ++ drop input.at piece
+pub coming_bytes : (input : Input) (piece : List ℕ) → bytes_of (next_bytes input piece) ≡ bytes_of (unread_of input) ++ drop input.at piece
 coming_bytes input piece =
     bytes_of-append (unread_of input) (placed_from input.fed (drop input.at piece)) ∙ ap (λ (bs : List ℕ). bytes_of (unread_of input) ++ bs) (bytes_of-placed input.fed (drop input.at piece))
 
@@ -48,13 +48,13 @@ pub record SameComes (old new : Input) : Type 0 where
   pub frames : unread_of new ≡ unread_of old
   pub same : Stays old new
 
-pub same_comes : {old new : Input} {store : StoreState} {opened : Option OpenBody} → Sets old new store opened → unread store.bytes old.frames.stack.items ≡ unread_of old → SameComes old new
+pub same_comes : {old new : Input} {store : StoreState} {opened : Option OpenBody} → StoresBody old new store opened → unread store.bytes old.frames.stack.items ≡ unread_of old → SameComes old new
 same_comes sets kept = record {
   frames = ap₂ (λ (t : StoreState) (frames : List Frame). unread t.bytes frames) sets.store_is sets.still.frames ∙ kept;
   same = sets.still.same;
 }
 
-pub coming_same : {old new : Input} (piece : List ℕ) → SameComes old new → coming new piece ≡ coming old piece
+pub coming_same : {old new : Input} (piece : List ℕ) → SameComes old new → next_bytes new piece ≡ next_bytes old piece
 coming_same {old} {new} piece still =
     ap₂ (λ (xs : List Placed) (n : ℕ). xs ++ placed_from n (drop new.at piece)) still.frames still.same.fed ∙ ap (λ (n : ℕ). unread_of old ++ placed_from old.fed (drop n piece)) still.same.at
 
@@ -62,18 +62,18 @@ pub next_same : {old new : Input} {piece : List ℕ} {byte place : ℕ} → IsNe
 next_same {piece = piece} next still = record { reads = reads_still next.reads still.same; rest = next.rest; is = coming_same piece still ∙ next.is }
 
 -- and so is what came of it
-pub came_same : {old mid : Input} {rest : List Placed} {piece : List ℕ} {until : ℕ} (count : ℕ) → SameComes old mid → Came (unread_of mid) rest piece mid.at until mid.fed (take count (coming mid piece)) →
-    Came (unread_of old) rest piece old.at until old.fed (take count (coming old piece))
+pub came_same : {old mid : Input} {rest : List Placed} {piece : List ℕ} {until : ℕ} (count : ℕ) → SameComes old mid → Came (unread_of mid) rest piece mid.at until mid.fed (take count (next_bytes mid piece)) →
+    Came (unread_of old) rest piece old.at until old.fed (take count (next_bytes old piece))
 came_same count still came = rw (still.frames, still.same.at, still.same.fed) at came
 
 -- and so is the slice, where more is stored
-pub comes_grown : {old new : Input} {store : StoreState} {opened : Option OpenBody} {piece text : List ℕ} {place : ℕ} (more : List ℕ) → Sets old new store opened → store.bytes ≡ old.store.bytes ++ more →
-    Comes old.store.bytes old.frames.stack.items piece old.at old.fed text place → Comes new.store.bytes new.frames.stack.items piece new.at new.fed text place
+pub comes_grown : {old new : Input} {store : StoreState} {opened : Option OpenBody} {piece text : List ℕ} {place : ℕ} (more : List ℕ) → StoresBody old new store opened → store.bytes ≡ old.store.bytes ++ more →
+    AreNextBytes old.store.bytes old.frames.stack.items piece old.at old.fed text place → AreNextBytes new.store.bytes new.frames.stack.items piece new.at new.fed text place
 comes_grown {old} {piece = piece} {text = text} {place = place} more sets is comes =
     rw (ap (λ (t : StoreState). t.bytes) sets.store_is ∙ is, sets.still.frames, sets.still.same.at, sets.still.same.fed) (comes_still old.store.bytes more old.frames.stack.items old.framed piece old.at old.fed text place comes)
 
 -- One change of what is stored, and another.
-pub sets_then : {old mid new : Input} {first then : StoreState} {before after : Option OpenBody} → Sets old mid first before → Sets mid new then after → Sets old new then after
+pub sets_then : {old mid new : Input} {first then : StoreState} {before after : Option OpenBody} → StoresBody old mid first before → StoresBody mid new then after → StoresBody old new then after
 sets_then sets more = record {
   still = record {
     same = record {
@@ -91,34 +91,34 @@ sets_then sets more = record {
 
 -- what is held depends on these parts of the input alone
 pub held_parts : {S : Type 0} {g : Ghosts S} (m : Machine S g) (old new : Input) {left stored : ℕ} {names : List (List ℕ)} {body : List ℕ} {opened : Option OpenBody} → new.budget - new.charged ≡ left → new.store.names ≡ names → new.store.stored ≡ stored →
-    new.store.body ≡ body → new.body ≡ opened → held_by m new ≡ record (held_by m old) { machine = record (machine_of m old) { left = left; names = names; stored = stored; mode = mode_of opened }; open_body = opened; body = body }
+    new.store.body ≡ body → new.body ≡ opened → reading_state_by m new ≡ record (reading_state_by m old) { machine = record (machine_of m old) { left = left; names = names; stored = stored; mode = mode_of opened }; open_body = opened; body = body }
 held_parts m old new is_left is_names is_stored is_body is_opened = rw (is_left, is_names, is_stored, is_body, is_opened) refl
 
 pub held_sets : {S : Type 0} {g : Ghosts S} (m : Machine S g) (old new : Input) {store : StoreState} {opened : Option OpenBody} → new.store ≡ store → new.body ≡ opened → new.budget ≡ old.budget → new.charged ≡ old.charged →
-    held_by m new ≡ record (held_by m old) { machine = record (machine_of m old) { names = store.names; stored = store.stored; mode = mode_of opened }; open_body = opened; body = store.body }
-held_sets m old new store body budget charged =
-    held_parts m old new (ap₂ (λ (b c : ℕ). b - c) budget charged) (ap (λ (t : StoreState). t.names) store) (ap (λ (t : StoreState). t.stored) store) (ap (λ (t : StoreState). t.body) store) body
+    reading_state_by m new ≡ record (reading_state_by m old) { machine = record (machine_of m old) { names = store.names; stored = store.stored; mode = mode_of opened }; open_body = opened; body = store.body }
+held_sets m old new store body budget after_charge =
+    held_parts m old new (ap₂ (λ (b c : ℕ). b - c) budget after_charge) (ap (λ (t : StoreState). t.names) store) (ap (λ (t : StoreState). t.stored) store) (ap (λ (t : StoreState). t.body) store) body
 
 -- So many bytes of the slice that comes next were passed.
 module _ {input input' : Input} {piece : List ℕ} {count place : ℕ} {text : List ℕ} (reads : Reads input piece) (passed : Passed input input' count)
-    (comes : Comes input.store.bytes input.frames.stack.items piece input.at input.fed text place) (few : count ≤ length text) where
+    (comes : AreNextBytes input.store.bytes input.frames.stack.items piece input.at input.fed text place) (few : count ≤ length text) where
   few_in : (length (unread_of input) ≡ 0 → input.at + count ≤ length piece) × (0 < length (unread_of input) → count ≤ length (unread_of input))
   few_in = let fit = fits input piece text place comes reads.within in (λ none. omega (arith, few, fit.0 none), λ some. omega (arith, few, fit.1 some))
 
   moved : (input'.at ≡ input.at + (count - length (unread_of input))) × (input'.fed ≡ input.fed + (count - length (unread_of input)))
   moved = passed_to passed few_in.1
 
-  came_first : Came (unread_of input) (drop count (unread_of input)) piece input.at (input.at + (count - length (unread_of input))) input.fed (take count (coming input piece))
+  came_first : Came (unread_of input) (drop count (unread_of input)) piece input.at (input.at + (count - length (unread_of input))) input.fed (take count (next_bytes input piece))
   came_first = came_take (unread_of input) piece input.at input.fed count reads.within few_in.0 few_in.1
 
   -- they came
-  pub passed_come : unread input.store.bytes input'.frames.stack.items ≡ unread_of input' → Came (unread_of input) (unread_of input') piece input.at input'.at input.fed (take count (coming input piece))
+  pub passed_come : unread input.store.bytes input'.frames.stack.items ≡ unread_of input' → Came (unread_of input) (unread_of input') piece input.at input'.at input.fed (take count (next_bytes input piece))
   passed_come still = rw (sym still ∙ passed_rest input piece text place comes passed few, moved.0) came_first
 
-  pub counts_passed : Counts input input' piece count
+  pub counts_passed : HasReadOn input input' piece count
   counts_passed =
       let small = reads.few in
-      let there = came_within (unread_of input) (drop count (unread_of input)) piece input.at (input.at + (count - length (unread_of input))) input.fed (take count (coming input piece)) reads.within came_first in
+      let there = came_within (unread_of input) (drop count (unread_of input)) piece input.at (input.at + (count - length (unread_of input))) input.fed (take count (next_bytes input piece)) reads.within came_first in
       let within : input'.at ≤ length piece = omega (arith, there.1, moved.0) in
       record {
         reads = record { within = within; small = reads.small; few = omega (arith, small, within, moved.0, moved.1) };
@@ -131,16 +131,16 @@ module _ {input input' : Input} {piece : List ℕ} {count place : ℕ} {text : L
 pub record PassedTo (input after : Input) (piece : List ℕ) (many index : ℕ) : Type 0 where
   pub place : ℕ
   pub text : List ℕ
-  pub comes : Comes input.store.bytes input.frames.stack.items piece input.at input.fed text place
+  pub comes : AreNextBytes input.store.bytes input.frames.stack.items piece input.at input.fed text place
   pub long : length text ≡ many
   pub few : index ≤ many
   pub budget : after.budget ≡ input.budget
-  pub charged : after.charged ≡ input.charged
+  pub after_charge : after.charged ≡ input.charged
   pub turns : input.turns ≤ after.turns
   pub fed : after.fed ≡ input.fed + (index + 1 - length (unread_of input))
 
 -- so it is where the one was passed behind the others
-pub passed_then : {input mid after : Input} {piece : List ℕ} {index place : ℕ} {text : List ℕ} → Reads input piece → Comes input.store.bytes input.frames.stack.items piece input.at input.fed text place → index ≤ length text →
+pub passed_then : {input mid after : Input} {piece : List ℕ} {index place : ℕ} {text : List ℕ} → Reads input piece → AreNextBytes input.store.bytes input.frames.stack.items piece input.at input.fed text place → index ≤ length text →
     Passed input mid index → unread input.store.bytes mid.frames.stack.items ≡ unread_of mid → Passed mid after 1 → PassedTo input after piece (length text) index
 passed_then {input} {mid} {after} {piece} {index} {place} {text} reads comes few first still last =
     let fit = (fits input piece text place comes reads.within).1 in
@@ -159,7 +159,7 @@ passed_then {input} {mid} {after} {piece} {index} {place} {text} reads comes few
     }
 
 -- nothing was passed
-pub passed_none : {old new : Input} → StillComes old new → Passed old new 0
+pub passed_none : {old new : Input} → KeepsNextBytes old new → Passed old new 0
 passed_none {old} {new} still = record {
   moves = record {
     of_piece = λ none. (still.frames ∙ none, omega (arith, still.same.at), omega (arith, still.same.fed));
@@ -170,7 +170,7 @@ passed_none {old} {new} still = record {
   charged = still.charged;
 }
 
-pub passed_still : {old mid new : Input} {n : ℕ} → Passed old mid n → StillComes mid new → Passed old new n
+pub passed_still : {old mid new : Input} {n : ℕ} → Passed old mid n → KeepsNextBytes mid new → Passed old new n
 passed_still {old} {mid} {new} {n} passed still = record {
   moves = record {
     of_piece = λ none. let moved = passed.moves.of_piece none in (still.frames ∙ moved.0, still.same.at ∙ moved.1, still.same.fed ∙ moved.2);
@@ -187,7 +187,7 @@ passed_still {old} {mid} {new} {n} passed still = record {
 }
 
 -- The one was passed with the others.
-pub passed_with : {input after : Input} {piece : List ℕ} {index place : ℕ} {text : List ℕ} → Reads input piece → Comes input.store.bytes input.frames.stack.items piece input.at input.fed text place → index + 1 ≤ length text →
+pub passed_with : {input after : Input} {piece : List ℕ} {index place : ℕ} {text : List ℕ} → Reads input piece → AreNextBytes input.store.bytes input.frames.stack.items piece input.at input.fed text place → index + 1 ≤ length text →
     Passed input after (index + 1) → PassedTo input after piece (length text) index
 passed_with {input} {after} {piece} {index} {place} {text} reads comes few passed = record {
   place = place;
@@ -203,8 +203,8 @@ passed_with {input} {after} {piece} {index} {place} {text} reads comes few passe
 
 -- Where a reader has come.
 
-pub reads_at : {S : Type 0} {g : Ghosts S} {m m' : Machine S g} {input input' : Input} {piece : List ℕ} {n : ℕ} (old : Reader S g) → ReadsTo old piece m input → Counts input input' piece n → Works m m' →
-    Reaches old piece input'.at m'.sink (held_by m' input') (unread_of input') → ReadsTo old piece m' input'
+pub reads_at : {S : Type 0} {g : Ghosts S} {m m' : Machine S g} {input input' : Input} {piece : List ℕ} {n : ℕ} (old : Reader S g) → ReadsTo old piece m input → HasReadOn input input' piece n → Works m m' →
+    Reaches old piece input'.at m'.sink (reading_state_by m' input') (unread_of input') → ReadsTo old piece m' input'
 reads_at old by counts works reaches = record {
   reads = counts.reads;
   live = works.live.live;
@@ -217,17 +217,17 @@ reads_at old by counts works reaches = record {
 
 -- Bytes that come next were taken, or none, and what is held leads on.
 pub record GoesBy {S : Type 0} {g : Ghosts S} (m m' : Machine S g) (input input' : Input) (piece : List ℕ) (n : ℕ) (xs : List Placed) : Type 0 where
-  pub counts : Counts input input' piece n
+  pub counts : HasReadOn input input' piece n
   pub works : Works m m'
   pub came : Came (unread_of input) (unread_of input') piece input.at input'.at input.fed xs
-  pub leads : LeadsOn g m.sink (held_by m input) m'.sink (held_by m' input') xs (bytes_of (unread_of input') ++ drop input'.at piece)
+  pub leads : LeadsOn g m.sink (reading_state_by m input) m'.sink (reading_state_by m' input') xs (bytes_of (unread_of input') ++ drop input'.at piece)
 
 pub goes_by : {S : Type 0} {g : Ghosts S} {m m' : Machine S g} {input input' : Input} {piece : List ℕ} {n : ℕ} {xs : List Placed} → TookMore g → GoesBy m m' input input' piece n xs → Goes piece n m input m' input'
 goes_by {m = m} {m' = m'} {input = input} {input' = input'} {piece = piece} {xs = xs} more by =
     let whole : bytes_of (unread_of input) ++ drop input.at piece ≡ bytes_of xs ++ (bytes_of (unread_of input') ++ drop input'.at piece) =
     sym (coming_bytes input piece)
     ∙ ap bytes_of (came_coming (unread_of input) (unread_of input') piece input.at input'.at input.fed input'.fed xs by.came by.counts.fed)
-    ∙ bytes_of-append xs (coming input' piece) ∙ ap (λ (bs : List ℕ). bytes_of xs ++ bs) (coming_bytes input' piece) in
+    ∙ bytes_of-append xs (next_bytes input' piece) ∙ ap (λ (bs : List ℕ). bytes_of xs ++ bs) (coming_bytes input' piece) in
     record {
       counts = by.counts;
       on = λ old before reads.
@@ -268,20 +268,20 @@ latches_own {g = g} {r = r} is sink other = record {
 
 -- The stream is refused at the byte with this index, or reading breaks there.
 pub stops_from : {S : Type 0} {g : Ghosts S} {m m' : Machine S g} {input after : Input} {piece : List ℕ} {many index : ℕ} {r : Refusal} → Lawful g → Latches m m' → m'.refusal ≡ Some r →
-    PassedTo input after piece many index → Stops g m.sink (held_by m input) (coming input piece) many index m'.sink r → StopsFrom piece m input m' after
+    PassedTo input after piece many index → Stops g m.sink (reading_state_by m input) (next_bytes input piece) many index m'.sink r → StopsFrom piece m input m' after
 stops_from {S} {g} {m} {m'} {input} {after} {piece} {many} {index} {r} laws latches is passed stops = (
   ap is_some is,
   λ old new before by is_machine is_input.
       let why : latches.why ≡ r = let both : Some latches.why ≡ Some r = sym latches.is ∙ is in cc in
       let budget : budget_of new ≡ budget_of old = ap (λ (i : Input). i.budget) is_input ∙ passed.budget ∙ by.budget in
       let fed : fed_of new ≡ after.fed = ap (λ (i : Input). i.fed) is_input in
-      let charged : new.input.charged ≡ input.charged = ap (λ (i : Input). i.charged) is_input ∙ passed.charged in
+      let after_charge : new.input.charged ≡ input.charged = ap (λ (i : Input). i.charged) is_input ∙ passed.charged in
       let turns : new.input.turns ≡ after.turns = ap (λ (i : Input). i.turns) is_input in
       let refused : refusal_of new ≡ Some r = ap (λ (m : Machine S g). m.refusal) is_machine ∙ is in
       let fit = fits input piece passed.text passed.place passed.comes by.reads.within in
       let stopped : (i : ℕ) × StopsAt old new piece r i =
-      stops_reached by.reaches laws many (λ empty. omega (arith, fit.0 empty, passed.long), λ some. omega (arith, fit.1 some, passed.long)) new (omega (arith, budget, by.budget, charged)) passed.few
-      (rw (sym by.fed) (subst (λ (m'' : Machine S g). Stops g m.sink (held_by m input) (coming input piece) many index m''.sink r) (sym is_machine) stops))
+      stops_reached by.reaches laws many (λ empty. omega (arith, fit.0 empty, passed.long), λ some. omega (arith, fit.1 some, passed.long)) new (omega (arith, budget, by.budget, after_charge)) passed.few
+      (rw (sym by.fed) (subst (λ (m'' : Machine S g). Stops g m.sink (reading_state_by m input) (next_bytes input piece) many index m''.sink r) (sym is_machine) stops))
       (omega (arith, fed, by.fed, passed.fed)) in
       record {
         why = r;
@@ -297,13 +297,13 @@ stops_from {S} {g} {m} {m'} {input} {after} {piece} {many} {index} {r} laws latc
 
 -- The byte that comes next is refused, or memory is wanting for it.
 pub byte_stops : {S : Type 0} {g : Ghosts S} {m m' : Machine S g} {input after : Input} {piece : List ℕ} {many byte place : ℕ} {r : Refusal} → Lawful g → IsNextByte input piece byte place →
-    m'.refusal ≡ Some r → m'.sink ≡ m.sink → r.fault ≢ Sink → PassedTo input after piece many 0 → StopsByte g m.sink (held_by m input) (placed_at byte place) m.sink r → StopsFrom piece m input m' after
+    m'.refusal ≡ Some r → m'.sink ≡ m.sink → r.fault ≢ Sink → PassedTo input after piece many 0 → StopsByte g m.sink (reading_state_by m input) (placed_at byte place) m.sink r → StopsFrom piece m input m' after
 byte_stops {S} {g} {m} {m'} {input} {byte = byte} {place = place} {r = r} laws next is sink other passed stops =
     stops_from laws (latches_own is sink other) is passed
-    (at_byte (placed_at byte place) next.rest next.is (conveys_nothing g m.sink (held_by m input)) (subst (λ (t : S). StopsByte g m.sink (held_by m input) (placed_at byte place) t r) (sym sink) stops))
+    (at_byte (placed_at byte place) next.rest next.is (conveys_nothing g m.sink (reading_state_by m input)) (subst (λ (t : S). StopsByte g m.sink (reading_state_by m input) (placed_at byte place) t r) (sym sink) stops))
 
 -- All of the piece was taken.
-pub takes_piece : {S : Type 0} {g : Ghosts S} (old new : Reader S g) (piece : List ℕ) → refusal_of old ≡ None → ReadsTo old piece new.machine new.input → coming new.input piece ≡ [] → TakesPiece old new piece
+pub takes_piece : {S : Type 0} {g : Ghosts S} (old new : Reader S g) (piece : List ℕ) → refusal_of old ≡ None → ReadsTo old piece new.machine new.input → next_bytes new.input piece ≡ [] → TakesPiece old new piece
 takes_piece {S} {g} old new piece before by empty =
     let input = new.input in
     let gone = ap (λ (xs : List Placed). length xs) empty in
@@ -317,7 +317,7 @@ takes_piece {S} {g} old new piece before by empty =
       budget = by.budget;
       stands = λ s p stood.
           stands_by new s (p ++ piece) by.live (omega (arith, fed, stood.fed before, length-append p piece))
-          (subst (λ (n : ℕ). Continues g s (begun n (p ++ piece)) (sink_of new) (holding_of new) []) (sym by.budget)
+          (subst (λ (n : ℕ). Continues g s (begun n (p ++ piece)) (sink_of new) (reading_state new) []) (sym by.budget)
           (still_there by.reaches.acted last (subst (λ (q : List ℕ). Continues g s (begun (budget_of old) (p ++ q)) by.reaches.sink by.reaches.holding []) (ap (λ (n : ℕ). take n piece) all ∙ take_all (length piece) piece (omega arith)) (by.reaches.leads.alone none s p stood))));
       clear = by.clear;
       fed = fed;
@@ -325,8 +325,8 @@ takes_piece {S} {g} old new piece before by empty =
       more_turns = by.turns;
     }
   where
-    still_there : {s : S} {o : Outcome} {t u : S} {h h' : Holding} {next : List ℕ} → Acted g t h u h' next → next ≡ [] → Continues g s o t h [] → Continues g s o u h' []
-    still_there {s} {o} {t} {u} {h} {h'} (as_it_was sink holding) none k = subst (λ (held : Holding). Continues g s o u held []) (sym holding) (subst (λ (w : S). Continues g s o w h []) (sym sink) k)
+    still_there : {s : S} {o : Outcome} {t u : S} {h h' : ReadingState} {next : List ℕ} → Acted g t h u h' next → next ≡ [] → Continues g s o t h [] → Continues g s o u h' []
+    still_there {s} {o} {t} {u} {h} {h'} (as_it_was sink holding) none k = subst (λ (held : ReadingState). Continues g s o u held []) (sym holding) (subst (λ (w : S). Continues g s o w h []) (sym sink) k)
     still_there (ahead b bs is other acts) none k = let bad : b ∷ bs ≡ [] = sym is ∙ none in cc
     still_there (bound b bs is ends sink binds) none k = let bad : b ∷ bs ≡ [] = sym is ∙ none in cc
 
@@ -348,12 +348,12 @@ module _ {S : Type 0} {g : Ghosts S} {m : Machine S g} {input begin : Input} {pi
         clear = λ working. working;
         reaches = record {
           sink = sink_of old;
-          holding = holding_of old;
+          holding = reading_state old;
           leads = record {
             live = ap (λ (m : Machine S g). m.refusal) is_machine ∙ before;
             within = omega arith;
             alone = λ empty s p stood.
-                subst (λ (q : List ℕ). Continues g s (begun (budget_of old) q) (sink_of old) (holding_of old) []) (sym (append-nil p)) (stood.continues (ap (λ (m : Machine S g). m.refusal) is_machine ∙ before));
+                subst (λ (q : List ℕ). Continues g s (begun (budget_of old) q) (sink_of old) (reading_state old) []) (sym (append-nil p)) (stood.continues (ap (λ (m : Machine S g). m.refusal) is_machine ∙ before));
             amid = λ some. absurd (omega (arith, some, ap (λ (frames : List Frame). length (unread old.input.store.bytes frames)) (ap (λ (i : Input). i.frames.stack.items) is_input ∙ none)));
           };
           acted = as_it_was refl refl;
@@ -361,12 +361,12 @@ module _ {S : Type 0} {g : Ghosts S} {m : Machine S g} {input begin : Input} {pi
       }))
 
   -- It is read.
-  pub reads_piece : {m' : Machine S g} {after : Input} → GoesOn piece m begin m' after → coming after piece ≡ [] → ReadsPiece piece m input m' after
+  pub reads_piece : {m' : Machine S g} {after : Input} → GoesOn piece m begin m' after → next_bytes after piece ≡ [] → ReadsPiece piece m input m' after
   reads_piece {m'} {after} goes empty old new is_machine is_input is_new is_after =
       let unrefused = ap (λ (m : Machine S g). m.refusal) is_machine ∙ before in
       takes_piece old new piece unrefused
       (subst (λ (m : Machine S g). ReadsTo old piece m new.input) (sym is_new) (subst (ReadsTo old piece m') (sym is_after) (goes old unrefused (begins old is_machine is_input))))
-      (ap (λ (i : Input). coming i piece) is_after ∙ empty)
+      (ap (λ (i : Input). next_bytes i piece) is_after ∙ empty)
 
   -- It is refused, or reading breaks.
   pub stops_piece : {m' : Machine S g} {after : Input} → StopsFrom piece m begin m' after → StopsPiece piece m input m' after
@@ -380,7 +380,7 @@ pub stops_then : {S : Type 0} {g : Ghosts S} {m m' m'' : Machine S g} {input inp
 stops_then goes stops = (stops.0, λ old new before by is_machine is_input. stops.1 old new before (goes old before by) is_machine is_input)
 
 -- Less may come; or as much, and what was open is over.
-pub smaller : {A : Type 0} {old new : Option A} {input input' : Input} {piece : List ℕ} {n : ℕ} → Reads input piece → Counts input input' piece n → (0 < n) ⊎ ((new ≡ None) × (old ≢ None)) → 2 * to_come input' piece + is_open new < 2 * to_come input piece + is_open old
+pub smaller : {A : Type 0} {old new : Option A} {input input' : Input} {piece : List ℕ} {n : ℕ} → Reads input piece → HasReadOn input input' piece n → (0 < n) ⊎ ((new ≡ None) × (old ≢ None)) → 2 * to_come input' piece + is_open new < 2 * to_come input piece + is_open old
 smaller {A} {old} {new} {input} {input'} {piece} {n} reads counts which = by which
   where
     one : (o : Option A) → is_open o ≤ 1
@@ -401,7 +401,7 @@ match_goes m'' input'' (Ok a) first later = goes_then first later
 match_goes m'' input'' (Err e) first later = stops_then first.on later
 
 -- Where nothing comes, no body is read.
-pub comes_rested : (input : Input) (piece : List ℕ) → coming input piece ≡ [] → input.frames.stack.items ≡ []
+pub comes_rested : (input : Input) (piece : List ℕ) → next_bytes input piece ≡ [] → input.frames.stack.items ≡ []
 comes_rested input piece empty =
     nil_from_length input.frames.stack.items
     (omega (arith, frames-unread input.store.bytes input.frames.stack.items input.framed, ap (λ (xs : List Placed). length xs) empty, length-append (unread_of input) (placed_from input.fed (drop input.at piece))))
@@ -435,30 +435,30 @@ unrefused (Err e) refusal ok refused none = let bad : true ≡ false = sym (refu
 
 -- what comes behind the slice is what comes behind its bytes
 pub next_over : (input : Input) (piece : List ℕ) (first step : ℕ) (text : List ℕ) (ended : Bool) → (next : IsNext input piece first step text ended) →
-    (more : List Placed) × (coming input piece ≡ spaced first step text ++ more) × (ended ≡ true → IsOver (bytes_of more))
+    (more : List Placed) × (next_bytes input piece ≡ placed_by_step first step text ++ more) × (ended ≡ true → IsOver (bytes_of more))
 next_over input piece first step text ended next =
     let parts = text_next input piece text first next.comes step next.of_piece next.of_body in
     let all : all_next input.store.bytes input.frames.stack.items piece input.at ≡ text ++ bytes_of parts.0 =
-    sym (coming_bytes input piece) ∙ ap bytes_of parts.1 ∙ bytes_of-append (spaced first step text) parts.0 ∙ ap (λ (bs : List ℕ). bs ++ bytes_of parts.0) (bytes_of-spaced first step text) in
-    let is : behind input.store.bytes input.frames.stack.items piece input.at text ≡ bytes_of parts.0 = ap (drop (length text)) all ∙ drop_at text (bytes_of parts.0) (length text) refl in
+    sym (coming_bytes input piece) ∙ ap bytes_of parts.1 ∙ bytes_of-append (placed_by_step first step text) parts.0 ∙ ap (λ (bs : List ℕ). bs ++ bytes_of parts.0) (bytes_of-placed_by_step first step text) in
+    let is : bytes_after input.store.bytes input.frames.stack.items piece input.at text ≡ bytes_of parts.0 = ap (drop (length text)) all ∙ drop_at text (bytes_of parts.0) (length text) refl in
     (parts.0, parts.1, λ over. subst IsOver is (next.over over))
 
-module _ {S : Type 0} {g : Ghosts S} {from now : Machine S g} {input : Input} {piece : List ℕ} {count place : ℕ} {request : Request} (turn : Turn from now input piece count request place) where
+module _ {S : Type 0} {g : Ghosts S} {from now : Machine S g} {input : Input} {piece : List ℕ} {count place : ℕ} {request : Request} (turn : TakesSlice from now input piece count request place) where
   abbrev slice : List Placed
-  slice = spaced turn.first turn.step turn.text
+  slice = placed_by_step turn.first turn.step turn.text
 
-  parts : (more : List Placed) × (coming input piece ≡ slice ++ more) × (turn.ended ≡ true → IsOver (bytes_of more))
+  parts : (more : List Placed) × (next_bytes input piece ≡ slice ++ more) × (turn.ended ≡ true → IsOver (bytes_of more))
   parts = next_over input piece turn.first turn.step turn.text turn.ended turn.next
 
   few : count ≤ length turn.text
-  few = omega (arith, turn.takes.within, length-spaced turn.first turn.step turn.text)
+  few = omega (arith, turn.takes.within, length-placed_by_step turn.first turn.step turn.text)
 
   -- what the machine took, seen by what is held
-  pub turn_takes : TakesBy g from.sink (held_by from input) now.sink (held_by now input) (coming input piece) (length turn.text) count now.refusal request
+  pub turn_takes : TakesBy g from.sink (reading_state_by from input) now.sink (reading_state_by now input) (next_bytes input piece) (length turn.text) count now.refusal request
   turn_takes =
-      subst (λ (n : ℕ). TakesBy g from.sink (held_by from input) now.sink (held_by now input) (coming input piece) n count now.refusal request) (length-spaced turn.first turn.step turn.text)
-      (subst (λ (all : List Placed). TakesBy g from.sink (held_by from input) now.sink (held_by now input) all (length slice) count now.refusal request) (sym parts.1)
-      (turn.takes.by (held_by from input) parts.0 turn.between parts.2))
+      subst (λ (n : ℕ). TakesBy g from.sink (reading_state_by from input) now.sink (reading_state_by now input) (next_bytes input piece) n count now.refusal request) (length-placed_by_step turn.first turn.step turn.text)
+      (subst (λ (all : List Placed). TakesBy g from.sink (reading_state_by from input) now.sink (reading_state_by now input) all (length slice) count now.refusal request) (sym parts.1)
+      (turn.takes.by (reading_state_by from input) parts.0 turn.between parts.2))
 
   -- They can be passed.
   pub turn_passes : CanAdvance input count
@@ -469,23 +469,23 @@ module _ {S : Type 0} {g : Ghosts S} {from now : Machine S g} {input : Input} {p
     still : unread input.store.bytes input'.frames.stack.items ≡ unread_of input'
     still = ap (λ (store : StoreState). unread store.bytes input'.frames.stack.items) (sym adv.store)
 
-    pub turn_counts : Counts input input' piece count
+    pub turn_counts : HasReadOn input input' piece count
     turn_counts = counts_passed turn.reads adv.passed turn.next.comes few
 
-    turn_came : Came (unread_of input) (unread_of input') piece input.at input'.at input.fed (take count (coming input piece))
+    turn_came : Came (unread_of input) (unread_of input') piece input.at input'.at input.fed (take count (next_bytes input piece))
     turn_came = passed_come turn.reads adv.passed turn.next.comes few still
 
-    pub turn_leaves : drop count (coming input piece) ≡ coming input' piece
+    pub turn_leaves : drop count (next_bytes input piece) ≡ next_bytes input' piece
     turn_leaves =
-        let all = coming input piece in
-        let counted : length (take count all) ≡ count = length-take-le count all (omega (arith, few, ap (λ (xs : List Placed). length xs) parts.1, length-append slice parts.0, length-spaced turn.first turn.step turn.text)) in
+        let all = next_bytes input piece in
+        let counted : length (take count all) ≡ count = length-take-le count all (omega (arith, few, ap (λ (xs : List Placed). length xs) parts.1, length-append slice parts.0, length-placed_by_step turn.first turn.step turn.text)) in
         ap (drop count) (came_coming (unread_of input) (unread_of input') piece input.at input'.at input.fed input'.fed (take count all) turn_came turn_counts.fed)
-        ∙ drop_at (take count all) (coming input' piece) count counted
+        ∙ drop_at (take count all) (next_bytes input' piece) count counted
 
     -- The reader has come further.
-    pub turn_goes : {after : Input} → TookMore g → LeadsOn g from.sink (held_by from input) now.sink (asked (held_by now input) request) (take count (coming input piece)) (bytes_of (drop count (coming input piece))) →
-        held_by now after ≡ asked (held_by now input) request → SameComes input' after → Works from now → Goes piece count from input now after
-    turn_goes {after} more leads held same works = goes_by {xs = take count (coming input piece)} more (record {
+    pub turn_goes : {after : Input} → TookMore g → LeadsOn g from.sink (reading_state_by from input) now.sink (state_after_request (reading_state_by now input) request) (take count (next_bytes input piece)) (bytes_of (drop count (next_bytes input piece))) →
+        reading_state_by now after ≡ state_after_request (reading_state_by now input) request → SameComes input' after → Works from now → Goes piece count from input now after
+    turn_goes {after} more leads held same works = goes_by {xs = take count (next_bytes input piece)} more (record {
       counts = counts_then count (omega arith) turn_counts (counts_still turn_counts.reads same.same);
       works = works;
       came = rw (same.frames, same.same.at) turn_came;
@@ -494,35 +494,35 @@ module _ {S : Type 0} {g : Ghosts S} {from now : Machine S g} {input : Input} {p
 
     -- The stream is refused at the byte behind those that were taken, or reading breaks there.
     pub turn_stops : {after : Input} {r : Refusal} → Lawful g → Advances input' after 1 → Latches from now → now.refusal ≡ Some r →
-        Stops g from.sink (held_by from input) (coming input piece) (length turn.text) count now.sink r → StopsFrom piece from input now after
+        Stops g from.sink (reading_state_by from input) (next_bytes input piece) (length turn.text) count now.sink r → StopsFrom piece from input now after
     turn_stops laws then latches is stops =
         stops_from laws latches is (passed_then turn.reads turn.next.comes few adv.passed still then.passed) stops
 
     -- the byte there can be passed
-    pub stop_passes : {u : S} {r : Refusal} → Stops g from.sink (held_by from input) (coming input piece) (length turn.text) count u r → CanAdvance input' 1
-    stop_passes {u} {r} stops = by (coming input' piece) refl
+    pub stop_passes : {u : S} {r : Refusal} → Stops g from.sink (reading_state_by from input) (next_bytes input piece) (length turn.text) count u r → CanAdvance input' 1
+    stop_passes {u} {r} stops = by (next_bytes input' piece) refl
       where
-        there : Stops g from.sink (held_by from input) (coming input piece) (length turn.text) count u r → count < length (coming input piece)
-        there (at_byte x rest is c stops) = omega (arith, ap (λ (xs : List Placed). length xs) is, length-drop count (coming input piece))
-        there (in_text before taken size is less within place c stops) = omega (arith, is, less, within, ap (λ (xs : List Placed). length xs) parts.1, length-append slice parts.0, length-spaced turn.first turn.step turn.text)
+        there : Stops g from.sink (reading_state_by from input) (next_bytes input piece) (length turn.text) count u r → count < length (next_bytes input piece)
+        there (at_byte x rest is c stops) = omega (arith, ap (λ (xs : List Placed). length xs) is, length-drop count (next_bytes input piece))
+        there (in_text before taken size is less within place c stops) = omega (arith, is, less, within, ap (λ (xs : List Placed). length xs) parts.1, length-append slice parts.0, length-placed_by_step turn.first turn.step turn.text)
 
-        by : (xs : List Placed) → coming input' piece ≡ xs → CanAdvance input' 1
-        by [] none = absurd (omega (arith, there stops, ap (λ (xs : List Placed). length xs) (turn_leaves ∙ none), length-drop count (coming input piece)))
+        by : (xs : List Placed) → next_bytes input' piece ≡ xs → CanAdvance input' 1
+        by [] none = absurd (omega (arith, there stops, ap (λ (xs : List Placed). length xs) (turn_leaves ∙ none), length-drop count (next_bytes input piece)))
         by (x ∷ xs) some = can_pass (record { reads = turn_counts.reads; rest = xs; is = some })
 
 -- A macro is called.
 
 -- nothing is held back whatever is left to charge
-still_held : (h : Holding) (n : ℕ) → h.open_body ≡ None → h.open_run ≡ None → IsHeld [] h → IsHeld [] (record h { machine = record h.machine { left = n } })
+still_held : (h : ReadingState) (n : ℕ) → h.open_body ≡ None → h.open_run ≡ None → ArePending [] h → ArePending [] (record h { machine = record h.machine { left = n } })
 still_held h n between closed held =
     let half = is_between h [] between held in
     let rest = is_half h [] between closed held in
     holds_nothing (record h { machine = record h.machine { left = n } }) between half.mode half.body closed (sym rest.0)
 
-module _ {S : Type 0} {g : Ghosts S} {from now : Machine S g} {input input' : Input} {piece : List ℕ} {count place : ℕ} {request : Request} (turn : Turn from now input piece count request place) (adv : Advances input input' count)
-    {index name : ℕ} (counted : count ≡ index + 1) (calls : Calls g from.sink (held_by from input) now.sink (held_by now input) (coming input piece) index name) where
+module _ {S : Type 0} {g : Ghosts S} {from now : Machine S g} {input input' : Input} {piece : List ℕ} {count place : ℕ} {request : Request} (turn : TakesSlice from now input piece count request place) (adv : Advances input input' count)
+    {index name : ℕ} (counted : count ≡ index + 1) (calls : Calls g from.sink (reading_state_by from input) now.sink (reading_state_by now input) (next_bytes input piece) index name) where
   abbrev all : List Placed
-  all = coming input piece
+  all = next_bytes input piece
 
   abbrev x : Placed
   x = calls.byte
@@ -531,7 +531,7 @@ module _ {S : Type 0} {g : Ghosts S} {from now : Machine S g} {input input' : In
   bytes = body_of input'.store.names name
 
   within : index + 1 ≤ length turn.text
-  within = omega (arith, turn.takes.within, length-spaced turn.first turn.step turn.text, counted)
+  within = omega (arith, turn.takes.within, length-placed_by_step turn.first turn.step turn.text, counted)
 
   long : index < length all
   long = omega (arith, ap length calls.is, length-drop index all)
@@ -551,23 +551,23 @@ module _ {S : Type 0} {g : Ghosts S} {from now : Machine S g} {input input' : In
   -- the place of the call
   place_is : place ≡ x.place
   place_is =
-      let slice = spaced turn.first turn.step turn.text in
+      let slice = placed_by_step turn.first turn.step turn.text in
       let parts = next_over input piece turn.first turn.step turn.text turn.ended turn.next in
       turn.last (omega (arith, counted)) ∙ ap (place_at slice) (let e : count - 1 ≡ index = omega (arith, counted) in e)
-      ∙ sym (place_at-append slice parts.0 index (omega (arith, within, length-spaced turn.first turn.step turn.text))) ∙ ap (λ (ys : List Placed). place_at ys index) (sym parts.1)
+      ∙ sym (place_at-append slice parts.0 index (omega (arith, within, length-placed_by_step turn.first turn.step turn.text))) ∙ ap (λ (ys : List Placed). place_at ys index) (sym parts.1)
       ∙ sym (ap (λ (n : ℕ). place_at all n) (let e : index + 0 ≡ index = omega arith in e)) ∙ sym (place_at-drop all index 0) ∙ ap (λ (ys : List Placed). place_at ys 0) calls.is
 
   names : input'.store.names ≡ input.store.names
   names = ap (λ (store : StoreState). store.names) adv.store
 
-  calls_it : (s : S) (o : Outcome) (pending : List Placed) (c : Continues g s o now.sink calls.holding (x ∷ pending)) → front calls.holding.machine (c.rest ++ x ∷ pending) ≡ shown_front (held_by now input).machine x.place bytes pending
+  calls_it : (s : S) (o : Outcome) (pending : List Placed) (c : Continues g s o now.sink calls.holding (x ∷ pending)) → front calls.holding.machine (c.rest ++ x ∷ pending) ≡ shown_front (reading_state_by now input).machine x.place bytes pending
   calls_it s o pending c =
-      subst (λ (ns : List (List ℕ)). front calls.holding.machine (c.rest ++ x ∷ pending) ≡ shown_front (held_by now input).machine x.place (body_of ns name) pending) (sym names) (calls.front_is s o pending c)
+      subst (λ (ns : List (List ℕ)). front calls.holding.machine (c.rest ++ x ∷ pending) ≡ shown_front (reading_state_by now input).machine x.place (body_of ns name) pending) (sym names) (calls.front_is s o pending c)
 
   -- The body comes next.
   call_on : {after : Input} → TookMore g → Works from now → Shows input' after input'.store input'.body bytes place → GoesOn piece from input now after
   call_on {after} more works shows old before by =
-      let m = (held_by now input).machine in
+      let m = (reading_state_by now input).machine in
       let fed = fed_of old + until in
       let before_is = came_within (unread_of input) rest piece input.at until input.fed (take index all) turn.reads.within came_before in
       let then_is : drop index all ≡ rest ++ placed_from fed (drop until piece) =
@@ -587,21 +587,21 @@ module _ {S : Type 0} {g : Ghosts S} {from now : Machine S g} {input input' : In
       sym (coming_bytes input piece) ∙ ap bytes_of (sym (take-append-drop index all)) ∙ bytes_of-append (take index all) (drop index all) ∙ ap (λ (bs : List ℕ). bytes_of (take index all) ++ bs) next_then in
       let there : Reaches old piece until now.sink calls.holding rest =
       reaches_on more by.reaches (take index all) (subst (λ (n : ℕ). Came (unread_of input) rest piece input.at until n (take index all)) by.fed came_before)
-      (subst (LeadsOn g from.sink (held_by from input) now.sink calls.holding (take index all)) next_then calls.leads) whole in
+      (subst (LeadsOn g from.sink (reading_state_by from input) now.sink calls.holding (take index all)) next_then calls.leads) whole in
       let few : length bytes ≤ m.left = omega (arith, shows.few, adv.passed.budget, adv.passed.charged) in
-      let held : held_by now after ≡ record (held_by now input) { machine = charged m (length bytes) } =
+      let held : reading_state_by now after ≡ record (reading_state_by now input) { machine = after_charge m (length bytes) } =
       held_parts now input after (omega (arith, shows.same.budget, adv.passed.budget, shows.charged, adv.passed.charged)) (shows.names ∙ names) (shows.stored ∙ ap (λ (store : StoreState). store.stored) adv.store)
       (shows.open_bytes ∙ ap (λ (store : StoreState). store.body) adv.store) (shows.body ∙ adv.body) in
-      let passes : Passes g now.sink calls.holding (x ∷ []) now.sink (held_by now after) (all_at x.place bytes) =
+      let passes : Passes g now.sink calls.holding (x ∷ []) now.sink (reading_state_by now after) (all_at x.place bytes) =
       λ s o pending c.
-      leads_shown c m x.place bytes pending (calls_it s o pending c) few (held_by now after) (ap (λ (h : Holding). h.machine) held)
-      (subst (IsHeld []) (sym held) (still_held (held_by now input) (m.left - length bytes) turn.between calls.rested (calls.still s o pending c))) in
+      leads_shown c m x.place bytes pending (calls_it s o pending c) few (reading_state_by now after) (ap (λ (h : ReadingState). h.machine) held)
+      (subst (ArePending []) (sym held) (still_held (reading_state_by now input) (m.left - length bytes) turn.between calls.rested (calls.still s o pending c))) in
       let counts = turn_counts turn adv in
       reads_at old by (counts_then count (omega arith) counts (counts_still counts.reads shows.same)) works
       (rw (shows.same.at, shows.unread, place_is)
       (reaches_called more there (all_at x.place bytes) last passes (bytes_of calls.behind) (sym next_then ∙ ap bytes_of calls.is)
-      (omega (arith, calls.left, few, ap (λ (h : Holding). h.machine.left) held, length-all_at x.place bytes))
-      (λ n here. All-map (λ (y : Placed). y.place ≡ n) (λ (b : ℕ). record { byte = b; place = x.place }) bytes (λ i d less. here)) (ap (λ (h : Holding). h.open_run) held ∙ calls.rested)))
+      (omega (arith, calls.left, few, ap (λ (h : ReadingState). h.machine.left) held, length-all_at x.place bytes))
+      (λ n here. All-map (λ (y : Placed). y.place ≡ n) (λ (b : ℕ). record { byte = b; place = x.place }) bytes (λ i d less. here)) (ap (λ (h : ReadingState). h.open_run) held ∙ calls.rested)))
 
   pub call_goes : {after : Input} → TookMore g → Works from now → Shows input' after input'.store input'.body bytes place → Goes piece count from input now after
   call_goes more works shows = let counts = turn_counts turn adv in record { counts = counts_then count (omega arith) counts (counts_still counts.reads shows.same); on = call_on more works shows }
@@ -610,13 +610,13 @@ module _ {S : Type 0} {g : Ghosts S} {from now : Machine S g} {input input' : In
   pub call_refuses : {after : Input} {fault : Fault} {m' : Machine S g} → Lawful g → Works from now → CannotShow input' after bytes fault → m'.refusal ≡ Some (refusal fault place) → m'.sink ≡ now.sink →
       StopsFrom piece from input m' after
   call_refuses {after} {fault} {m'} laws works cannot is sink =
-      let m = (held_by now input).machine in
+      let m = (reading_state_by now input).machine in
       let stops : StopsByte g now.sink calls.holding x now.sink (refusal fault place) =
       subst (λ (n : ℕ). StopsByte g now.sink calls.holding x now.sink (refusal fault n)) (sym place_is)
       (cannot_stops (input'.budget - input'.charged) m bytes (omega (arith, adv.passed.budget, adv.passed.charged)) calls_it
       (λ some few. in_code calls.closed (record { place = refl; part = λ s known o k. call_breaks k m x.place bytes [] (calls_it s o [] k.continues) (sym calls.left) some few })) cannot.reason) in
-      let stopped : Stops g from.sink (held_by from input) all (length turn.text) index now.sink (refusal fault place) =
-      subst (λ (n : ℕ). Stops g from.sink (held_by from input) all (length turn.text) n now.sink (refusal fault place)) (let e : index + 0 ≡ index = omega arith in e)
+      let stopped : Stops g from.sink (reading_state_by from input) all (length turn.text) index now.sink (refusal fault place) =
+      subst (λ (n : ℕ). Stops g from.sink (reading_state_by from input) all (length turn.text) n now.sink (refusal fault place)) (let e : index + 0 ≡ index = omega arith in e)
       (stops_behind all index laws.more calls.leads {v = now.sink} {r = refusal fault place} (length turn.text) 0 (at_byte x calls.behind calls.is (conveys_nothing g now.sink calls.holding) stops)) in
       stops_from laws
       (record {
@@ -624,17 +624,17 @@ module _ {S : Type 0} {g : Ghosts S} {from now : Machine S g} {input input' : In
         is = is;
         tells = (λ device. absurd (own_fault cannot device), λ (working : g.failed from.sink ≡ false) (fails : g.failed m'.sink ≡ true). let bad : true ≡ false = sym fails ∙ ap g.failed sink ∙ works.clear working in cc);
       }) is (passed_with turn.reads turn.next.comes within (subst (Passed input after) counted (passed_still adv.passed cannot.still)))
-      (subst (λ (t : S). Stops g from.sink (held_by from input) all (length turn.text) index t (refusal fault place)) (sym sink) stopped)
+      (subst (λ (t : S). Stops g from.sink (reading_state_by from input) all (length turn.text) index t (refusal fault place)) (sym sink) stopped)
 
 -- The loop.
 
 -- where a byte comes next, no body is being defined
-pub between_slices : {input : Input} {piece : List ℕ} {first step : ℕ} {text : List ℕ} {ended : Bool} → IsNext input piece first step text ended → (input.body ≡ None) ⊎ (coming input piece ≡ []) → input.body ≡ None
+pub between_slices : {input : Input} {piece : List ℕ} {first step : ℕ} {text : List ℕ} {ended : Bool} → IsNext input piece first step text ended → (input.body ≡ None) ⊎ (next_bytes input piece ≡ []) → input.body ≡ None
 between_slices next (inl none) = none
 between_slices {input} {piece} {first} {step} {text} {ended} next (inr empty) =
     let parts = next_over input piece first step text ended next in
     let some = next.some in
-    absurd (omega (arith, some, ap (λ (xs : List Placed). length xs) (sym parts.1 ∙ empty), length-append (spaced first step text) parts.0, length-spaced first step text))
+    absurd (omega (arith, some, ap (λ (xs : List Placed). length xs) (sym parts.1 ∙ empty), length-append (placed_by_step first step text) parts.0, length-placed_by_step first step text))
 
 pub leaves_live : {S : Type 0} {g : Ghosts S} (old new : Machine S g) (request : Request) → Leaves old new request → request ≢ Stop → IsLive new
 leaves_live old new Nothing leaves other = leaves.live
@@ -644,14 +644,14 @@ leaves_live old new (Define name show) leaves other = leaves.live
 leaves_live old new Stop leaves other = absurd (other refl)
 
 -- the place of the last byte that was taken
-pub last_place : (first step : ℕ) (text : List ℕ) (count place : ℕ) → place ≡ first + step * (count - 1) → count ≤ length text → 0 < count → place ≡ place_at (spaced first step text) (count - 1)
-last_place first step text count place is few some = is ∙ sym (place_at-spaced first step text (count - 1) (omega (arith, few, some)))
+pub last_place : (first step : ℕ) (text : List ℕ) (count place : ℕ) → place ≡ first + step * (count - 1) → count ≤ length text → 0 < count → place ≡ place_at (placed_by_step first step text) (count - 1)
+last_place first step text count place is few some = is ∙ sym (place_at-placed_by_step first step text (count - 1) (omega (arith, few, some)))
 
-pub turn_as : {S : Type 0} {g : Ghosts S} {from now : Machine S g} {input : Input} {piece : List ℕ} {count place : ℕ} {request : Request} (r : Request) → request ≡ r → Turn from now input piece count request place → Turn from now input piece count r place
-turn_as {from = from} {now = now} {input = input} {piece = piece} {count = count} {place = place} r is turn = subst (λ (r : Request). Turn from now input piece count r place) is turn
+pub turn_as : {S : Type 0} {g : Ghosts S} {from now : Machine S g} {input : Input} {piece : List ℕ} {count place : ℕ} {request : Request} (r : Request) → request ≡ r → TakesSlice from now input piece count request place → TakesSlice from now input piece count r place
+turn_as {from = from} {now = now} {input = input} {piece = piece} {count = count} {place = place} r is turn = subst (λ (r : Request). TakesSlice from now input piece count r place) is turn
 
-pub turn_is : {S : Type 0} {g : Ghosts S} {from now : Machine S g} {input : Input} {piece text : List ℕ} {first step place count : ℕ} {ended : Bool} {request : Request} → Reads input piece → (input.body ≡ None) ⊎ (coming input piece ≡ []) → IsNext input piece first step text ended →
-    Takes from now (spaced first step text) ended count request → place ≡ first + step * (count - 1) → Turn from now input piece count request place
+pub turn_is : {S : Type 0} {g : Ghosts S} {from now : Machine S g} {input : Input} {piece text : List ℕ} {first step place count : ℕ} {ended : Bool} {request : Request} → Reads input piece → (input.body ≡ None) ⊎ (next_bytes input piece ≡ []) → IsNext input piece first step text ended →
+    Takes from now (placed_by_step first step text) ended count request → place ≡ first + step * (count - 1) → TakesSlice from now input piece count request place
 turn_is {piece = piece} {text = text} {first = first} {step = step} {place = place} {count = count} {ended = ended} reads ends next takes is = record {
   reads = reads;
   between = between_slices next ends;
@@ -661,7 +661,7 @@ turn_is {piece = piece} {text = text} {first = first} {step = step} {place = pla
   ended = ended;
   next = next;
   takes = takes;
-  last = λ some. last_place first step text count place is (omega (arith, takes.within, length-spaced first step text)) some;
+  last = λ some. last_place first step text count place is (omega (arith, takes.within, length-placed_by_step first step text)) some;
 }
 
 -- some bytes were taken, or the open run is over

@@ -1,13 +1,13 @@
-use Rattle.nap_reader.proofs.Common.{AcceptedIsLegal, All, All-append, All-nil, AllFit, BegunComesFirst, Bool, BreaksAmong, BreaksAt, BreaksBetween, BreaksFrom, BreaksWith, CanLackAt, Cause, DrawFault, Drawn, EndBreaksAmong, Entry, Err, FedBreaksAmong, Front, Ghosts, IfSome, IsBroken, IsWord, LacksWithin, Legal, List, Machine, None, Ok, Opcode, Option, Outcome, Placed, ReadValuesAreInRange, Refusal, Result, Some, State, StopsBy, Unfinished, WantsSome, Work, [], act, ap, append-nil, arith, begun, cause_of, closed_by, code_fits, code_values_are_in_range, device, drawn_values_are_in_range, drop, ended_by, false, front, get_or, get_or-append-add, go, half_code, if◌then◌else◌, inl, inr, is_operand_byte, length, length-append, means, memory, nothing, onward, open_body, open_run, outcome, pause, placed_from, refl, refuse, rule, rule_fits, start, start_machine, stream, subst, suc, sym, take, take-append-add, true, walk, with_code, with_definition, with_drawn, with_end, with_run, with_run_by, zero, ℕ, ◌++◌, ◌+◌, ◌<◌, ◌∙◌, ◌∷◌, ◌≡◌, ◌≢◌, ◌⊎◌}
+use Rattle.nap_reader.proofs.Common.{AcceptedIsLegal, All, All-append, All-nil, AllFit, BegunComesFirst, Bool, BreaksAmong, BreaksAt, BreaksBetween, BreaksFrom, BreaksWith, CanLackAt, Cause, DrawFault, RuleResult, EndBreaksAmong, Entry, Err, FedBreaksAmong, Front, Ghosts, IfSome, IsBroken, IsWord, LacksWithin, Legal, List, Machine, None, Ok, Opcode, Option, Outcome, Placed, ReadValuesAreInRange, Refusal, Result, Some, State, StopsBy, Unfinished, WantsSome, Work, [], act, ap, append-nil, arith, begun, cause_of, closed_by, code_fits, code_values_are_in_range, device, drawn_values_are_in_range, drop, ended_by, false, front, get_or, get_or-append-add, outcome_within, half_code, if◌then◌else◌, inl, inr, is_operand_byte, length, length-append, means, memory, nothing, outcome_by_front, open_body, open_run, outcome, pause, placed_from, refl, refuse, rule, rule_fits, start, start_machine, stream, subst, suc, sym, take, take-append-add, true, walk, with_code, with_definition, with_drawn, with_end, with_run, with_run_by, zero, ℕ, ◌++◌, ◌+◌, ◌<◌, ◌∙◌, ◌∷◌, ◌≡◌, ◌≢◌, ◌⊎◌}
 use Rattle.nap_reader.proofs.Base.{First, Fronts, IsOfWords, Puts, acts, breaks_longer, breaks_more, breaks_there, by_code, by_rule, front_fronts, lacks_there, more_bytes_keep_entries, pauses, puts_nothing, refuses, run_first, same_first, taken_all, took_front}
-use Rattle.nap_list.specs.declared.state.Opened.{Opened}
+use Rattle.nap_list.specs.declared.state.OpenDefinition.{OpenDefinition}
 use Rattle.nap_list.specs.Agreement.{DefinitionsAgree, StatesAgree}
 use Rattle.nap_list.specs.Range.{AllInRange, InRange, MapColourInRange, StateInRange}
 use Rattle.nap_list.proofs.PublicLaws.{fits_join, start_agrees, walks_join}
 
 -- The end of a stream keeps what it has.
 
-definition_keeps : (o : Outcome) (n : ℕ) (opened : Option Opened) → (with_definition o n opened).entries ≡ o.entries
+definition_keeps : (o : Outcome) (n : ℕ) (opened : Option OpenDefinition) → (with_definition o n opened).entries ≡ o.entries
 definition_keeps o n None = refl
 definition_keeps o n (Some opened) = refl
 
@@ -108,12 +108,12 @@ end_breaks_among g s budget p t r live h =
 -- What is read fits, and is in range.
 
 -- a drawing state agrees with the one shown, and its values are in range
-record Stands (work : Work) (shown : State) : Type 0 where
+record HasRead (work : Work) (shown : State) : Type 0 where
   pub agrees : StatesAgree work.state shown
   pub ranged : StateInRange work.state
 
 -- what a front puts
-puts_stand : {work after : Work} {es : List Entry} (shown : State) → Puts work es after → Stands work shown → AllFit shown es × AllInRange es × Stands after (walk shown es)
+puts_stand : {work after : Work} {es : List Entry} (shown : State) → Puts work es after → HasRead work shown → AllFit shown es × AllInRange es × HasRead after (walk shown es)
 unfolding walk AllFit
 puts_stand shown puts_nothing so = (tt, All-nil InRange, so)
 puts_stand {work} shown (by_rule op run d words is) so =
@@ -130,10 +130,10 @@ record Sound (shown : State) (o : Outcome) : Type 0 where
   pub fit : AllFit shown o.entries
   pub entries : AllInRange o.entries
   pub unfinished : IfSome o.unfinished IsOfWords
-  pub stands : o.refusal ≡ None → Stands o.machine.work (walk shown o.entries)
+  pub stands : o.refusal ≡ None → HasRead o.machine.work (walk shown o.entries)
 
-onward_sound : (next : Machine → List Placed → Outcome) → ((m : Machine) (xs : List Placed) (shown : State) → Stands m.work shown → Sound shown (next m xs)) →
-    (m : Machine) (xs : List Placed) (shown : State) (f : Front) {k : ℕ} {f' : Front} → Stands m.work shown → Fronts [] m.work m.left k f f' → Sound shown (onward next m xs f)
+onward_sound : (next : Machine → List Placed → Outcome) → ((m : Machine) (xs : List Placed) (shown : State) → HasRead m.work shown → Sound shown (next m xs)) →
+    (m : Machine) (xs : List Placed) (shown : State) (f : Front) {k : ℕ} {f' : Front} → HasRead m.work shown → Fronts [] m.work m.left k f f' → Sound shown (outcome_by_front next m xs f)
 unfolding walk AllFit
 onward_sound next ih m xs shown (pause u) so (pauses words) = record { fit = tt; entries = All-nil InRange; unfinished = words; stands = λ _. so }
 onward_sound next ih m xs shown (refuse r) so refuses = record { fit = tt; entries = All-nil InRange; unfinished = tt; stands = λ e. cc }
@@ -144,13 +144,13 @@ onward_sound next ih m xs shown (act es m' ys) so (acts same less few puts) =
       fit = (fits_join shown es (next m' ys).entries).1 (fit, rest.fit);
       entries = All-append InRange es (next m' ys).entries ranged rest.entries;
       unfinished = rest.unfinished;
-      stands = λ e. subst (Stands (next m' ys).machine.work) (sym (walks_join shown es (next m' ys).entries)) (rest.stands e);
+      stands = λ e. subst (HasRead (next m' ys).machine.work) (sym (walks_join shown es (next m' ys).entries)) (rest.stands e);
     }
 
-go_sound : (fuel : ℕ) (m : Machine) (xs : List Placed) (shown : State) → Stands m.work shown → Sound shown (go front fuel m xs)
-unfolding go walk AllFit
+go_sound : (fuel : ℕ) (m : Machine) (xs : List Placed) (shown : State) → HasRead m.work shown → Sound shown (outcome_within front fuel m xs)
+unfolding outcome_within walk AllFit
 go_sound zero m xs shown so = record { fit = tt; entries = All-nil InRange; unfinished = tt; stands = λ _. so }
-go_sound (suc fuel) m xs shown so = onward_sound (go front fuel) (go_sound fuel) m xs shown (front m xs) so (front_fronts m xs [])
+go_sound (suc fuel) m xs shown so = onward_sound (outcome_within front fuel) (go_sound fuel) m xs shown (front m xs) so (front_fronts m xs [])
 
 start_ranged : StateInRange start
 start_ranged = record {
@@ -173,14 +173,14 @@ begun_sound budget p = go_sound _ (start_machine budget) (placed_from 0 p) start
 
 -- the end of a stream
 
-with_drawn_sound : (o : Outcome) (place : ℕ) (op : Opcode) (run : List ℕ) (by : Result Drawn DrawFault) → rule o.machine.work op run ≡ by → All IsWord run → o.refusal ≡ None → Sound start o → Sound start (with_drawn o place by)
+with_drawn_sound : (o : Outcome) (place : ℕ) (op : Opcode) (run : List ℕ) (by : Result RuleResult DrawFault) → rule o.machine.work op run ≡ by → All IsWord run → o.refusal ≡ None → Sound start o → Sound start (with_drawn o place by)
 with_drawn_sound o place op run (Ok drawn) e words none h =
     let (fit, ranged, after) = puts_stand (walk start o.entries) (by_rule op run drawn words e) (h.stands none) in
     record {
       fit = (fits_join start o.entries drawn.entries).1 (h.fit, fit);
       entries = All-append InRange o.entries drawn.entries h.entries ranged;
       unfinished = tt;
-      stands = λ _. subst (Stands drawn.work) (sym (walks_join start o.entries drawn.entries)) after;
+      stands = λ _. subst (HasRead drawn.work) (sym (walks_join start o.entries drawn.entries)) after;
     }
 with_drawn_sound o place op run (Err fault) e words none h = record { fit = h.fit; entries = h.entries; unfinished = tt; stands = λ e. cc }
 
@@ -188,12 +188,12 @@ with_run_sound : (o : Outcome) (u : Option Unfinished) → IfSome u IsOfWords �
 with_run_sound o (Some (open_run op place run)) words none h = with_drawn_sound o place op run _ refl words none h
 with_run_sound o _ words none h = h
 
-nothing_shown : (opened shown : Option Opened) → opened ≡ None → DefinitionsAgree opened shown → shown ≡ None
+nothing_shown : (opened shown : Option OpenDefinition) → opened ≡ None → DefinitionsAgree opened shown → shown ≡ None
 nothing_shown None None e h = refl
 nothing_shown None (Some shown) e h = absurd h
 nothing_shown (Some opened) shown e h = cc
 
-legal_at_end : (o : Outcome) (n : ℕ) (opened : Option Opened) → o.machine.work.state.definition ≡ opened → o.refusal ≡ None → Sound start o →
+legal_at_end : (o : Outcome) (n : ℕ) (opened : Option OpenDefinition) → o.machine.work.state.definition ≡ opened → o.refusal ≡ None → Sound start o →
     (with_definition o n opened).refusal ≡ None → Legal (with_definition o n opened).entries
 legal_at_end o n None e none h accepted = record {
   fit = h.fit;

@@ -21,7 +21,7 @@ pub mod DefineLemmas
 pub mod ReadingLemmas
 pub mod BreakLemmas
 pub mod TakingLemmas
-pub mod ComingLemmas
+pub mod NextByteLemmas
 pub mod FurtherLemmas
 pub mod SpelledLemmas
 pub mod CollectLemmas

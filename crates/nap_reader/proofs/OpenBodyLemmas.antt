@@ -1,4 +1,4 @@
-use Rattle.nap_reader.proofs.Common.{AreOfBody, AtBody, BodyFront, Bool, Continues, EighthBit, Entry, Fault, Ghosts, Holding, IsHeld, IsHeldIn, IsOpenBody, IsRefused, List, Machine, Mode, None, OpenBody, Option, Outcome, Placed, ReadsOn, Some, Store, [], act, after_body, ap, append-nil, append_assoc, arith, between, body_front, body_front_by, bound_front, bytes_of, charged, cond, drop, drop_at, ends_body, eqb, false, front, held_escape, in_body, inl, inr, leb, length, length-append, length-map, nat_tests, one_further, onward, outcome_from, past, place_at, prepend, refl, refusal, refuse, shown_front, store_limit, stores, subst, sym, take, take_at, true, ℕ, ◌++◌, ◌+◌, ◌-◌, ◌<◌, ◌∙◌, ◌∷◌, ◌≡◌, ◌≢◌, ◌≤◌, ◌⊎◌}
+use Rattle.nap_reader.proofs.Common.{AreOfBody, AtBody, BodyFront, Bool, Continues, EighthBit, Entry, Fault, Ghosts, ReadingState, ArePending, ArePendingIn, IsOpenBody, IsRefused, List, Machine, Mode, None, OpenBody, Option, Outcome, Placed, ReadsOn, Some, Store, [], act, after_body, ap, append-nil, append_assoc, arith, between, body_front, body_front_by, bound_front, bytes_of, after_charge, cond, drop, drop_at, ends_body, eqb, false, front, pending_escape, in_body, inl, inr, leb, length, length-append, length-map, nat_tests, one_byte_later, outcome_by_front, outcome_from, body_front_after, place_at, prepend, refl, refusal, refuse, shown_front, store_limit, stores, subst, sym, take, take_at, true, ℕ, ◌++◌, ◌+◌, ◌-◌, ◌<◌, ◌∙◌, ◌∷◌, ◌≡◌, ◌≢◌, ◌≤◌, ◌⊎◌}
 use Rattle.nap_reader.specs.Bodies as bodies
 use Rattle.nap_reader.proofs.ReadingLemmas.{place_at-behind, front_body, leads_left, leads_shown, leads_to_refusal, leads_past, leads_shift, leads_unrefused, code_goes_on, holds_nothing}
 use Rattle.nap_reader.proofs.StreamLemmas.{bytes_of-append, outcome_from-front}
@@ -11,15 +11,15 @@ pub record IsPlain (byte : ℕ) : Type 0 where
   pub low : byte < 128
   pub other : byte ≢ 27
 
-past-further : (n : ℕ) (f : BodyFront) → past n (one_further f) ≡ past (n + 1) f
-past-further n bodies.unfinished = refl
-past-further n (bodies.refused fault i) = ap (bodies.refused fault) (omega arith)
-past-further n (bodies.ended k) = ap bodies.ended (omega arith)
+body_front_after-further : (n : ℕ) (f : BodyFront) → body_front_after n (one_byte_later f) ≡ body_front_after (n + 1) f
+body_front_after-further n bodies.unfinished = refl
+body_front_after-further n (bodies.refused fault i) = ap (bodies.refused fault) (omega arith)
+body_front_after-further n (bodies.ended k) = ap bodies.ended (omega arith)
 
-pub stores-some : (room : ℕ) (f : BodyFront) → room ≢ 0 → stores room f ≡ one_further f
+pub stores-some : (room : ℕ) (f : BodyFront) → room ≢ 0 → stores room f ≡ one_byte_later f
 stores-some room f some = at (eqb room 0) refl
   where
-    at : (b : Bool) → eqb room 0 ≡ b → cond b (bodies.refused Store 0) (one_further f) ≡ one_further f
+    at : (b : Bool) → eqb room 0 ≡ b → cond b (bodies.refused Store 0) (one_byte_later f) ≡ one_byte_later f
     at true e = absurd (some (grind (arith, nat_tests)))
     at false e = refl
 
@@ -62,27 +62,27 @@ eighth_escape room byte bytes high =
 
 -- a byte that belongs to the body, whatever comes behind it
 of_body : (room : ℕ) (body : List ℕ) (byte : ℕ) (next more : List ℕ) →
-    body_front room (body ++ (byte ∷ (next ++ more))) ≡ past (length body) (stores (room - length body) (body_front (room - length body - 1) (next ++ more))) →
+    body_front room (body ++ (byte ∷ (next ++ more))) ≡ body_front_after (length body) (stores (room - length body) (body_front (room - length body - 1) (next ++ more))) →
     room - length body ≢ 0 →
-    body_front room ((body ++ byte ∷ []) ++ (next ++ more)) ≡ past (length (body ++ byte ∷ [])) (body_front (room - length (body ++ byte ∷ [])) (next ++ more))
+    body_front room ((body ++ byte ∷ []) ++ (next ++ more)) ≡ body_front_after (length (body ++ byte ∷ [])) (body_front (room - length (body ++ byte ∷ [])) (next ++ more))
 of_body room body byte next more is some =
     let n = length body in
     let longer : length (body ++ byte ∷ []) ≡ n + 1 = length-append body (byte ∷ []) in
     let less : room - n - 1 ≡ room - length (body ++ byte ∷ []) = omega (arith, longer) in
     ap (body_front room) (append_assoc body (byte ∷ []) (next ++ more))
     ∙ is
-    ∙ ap (past n) (stores-some (room - n) (body_front (room - n - 1) (next ++ more)) some)
-    ∙ past-further n (body_front (room - n - 1) (next ++ more))
-    ∙ ap (λ (k : ℕ). past k (body_front (room - n - 1) (next ++ more))) (sym longer)
-    ∙ ap (λ (k : ℕ). past (length (body ++ byte ∷ [])) (body_front k (next ++ more))) less
+    ∙ ap (body_front_after n) (stores-some (room - n) (body_front (room - n - 1) (next ++ more)) some)
+    ∙ body_front_after-further n (body_front (room - n - 1) (next ++ more))
+    ∙ ap (λ (k : ℕ). body_front_after k (body_front (room - n - 1) (next ++ more))) (sym longer)
+    ∙ ap (λ (k : ℕ). body_front_after (length (body ++ byte ∷ [])) (body_front k (next ++ more))) less
 
-past-none : (f : BodyFront) → past 0 f ≡ f
-past-none bodies.unfinished = refl
-past-none (bodies.refused fault i) = ap (bodies.refused fault) (omega arith)
-past-none (bodies.ended k) = ap bodies.ended (omega arith)
+body_front_after-none : (f : BodyFront) → body_front_after 0 f ≡ f
+body_front_after-none bodies.unfinished = refl
+body_front_after-none (bodies.refused fault i) = ap (bodies.refused fault) (omega arith)
+body_front_after-none (bodies.ended k) = ap bodies.ended (omega arith)
 
 -- a body begins
-pub body_begins : (b : OpenBody) (h : Holding) → b.escape ≡ None → h.machine.mode ≡ in_body b.name b.show → h.body ≡ [] → h.open_run ≡ None → h.half ≡ [] →
+pub body_begins : (b : OpenBody) (h : ReadingState) → b.escape ≡ None → h.machine.mode ≡ in_body b.name b.show → h.body ≡ [] → h.open_run ≡ None → h.half ≡ [] →
     IsOpenBody [] b h
 body_begins b h none mode empty still half =
     let room = store_limit - h.machine.stored in
@@ -91,23 +91,23 @@ body_begins b h none mode empty still half =
       body = sym empty;
       goes_on = λ more.
           rw empty
-          (sym (past-none (body_front (room - 0) more) ∙ ap (λ (n : ℕ). body_front n more) (let e : room - 0 ≡ room = omega arith in e)));
+          (sym (body_front_after-none (body_front (room - 0) more) ∙ ap (λ (n : ℕ). body_front n more) (let e : room - 0 ≡ room = omega arith in e)));
       still = still;
       half = half;
     } in
     record {
       bytes = [];
-      is = ap held_escape (sym none);
-      at = subst (λ (e : Option ℕ). AtBody [] b h (bytes_of (held_escape e))) (sym none) at;
+      is = ap pending_escape (sym none);
+      at = subst (λ (e : Option ℕ). AtBody [] b h (bytes_of (pending_escape e))) (sym none) at;
     }
 
-held_length : (rest : List Placed) (b : OpenBody) (h : Holding) (next : List ℕ) → AtBody rest b h next → length h.body ≡ length rest
+held_length : (rest : List Placed) (b : OpenBody) (h : ReadingState) (next : List ℕ) → AtBody rest b h next → length h.body ≡ length rest
 held_length rest b h next at = ap length (sym at.body) ∙ length-map rest _
 
 -- what stands at the front of bytes of a body, and of what comes behind them
-body_at : (rest : List Placed) (b : OpenBody) (h : Holding) (next : List ℕ) (xs : List Placed) (more : List ℕ) → AtBody rest b h next → bytes_of xs ≡ next ++ more →
+body_at : (rest : List Placed) (b : OpenBody) (h : ReadingState) (next : List ℕ) (xs : List Placed) (more : List ℕ) → AtBody rest b h next → bytes_of xs ≡ next ++ more →
     front h.machine (rest ++ xs)
-    ≡ body_front_by h.machine b.name b.show (rest ++ xs) (past (length h.body) (body_front (store_limit - h.machine.stored - length h.body) (next ++ more)))
+    ≡ body_front_by h.machine b.name b.show (rest ++ xs) (body_front_after (length h.body) (body_front (store_limit - h.machine.stored - length h.body) (next ++ more)))
 body_at rest b h next xs more at is =
     front_body rest b h xs at.mode
     ∙ ap (body_front_by h.machine b.name b.show (rest ++ xs))
@@ -116,23 +116,23 @@ body_at rest b h next xs more at is =
     ∙ at.goes_on more)
 
 -- what is known before the next byte of a body
-module _ {S : Type 0} {g : Ghosts S} {s : S} {o : Outcome} {t : S} {h : Holding} {b : OpenBody} {x : Placed} {pending : List Placed} (k : ReadsOn g s o t h b x pending) where
+module _ {S : Type 0} {g : Ghosts S} {s : S} {o : Outcome} {t : S} {h : ReadingState} {b : OpenBody} {x : Placed} {pending : List Placed} (k : ReadsOn g s o t h b x pending) where
   abbrev room : ℕ
   room = store_limit - h.machine.stored - length h.body
 
   next_front : (f : BodyFront) → body_front room (x.byte ∷ bytes_of pending) ≡ f →
-      front h.machine (k.rest ++ x ∷ pending) ≡ body_front_by h.machine b.name b.show (k.rest ++ x ∷ pending) (past (length h.body) f)
+      front h.machine (k.rest ++ x ∷ pending) ≡ body_front_by h.machine b.name b.show (k.rest ++ x ∷ pending) (body_front_after (length h.body) f)
   next_front f e =
       body_at k.rest b h (x.byte ∷ []) (x ∷ pending) (bytes_of pending) k.at refl
-      ∙ ap (λ (f : BodyFront). body_front_by h.machine b.name b.show (k.rest ++ x ∷ pending) (past (length h.body) f)) e
+      ∙ ap (λ (f : BodyFront). body_front_by h.machine b.name b.show (k.rest ++ x ∷ pending) (body_front_after (length h.body) f)) e
 
   -- it is refused
   refused_next : (fault : Fault) → body_front room (x.byte ∷ bytes_of pending) ≡ bodies.refused fault 0 → IsRefused g s o t h (refusal fault x.place)
   refused_next fault e =
       let place = place_at-behind k.rest x pending (length h.body + 0) (omega (arith, held_length k.rest b h (x.byte ∷ []) k.at)) in
-      let is : o ≡ prepend k.done (onward outcome_from h.machine (k.rest ++ x ∷ pending) (refuse (refusal fault x.place))) =
+      let is : o ≡ prepend k.done (outcome_by_front outcome_from h.machine (k.rest ++ x ∷ pending) (refuse (refusal fault x.place))) =
       k.leads ∙ ap (prepend k.done) (outcome_from-front h.machine (k.rest ++ x ∷ pending)
-      ∙ ap (onward outcome_from h.machine (k.rest ++ x ∷ pending)) (next_front (bodies.refused fault 0) e ∙ ap (λ (n : ℕ). refuse (refusal fault n)) place)) in (
+      ∙ ap (outcome_by_front outcome_from h.machine (k.rest ++ x ∷ pending)) (next_front (bodies.refused fault 0) e ∙ ap (λ (n : ℕ). refuse (refusal fault n)) place)) in (
         ap (λ (o : Outcome). o.refusal) is,
         subst (λ (es : List Entry). g.took s es t) (sym (ap (λ (o : Outcome). o.entries) is ∙ append-nil k.done)) k.taken,
         ap (λ (o : Outcome). o.machine.left) is,
@@ -142,14 +142,14 @@ module _ {S : Type 0} {g : Ghosts S} {s : S} {o : Outcome} {t : S} {h : Holding}
   byte_full plain none = refused_next Store (plain_front room x.byte (bytes_of pending) plain ∙ stores-none room _ none)
 
   -- what is held once the byte is read
-  abbrev pub reading_on : Option ℕ → List ℕ → Holding
+  abbrev pub reading_on : Option ℕ → List ℕ → ReadingState
   reading_on escape body = record h {
     machine = record h.machine { mode = in_body b.name b.show };
     open_body = Some (record { name = b.name; show = b.show; escape = escape });
     body = body;
   }
 
-  shifts : (h' : Holding) → h'.machine ≡ record h.machine { mode = in_body b.name b.show } → IsHeld (k.rest ++ x ∷ []) h' → Continues g s o t h' pending
+  shifts : (h' : ReadingState) → h'.machine ≡ record h.machine { mode = in_body b.name b.show } → ArePending (k.rest ++ x ∷ []) h' → Continues g s o t h' pending
   shifts h' same held = record {
     done = k.done;
     taken = k.taken;
@@ -176,7 +176,7 @@ module _ {S : Type 0} {g : Ghosts S} {s : S} {o : Outcome} {t : S} {h : Holding}
       body = bytes_more;
       goes_on = λ more.
           of_body (store_limit - h.machine.stored) h.body x.byte [] more
-          (k.at.goes_on more ∙ ap (past (length h.body)) (plain_front room x.byte more plain)) some;
+          (k.at.goes_on more ∙ ap (body_front_after (length h.body)) (plain_front room x.byte more plain)) some;
       still = k.at.still;
       half = k.at.half;
     };
@@ -197,23 +197,23 @@ module _ {S : Type 0} {g : Ghosts S} {s : S} {o : Outcome} {t : S} {h : Holding}
   })
 
 -- a byte behind an open body
-module _ {S : Type 0} {g : Ghosts S} {s : S} {o : Outcome} {t : S} {h : Holding} {b : OpenBody} {x : Placed} {pending : List Placed} (opened : h.open_body ≡ Some b) (k : Continues g s o t h (x ∷ pending)) where
+module _ {S : Type 0} {g : Ghosts S} {s : S} {o : Outcome} {t : S} {h : ReadingState} {b : OpenBody} {x : Placed} {pending : List Placed} (opened : h.open_body ≡ Some b) (k : Continues g s o t h (x ∷ pending)) where
   pub held_body : IsOpenBody k.rest b h
-  held_body = subst (IsHeldIn k.rest h) opened k.held
+  held_body = subst (ArePendingIn k.rest h) opened k.held
 
   abbrev unread_room : ℕ
   unread_room = store_limit - h.machine.stored - length h.body
 
   -- what is held once the body has ended
-  pub body_over : (m : Machine) → m.mode ≡ between → IsHeld [] (record h { machine = m; open_run = None; run = []; open_body = None; body = [] })
+  pub body_over : (m : Machine) → m.mode ≡ between → ArePending [] (record h { machine = m; open_run = None; run = []; open_body = None; body = [] })
   body_over m mode =
       holds_nothing (record h { machine = m; open_run = None; run = []; open_body = None; body = [] }) refl mode refl refl held_body.at.half
 
   -- where no ESC is held
   pub reads_on : b.escape ≡ None → ReadsOn g s o t h b x pending
   reads_on none =
-      let at : AtBody held_body.bytes b h [] = subst (λ (e : Option ℕ). AtBody held_body.bytes b h (bytes_of (held_escape e))) none held_body.at in
-      let all : k.rest ≡ held_body.bytes = held_body.is ∙ ap (λ (e : Option ℕ). held_body.bytes ++ held_escape e) none ∙ append-nil held_body.bytes in
+      let at : AtBody held_body.bytes b h [] = subst (λ (e : Option ℕ). AtBody held_body.bytes b h (bytes_of (pending_escape e))) none held_body.at in
+      let all : k.rest ≡ held_body.bytes = held_body.is ∙ ap (λ (e : Option ℕ). held_body.bytes ++ pending_escape e) none ∙ append-nil held_body.bytes in
       record {
         done = k.done;
         taken = k.taken;
@@ -229,20 +229,20 @@ module _ {S : Type 0} {g : Ghosts S} {s : S} {o : Outcome} {t : S} {h : Holding}
     escape = record { byte = 27; place = place }
 
     at_escape : AtBody held_body.bytes b h (27 ∷ [])
-    at_escape = subst (λ (e : Option ℕ). AtBody held_body.bytes b h (bytes_of (held_escape e))) held held_body.at
+    at_escape = subst (λ (e : Option ℕ). AtBody held_body.bytes b h (bytes_of (pending_escape e))) held held_body.at
 
     rest_is : k.rest ++ x ∷ pending ≡ held_body.bytes ++ escape ∷ x ∷ pending
     rest_is =
-        ap (λ (xs : List Placed). xs ++ x ∷ pending) (held_body.is ∙ ap (λ (e : Option ℕ). held_body.bytes ++ held_escape e) held)
+        ap (λ (xs : List Placed). xs ++ x ∷ pending) (held_body.is ∙ ap (λ (e : Option ℕ). held_body.bytes ++ pending_escape e) held)
         ∙ append_assoc held_body.bytes (escape ∷ []) (x ∷ pending)
 
     escape_at_front : (f : BodyFront) → body_front unread_room (27 ∷ x.byte ∷ bytes_of pending) ≡ f →
         front h.machine (k.rest ++ x ∷ pending)
-        ≡ body_front_by h.machine b.name b.show (held_body.bytes ++ escape ∷ x ∷ pending) (past (length h.body) f)
+        ≡ body_front_by h.machine b.name b.show (held_body.bytes ++ escape ∷ x ∷ pending) (body_front_after (length h.body) f)
     escape_at_front f e =
         ap (front h.machine) rest_is
         ∙ body_at held_body.bytes b h (27 ∷ []) (escape ∷ x ∷ pending) (x.byte ∷ bytes_of pending) at_escape refl
-        ∙ ap (λ (f : BodyFront). body_front_by h.machine b.name b.show (held_body.bytes ++ escape ∷ x ∷ pending) (past (length h.body) f)) e
+        ∙ ap (λ (f : BodyFront). body_front_by h.machine b.name b.show (held_body.bytes ++ escape ∷ x ∷ pending) (body_front_after (length h.body) f)) e
 
     body_length : length h.body ≡ length held_body.bytes
     body_length = held_length held_body.bytes b h (27 ∷ []) at_escape
@@ -267,7 +267,7 @@ module _ {S : Type 0} {g : Ghosts S} {s : S} {o : Outcome} {t : S} {h : Holding}
             body = bytes_of-append held_body.bytes (escape ∷ []) ∙ ap (λ (bs : List ℕ). bs ++ 27 ∷ []) at_escape.body;
             goes_on = λ more.
                 of_body (store_limit - h.machine.stored) h.body 27 (x.byte ∷ []) more
-                (at_escape.goes_on (x.byte ∷ more) ∙ ap (past (length h.body)) (escape_front unread_room x.byte more few ends)) some;
+                (at_escape.goes_on (x.byte ∷ more) ∙ ap (body_front_after (length h.body)) (escape_front unread_room x.byte more few ends)) some;
             still = at_escape.still;
             half = at_escape.half;
           };
@@ -305,7 +305,7 @@ module _ {S : Type 0} {g : Ghosts S} {s : S} {o : Outcome} {t : S} {h : Holding}
       pub body_bound : b.show ≡ false →
           Continues g s o t (record h { machine = after_body h.machine b.name h.body; half = 27 ∷ []; open_run = None; run = []; open_body = None; body = [] }) (x ∷ pending)
       body_bound hidden =
-          let h' : Holding = record h { machine = after_body h.machine b.name h.body; half = []; open_run = None; run = []; open_body = None; body = [] } in
+          let h' : ReadingState = record h { machine = after_body h.machine b.name h.body; half = []; open_run = None; run = []; open_body = None; body = [] } in
           let there = leads_past k h' (escape ∷ x ∷ pending) (holds_nothing h' refl refl refl refl refl) (body_binds hidden) in
           code_goes_on refl refl there (escape_unfinished h.machine.sets)
 
@@ -342,9 +342,9 @@ module _ {S : Type 0} {g : Ghosts S} {s : S} {o : Outcome} {t : S} {h : Holding}
           let bytes = h.body ++ 27 ∷ x.byte ∷ [] in
           let size = length-append h.body (27 ∷ x.byte ∷ []) in
           let m : Machine = after_body h.machine b.name h.body in
-          let h' : Holding = record h { machine = charged m (length bytes); open_run = None; run = []; open_body = None; body = [] } in
+          let h' : ReadingState = record h { machine = after_charge m (length bytes); open_run = None; run = []; open_body = None; body = [] } in
           let there =
-          leads_shown k m x.place bytes pending (body_shows shown) (omega (arith, size, few)) h' refl (body_over (charged m (length bytes)) refl) in
+          leads_shown k m x.place bytes pending (body_shows shown) (omega (arith, size, few)) h' refl (body_over (after_charge m (length bytes)) refl) in
           omega (arith, size, few, leads_left there)
 
   -- the byte has the eighth bit
@@ -364,7 +364,7 @@ module _ {S : Type 0} {g : Ghosts S} {s : S} {o : Outcome} {t : S} {h : Holding}
           ∙ ap (λ (n : ℕ). refuse (refusal EighthBit n)) there)
 
 -- a held ESC and a byte behind it belong to a body, which has room for all of them that are stored
-module _ {S : Type 0} {g : Ghosts S} {s : S} {o : Outcome} {t : S} {h : Holding} {b : OpenBody} {x : Placed} {place : ℕ} (opened : h.open_body ≡ Some b) (k : Continues g s o t h (x ∷ [])) (held : b.escape ≡ Some place)
+module _ {S : Type 0} {g : Ghosts S} {s : S} {o : Outcome} {t : S} {h : ReadingState} {b : OpenBody} {x : Placed} {place : ℕ} (opened : h.open_body ≡ Some b) (k : Continues g s o t h (x ∷ [])) (held : b.escape ≡ Some place)
     (few : x.byte < 128) (ends : ends_body x.byte ≡ false) (some : store_limit - h.machine.stored - length h.body ≢ 0) where
   both_kept : ReadsOn g s o t (record h { body = h.body ++ 27 ∷ [] }) b x []
   both_kept = escape_kept opened k held few ends some

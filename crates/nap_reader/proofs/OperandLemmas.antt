@@ -1,4 +1,4 @@
-use Rattle.nap_reader.proofs.Common.{All, All-head, All-tail, Bool, Fits, IfSome, IsOver, IsTyped, IsWholeRun, List, MatchOption, None, OpenRun, Option, Some, TextStep, [], and_parts, ap, append_assoc, ap₂, arith, carried, cond, count_trailing_zeros, drop, drop-drop, eq-eqb, eqb, false, format_effector, get_or, get_or-drop, get_or-take, inr, is_from, is_of_text, is_operand_byte, is_some, le-leb, leb, leb-false, leb-true, length, length-drop, length-map, length-prefix_len, length-take-le, lt-leb, ltb, ltb-false, ltb-true, map, map-append, ne_eqb, not, or-true, prefix_len, prefix_len-append, prefix_len-drop_yes, prefix_len-le-length, prefix_len_passes, prefix_len_stops, refl, replicate, run_by, run_limit, subst, suc, sym, take, take-append-drop, take_all, true, w8, ℕ, ◌%◌, ◌&&◌, ◌*◌, ◌++◌, ◌+◌, ◌-◌, ◌<◌, ◌^◌, ◌||◌, ◌∙◌, ◌∷◌, ◌≡◌, ◌≤◌, ◌⊎◌}
+use Rattle.nap_reader.proofs.Common.{All, All-head, All-tail, Bool, Fits, IfSome, IsOver, IsTextByte, IsWholeRun, List, MatchOption, None, OpenRun, Option, Some, TextStep, [], and_parts, ap, append_assoc, ap₂, arith, operand_words, cond, count_trailing_zeros, drop, drop-drop, eq-eqb, eqb, false, format_effector, get_or, get_or-drop, get_or-take, inr, is_from, is_of_text, is_operand_byte, is_some, le-leb, leb, leb-false, leb-true, length, length-drop, length-map, length-prefix_len, length-take-le, lt-leb, ltb, ltb-false, ltb-true, map, map-append, ne_eqb, not, or-true, prefix_len, prefix_len-append, prefix_len-drop_yes, prefix_len-le-length, prefix_len_passes, prefix_len_stops, refl, replicate, run_by, run_limit, subst, suc, sym, take, take-append-drop, take_all, true, w8, ℕ, ◌%◌, ◌&&◌, ◌*◌, ◌++◌, ◌+◌, ◌-◌, ◌<◌, ◌^◌, ◌||◌, ◌∙◌, ◌∷◌, ◌≡◌, ◌≤◌, ◌⊎◌}
 use Rattle.std.proofs.lemmas.Simd.{chunk-drop, leading_from_mask_l, length-chunk, mask_l-mod, trailing_mask_l}
 use lib.Lanes.{Each1, chunk, mask_l, top, zip2}
 
@@ -56,7 +56,7 @@ same_word b is =
     omega (arith, leb-true 64 b both.0, ltb-true b 128 both.1)
 
 -- operand bytes carry the words that they are read as
-pub same_words : (bytes : List ℕ) → All (λ b. is_operand_byte b ≡ true) bytes → carried bytes ≡ map (λ b. b - 64) bytes
+pub same_words : (bytes : List ℕ) → All (λ b. is_operand_byte b ≡ true) bytes → operand_words bytes ≡ map (λ b. b - 64) bytes
 same_words [] all = refl
 same_words (b ∷ bytes) all =
     ap₂ (λ w ws. w ∷ ws) (same_word b (All-head (λ x. is_operand_byte x ≡ true) b bytes all))
@@ -64,7 +64,7 @@ same_words (b ∷ bytes) all =
 
 -- The bytes that are kept of an open run.
 
-pub words_kept : (open_run : Option OpenRun) (opened : OpenRun) (bytes : List ℕ) → open_run ≡ Some opened → run_by open_run bytes ≡ carried bytes
+pub words_kept : (open_run : Option OpenRun) (opened : OpenRun) (bytes : List ℕ) → open_run ≡ Some opened → run_by open_run bytes ≡ operand_words bytes
 words_kept open_run opened bytes is = ap (λ (o : Option OpenRun). run_by o bytes) is
 
 pub as_many_words : (open_run : Option OpenRun) (opened : OpenRun) (bytes : List ℕ) → open_run ≡ Some opened → length (run_by open_run bytes) ≡ length bytes
@@ -176,7 +176,7 @@ past_effector xs at n within is counted =
     )
 
 -- a byte of a text is a move by itself, or a code of a set
-pub of_text_is : (b : ℕ) → is_of_text b ≡ true → IsTyped b
+pub of_text_is : (b : ℕ) → is_of_text b ≡ true → IsTextByte b
 of_text_is b is none =
     let both = and_parts (leb 32 b) (ltb b 128) (ap (λ (step : Option TextStep). is_some step || is_from 32 b) (sym none) ∙ is) in
     (leb-true 32 b both.0, omega (arith, ltb-true b 128 both.1))

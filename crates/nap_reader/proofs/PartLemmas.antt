@@ -1,4 +1,4 @@
-use Rattle.nap_reader.proofs.Common.{BreaksFrom, BreaksInBody, BreaksNext, BreaksPast, BreaksSome, Cause, Continues, ContinuesPast, DrawFault, Drawn, Entry, Ghosts, GivesSome, Holding, List, Machine, Mode, None, Ok, Option, Outcome, Placed, Refusal, Result, Some, TakesPart, TookFront, TookPart, Unfinished, WantsBy, [], act, after_drawing, all_at, ap, append-nil, append_assoc, arith, between, body_broke, body_front, cause_of, charged, charged_broke, cond-false, continue_by, device, draw_fault, drawn_front, front, front_in, in_body, inl, inr, le-ltb, length, length-append, ltb, memory, next_broke, nothing, onward, open_body, outcome_from, pause, paused, prepend, refl, shown_front, some_broke, stream, subst, sym, true, ℕ, ◌++◌, ◌<◌, ◌∙◌, ◌∷◌, ◌≡◌, ◌≢◌, ◌≤◌}
+use Rattle.nap_reader.proofs.Common.{BreaksFrom, BreaksInBody, BreaksNext, BreaksPast, BreaksSome, Cause, Continues, ContinuesPast, DrawFault, RuleResult, Entry, Ghosts, GivesSome, ReadingState, List, Machine, Mode, None, Ok, Option, Outcome, Placed, Refusal, Result, Some, TakesPart, TookFront, TookPart, Unfinished, WantsBy, [], act, after_drawing, all_at, ap, append-nil, append_assoc, arith, between, body_broke, body_front, cause_of, after_charge, charged_broke, cond-false, continue_by, device, draw_fault, drawn_front, front, front_in, in_body, inl, inr, le-ltb, length, length-append, ltb, memory, next_broke, nothing, outcome_by_front, open_body, outcome_from, pause, paused, prepend, refl, shown_front, some_broke, stream, subst, sym, true, ℕ, ◌++◌, ◌<◌, ◌∙◌, ◌∷◌, ◌≡◌, ◌≢◌, ◌≤◌}
 use Rattle.nap_draw.specs.declared.fault.DrawFault.TheVariants as draw_faults
 use Rattle.nap_draw.specs.Draws as draws
 use Rattle.nap_reader.proofs.ReadingLemmas.{half_read_pauses, Known, Lawful, by_front, rule_part, was_failed}
@@ -13,7 +13,7 @@ unfolding front body_front
 nothing_comes m = in_mode m.mode refl
   where
     waits : (u : Unfinished) → front m [] ≡ pause u → outcome_from m [] ≡ paused m [] (Some u)
-    waits u e = outcome_from-front m [] ∙ ap (onward outcome_from m []) e
+    waits u e = outcome_from-front m [] ∙ ap (outcome_by_front outcome_from m []) e
 
     in_mode : (mode : Mode) → m.mode ≡ mode → (u : Unfinished) × (outcome_from m [] ≡ paused m [] (Some u))
     in_mode between mode = (nothing, waits nothing (half_read_pauses m [] [] mode refl (nothing_yet m.sets)))
@@ -34,29 +34,29 @@ took_front {S} g s known more t cause part = at cause part
     at device (inr broke) = inr broke
 
 -- A rule is refused, or not all of its entries could be put.
-pub record Fails {S : Type 0} (g : Ghosts S) (by : Result Drawn DrawFault) (t u : S) (fault : DrawFault) : Type 0 where
+pub record Fails {S : Type 0} (g : Ghosts S) (by : Result RuleResult DrawFault) (t u : S) (fault : DrawFault) : Type 0 where
   pub drew : draws.DrawsBy g.took g.broke g.failed by t u fault (draws.cause_of fault)
   pub wants : fault ≡ draw_faults.Memory → WantsBy g by t u
   pub gives : fault ≡ draw_faults.Sink → GivesSome by
 
 -- The last byte that came makes a code whole, which acts by a rule, and not all of its entries could be put.
-module _ {S : Type 0} {g : Ghosts S} {s : S} {known : List Entry} {o : Outcome} {t : S} {h : Holding} {x : Placed} (k : ContinuesPast g s known o t h (x ∷ [])) where
+module _ {S : Type 0} {g : Ghosts S} {s : S} {known : List Entry} {o : Outcome} {t : S} {h : ReadingState} {x : Placed} (k : ContinuesPast g s known o t h (x ∷ [])) where
   known_taken : Known g s known t
   known_taken = record { taken = subst (λ (es : List Entry). g.took s es t) k.done k.continues.taken; clear = k.continues.clear }
 
-  adds_drawn : (m : Machine) (drawn : Drawn) → front h.machine (k.continues.rest ++ x ∷ []) ≡ act drawn.entries (after_drawing m drawn) [] → (o.entries ≡ known ++ drawn.entries) × (o.refusal ≡ None)
+  adds_drawn : (m : Machine) (drawn : RuleResult) → front h.machine (k.continues.rest ++ x ∷ []) ≡ act drawn.entries (after_drawing m drawn) [] → (o.entries ≡ known ++ drawn.entries) × (o.refusal ≡ None)
   adds_drawn m drawn acts =
       let there = by_front k.continues _ acts ∙ ap (λ (y : Outcome). prepend k.continues.done (prepend drawn.entries y)) (nothing_comes (after_drawing m drawn)).1 in (
         ap (λ (y : Outcome). y.entries) there ∙ ap (λ (es : List Entry). k.continues.done ++ es) (append-nil drawn.entries) ∙ ap (λ (es : List Entry). es ++ drawn.entries) k.done,
         ap (λ (y : Outcome). y.refusal) there,
       )
 
-  pub code_breaks : (m : Machine) (by : Result Drawn DrawFault) → front h.machine (k.continues.rest ++ x ∷ []) ≡ drawn_front m x.place [] by → Lawful g → {u : S} {fault : DrawFault} → Fails g by t u fault → cause_of (draw_fault fault) ≢ stream →
+  pub code_breaks : (m : Machine) (by : Result RuleResult DrawFault) → front h.machine (k.continues.rest ++ x ∷ []) ≡ drawn_front m x.place [] by → Lawful g → {u : S} {fault : DrawFault} → Fails g by t u fault → cause_of (draw_fault fault) ≢ stream →
       BreaksPast g s known o u (cause_of (draw_fault fault))
   code_breaks m by acting laws {u} {fault} fails broke =
       let (drawn, is, part) = rule_part u by laws known_taken fault fails.drew broke in
       let (adds, unrefused) = adds_drawn m drawn (acting ∙ ap (drawn_front m x.place []) is) in
-      let memory = λ (is_memory : fault ≡ draw_faults.Memory). subst (λ (r : Result Drawn DrawFault). WantsBy g r t u) is (fails.wants is_memory) in
+      let memory = λ (is_memory : fault ≡ draw_faults.Memory). subst (λ (r : Result RuleResult DrawFault). WantsBy g r t u) is (fails.wants is_memory) in
       let device = λ (is_sink : fault ≡ draw_faults.Sink). subst GivesSome is (fails.gives is_sink) in
       record {
         next = record { more = drawn.entries; adds = adds; unrefused = unrefused; part = part };
@@ -68,7 +68,7 @@ module _ {S : Type 0} {g : Ghosts S} {s : S} {known : List Entry} {o : Outcome} 
       wants_memory draw_faults.Memory is = refl
       wants_memory _ is = let bad : ⊥ = cc in absurd bad
 
-      some_by : (fault : DrawFault) (drawn : Drawn) → (fault ≡ draw_faults.Memory → WantsBy g (Ok drawn) t u) → (fault ≡ draw_faults.Sink → GivesSome (Ok drawn)) → cause_of (draw_fault fault) ≢ stream → drawn.entries ≢ []
+      some_by : (fault : DrawFault) (drawn : RuleResult) → (fault ≡ draw_faults.Memory → WantsBy g (Ok drawn) t u) → (fault ≡ draw_faults.Sink → GivesSome (Ok drawn)) → cause_of (draw_fault fault) ≢ stream → drawn.entries ≢ []
       some_by draw_faults.Memory drawn wants gives broke none =
           let want = wants refl in
           omega (arith, ap length none, ap length want.stops.3, length-append want.stops.0 (want.stops.1 ∷ want.stops.2))
@@ -76,7 +76,7 @@ module _ {S : Type 0} {g : Ghosts S} {s : S} {known : List Entry} {o : Outcome} 
       some_by _ drawn wants gives broke none = absurd (broke refl)
 
 -- what was known was taken, and more comes
-module _ {S : Type 0} {g : Ghosts S} {s : S} {known : List Entry} {o : Outcome} {t : S} {h : Holding} {xs : List Placed} (k : ContinuesPast g s known o t h xs) where
+module _ {S : Type 0} {g : Ghosts S} {s : S} {known : List Entry} {o : Outcome} {t : S} {h : ReadingState} {xs : List Placed} (k : ContinuesPast g s known o t h xs) where
   past_taken : g.took s known t
   past_taken = subst (λ (es : List Entry). g.took s es t) k.done k.continues.taken
 
@@ -100,9 +100,9 @@ module _ {S : Type 0} {g : Ghosts S} {s : S} {known : List Entry} {o : Outcome} 
   pub call_breaks : (m : Machine) (place : ℕ) (bytes : List ℕ) (ys : List Placed) → front h.machine (k.continues.rest ++ xs) ≡ shown_front m place bytes ys → m.left ≡ h.machine.left → 0 < length bytes → length bytes ≤ m.left → BreaksSome g s known o t h.machine.left memory
   call_breaks m place bytes ys shows same some few =
       let e = shows ∙ cond-false (ltb m.left (length bytes)) _ _ (le-ltb m.left (length bytes) few) in
-      let is = by_front k.continues (act [] (charged m (length bytes)) (all_at place bytes ++ ys)) e in
-      let falls = outcome_from-left (charged m (length bytes)) (all_at place bytes ++ ys) in
-      let there : o.machine.left ≡ (outcome_from (charged m (length bytes)) (all_at place bytes ++ ys)).machine.left = ap (λ (o : Outcome). o.machine.left) is in
+      let is = by_front k.continues (act [] (after_charge m (length bytes)) (all_at place bytes ++ ys)) e in
+      let falls = outcome_from-left (after_charge m (length bytes)) (all_at place bytes ++ ys) in
+      let there : o.machine.left ≡ (outcome_from (after_charge m (length bytes)) (all_at place bytes ++ ys)).machine.left = ap (λ (o : Outcome). o.machine.left) is in
       charged_broke (omega (arith, falls, there, same)) wants_from
 
 -- what breaks in a code breaks in the body that it ends
@@ -162,7 +162,7 @@ entries_first m xs ys =
     at None = ((outcome_from (outcome_from m xs).machine ((outcome_from m xs).rest ++ ys)).entries, refl)
 
 -- the rule of what stands at the front acts, and not all of its entries could be put
-pub rule_breaks : {S : Type 0} {g : Ghosts S} {s : S} {o : Outcome} {t : S} {h : Holding} {pending : List Placed} (k : Continues g s o t h pending) (m : Machine) (place : ℕ) (ys : List Placed) (by : Result Drawn DrawFault) → front h.machine (k.rest ++ pending) ≡ drawn_front m place ys by →
+pub rule_breaks : {S : Type 0} {g : Ghosts S} {s : S} {o : Outcome} {t : S} {h : ReadingState} {pending : List Placed} (k : Continues g s o t h pending) (m : Machine) (place : ℕ) (ys : List Placed) (by : Result RuleResult DrawFault) → front h.machine (k.rest ++ pending) ≡ drawn_front m place ys by →
     Lawful g → {u : S} (fault : DrawFault) → draws.DrawsBy g.took g.broke g.failed by t u fault (draws.cause_of fault) → cause_of (draw_fault fault) ≢ stream → BreaksFrom g s [] o u (cause_of (draw_fault fault))
 rule_breaks {g = g} {s = s} {o = o} k m place ys by acts laws {u} fault drew broke =
     let (drawn, is, part) = rule_part u by laws (record { taken = k.taken; clear = k.clear }) fault drew broke in
@@ -173,7 +173,7 @@ rule_breaks {g = g} {s = s} {o = o} k m place ys by acts laws {u} fault drew bro
     breaks_longer [] k.done (breaks_more behind (ap (λ (o : Outcome). o.entries) there ∙ sym (append_assoc k.done drawn.entries behind)) drew)
 
 -- the same outcome with fewer bytes pending
-pub cut : {S : Type 0} {g : Ghosts S} {s : S} {o : Outcome} {t : S} {h : Holding} (xs ys : List Placed) → (k : Continues g s o t h (xs ++ ys)) →
+pub cut : {S : Type 0} {g : Ghosts S} {s : S} {o : Outcome} {t : S} {h : ReadingState} (xs ys : List Placed) → (k : Continues g s o t h (xs ++ ys)) →
     (less : Outcome) × (es : List Entry) × (o.entries ≡ less.entries ++ es) × Continues g s less t h xs
 cut {h = h} xs ys k =
     let first = entries_first h.machine (k.rest ++ xs) ys in

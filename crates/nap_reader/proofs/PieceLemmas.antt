@@ -1,4 +1,4 @@
-use Rattle.nap_reader.proofs.Common.{Acted, All, All-append, All-cons, All-head, All-nil, Amid, BreaksFrom, Came, Cause, Continues, Conveys, Entry, Ghosts, Holding, IsBroken, IsKnown, IsOwn, LeadsOn, LeadsTo, List, Machine, None, Outcome, Passes, Placed, Reaches, Reader, Refusal, RunAt, Some, Stands, StopsBy, [], ap, append-nil, append_assoc, arith, as_it_was, begun, budget_of, bytes_of, cause_of, device, drop, drop_more, fed_of, get_or, length, length-append, length-drop, length-take-le, memory, of_body, of_piece, outcome_from, placed_at, placed_from, refl, refusal_of, stream, subst, sym, take, take-add, ℕ, ◌++◌, ◌+◌, ◌<◌, ◌∙◌, ◌∷◌, ◌≡◌, ◌≢◌, ◌≤◌}
+use Rattle.nap_reader.proofs.Common.{Acted, All, All-append, All-cons, All-head, All-nil, AmidCall, BreaksFrom, Came, Cause, Continues, LeadsThrough, Entry, Ghosts, ReadingState, IsBroken, IsKnown, IsOwn, LeadsOn, LeadsTo, List, Machine, None, Outcome, Passes, Placed, Reaches, Reader, Refusal, RunAt, Some, HasRead, StopsBy, [], ap, append-nil, append_assoc, arith, as_it_was, begun, budget_of, bytes_of, cause_of, device, drop, drop_more, fed_of, get_or, length, length-append, length-drop, length-take-le, memory, of_body, of_piece, outcome_from, placed_at, placed_from, refl, refusal_of, stream, subst, sym, take, take-add, ℕ, ◌++◌, ◌+◌, ◌<◌, ◌∙◌, ◌∷◌, ◌≡◌, ◌≢◌, ◌≤◌}
 use Rattle.nap_reader.proofs.Base.{IsAt, Lawful, TookMore, acted_then, all_front, all_rest, breaks_behind, came_none, leads_entries, leads_left, leads_machine, leads_more, leads_unrefused, left_acted, passes_acted, run_acted, taken_more, uses_breaks}
 
 -- How a piece is taken.
@@ -19,8 +19,8 @@ unfolding placed_from
 first_placed piece at n less = ap (λ (bs : List ℕ). placed_from n (take 1 bs)) (drop_more piece at 0 less)
 
 -- A byte of the piece is read in part, with what it called or showed.
-module _ {S : Type 0} {g : Ghosts S} {old : Reader S g} {piece : List ℕ} {i : ℕ} {t : S} {h : Holding} {frames : List Placed} {s : S} {p : List ℕ} (live : refusal_of old ≡ None) (within : i < length piece)
-    (amid : Amid old piece i t h frames) (stood : Stands old s p) where
+module _ {S : Type 0} {g : Ghosts S} {old : Reader S g} {piece : List ℕ} {i : ℕ} {t : S} {h : ReadingState} {frames : List Placed} {s : S} {p : List ℕ} (live : refusal_of old ≡ None) (within : i < length piece)
+    (amid : AmidCall old piece i t h frames) (stood : HasRead old s p) where
   -- the stream up to the byte, and with it
   abbrev q : List ℕ
   q = p ++ take i piece
@@ -81,24 +81,24 @@ stops_by {S} {g} s budget p b t left r own broken = at (cause_of r.fault) refl
     at device e = broken (λ own. let bad : device ≡ stream = sym e ∙ own in cc)
 
 -- Bytes of the piece come next, where no body is read.
-pub known_with : {S : Type 0} {g : Ghosts S} {old : Reader S g} {piece : List ℕ} {at : ℕ} {t : S} {h : Holding} {frames : List Placed} {s : S} {p : List ℕ} → LeadsTo old piece at t h frames → frames ≡ [] → (bytes : List ℕ) → Stands old s p →
+pub known_with : {S : Type 0} {g : Ghosts S} {old : Reader S g} {piece : List ℕ} {at : ℕ} {t : S} {h : ReadingState} {frames : List Placed} {s : S} {p : List ℕ} → LeadsTo old piece at t h frames → frames ≡ [] → (bytes : List ℕ) → HasRead old s p →
     Continues g s (begun (budget_of old) ((p ++ take at piece) ++ bytes)) t h (placed_from (fed_of old + at) bytes)
 known_with {g = g} {old = old} {piece = piece} {at = at} {t = t} {h = h} {s = s} {p = p} leads empty bytes stood =
     subst (λ (n : ℕ). Continues g s (begun (budget_of old) ((p ++ take at piece) ++ bytes)) t h (placed_from n bytes)) (length_taken p piece at leads.within ∙ ap (λ (n : ℕ). n + at) (sym (stood.fed leads.live)))
     (leads_more (budget_of old) (p ++ take at piece) bytes (leads.alone empty s p stood))
 
 -- Bytes that come next were taken, and these come of bodies by them.
-record Brings {S : Type 0} (g : Ghosts S) (t : S) (h : Holding) (xs : List Placed) (u : S) (h' : Holding) (came : List Placed) : Type 0 where
+record AddsEntries {S : Type 0} (g : Ghosts S) (t : S) (h : ReadingState) (xs : List Placed) (u : S) (h' : ReadingState) (came : List Placed) : Type 0 where
   left : h.machine.left ≡ h'.machine.left + length came
   there : (n : ℕ) → All (IsAt n) xs → All (IsAt n) came
   run : (n : ℕ) → All (IsAt n) xs → RunAt n h.open_run → RunAt n h'.open_run
   called : 0 < length came → (x : Placed) × (xs ≡ x ∷ []) × RunAt x.place h'.open_run
   passes : Passes g t h xs u h' came
 
-module _ {S : Type 0} {g : Ghosts S} {old : Reader S g} {piece : List ℕ} {at : ℕ} {t u : S} {h h' : Holding} {frames came xs : List Placed} (leads : LeadsTo old piece at t h frames) (brings : Brings g t h xs u h' came) where
+module _ {S : Type 0} {g : Ghosts S} {old : Reader S g} {piece : List ℕ} {at : ℕ} {t u : S} {h h' : ReadingState} {frames came xs : List Placed} (leads : LeadsTo old piece at t h frames) (brings : AddsEntries g t h xs u h' came) where
   -- they belong to a body
-  module _ {i : ℕ} (rest : List Placed) (amid : Amid old piece i t h frames) (front : frames ≡ xs ++ rest) where
-    further : Amid old piece i u h' (came ++ rest)
+  module _ {i : ℕ} (rest : List Placed) (amid : AmidCall old piece i t h frames) (front : frames ≡ xs ++ rest) where
+    further : AmidCall old piece i u h' (came ++ rest)
     further =
         let all = subst (All (IsAt (fed_of old + i))) front amid.there in
         let here = all_front (fed_of old + i) xs rest all in
@@ -114,7 +114,7 @@ module _ {S : Type 0} {g : Ghosts S} {old : Reader S g} {piece : List ℕ} {at :
           run = brings.run (fed_of old + i) here amid.run;
         }
 
-    ends_amid : at ≡ i + 1 → came ++ rest ≡ [] → (s : S) (p : List ℕ) → Stands old s p → Continues g s (begun (budget_of old) (p ++ take at piece)) u h' []
+    ends_amid : at ≡ i + 1 → came ++ rest ≡ [] → (s : S) (p : List ℕ) → HasRead old s p → Continues g s (begun (budget_of old) (p ++ take at piece)) u h' []
     ends_amid last empty s p stood =
         let inside : i < length piece = omega (arith, last, leads.within) in
         let all : (p ++ take i piece) ++ get_or piece i 0 ∷ [] ≡ p ++ take at piece = taken_more p piece i inside ∙ ap (λ (n : ℕ). p ++ take n piece) (sym last) in
@@ -129,14 +129,14 @@ module _ {S : Type 0} {g : Ghosts S} {old : Reader S g} {piece : List ℕ} {at :
     counted : length bytes ≡ length xs
     counted = length-take-le (length xs) (drop at piece) (omega (arith, moved, inside, length-drop at piece))
 
-    ends_alone : came ≡ [] → (s : S) (p : List ℕ) → Stands old s p → Continues g s (begun (budget_of old) (p ++ take until piece)) u h' []
+    ends_alone : came ≡ [] → (s : S) (p : List ℕ) → HasRead old s p → Continues g s (begun (budget_of old) (p ++ take until piece)) u h' []
     ends_alone gone s p stood =
         let o : Outcome = begun (budget_of old) ((p ++ take at piece) ++ bytes) in
         subst (λ (q : List ℕ). Continues g s (begun (budget_of old) q) u h' [])
         (taken_further p piece bytes at (ap (λ (n : ℕ). take n (drop at piece)) counted) ∙ ap (λ (n : ℕ). p ++ take n piece) (let e : at + length bytes ≡ until = omega (arith, moved, counted) in e))
         (subst (Continues g s o u h') (append-nil came ∙ gone) (brings.passes s o [] (subst (Continues g s o t h) (sym (append-nil xs ∙ is)) (known_with leads empty bytes stood))))
 
-    called_by : 0 < length came → (i : ℕ) × (until ≡ i + 1) × Amid old piece i u h' came
+    called_by : 0 < length came → (i : ℕ) × (until ≡ i + 1) × AmidCall old piece i u h' came
     unfolding placed_from
     called_by more =
         let by = brings.called more in
@@ -172,12 +172,12 @@ module _ {S : Type 0} {g : Ghosts S} {old : Reader S g} {piece : List ℕ} {at :
       subst (LeadsTo old piece until u h') comes (record { live = leads.live; within = inside; alone = ends_alone empty is moved inside; amid = called_by empty is moved inside })
 
 -- What leads to a sink and to what is held, and then on.
-module _ {S : Type 0} {g : Ghosts S} {old : Reader S g} {piece : List ℕ} {at : ℕ} {t : S} {h : Holding} {frames : List Placed} (more : TookMore g) (by : Reaches old piece at t h frames) where
+module _ {S : Type 0} {g : Ghosts S} {old : Reader S g} {piece : List ℕ} {at : ℕ} {t : S} {h : ReadingState} {frames : List Placed} (more : TookMore g) (by : Reaches old piece at t h frames) where
   abbrev next : List ℕ
   next = bytes_of frames ++ drop at piece
 
   -- Some bytes that come next lead on.
-  pub leads_past : {x : Placed} {xs rest : List Placed} {until : ℕ} (bs : List ℕ) → next ≡ x.byte ∷ bs → (c : Conveys g t h (x ∷ xs)) → Came frames rest piece at until (fed_of old + at) (x ∷ xs) → LeadsTo old piece until c.sink c.holding rest
+  pub leads_past : {x : Placed} {xs rest : List Placed} {until : ℕ} (bs : List ℕ) → next ≡ x.byte ∷ bs → (c : LeadsThrough g t h (x ∷ xs)) → Came frames rest piece at until (fed_of old + at) (x ∷ xs) → LeadsTo old piece until c.sink c.holding rest
   leads_past {x} {xs} bs first c = advances {came = []} by.leads (record {
     left = omega (arith, c.left, left_acted by.acted);
     there = λ n all. All-nil (IsAt n);
@@ -187,14 +187,14 @@ module _ {S : Type 0} {g : Ghosts S} {old : Reader S g} {piece : List ℕ} {at :
   })
 
   -- Bytes that come next lead on.
-  pub reaches_on : {u : S} {h' : Holding} {rest : List Placed} {until : ℕ} (xs : List Placed) → Came frames rest piece at until (fed_of old + at) xs → LeadsOn g t h u h' xs (bytes_of rest ++ drop until piece) →
+  pub reaches_on : {u : S} {h' : ReadingState} {rest : List Placed} {until : ℕ} (xs : List Placed) → Came frames rest piece at until (fed_of old + at) xs → LeadsOn g t h u h' xs (bytes_of rest ++ drop until piece) →
       next ≡ bytes_of xs ++ (bytes_of rest ++ drop until piece) → Reaches old piece until u h' rest
   reaches_on {u} {h'} {rest} {until} [] came then first =
       let same = then.conveys.none refl in
       let still = came_none frames rest piece at until (fed_of old + at) [] refl came in
       let acted : Acted g t h u h' next =
       subst (Acted g t h u h') (sym first)
-      (subst (λ (held : Holding). Acted g t held u h' (bytes_of rest ++ drop until piece)) same.1 (subst (λ (w : S). Acted g w then.conveys.holding u h' (bytes_of rest ++ drop until piece)) same.0 then.acted)) in
+      (subst (λ (held : ReadingState). Acted g t held u h' (bytes_of rest ++ drop until piece)) same.1 (subst (λ (w : S). Acted g w then.conveys.holding u h' (bytes_of rest ++ drop until piece)) same.0 then.acted)) in
       subst (λ (n : ℕ). Reaches old piece n u h' rest) (sym still.1)
       (subst (Reaches old piece at u h') (sym still.0) (record {
         sink = by.sink;
@@ -210,7 +210,7 @@ module _ {S : Type 0} {g : Ghosts S} {old : Reader S g} {piece : List ℕ} {at :
   }
 
   -- A byte calls or shows a body, which comes next.
-  pub reaches_called : {u : S} {h' : Holding} {rest : List Placed} {x : Placed} {until : ℕ} (came : List Placed) → Came frames rest piece at until (fed_of old + at) (x ∷ []) → Passes g t h (x ∷ []) u h' came →
+  pub reaches_called : {u : S} {h' : ReadingState} {rest : List Placed} {x : Placed} {until : ℕ} (came : List Placed) → Came frames rest piece at until (fed_of old + at) (x ∷ []) → Passes g t h (x ∷ []) u h' came →
       (bs : List ℕ) → next ≡ x.byte ∷ bs → h.machine.left ≡ h'.machine.left + length came → ((n : ℕ) → x.place ≡ n → All (IsAt n) came) → h'.open_run ≡ None → Reaches old piece until u h' (came ++ rest)
   reaches_called {u} {h'} {x = x} came came_first passes bs first left there closed = record {
     sink = u;

@@ -1,4 +1,4 @@
-use Rattle.nap_reader.proofs.Common.{Bool, Budget, Code, CodeFault, CodeSets, Continues, DrawFault, Drawn, Entry, Err, Front, Ghosts, Holding, IfErr, IsDrawn, IsHalf, IsHeld, IsHeldBy, IsHeldIn, IsInRange, IsOpenBody, IsOpenRun, IsRefused, LexerState, List, LongRun, Machine, MatchResult, Mode, None, Ok, OnOk, Opcode, OpenBody, OpenRun, Option, Outcome, Placed, Refusal, Result, Some, StepsBy, TookPart, [], act, all_at, ap, append-nil, append_assoc, arith, begun, between, body_front, body_front_by, bytes_of, cause_of, charged, code_fault, code_front, code_ranges, cond, cond-false, cond-true, continue, device, draw_fault, drawn_front, drop, drop_at, eq-eqb, false, front, front_by, front_in, half_read, held_escape, in_body, inl, inr, is_operand, kind_of, le-ltb, length, length-append, length-map, length-prefix_len, lt-ltb, ltb, nat_lt, nat_tests, onward, opcode_front, opcodes_are_drawn, outcome_from, past, pause, paused, place_at, placed_from, prefix_len-append, prepend, refl, refusal, refuse, refused_stays, rule, run_length, run_limit, shown_front, start_machine, start_sets, store_limit, stream, subst, suc, sym, take, take_at, true, unfinished_by, unfinished_of, whole_stays, words_of, ℕ, ◌++◌, ◌+◌, ◌-◌, ◌<◌, ◌∙◌, ◌∷◌, ◌≡◌, ◌≢◌, ◌≤◌, ◌⊎◌}
+use Rattle.nap_reader.proofs.Common.{Bool, Budget, Code, CodeFault, CodeSets, Continues, DrawFault, RuleResult, Entry, Err, Front, Ghosts, ReadingState, IfErr, IsDrawn, ArePendingBetweenCodes, ArePending, ArePendingBy, ArePendingIn, IsInRange, IsOpenBody, IsOpenRun, IsRefused, LexerState, List, LongRun, Machine, MatchResult, Mode, None, Ok, OnOk, Opcode, OpenBody, OpenRun, Option, Outcome, Placed, Refusal, Result, Some, StepsBy, TookPart, [], act, all_at, ap, append-nil, append_assoc, arith, begun, between, body_front, body_front_by, bytes_of, cause_of, after_charge, code_fault, code_front, code_ranges, cond, cond-false, cond-true, continue, device, draw_fault, drawn_front, drop, drop_at, eq-eqb, false, front, front_by, front_in, half_read, pending_escape, in_body, inl, inr, is_operand, kind_of, le-ltb, length, length-append, length-map, length-prefix_len, lt-ltb, ltb, nat_lt, nat_tests, outcome_by_front, opcode_front, opcodes_are_drawn, outcome_from, body_front_after, pause, paused, place_at, placed_from, prefix_len-append, prepend, refl, refusal, refuse, refused_stays, rule, run_length, run_limit, shown_front, start_machine, start_sets, store_limit, stream, subst, suc, sym, take, take_at, true, unfinished_by, unfinished_of, whole_stays, words_of, ℕ, ◌++◌, ◌+◌, ◌-◌, ◌<◌, ◌∙◌, ◌∷◌, ◌≡◌, ◌≢◌, ◌≤◌, ◌⊎◌}
 use Rattle.nap_codes.specs.declared.code.Code.TheVariants as code
 use Rattle.nap_codes.specs.Front as codes
 use Rattle.nap_reader.specs.Stream as model
@@ -188,60 +188,60 @@ pub record Lawful {S : Type 0} (g : Ghosts S) : Type 0 where
   pub none : TookNone g
 
 -- between two codes
-pub is_between : (h : Holding) (rest : List Placed) → h.open_body ≡ None → IsHeld rest h → IsHalf rest h
-is_between h rest no_body held = subst (IsHeldIn rest h) no_body held
+pub is_between : (h : ReadingState) (rest : List Placed) → h.open_body ≡ None → ArePending rest h → ArePendingBetweenCodes rest h
+is_between h rest no_body held = subst (ArePendingIn rest h) no_body held
 
-pub holds_between : (h : Holding) (rest : List Placed) → h.open_body ≡ None → IsHalf rest h → IsHeld rest h
-holds_between h rest no_body held = subst (IsHeldIn rest h) (sym no_body) held
+pub holds_between : (h : ReadingState) (rest : List Placed) → h.open_body ≡ None → ArePendingBetweenCodes rest h → ArePending rest h
+holds_between h rest no_body held = subst (ArePendingIn rest h) (sym no_body) held
 
 -- no end of a body is seen yet
-escape_waits : (room : ℕ) (escape : Option ℕ) → body_front room (bytes_of (held_escape escape)) ≡ bodies.unfinished
+escape_waits : (room : ℕ) (escape : Option ℕ) → body_front room (bytes_of (pending_escape escape)) ≡ bodies.unfinished
 unfolding body_front
 escape_waits room None = refl
 escape_waits room (Some place) = refl
 
-open_body_waits : (rest : List Placed) (body : OpenBody) (h : Holding) → IsOpenBody rest body h →
+open_body_waits : (rest : List Placed) (body : OpenBody) (h : ReadingState) → IsOpenBody rest body h →
     body_front (store_limit - h.machine.stored) (bytes_of rest) ≡ bodies.unfinished
 open_body_waits rest body h k =
     let room = store_limit - h.machine.stored in
-    let all : bytes_of rest ≡ h.body ++ bytes_of (held_escape body.escape) =
-    ap bytes_of k.is ∙ bytes_of-append k.bytes (held_escape body.escape) ∙ ap (λ (bs : List ℕ). bs ++ bytes_of (held_escape body.escape)) k.at.body in
-    let none = append-nil (bytes_of (held_escape body.escape)) in
+    let all : bytes_of rest ≡ h.body ++ bytes_of (pending_escape body.escape) =
+    ap bytes_of k.is ∙ bytes_of-append k.bytes (pending_escape body.escape) ∙ ap (λ (bs : List ℕ). bs ++ bytes_of (pending_escape body.escape)) k.at.body in
+    let none = append-nil (bytes_of (pending_escape body.escape)) in
     ap (body_front room) (all ∙ ap (λ (bs : List ℕ). h.body ++ bs) (sym none))
     ∙ k.at.goes_on []
-    ∙ ap (past (length h.body)) (ap (body_front (room - length h.body)) none ∙ escape_waits (room - length h.body) body.escape)
+    ∙ ap (body_front_after (length h.body)) (ap (body_front (room - length h.body)) none ∙ escape_waits (room - length h.body) body.escape)
 
 -- what stands at the front of an open body
-pub front_body : (rest : List Placed) (body : OpenBody) (h : Holding) (pending : List Placed) → h.machine.mode ≡ in_body body.name body.show →
+pub front_body : (rest : List Placed) (body : OpenBody) (h : ReadingState) (pending : List Placed) → h.machine.mode ≡ in_body body.name body.show →
     front h.machine (rest ++ pending)
     ≡ body_front_by h.machine body.name body.show (rest ++ pending) (body_front (store_limit - h.machine.stored) (bytes_of (rest ++ pending)))
 unfolding front
 front_body rest body h pending mode = ap (λ (mode : Mode). front_in mode h.machine (rest ++ pending)) mode
 
 -- what is held back waits for more
-pub held_pauses : (h : Holding) (rest : List Placed) → IsHeld rest h → front h.machine rest ≡ pause (unfinished_of h)
+pub held_pauses : (h : ReadingState) (rest : List Placed) → ArePending rest h → front h.machine rest ≡ pause (unfinished_of h)
 unfolding front
 held_pauses h rest held = in_mode h.open_body held
   where
-    at : (open_run : Option OpenRun) → h.machine.mode ≡ between → IsHeldBy rest h open_run →
+    at : (open_run : Option OpenRun) → h.machine.mode ≡ between → ArePendingBy rest h open_run →
         front h.machine rest ≡ pause (unfinished_by None open_run h.half h.run)
     at None mode k = half_read_pauses h.machine rest h.half mode k.0 k.1
     at (Some open_run) mode k = open_run_pauses h.machine rest open_run h.run mode k.0
 
-    in_mode : (body : Option OpenBody) → IsHeldIn rest h body → front h.machine rest ≡ pause (unfinished_by body h.open_run h.half h.run)
+    in_mode : (body : Option OpenBody) → ArePendingIn rest h body → front h.machine rest ≡ pause (unfinished_by body h.open_run h.half h.run)
     in_mode None k = at h.open_run k.mode k.half
     in_mode (Some body) k =
         ap (λ (mode : Mode). front_in mode h.machine rest) k.at.mode
         ∙ ap (body_front_by h.machine body.name body.show rest) (open_body_waits rest body h k)
 
-pub is_open_run : (h : Holding) (rest : List Placed) (open_run : OpenRun) → h.open_body ≡ None → h.open_run ≡ Some open_run → IsHeld rest h →
+pub is_open_run : (h : ReadingState) (rest : List Placed) (open_run : OpenRun) → h.open_body ≡ None → h.open_run ≡ Some open_run → ArePending rest h →
     IsOpenRun rest open_run h.run h.machine.sets × (h.half ≡ [])
-is_open_run h rest open_run no_body is held = subst (IsHeldBy rest h) is (is_between h rest no_body held).half
+is_open_run h rest open_run no_body is held = subst (ArePendingBy rest h) is (is_between h rest no_body held).half
 
-pub holds_open_run : (h : Holding) (rest : List Placed) (open_run : OpenRun) → h.open_body ≡ None → h.machine.mode ≡ between → h.body ≡ [] →
-    h.open_run ≡ Some open_run → IsOpenRun rest open_run h.run h.machine.sets → h.half ≡ [] → IsHeld rest h
+pub holds_open_run : (h : ReadingState) (rest : List Placed) (open_run : OpenRun) → h.open_body ≡ None → h.machine.mode ≡ between → h.body ≡ [] →
+    h.open_run ≡ Some open_run → IsOpenRun rest open_run h.run h.machine.sets → h.half ≡ [] → ArePending rest h
 holds_open_run h rest open_run no_body mode empty is held none =
-    holds_between h rest no_body (record { mode = mode; body = empty; half = subst (IsHeldBy rest h) (sym is) (held, none) })
+    holds_between h rest no_body (record { mode = mode; body = empty; half = subst (ArePendingBy rest h) (sym is) (held, none) })
 
 -- a fault of a rule has one cause, for the rule and for the reader
 pub same_cause : (fault : DrawFault) → cause_of (draw_fault fault) ≡ draws.cause_of fault
@@ -249,14 +249,14 @@ same_cause draw_faults.Memory = refl
 same_cause draw_faults.Sink = refl
 same_cause _ = refl
 
-module _ {S : Type 0} {g : Ghosts S} {s : S} {o : Outcome} {t : S} {h : Holding} {pending : List Placed} (k : Continues g s o t h pending) where
+module _ {S : Type 0} {g : Ghosts S} {s : S} {o : Outcome} {t : S} {h : ReadingState} {pending : List Placed} (k : Continues g s o t h pending) where
   -- what the front of what is held and pending says of the outcome
-  pub by_front : (f : Front) → front h.machine (k.rest ++ pending) ≡ f → o ≡ prepend k.done (onward outcome_from h.machine (k.rest ++ pending) f)
+  pub by_front : (f : Front) → front h.machine (k.rest ++ pending) ≡ f → o ≡ prepend k.done (outcome_by_front outcome_from h.machine (k.rest ++ pending) f)
   by_front f e =
-      k.leads ∙ ap (prepend k.done) (outcome_from-front h.machine (k.rest ++ pending) ∙ ap (onward outcome_from h.machine (k.rest ++ pending)) e)
+      k.leads ∙ ap (prepend k.done) (outcome_from-front h.machine (k.rest ++ pending) ∙ ap (outcome_by_front outcome_from h.machine (k.rest ++ pending)) e)
 
   -- what stands at the front acts, and then nothing is held
-  unfoldable pub leads_on : (u : S) (es : List Entry) (h' : Holding) (ys : List Placed) → TookMore g → IsHeld [] h' →
+  unfoldable pub leads_on : (u : S) (es : List Entry) (h' : ReadingState) (ys : List Placed) → TookMore g → ArePending [] h' →
       front h.machine (k.rest ++ pending) ≡ act es h'.machine ys → g.took t es u → (g.failed t ≡ false → g.failed u ≡ false) →
       Continues g s o u h' ys
   leads_on u es h' ys law held e took clear = record {
@@ -269,7 +269,7 @@ module _ {S : Type 0} {g : Ghosts S} {s : S} {o : Outcome} {t : S} {h : Holding}
   }
 
   -- what stands at the front acts, and puts nothing
-  unfoldable pub leads_past : (h' : Holding) (ys : List Placed) → IsHeld [] h' → front h.machine (k.rest ++ pending) ≡ act [] h'.machine ys → Continues g s o t h' ys
+  unfoldable pub leads_past : (h' : ReadingState) (ys : List Placed) → ArePending [] h' → front h.machine (k.rest ++ pending) ≡ act [] h'.machine ys → Continues g s o t h' ys
   leads_past h' ys held e = record {
     done = k.done;
     taken = k.taken;
@@ -290,7 +290,7 @@ module _ {S : Type 0} {g : Ghosts S} {s : S} {o : Outcome} {t : S} {h : Holding}
 
   -- what stands at the front is a body that comes next
   pub leads_shown : (m : Machine) (place : ℕ) (bytes : List ℕ) (ys : List Placed) → front h.machine (k.rest ++ pending) ≡ shown_front m place bytes ys →
-      length bytes ≤ m.left → (h' : Holding) → h'.machine ≡ charged m (length bytes) → IsHeld [] h' → Continues g s o t h' (all_at place bytes ++ ys)
+      length bytes ≤ m.left → (h' : ReadingState) → h'.machine ≡ after_charge m (length bytes) → ArePending [] h' → Continues g s o t h' (all_at place bytes ++ ys)
   leads_shown m place bytes ys e few h' same held =
       leads_past h' (all_at place bytes ++ ys) held
       (e
@@ -304,7 +304,7 @@ module _ {S : Type 0} {g : Ghosts S} {s : S} {o : Outcome} {t : S} {h : Holding}
       leads_to_refusal (refusal Budget place) (e ∙ cond-true (ltb m.left (length bytes)) _ _ (lt-ltb m.left (length bytes) many))
 
   -- the rule of what stands at the front is refused
-  pub leads_to_fault : (u : S) (m : Machine) (place : ℕ) (ys : List Placed) (by : Result Drawn DrawFault) → front h.machine (k.rest ++ pending) ≡ drawn_front m place ys by →
+  pub leads_to_fault : (u : S) (m : Machine) (place : ℕ) (ys : List Placed) (by : Result RuleResult DrawFault) → front h.machine (k.rest ++ pending) ≡ drawn_front m place ys by →
       (fault : DrawFault) → draws.DrawsBy g.took g.broke g.failed by t u fault (draws.cause_of fault) → cause_of (draw_fault fault) ≡ stream →
       IsRefused g s o u h (refusal (draw_fault fault) place)
   leads_to_fault u m place ys by at fault drew own =
@@ -313,8 +313,8 @@ module _ {S : Type 0} {g : Ghosts S} {s : S} {o : Outcome} {t : S} {h : Holding}
       (leads_to_refusal (refusal (draw_fault fault) place) (at ∙ ap (drawn_front m place ys) d.0))
 
 -- what is held back takes the first of what pends
-unfoldable pub leads_shift : {S : Type 0} {g : Ghosts S} {s : S} {o : Outcome} {t : S} {h : Holding} {x : Placed} {pending : List Placed} (k : Continues g s o t h (x ∷ pending)) (h' : Holding) →
-    h'.machine ≡ h.machine → IsHeld (k.rest ++ x ∷ []) h' → Continues g s o t h' pending
+unfoldable pub leads_shift : {S : Type 0} {g : Ghosts S} {s : S} {o : Outcome} {t : S} {h : ReadingState} {x : Placed} {pending : List Placed} (k : Continues g s o t h (x ∷ pending)) (h' : ReadingState) →
+    h'.machine ≡ h.machine → ArePending (k.rest ++ x ∷ []) h' → Continues g s o t h' pending
 leads_shift {x = x} {pending = pending} k h' same held = record {
   done = k.done;
   taken = k.taken;
@@ -327,12 +327,12 @@ leads_shift {x = x} {pending = pending} k h' same held = record {
       ∙ ap (λ (xs : List Placed). prepend k.done (outcome_from h'.machine xs)) (sym (append_assoc k.rest (x ∷ []) pending));
 }
 
-module _ {S : Type 0} {g : Ghosts S} {s : S} {o : Outcome} {t : S} {h : Holding} (k : Continues g s o t h []) where
+module _ {S : Type 0} {g : Ghosts S} {s : S} {o : Outcome} {t : S} {h : ReadingState} (k : Continues g s o t h []) where
   -- nothing whole is held back, and nothing pends
   pub leads_paused : o ≡ prepend k.done (paused h.machine k.rest (Some (unfinished_of h)))
   leads_paused =
       k.leads
-      ∙ ap (prepend k.done) (ap (outcome_from h.machine) (append-nil k.rest) ∙ outcome_from-front h.machine k.rest ∙ ap (onward outcome_from h.machine k.rest) (held_pauses h k.rest k.held))
+      ∙ ap (prepend k.done) (ap (outcome_from h.machine) (append-nil k.rest) ∙ outcome_from-front h.machine k.rest ∙ ap (outcome_by_front outcome_from h.machine k.rest) (held_pauses h k.rest k.held))
 
   pub leads_entries : o.entries ≡ k.done
   leads_entries = ap (λ (x : Outcome). x.entries) leads_paused ∙ append-nil k.done
@@ -350,13 +350,13 @@ module _ {S : Type 0} {g : Ghosts S} {s : S} {o : Outcome} {t : S} {h : Holding}
   leads_unfinished = ap (λ (x : Outcome). x.unfinished) leads_paused
 
 -- no more is left to charge than is left where it leads on
-pub leads_left : {S : Type 0} {g : Ghosts S} {s : S} {o : Outcome} {t : S} {h : Holding} {pending : List Placed} → Continues g s o t h pending → o.machine.left ≤ h.machine.left
+pub leads_left : {S : Type 0} {g : Ghosts S} {s : S} {o : Outcome} {t : S} {h : ReadingState} {pending : List Placed} → Continues g s o t h pending → o.machine.left ≤ h.machine.left
 leads_left {h = h} {pending = pending} k =
     let there = ap (λ (x : Outcome). x.machine.left) k.leads in
     omega (arith, there, outcome_from-left h.machine (k.rest ++ pending))
 
 -- more of the stream has come
-unfoldable pub leads_more : {S : Type 0} {g : Ghosts S} {s : S} {t : S} {h : Holding} (budget : ℕ) (p q : List ℕ) →
+unfoldable pub leads_more : {S : Type 0} {g : Ghosts S} {s : S} {t : S} {h : ReadingState} (budget : ℕ) (p q : List ℕ) →
     Continues g s (begun budget p) t h [] → Continues g s (begun budget (p ++ q)) t h (placed_from (length p) q)
 leads_more {h = h} budget p q k =
     let is = leads_paused k in
@@ -392,8 +392,8 @@ fails_part {g = g} {s = s} {t = t} {known = known} u more laws k (inl (set, same
 fails_part {s = s} {t = t} {known = known} u more laws k (inr (first, next, rest, parts, broke)) = inr (first, next, rest, parts, laws.broken s t u known first next k.taken broke)
 
 -- an opcode's or a code's rule acts, and not all of its entries could be put
-pub rule_part : {S : Type 0} {g : Ghosts S} {s t : S} {known : List Entry} (u : S) (by : Result Drawn DrawFault) → Lawful g → Known g s known t → (fault : DrawFault) → draws.DrawsBy g.took g.broke g.failed by t u fault (draws.cause_of fault) →
-    cause_of (draw_fault fault) ≢ stream → (drawn : Drawn) × (by ≡ Ok drawn) × TookPart g s known drawn.entries u (cause_of (draw_fault fault))
+pub rule_part : {S : Type 0} {g : Ghosts S} {s t : S} {known : List Entry} (u : S) (by : Result RuleResult DrawFault) → Lawful g → Known g s known t → (fault : DrawFault) → draws.DrawsBy g.took g.broke g.failed by t u fault (draws.cause_of fault) →
+    cause_of (draw_fault fault) ≢ stream → (drawn : RuleResult) × (by ≡ Ok drawn) × TookPart g s known drawn.entries u (cause_of (draw_fault fault))
 rule_part {g = g} {s = s} {known = known} u by laws k draw_faults.Memory (drawn, is, inl same) broke = (drawn, is, inl (subst (g.took s known) (sym same) k.taken))
 rule_part {s = s} {t = t} {known = known} u by laws k draw_faults.Memory (drawn, is, inr (first, next, rest, parts, took)) broke = (drawn, is, inr (first, next, rest, parts, laws.more s t u known first k.taken took))
 rule_part u by laws k draw_faults.Sink (drawn, is, part) broke = (drawn, is, fails_part u drawn.entries laws k part)
@@ -448,23 +448,23 @@ fault_of codes.unfinished old b fault new h = let bad : ⊥ = cc in absurd bad
 fault_of (codes.whole c n after) old b fault new h = let bad : ⊥ = cc in absurd bad
 fault_of (codes.refused fault' i) old b fault new h = let same : fault' ≡ fault = cc in (i, ap (λ (k : CodeFault). codes.refused k i) same, h.1)
 
-pub is_half : (h : Holding) (rest : List Placed) → h.open_body ≡ None → h.open_run ≡ None → IsHeld rest h →
+pub is_half : (h : ReadingState) (rest : List Placed) → h.open_body ≡ None → h.open_run ≡ None → ArePending rest h →
     (bytes_of rest ≡ h.half) × (codes.front h.machine.sets h.half ≡ codes.unfinished)
-is_half h rest no_body is held = subst (IsHeldBy rest h) is (is_between h rest no_body held).half
+is_half h rest no_body is held = subst (ArePendingBy rest h) is (is_between h rest no_body held).half
 
-pub holds_half : (h : Holding) (rest : List Placed) → h.open_body ≡ None → h.machine.mode ≡ between → h.body ≡ [] → h.open_run ≡ None →
-    bytes_of rest ≡ h.half → codes.front h.machine.sets h.half ≡ codes.unfinished → IsHeld rest h
+pub holds_half : (h : ReadingState) (rest : List Placed) → h.open_body ≡ None → h.machine.mode ≡ between → h.body ≡ [] → h.open_run ≡ None →
+    bytes_of rest ≡ h.half → codes.front h.machine.sets h.half ≡ codes.unfinished → ArePending rest h
 holds_half h rest no_body mode empty is bytes unfinished =
-    holds_between h rest no_body (record { mode = mode; body = empty; half = subst (IsHeldBy rest h) (sym is) (bytes, unfinished) })
+    holds_between h rest no_body (record { mode = mode; body = empty; half = subst (ArePendingBy rest h) (sym is) (bytes, unfinished) })
 
 -- nothing is held back between two codes
-pub holds_nothing : (h : Holding) → h.open_body ≡ None → h.machine.mode ≡ between → h.body ≡ [] → h.open_run ≡ None → h.half ≡ [] → IsHeld [] h
+pub holds_nothing : (h : ReadingState) → h.open_body ≡ None → h.machine.mode ≡ between → h.body ≡ [] → h.open_run ≡ None → h.half ≡ [] → ArePending [] h
 holds_nothing h no_body mode empty is none = holds_half h [] no_body mode empty is (sym none) (ap (codes.front h.machine.sets) none ∙ nothing_yet h.machine.sets)
 
 -- a byte behind an open run
-module _ {S : Type 0} {g : Ghosts S} {s : S} {o : Outcome} {t : S} {h : Holding} {open_run : OpenRun} {x : Placed} {pending : List Placed} (no_body : h.open_body ≡ None) (is : h.open_run ≡ Some open_run)
+module _ {S : Type 0} {g : Ghosts S} {s : S} {o : Outcome} {t : S} {h : ReadingState} {open_run : OpenRun} {x : Placed} {pending : List Placed} (no_body : h.open_body ≡ None) (is : h.open_run ≡ Some open_run)
     (k : Continues g s o t h (x ∷ pending)) where
-  half_of : IsHalf k.rest h
+  half_of : ArePendingBetweenCodes k.rest h
   half_of = is_between h k.rest no_body k.held
 
   open_of : IsOpenRun k.rest open_run h.run h.machine.sets × (h.half ≡ [])
@@ -473,7 +473,7 @@ module _ {S : Type 0} {g : Ghosts S} {s : S} {o : Outcome} {t : S} {h : Holding}
   -- it is a word that joins the run
   pub word_joins : is_operand x ≡ true → length h.run < run_limit → Continues g s o t (record h { run = h.run ++ (x.byte - 64) ∷ [] }) pending
   word_joins word few =
-      let h' : Holding = record h { run = h.run ++ (x.byte - 64) ∷ [] } in
+      let h' : ReadingState = record h { run = h.run ++ (x.byte - 64) ∷ [] } in
       leads_shift k h' refl
       (holds_open_run h' (k.rest ++ x ∷ []) open_run no_body half_of.mode half_of.body is (joins_run k.rest open_run h.run h.machine.sets x open_of.0 word few) open_of.1)
 
@@ -481,19 +481,19 @@ module _ {S : Type 0} {g : Ghosts S} {s : S} {o : Outcome} {t : S} {h : Holding}
   word_too_many word many = leads_to_refusal k _ (front_long h.machine k.rest open_run h.run x pending half_of.mode open_of.0 word many)
 
   -- it ends the run
-  pub over : is_operand x ≡ false → (by : Result Drawn DrawFault) → rule h.machine.work open_run.op h.run ≡ by →
+  pub over : is_operand x ≡ false → (by : Result RuleResult DrawFault) → rule h.machine.work open_run.op h.run ≡ by →
       front h.machine (k.rest ++ x ∷ pending) ≡ drawn_front h.machine open_run.place (x ∷ pending) by
   over other by e =
       front_run h.machine k.rest open_run h.run x pending half_of.mode open_of.0 other
       ∙ ap (drawn_front h.machine open_run.place (x ∷ pending)) e
 
   -- nothing is held once its opcode has acted
-  pub none_held : (m : Machine) → m.mode ≡ h.machine.mode → IsHeld [] (record h { machine = m; open_run = None; run = [] })
+  pub none_held : (m : Machine) → m.mode ≡ h.machine.mode → ArePending [] (record h { machine = m; open_run = None; run = [] })
   none_held m mode = holds_nothing (record h { machine = m; open_run = None; run = [] }) no_body (mode ∙ half_of.mode) half_of.body refl open_of.1
 
 -- a byte where no run is open
-module _ {S : Type 0} {g : Ghosts S} {s : S} {o : Outcome} {t : S} {h : Holding} {x : Placed} {pending : List Placed} (no_body : h.open_body ≡ None) (is : h.open_run ≡ None) (k : Continues g s o t h (x ∷ pending)) where
-  pub between_held : IsHalf k.rest h
+module _ {S : Type 0} {g : Ghosts S} {s : S} {o : Outcome} {t : S} {h : ReadingState} {x : Placed} {pending : List Placed} (no_body : h.open_body ≡ None) (is : h.open_run ≡ None) (k : Continues g s o t h (x ∷ pending)) where
+  pub between_held : ArePendingBetweenCodes k.rest h
   between_held = is_between h k.rest no_body k.held
 
   pub half_held : (bytes_of k.rest ≡ h.half) × (codes.front h.machine.sets h.half ≡ codes.unfinished)
@@ -517,7 +517,7 @@ module _ {S : Type 0} {g : Ghosts S} {s : S} {o : Outcome} {t : S} {h : Holding}
   code_ends c n after e len = front_code h.machine k.rest x pending between_held.mode half_held.0 e len
 
   -- and nothing is held then
-  pub code_over : (h' : Holding) → h'.open_body ≡ None → h'.machine.mode ≡ h.machine.mode → h'.body ≡ h.body → h'.open_run ≡ None → h'.half ≡ [] → IsHeld [] h'
+  pub code_over : (h' : ReadingState) → h'.open_body ≡ None → h'.machine.mode ≡ h.machine.mode → h'.body ≡ h.body → h'.open_run ≡ None → h'.half ≡ [] → ArePending [] h'
   code_over h' no_body' mode body is' none = holds_nothing h' no_body' (mode ∙ between_held.mode) (body ∙ between_held.body) is' none
 
   -- an opcode opens a run, where no code was half read
@@ -525,7 +525,7 @@ module _ {S : Type 0} {g : Ghosts S} {s : S} {o : Outcome} {t : S} {h : Holding}
       Continues g s o t (record h { half = []; open_run = Some (record { op = op; place = x.place }); run = [] }) pending
   run_opens op none alone =
       let empty : k.rest ≡ [] = rest_of_nothing k.rest (half_held.0 ∙ none) in
-      let h' : Holding = record h { half = []; open_run = Some (record { op = op; place = x.place }); run = [] } in
+      let h' : ReadingState = record h { half = []; open_run = Some (record { op = op; place = x.place }); run = [] } in
       leads_shift k h' refl (rw empty (holds_open_run h' (x ∷ []) (record { op = op; place = x.place }) no_body between_held.mode between_held.body refl (opens_run x op h.machine.sets alone) refl))
 
 -- a reader that was fed nothing

@@ -1,4 +1,4 @@
-use Rattle.nap_reader.proofs.Common.{ActsRun, All, All-head, All-tail, Bool, CodeTakes, Codes, Continues, Conveys, DrawFault, Drawn, DrawsBy, Executes, FailsRun, Ghosts, Holding, IsLive, IsOpcodeByte, IsOver, IsWholeRun, LeadsOn, List, LongRun, Memory, None, Nothing, Opcode, OpenRun, Outcome, Placed, Refusal, Refuses, Request, Some, Stop, Stops, StopsRun, Takes, TellsSink, [], after_drawing, ahead, ap, append-nil, append_assoc, arith, as_it_was, asked, asks_if, at_byte, at_word, bytes_of, carried, draw_fault, drop, drop-append-le, drop-map, drop_more, get_or, inl, inr, is_operand_byte, length, length-append, length-map, length-take-le, map, place_at, prefix_len, prefix_len-le-length, prefix_len_passes, refl, refusal, rule, run_by, run_limit, subst, sym, take, take-append-le, take-map, true, with_machine, ℕ, ◌++◌, ◌+◌, ◌-◌, ◌<◌, ◌∙◌, ◌∷◌, ◌≡◌, ◌≤◌}
+use Rattle.nap_reader.proofs.Common.{ActsRun, All, All-head, All-tail, Bool, CodeTakes, Codes, Continues, LeadsThrough, DrawFault, RuleResult, DrawsBy, Executes, FailsRun, Ghosts, ReadingState, IsLive, IsOpcodeByte, IsOver, IsWholeRun, LeadsOn, List, LongRun, Memory, None, Nothing, Opcode, OpenRun, Outcome, Placed, Refusal, Refuses, Request, Some, Stop, Stops, StopsRun, Takes, FaultMatchesSink, [], after_drawing, ahead, ap, append-nil, append_assoc, arith, as_it_was, state_after_request, clear_request_if, at_byte, at_word, bytes_of, operand_words, draw_fault, drop, drop-append-le, drop-map, drop_more, get_or, inl, inr, is_operand_byte, length, length-append, length-map, length-take-le, map, place_at, prefix_len, prefix_len-le-length, prefix_len_passes, refl, refusal, rule, run_by, run_limit, subst, sym, take, take-append-le, take-map, true, with_machine, ℕ, ◌++◌, ◌+◌, ◌-◌, ◌<◌, ◌∙◌, ◌∷◌, ◌≡◌, ◌≤◌}
 use Rattle.nap_reader.proofs.Base.{TookMore, as_many_words, bytes_of-append, conveys_nothing, first_of, more_words, no_some, operands_in_front, place_at-append, run_over, same_words, split_bytes, stops_run, word_joins, word_too_many}
 use Rattle.nap_reader.specs.declared.machine.Machine.{Machine}
 use Rattle.nap_reader.proofs.TakingLemmas.{held_is, stop_takes, Drew, LeftBy, asked_is, asks_takes, own_tells, leads_behind, stops_behind, takes_then}
@@ -13,12 +13,12 @@ abbrev pub words : List ℕ → List ℕ
 words bytes = map (λ b. b - 64) bytes
 
 -- operand bytes of an open run join it, whatever comes behind them
-pub words_join : {S : Type 0} {g : Ghosts S} {s : S} {o : Outcome} {t : S} {h : Holding} {open_run : OpenRun} (xs pending : List Placed) → h.open_body ≡ None → h.open_run ≡ Some open_run → Continues g s o t h (xs ++ pending) →
+pub words_join : {S : Type 0} {g : Ghosts S} {s : S} {o : Outcome} {t : S} {h : ReadingState} {open_run : OpenRun} (xs pending : List Placed) → h.open_body ≡ None → h.open_run ≡ Some open_run → Continues g s o t h (xs ++ pending) →
     All (λ b. is_operand_byte b ≡ true) (bytes_of xs) → length h.run + length xs ≤ run_limit → Continues g s o t (record h { run = h.run ++ words (bytes_of xs) }) pending
 words_join {h = h} [] pending between opened k all few = rw (append-nil h.run) k
 words_join {g = g} {s = s} {o = o} {t = t} {h = h} (x ∷ xs) pending between opened k all few =
     let b = x.byte in
-    let h' : Holding = record h { run = h.run ++ (b - 64) ∷ [] } in
+    let h' : ReadingState = record h { run = h.run ++ (b - 64) ∷ [] } in
     let one : Continues g s o t h' (xs ++ pending) =
     word_joins between opened k (All-head (λ b. is_operand_byte b ≡ true) b (bytes_of xs) all) (omega (arith, few)) in
     rw (sym (append_assoc h.run ((b - 64) ∷ []) (words (bytes_of xs))))
@@ -28,23 +28,23 @@ words_join {g = g} {s = s} {o = o} {t = t} {h = h} (x ∷ xs) pending between op
 -- Operands of an open run.
 
 -- This run is open, and no body.
-pub record IsOpen (h : Holding) (open_run : OpenRun) : Type 0 where
+pub record IsOpen (h : ReadingState) (open_run : OpenRun) : Type 0 where
   pub is : h.open_run ≡ Some open_run
   pub between : h.open_body ≡ None
 
 -- So many bytes at the front are operands, for which a run has room.
-pub record HasRoom (h : Holding) (all : List Placed) (k : ℕ) : Type 0 where
+pub record HasRoom (h : ReadingState) (all : List Placed) (k : ℕ) : Type 0 where
   pub few : k ≤ length all
   pub operands : All (λ b. is_operand_byte b ≡ true) (bytes_of (take k all))
   pub short : length h.run + k ≤ run_limit
 
-module _ {S : Type 0} (g : Ghosts S) (t : S) {h : Holding} {open_run : OpenRun} (run : IsOpen h open_run) {all : List Placed} {k : ℕ} (room : HasRoom h all k) where
+module _ {S : Type 0} (g : Ghosts S) (t : S) {h : ReadingState} {open_run : OpenRun} (run : IsOpen h open_run) {all : List Placed} {k : ℕ} (room : HasRoom h all k) where
   -- what is held with them
-  abbrev pub joined : Holding
+  abbrev pub joined : ReadingState
   joined = record h { run = h.run ++ words (bytes_of (take k all)) }
 
   -- They join the run.
-  unfoldable pub joins : Conveys g t h (take k all)
+  unfoldable pub joins : LeadsThrough g t h (take k all)
   joins = record {
     sink = t;
     holding = joined;
@@ -55,12 +55,12 @@ module _ {S : Type 0} (g : Ghosts S) (t : S) {h : Holding} {open_run : OpenRun} 
   }
 
   -- They wait.
-  operands_wait : {v : S} {held : Holding} (next : List ℕ) → v ≡ t → held ≡ joined → LeadsOn g t h v held (take k all) next
+  operands_wait : {v : S} {held : ReadingState} (next : List ℕ) → v ≡ t → held ≡ joined → LeadsOn g t h v held (take k all) next
   unfolding joins
   operands_wait next sink same = record { conveys = joins; acted = as_it_was sink same }
 
   -- The run acts ahead of a byte that is no operand.
-  pub operands_act : {next : List ℕ} → IsOver next → {v : S} {h' : Holding} → ActsRun g t joined v h' → LeadsOn g t h v h' (take k all) next
+  pub operands_act : {next : List ℕ} → IsOver next → {v : S} {h' : ReadingState} → ActsRun g t joined v h' → LeadsOn g t h v h' (take k all) next
   unfolding joins
   operands_act over acts = record { conveys = joins; acted = ahead over.byte over.rest over.is over.other acts }
 
@@ -115,7 +115,7 @@ module _ (xs behind : List Placed) where
 
 -- What a machine makes of them, whose run is open.
 
-module _ {S : Type 0} {g : Ghosts S} (old : Machine S g) (open_run : OpenRun) (is : old.open_run ≡ Some open_run) (h : Holding) where
+module _ {S : Type 0} {g : Ghosts S} (old : Machine S g) (open_run : OpenRun) (is : old.open_run ≡ Some open_run) (h : ReadingState) where
   is_open : h.open_body ≡ None → IsOpen (with_machine h old) open_run
   is_open between = record { is = is; between = between }
 
@@ -174,14 +174,14 @@ module _ {S : Type 0} {g : Ghosts S} {old mid : Machine S g} {open_run : OpenRun
   few : operands_in xs ≤ length xs
   few = within xs []
 
-  open_in : (h : Holding) → h.open_body ≡ None → IsOpen (with_machine h old) open_run
+  open_in : (h : ReadingState) → h.open_body ≡ None → IsOpen (with_machine h old) open_run
   open_in = is_open old open_run j.is
 
-  room_in : (h : Holding) (behind : List Placed) → HasRoom (with_machine h old) (xs ++ behind) (operands_in xs)
+  room_in : (h : ReadingState) (behind : List Placed) → HasRoom (with_machine h old) (xs ++ behind) (operands_in xs)
   room_in h behind = has_room old open_run j.is h xs behind (operands_in xs) (omega arith) j.short
 
   -- what is held then
-  held_joined : (h : Holding) (between : h.open_body ≡ None) (behind : List Placed) → with_machine h mid ≡ joined g old.sink (open_in h between) (room_in h behind)
+  held_joined : (h : ReadingState) (between : h.open_body ≡ None) (behind : List Placed) → with_machine h mid ≡ joined g old.sink (open_in h between) (room_in h behind)
   held_joined h between behind =
       held_is h mid old.work old.lexer old.open_run j.work j.lexer j.open_run_is
       ∙ ap (λ (ws : List ℕ). record (with_machine h old) { run = ws })
@@ -200,14 +200,14 @@ module _ {S : Type 0} {g : Ghosts S} {old mid : Machine S g} {open_run : OpenRun
   }
 
   -- The byte behind them is known, and the opcode acts.
-  leads : (operands_in xs ≡ length xs → ended ≡ true) → (new : Machine S g) (clears : Bool) → Executes mid new clears → (h : Holding) (behind : List Placed) → h.open_body ≡ None → (ended ≡ true → IsOver (bytes_of behind)) →
-      LeadsOn g old.sink (with_machine h old) new.sink (asked (with_machine h new) (asks_if clears)) (take (operands_in xs) (xs ++ behind)) (bytes_of (drop (operands_in xs) (xs ++ behind)))
-  leads ends new clears (works, closed, acted) h behind between over =
+  leads : (operands_in xs ≡ length xs → ended ≡ true) → (new : Machine S g) (clears : Bool) → Executes mid new clears → (h : ReadingState) (behind : List Placed) → h.open_body ≡ None → (ended ≡ true → IsOver (bytes_of behind)) →
+      LeadsOn g old.sink (with_machine h old) new.sink (state_after_request (with_machine h new) (clear_request_if clears)) (take (operands_in xs) (xs ++ behind)) (bytes_of (drop (operands_in xs) (xs ++ behind)))
+  leads ends new clears (works, store_bound, acted) h behind between over =
       operands_act g old.sink (open_in h between) (room_in h behind) (over_behind xs behind (λ all. over (ends all)))
-      (subst (λ (h' : Holding). ActsRun g old.sink h' new.sink (asked (with_machine h new) (asks_if clears))) (held_joined h between behind)
-      (subst (λ (t : S). ActsRun g t (with_machine h mid) new.sink (asked (with_machine h new) (asks_if clears))) j.sink (acted h between)))
+      (subst (λ (h' : ReadingState). ActsRun g old.sink h' new.sink (state_after_request (with_machine h new) (clear_request_if clears))) (held_joined h between behind)
+      (subst (λ (t : S). ActsRun g t (with_machine h mid) new.sink (state_after_request (with_machine h new) (clear_request_if clears))) j.sink (acted h between)))
 
-  pub run_acts : (operands_in xs ≡ length xs → ended ≡ true) → {new : Machine S g} (clears : Bool) → Executes mid new clears → Takes old new xs ended (operands_in xs) (asks_if clears)
+  pub run_acts : (operands_in xs ≡ length xs → ended ≡ true) → {new : Machine S g} (clears : Bool) → Executes mid new clears → Takes old new xs ended (operands_in xs) (clear_request_if clears)
   run_acts ends {new} clears executes =
       asks_takes clears (record { live = executes.0.live; clear = λ clear. executes.0.clear (ap g.failed j.sink ∙ clear) }) executes.1 few (λ some. inr (inr (executes.1, λ none. no_some (sym j.is ∙ none)))) (leads ends new clears executes)
 
@@ -217,17 +217,17 @@ module _ {S : Type 0} {g : Ghosts S} {old mid : Machine S g} {open_run : OpenRun
       stop_takes refuses.is refuses.sink few (tells.0, λ works fails. tells.1 (ap g.failed j.sink ∙ works) fails)
       (λ h behind between over.
       operands_stop g old.sink (open_in h between) (room_in h behind) (over_behind xs behind (λ all. over (ends all)))
-      (subst (λ (h' : Holding). StopsRun g old.sink h' failed.sink r) (held_joined h between behind) (subst (λ (t : S). StopsRun g t (with_machine h mid) failed.sink r) j.sink (stopped h between))) (length xs))
+      (subst (λ (h' : ReadingState). StopsRun g old.sink h' failed.sink r) (held_joined h between behind) (subst (λ (t : S). StopsRun g t (with_machine h mid) failed.sink r) j.sink (stopped h between))) (length xs))
 
 -- What a machine makes of an opcode, where no run is open.
 
 -- It is at the front, where no code is half read.
 pub record AtOpcode {S : Type 0} {g : Ghosts S} (old : Machine S g) (byte : ℕ) (op : Opcode) : Type 0 where
-  pub closed : old.open_run ≡ None
+  pub store_bound : old.open_run ≡ None
   pub is : IsOpcodeByte old.lexer.half old.lexer.sets byte op
 
 -- where this byte is it
-starts : {S : Type 0} {g : Ghosts S} {old : Machine S g} {x : Placed} {op : Opcode} → AtOpcode old x.byte op → (h : Holding) → h.open_body ≡ None → StartsRun (with_machine h old) x op
+starts : {S : Type 0} {g : Ghosts S} {old : Machine S g} {x : Placed} {op : Opcode} → AtOpcode old x.byte op → (h : ReadingState) → h.open_body ≡ None → StartsRun (with_machine h old) x op
 starts at h between = record { between = between; closed = at.closed; is = at.is }
 
 -- Its run is whole: these bytes are it and what stands behind it, of which this is its run.
@@ -244,13 +244,13 @@ module _ {S : Type 0} {g : Ghosts S} {old : Machine S g} {op : Opcode} {bytes : 
   run_within = omega (arith, ap length r.bytes_is, (r.whole (0 ∷ []) (λ _. record { byte = 0; rest = []; is = refl; other = refl })).within)
 
   -- They are these, and others come behind them.
-  record Comes (h : Holding) (x : Placed) (ys behind : List Placed) : Type 0 where
+  record AreNextBytes (h : ReadingState) (x : Placed) (ys behind : List Placed) : Type 0 where
     between : h.open_body ≡ None
     byte : x.byte ≡ r.byte
     rest : bytes_of ys ≡ r.rest
     over : ended ≡ true → IsOver (bytes_of behind)
 
-  module _ {h : Holding} {x : Placed} {ys behind : List Placed} (comes : Comes h x ys behind) where
+  module _ {h : ReadingState} {x : Placed} {ys behind : List Placed} (comes : AreNextBytes h x ys behind) where
     abbrev all : List Placed
     all = ys ++ behind
 
@@ -263,7 +263,7 @@ module _ {S : Type 0} {g : Ghosts S} {old : Machine S g} {op : Opcode} {bytes : 
     start : StartsRun (with_machine h old) x op
     start = starts (subst (λ (b : ℕ). AtOpcode old b op) (sym comes.byte) r.at) h comes.between
 
-    abbrev begun : Holding
+    abbrev begun : ReadingState
     begun = open_at start
 
     begun_open : IsOpen begun (record { op = op; place = x.place })
@@ -276,15 +276,15 @@ module _ {S : Type 0} {g : Ghosts S} {old : Machine S g} {op : Opcode} {bytes : 
       short = omega (arith, r.short);
     }
 
-    run_words : carried run ≡ words (bytes_of (take (length run) all))
+    run_words : operand_words run ≡ words (bytes_of (take (length run) all))
     run_words = same_words run whole.operands ∙ ap words (sym split.0)
 
-    whole_leads : (new : Machine S g) (drawn : Drawn) → LeftBy old new drawn.work old.lexer → Drew g (rule old.work op (carried run)) old.sink drawn new.sink → TookMore g →
-        LeadsOn g old.sink (with_machine h old) new.sink (asked (with_machine h new) (asks_if drawn.clears)) (take (1 + length run) (x ∷ all)) (bytes_of (drop (1 + length run) (x ∷ all)))
+    whole_leads : (new : Machine S g) (drawn : RuleResult) → LeftBy old new drawn.work old.lexer → Drew g (rule old.work op (operand_words run)) old.sink drawn new.sink → TookMore g →
+        LeadsOn g old.sink (with_machine h old) new.sink (state_after_request (with_machine h new) (clear_request_if drawn.clears)) (take (1 + length run) (x ∷ all)) (bytes_of (drop (1 + length run) (x ∷ all)))
     whole_leads new drawn left drew more =
-        let h' : Holding = record (with_machine h old) { machine = after_drawing (with_machine h old).machine drawn; half = []; open_run = None; run = [] } in
-        let held : asked (with_machine h new) (asks_if drawn.clears) ≡ h' =
-        ap (λ (held : Holding). asked held (asks_if drawn.clears)) (held_is h new drawn.work old.lexer None left.work_is left.lexer_is left.closed)
+        let h' : ReadingState = record (with_machine h old) { machine = after_drawing (with_machine h old).machine drawn; half = []; open_run = None; run = [] } in
+        let held : state_after_request (with_machine h new) (clear_request_if drawn.clears) ≡ h' =
+        ap (λ (held : ReadingState). state_after_request held (clear_request_if drawn.clears)) (held_is h new drawn.work old.lexer None left.work_is left.lexer_is left.closed)
         ∙ asked_is (record (with_machine h old) { open_run = None; run = [] }) drawn ∙ ap (λ (half : List ℕ). record h' { half = half }) r.at.is.rested in
         leads_behind (x ∷ all) 1 more (run_opened start (bytes_of all) refl refl) (length run)
         (operands_act g old.sink begun_open room (subst IsOver (sym split.1) whole.over) (record {
@@ -299,7 +299,7 @@ module _ {S : Type 0} {g : Ghosts S} {old : Machine S g} {op : Opcode} {bytes : 
           holds = held;
         }))
 
-    stops : (u : S) (fault : DrawFault) → DrawsBy g.took g.broke g.failed (rule old.work op (carried run)) old.sink u fault (draws.cause_of fault) → TookMore g →
+    stops : (u : S) (fault : DrawFault) → DrawsBy g.took g.broke g.failed (rule old.work op (operand_words run)) old.sink u fault (draws.cause_of fault) → TookMore g →
         Stops g old.sink (with_machine h old) (x ∷ all) (length (x ∷ ys)) (1 + length run) u (refusal (draw_fault fault) x.place)
     stops u fault drew more =
         stops_behind (x ∷ all) 1 more (run_opened start (bytes_of all) refl refl) (length (x ∷ ys)) (length run)
@@ -313,7 +313,7 @@ module _ {S : Type 0} {g : Ghosts S} {old : Machine S g} {op : Opcode} {bytes : 
         }) (length (x ∷ ys) - 1))
 
   -- It is the first of some bytes, which others are behind.
-  first_is : (P : List Placed → Type 0) → ((x : Placed) (ys : List Placed) → ((h : Holding) (behind : List Placed) → h.open_body ≡ None → (ended ≡ true → IsOver (bytes_of behind)) → Comes h x ys behind) → length run + 1 ≤ length (x ∷ ys) → P (x ∷ ys)) →
+  first_is : (P : List Placed → Type 0) → ((x : Placed) (ys : List Placed) → ((h : ReadingState) (behind : List Placed) → h.open_body ≡ None → (ended ≡ true → IsOver (bytes_of behind)) → AreNextBytes h x ys behind) → length run + 1 ≤ length (x ∷ ys) → P (x ∷ ys)) →
       (xs : List Placed) → bytes_of xs ≡ bytes → P xs
   first_is P takes xs is =
       let (x, ys, all, byte, rest) = first_of xs r.byte r.rest (is ∙ r.bytes_is) in
@@ -321,24 +321,24 @@ module _ {S : Type 0} {g : Ghosts S} {old : Machine S g} {op : Opcode} {bytes : 
       (takes x ys (λ h behind between over. record { between = between; byte = byte; rest = rest; over = over }) (omega (arith, run_within, ap length is, length-map xs (λ (x : Placed). x.byte), ap (λ (zs : List Placed). length zs) all)))
 
   -- It acts.
-  pub opcode_acts : {new : Machine S g} (drawn : Drawn) → LeftBy old new drawn.work old.lexer → Drew g (rule old.work op (carried run)) old.sink drawn new.sink → IsLive new → TookMore g → Codes old new bytes ended (outcomes.Acted (length run + 1) drawn.clears)
+  pub opcode_acts : {new : Machine S g} (drawn : RuleResult) → LeftBy old new drawn.work old.lexer → Drew g (rule old.work op (operand_words run)) old.sink drawn new.sink → IsLive new → TookMore g → Codes old new bytes ended (outcomes.Acted (length run + 1) drawn.clears)
   opcode_acts {new} drawn left drew live more = record {
     within = (omega arith, run_within);
     closed = left.closed ∙ sym left.before;
-    by = first_is (λ xs. Takes old new xs ended (length run + 1) (asks_if drawn.clears))
+    by = first_is (λ xs. Takes old new xs ended (length run + 1) (clear_request_if drawn.clears))
         (λ x ys comes few.
         asks_takes drawn.clears (record { live = live; clear = drew.clear }) left.closed few (λ some. inl (omega arith))
         (λ h behind between over.
-        subst (λ (n : ℕ). LeadsOn g old.sink (with_machine h old) new.sink (asked (with_machine h new) (asks_if drawn.clears)) (take n (x ∷ (ys ++ behind))) (bytes_of (drop n (x ∷ (ys ++ behind))))) (let e : 1 + length run ≡ length run + 1 = omega arith in e)
+        subst (λ (n : ℕ). LeadsOn g old.sink (with_machine h old) new.sink (state_after_request (with_machine h new) (clear_request_if drawn.clears)) (take n (x ∷ (ys ++ behind))) (bytes_of (drop n (x ∷ (ys ++ behind))))) (let e : 1 + length run ≡ length run + 1 = omega arith in e)
         (whole_leads (comes h behind between over) new drawn left drew more)));
   }
 
   -- It is refused, or breaks.
-  pub opcode_stops : {new : Machine S g} (fault : DrawFault) → new.open_run ≡ old.open_run → DrawsBy g.took g.broke g.failed (rule old.work op (carried run)) old.sink new.sink fault (draws.cause_of fault) →
-      TellsSink g old.sink new.sink (draw_fault fault) → TookMore g → Codes old new bytes ended (outcomes.Stopped (length run + 1) (draw_fault fault) 0)
-  opcode_stops {new} fault closed drew told more = record {
+  pub opcode_stops : {new : Machine S g} (fault : DrawFault) → new.open_run ≡ old.open_run → DrawsBy g.took g.broke g.failed (rule old.work op (operand_words run)) old.sink new.sink fault (draws.cause_of fault) →
+      FaultMatchesSink g old.sink new.sink (draw_fault fault) → TookMore g → Codes old new bytes ended (outcomes.Stopped (length run + 1) (draw_fault fault) 0)
+  opcode_stops {new} fault store_bound drew told more = record {
     within = (run_within, omega (arith, run_within));
-    closed = closed;
+    closed = store_bound;
     by = first_is (λ xs. CodeTakes old new xs ended (outcomes.Stopped (length run + 1) (draw_fault fault) 0))
         (λ x ys comes few kept refuses.
         stop_takes refuses.is refuses.sink few told
@@ -358,13 +358,13 @@ pub record OpensRun {S : Type 0} {g : Ghosts S} (old mid : Machine S g) (x : Pla
   pub sink : mid.sink ≡ old.sink
 
 module _ {S : Type 0} {g : Ghosts S} {old mid : Machine S g} {x : Placed} {op : Opcode} (o : OpensRun old mid x op) where
-  opened : (h : Holding) → h.open_body ≡ None → (next : List ℕ) → LeadsOn g old.sink (with_machine h old) mid.sink (with_machine h mid) (x ∷ []) next
+  opened : (h : ReadingState) → h.open_body ≡ None → (next : List ℕ) → LeadsOn g old.sink (with_machine h old) mid.sink (with_machine h mid) (x ∷ []) next
   opened h between next =
       let open_run : OpenRun = record { op = op; place = x.place } in
       let held : with_machine h mid ≡ record (with_machine h old) { half = []; open_run = Some open_run; run = [] } =
       held_is h mid old.work old.lexer (Some open_run) o.work o.lexer o.run
-      ∙ ap (λ (half : List ℕ). record (with_machine h old) { half = half; open_run = Some open_run; run = carried mid.run.items }) o.at.is.rested
-      ∙ ap (λ (run : List ℕ). record (with_machine h old) { half = []; open_run = Some open_run; run = carried run }) o.items in
+      ∙ ap (λ (half : List ℕ). record (with_machine h old) { half = half; open_run = Some open_run; run = operand_words mid.run.items }) o.at.is.rested
+      ∙ ap (λ (run : List ℕ). record (with_machine h old) { half = []; open_run = Some open_run; run = operand_words run }) o.items in
       run_opened (starts o.at h between) next o.sink held
 
 -- What the machine takes behind it is taken with it.

@@ -1,4 +1,4 @@
-use Rattle.nap_reader.proofs.Common.{AllCharacters, BodyFront, Bool, CallsBy, CharSet, Code, CodeSets, Fault, IsGraphic, IsInRange, IsMade, Kind, LexerState, List, Macros, None, Opcode, Some, Step, Steps, StepsBy, TextStep, [], ap, arith, at_escape, body_front, code_ranges, cond, control0_rows, control1_rows, drop, drop_more, ended, ends_body, eqb, false, get_or, kind_of, length, length-append, length-take-le, mask_rows, one_further, opcode_rows, refl, refused, row_of, set_at, set_rows, stores, subst, suc, sym, take, take_all, true, unfinished, whole_is_spelled, ℕ, ⊤, ◌++◌, ◌+◌, ◌-◌, ◌<◌, ◌∙◌, ◌∷◌, ◌≡◌, ◌≢◌, ◌≤◌}
+use Rattle.nap_reader.proofs.Common.{AllCharacters, BodyFront, Bool, CallsBy, CharSet, Code, CodeSets, Fault, IsGraphic, IsInRange, IsMade, Kind, LexerState, List, Macros, None, Opcode, Some, Step, Steps, StepsBy, TextStep, [], ap, arith, at_escape, body_front, code_ranges, cond, control0_rows, control1_rows, drop, drop_more, ended, ends_body, eqb, false, get_or, kind_of, length, length-append, length-take-le, mask_rows, one_byte_later, opcode_rows, refl, refused, row_of, set_at, set_rows, stores, subst, suc, sym, take, take_all, true, unfinished, whole_is_spelled, ℕ, ⊤, ◌++◌, ◌+◌, ◌-◌, ◌<◌, ◌∙◌, ◌∷◌, ◌≡◌, ◌≢◌, ◌≤◌}
 use Rattle.nap_codes.specs.Spelling.{Spells}
 use Rattle.nap_codes.specs.declared.control.Row.TheVariants.{Whole, More, Out}
 use Rattle.nap_codes.specs.declared.code.Code.TheVariants as code
@@ -46,8 +46,8 @@ controls_open : none_is opens control0_rows ≡ true
 unfolding control0_rows
 controls_open = refl
 
-no_plain : (set : CodeSet) (byte : ℕ) (c : Code) → codes.plain_code set byte ≡ Some c → opens c ≡ false
-unfolding codes.plain_code
+no_plain : (set : CodeSet) (byte : ℕ) (c : Code) → codes.non_pdi_code set byte ≡ Some c → opens c ≡ false
+unfolding codes.non_pdi_code
 no_plain code_sets.Primary byte (code.Op op) e = let bad : ⊥ = cc in absurd bad
 no_plain _ byte (code.Op op) e = let bad : ⊥ = cc in absurd bad
 no_plain set byte _ e = refl
@@ -70,7 +70,7 @@ is_character (code.Char set byte) = true
 is_character _ = false
 
 not_pdi : (sets : CodeSets) (bytes : List ℕ) (c : Code) (after : CodeSets) → Spells sets bytes c after → get_or bytes 0 0 ≡ 0x20 → is_character c ≡ true → set_at sets sets.gl ≡ code_sets.Pdi → ⊥
-unfolding row_of control0_rows codes.plain_code
+unfolding row_of control0_rows codes.non_pdi_code
 not_pdi sets _ _ _ (spelling.control0 {code = c} row differs) first is pdi = let bad : None ≡ Some (Whole c) = ap (row_of control0_rows) (sym first) ∙ row in cc
 not_pdi sets _ _ _ (spelling.in_gl {byte = byte} {code = c} range e) first is pdi = let bad : None ≡ Some c = ap (λ (set : CodeSet). codes.plain_code set byte) (sym pdi) ∙ e in cc
 not_pdi sets _ _ _ (spelling.opcode pdi row kept) first is pdi' = cc
@@ -84,8 +84,8 @@ opcode_alone sets b op is set all =
 
 -- The name of a macro calls it where the macro set is in GL, and so does SS3 with the name where the set is G3.
 
-macro_call : (sets : CodeSets) (set : CodeSet) (b : ℕ) → set ≡ code_sets.Macros → codes.plain_code set b ≡ Some (code.Call b)
-unfolding codes.plain_code
+macro_call : (sets : CodeSets) (set : CodeSet) (b : ℕ) → set ≡ code_sets.Macros → codes.non_pdi_code set b ≡ Some (code.Call b)
+unfolding codes.non_pdi_code
 macro_call sets set b macros = ap (λ (set : CodeSet). codes.plain_code set b) macros
 
 pub byte_calls : (sets : CodeSets) (b : ℕ) → set_at sets sets.gl ≡ code_sets.Macros → IsGraphic b → codes.front sets (b ∷ []) ≡ codes.whole (code.Call b) 1 sets
@@ -101,7 +101,7 @@ nothing_yet sets = refl
 
 -- ESC is a half-read code
 pub escape_unfinished : (sets : CodeSets) → codes.front sets (27 ∷ []) ≡ codes.unfinished
-unfolding codes.front codes.control0_front row_of control0_rows codes.one_further codes.more_front codes.escape_front
+unfolding codes.front codes.control0_front row_of control0_rows codes.one_byte_later codes.more_front codes.escape_front
 escape_unfinished sets = refl
 
 -- what the lexer does with ESC
@@ -165,7 +165,7 @@ escape_waits old new step steps none = at (codes.front old.sets (old.half ++ 27 
 
 -- SS3 by itself isn't a whole code
 shift_begins : (sets : CodeSets) → codes.front sets (0x1D ∷ []) ≡ codes.unfinished
-unfolding codes.front codes.control0_front codes.more_front codes.single_shift_front codes.one_further tables.row_of tables.control0_rows
+unfolding codes.front codes.control0_front codes.more_front codes.single_shift_front codes.one_byte_later tables.row_of tables.control0_rows
 shift_begins sets = refl
 
 pub calls_by_name : (lexer : LexerState) (bytes : List ℕ) → lexer.half ≡ [] → 0 < length bytes → IsGraphic (get_or bytes 0 0) → set_at lexer.sets lexer.sets.gl ≡ Macros → CallsBy lexer bytes 1
@@ -206,8 +206,8 @@ controls_define : none_is defines control0_rows ≡ true
 unfolding control0_rows
 controls_define = refl
 
-graphic_defines : (set : CodeSet) (byte : ℕ) (c : Code) → codes.plain_code set byte ≡ Some c → defines c ≡ false
-unfolding codes.plain_code
+graphic_defines : (set : CodeSet) (byte : ℕ) (c : Code) → codes.non_pdi_code set byte ≡ Some c → defines c ≡ false
+unfolding codes.non_pdi_code
 graphic_defines code_sets.Primary byte (code.DefMacro name show) e = let bad : ⊥ = cc in absurd bad
 graphic_defines _ byte (code.DefMacro name show) e = let bad : ⊥ = cc in absurd bad
 graphic_defines set byte _ e = refl
@@ -244,13 +244,13 @@ Settled-cond : {n : ℕ} (b : Bool) {f g f' g' : BodyFront} → Settled n f f' �
 Settled-cond true x y = x
 Settled-cond false x y = y
 
-one_further-Settled : {n : ℕ} {f f' : BodyFront} → Settled n f f' → Settled (suc n) (one_further f) (one_further f')
-one_further-Settled waits = waits
-one_further-Settled (refuses within) = refuses (omega arith)
-one_further-Settled (ends within) = ends (omega arith)
+one_byte_later-Settled : {n : ℕ} {f f' : BodyFront} → Settled n f f' → Settled (suc n) (one_byte_later f) (one_byte_later f')
+one_byte_later-Settled waits = waits
+one_byte_later-Settled (refuses within) = refuses (omega arith)
+one_byte_later-Settled (ends within) = ends (omega arith)
 
 stores-Settled : {n : ℕ} (room : ℕ) {f f' : BodyFront} → Settled n f f' → Settled (suc n) (stores room f) (stores room f')
-stores-Settled room k = Settled-cond (eqb room 0) (refuses (omega arith)) (one_further-Settled k)
+stores-Settled room k = Settled-cond (eqb room 0) (refuses (omega arith)) (one_byte_later-Settled k)
 
 at_escape-Settled : (room : ℕ) (bytes more : List ℕ) {f f' : BodyFront} → Settled (length bytes) f f' →
     Settled (suc (length bytes)) (at_escape room bytes f) (at_escape room (bytes ++ more) f')

@@ -1,4 +1,4 @@
-use Rattle.nap_reader.proofs.Common.{Answers, AnswersBy, Cause, Continues, Ghosts, IsBroken, IsKnown, List, Machine, None, Reader, Refusal, Some, Stands, StopsAt, StopsBy, [], ap, append_assoc, arith, begun, budget_of, cause_of, device, drop, fed_of, get_or, get_or-append-add, get_or_append_left, holding_of, left_of, length, length-append, memory, refusal_of, sink_of, slice_index, stream, subst, sym, take, take-append-drop, take-append-le, take_all, take_more, ℕ, ◌++◌, ◌+◌, ◌<◌, ◌∙◌, ◌∷◌, ◌≡◌}
+use Rattle.nap_reader.proofs.Common.{Answers, AnswersBy, Cause, Continues, Ghosts, IsBroken, IsKnown, List, Machine, None, Reader, Refusal, Some, HasRead, StopsAt, StopsBy, [], ap, append_assoc, arith, begun, budget_of, cause_of, device, drop, fed_of, get_or, get_or-append-add, get_or_append_left, reading_state, left_of, length, length-append, memory, refusal_of, sink_of, slice_index, stream, subst, sym, take, take-append-drop, take-append-le, take_all, take_more, ℕ, ◌++◌, ◌+◌, ◌<◌, ◌∙◌, ◌∷◌, ◌≡◌}
 use Rattle.nap_reader.proofs.ReadingLemmas.{leads_unrefused, leads_taken, leads_machine}
 use Rattle.nap_reader.proofs.LawLemmas.{more_bytes_keep_refusal}
 
@@ -16,7 +16,7 @@ taken_all p piece i within =
 
 -- A reader whose held bytes lead on stands for the bytes so far.
 pub stands_by : {S : Type 0} {g : Ghosts S} (reader : Reader S g) (s : S) (p : List ℕ) → refusal_of reader ≡ None → fed_of reader ≡ length p →
-    Continues g s (begun (budget_of reader) p) (sink_of reader) (holding_of reader) [] → Stands reader s p
+    Continues g s (begun (budget_of reader) p) (sink_of reader) (reading_state reader) [] → HasRead reader s p
 stands_by {S} {g} reader s p live fed k = record {
   answers = subst (Answers g s (budget_of reader) p (sink_of reader) (left_of reader)) (sym live) (record {
     refusal = leads_unrefused k;
@@ -58,7 +58,7 @@ stop_answers {S} g s budget p b t n r cause h = at cause h
     at device k = broken k
 
 stands_refused : {S : Type 0} {g : Ghosts S} (reader : Reader S g) (r : Refusal) (s : S) (p : List ℕ) → refusal_of reader ≡ Some r →
-    AnswersBy g s (budget_of reader) p (sink_of reader) (left_of reader) r (cause_of r.fault) → Stands reader s p
+    AnswersBy g s (budget_of reader) p (sink_of reader) (left_of reader) r (cause_of r.fault) → HasRead reader s p
 stands_refused {S} {g} reader r s p is h = record {
   answers = subst (Answers g s (budget_of reader) p (sink_of reader) (left_of reader)) (sym is) h;
   fed = λ e. cc (is, e);
@@ -67,7 +67,7 @@ stands_refused {S} {g} reader r s p is h = record {
 
 -- A refused reader stands for all that comes after it.
 pub stays : {S : Type 0} {g : Ghosts S} (reader : Reader S g) (r : Refusal) → refusal_of reader ≡ Some r → (s : S) (p q : List ℕ) →
-    Stands reader s p → Stands reader s (p ++ q)
+    HasRead reader s p → HasRead reader s (p ++ q)
 stays {S} {g} reader r is s p q h =
     stands_refused reader r s (p ++ q) is
     (answers_stay g s (budget_of reader) p q (sink_of reader) (left_of reader) r (cause_of r.fault)
@@ -75,7 +75,7 @@ stays {S} {g} reader r is s p q h =
 
 -- A reader that was refused at a byte stands for it and all that comes after it.
 pub stands_stopped : {S : Type 0} {g : Ghosts S} (reader : Reader S g) (r : Refusal) (s : S) (p : List ℕ) (b : ℕ) (q : List ℕ) → refusal_of reader ≡ Some r →
-    StopsBy g s (budget_of reader) p b (sink_of reader) (left_of reader) r (cause_of r.fault) → Stands reader s ((p ++ b ∷ []) ++ q)
+    StopsBy g s (budget_of reader) p b (sink_of reader) (left_of reader) r (cause_of r.fault) → HasRead reader s ((p ++ b ∷ []) ++ q)
 stands_stopped {S} {g} reader r s p b q is h =
     stands_refused reader r s ((p ++ b ∷ []) ++ q) is
     (answers_stay g s (budget_of reader) (p ++ b ∷ []) q (sink_of reader) (left_of reader) r (cause_of r.fault)
@@ -83,8 +83,8 @@ stands_stopped {S} {g} reader r s p b q is h =
 
 -- a reader that was refused in a piece stands for the piece
 pub stands_behind_stop : {S : Type 0} {g : Ghosts S} {old new : Reader S g} {piece : List ℕ} {r : Refusal} {i : ℕ} → refusal_of new ≡ Some r → budget_of new ≡ budget_of old →
-    StopsAt old new piece r i → (s : S) (p : List ℕ) → Stands old s p → Stands new s (p ++ piece)
+    StopsAt old new piece r i → (s : S) (p : List ℕ) → HasRead old s p → HasRead new s (p ++ piece)
 stands_behind_stop {S} {g} {old} {new} {piece} {r} {i} refused budget stops s p h =
-    subst (λ (q : List ℕ). Stands new s q) (taken_all p piece i stops.within)
+    subst (λ (q : List ℕ). HasRead new s q) (taken_all p piece i stops.within)
     (stands_stopped new r s (p ++ take i piece) (get_or piece i 0) (drop (i + 1) piece) refused
     (subst (λ (budget : ℕ). StopsBy g s budget (p ++ take i piece) (get_or piece i 0) (sink_of new) (left_of new) r (cause_of r.fault)) (sym budget) (stops.there s p h)))

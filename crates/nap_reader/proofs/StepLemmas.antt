@@ -1,4 +1,4 @@
-use Rattle.nap_reader.proofs.Common.{Acted, ActsRun, All, All-cons, All-head, All-nil, All-tail, AllCharacters, Breaks, BreaksCode, Budget, CharSet, CodeFault, Continues, ContinuesPast, Conveys, DrawFault, Fault, Ghosts, Holding, IsRefused, LeadsOn, List, Machine, Memory, None, Outcome, Placed, Refusal, RunAt, Sink, Some, StopsByte, StopsRun, StopsText, [], after_body, after_drawing, ahead, ap, append-nil, append_assoc, arith, as_it_was, at_word, behind_run, bound, bytes_of, cause_of, code_fault, draw_fault, false, front, get_or, in_code, in_run, inl, inr, is_operand, is_operand_byte, length, length-append, refl, refusal, shown_front, stream, subst, sym, ℕ, ◌++◌, ◌<◌, ◌∙◌, ◌∷◌, ◌≡◌, ◌≤◌, ◌⊎◌}
+use Rattle.nap_reader.proofs.Common.{Acted, ActsRun, All, All-cons, All-head, All-nil, All-tail, AllCharacters, Breaks, BreaksCode, Budget, CharSet, CodeFault, Continues, ContinuesPast, LeadsThrough, DrawFault, Fault, Ghosts, ReadingState, IsRefused, LeadsOn, List, Machine, Memory, None, Outcome, Placed, Refusal, RunAt, Sink, Some, StopsByte, StopsRun, StopsText, [], after_body, after_drawing, ahead, ap, append-nil, append_assoc, arith, as_it_was, at_word, behind_run, bound, bytes_of, cause_of, code_fault, draw_fault, false, front, get_or, in_code, in_run, inl, inr, is_operand, is_operand_byte, length, length-append, refl, refusal, shown_front, stream, subst, sym, ℕ, ◌++◌, ◌<◌, ◌∙◌, ◌∷◌, ◌≡◌, ◌≤◌, ◌⊎◌}
 use Rattle.nap_codes.specs.declared.code.Code.TheVariants as code
 use Rattle.nap_codes.specs.declared.code.CodeFault.TheVariants as code_faults
 use Rattle.nap_draw.specs.declared.fault.DrawFault.TheVariants as draw_faults
@@ -24,7 +24,7 @@ code_fault_own code_faults.EighthBit = refl
 code_fault_own _ = refl
 
 -- Where no run is open, nor a body, only a code breaks.
-pub breaks_code : {S : Type 0} {g : Ghosts S} {t : S} {h : Holding} {x : Placed} {u : S} {r : Refusal} → h.open_body ≡ None → h.open_run ≡ None → Breaks g t h x u r → BreaksCode g t h x u r
+pub breaks_code : {S : Type 0} {g : Ghosts S} {t : S} {h : ReadingState} {x : Placed} {u : S} {r : Refusal} → h.open_body ≡ None → h.open_run ≡ None → Breaks g t h x u r → BreaksCode g t h x u r
 breaks_code between closed (at_word lacks) = let bad : Some lacks.open_run ≡ None = sym lacks.is ∙ closed in cc
 breaks_code between closed (in_run other stops) = let bad : Some stops.open_run ≡ None = sym stops.is ∙ closed in cc
 breaks_code between closed (in_code none code) = code
@@ -32,15 +32,15 @@ breaks_code between closed (behind_run v h' other acts code) = let bad : Some ac
 breaks_code between closed (in_body body) = let bad : Some body.body ≡ None = sym body.is ∙ between in cc
 
 -- The opcode of the open run acts, and the byte that ended it is still to be read.
-pub passes_run : {S : Type 0} {g : Ghosts S} {t : S} {h : Holding} {u : S} {h' : Holding} {x : Placed} {s : S} {o : Outcome} {pending : List Placed} → TookMore g → (acts : ActsRun g t h u h') → is_operand x ≡ false →
+pub passes_run : {S : Type 0} {g : Ghosts S} {t : S} {h : ReadingState} {u : S} {h' : ReadingState} {x : Placed} {s : S} {o : Outcome} {pending : List Placed} → TookMore g → (acts : ActsRun g t h u h') → is_operand x ≡ false →
     Continues g s o t h (x ∷ pending) → Continues g s o u h' (x ∷ pending)
 passes_run {g = g} {h = h} {u = u} {x = x} {s = s} {o = o} {pending = pending} more acts other k =
     let m = after_drawing h.machine acts.drawn in
-    subst (λ (h : Holding). Continues g s o u h (x ∷ pending)) (sym acts.holds)
+    subst (λ (h : ReadingState). Continues g s o u h (x ∷ pending)) (sym acts.holds)
     (leads_on k u acts.drawn.entries (record h { machine = m; open_run = None; run = [] }) (x ∷ pending) more (none_held acts.between acts.is k m refl) (over acts.between acts.is k other _ acts.by) acts.took acts.clear)
 
 -- It is refused, or breaks.
-pub stops_run : {S : Type 0} {g : Ghosts S} {t : S} {h : Holding} {x : Placed} {u : S} {r : Refusal} → is_operand x ≡ false → StopsRun g t h u r → StopsByte g t h x u r
+pub stops_run : {S : Type 0} {g : Ghosts S} {t : S} {h : ReadingState} {x : Placed} {u : S} {r : Refusal} → is_operand x ≡ false → StopsRun g t h u r → StopsByte g t h x u r
 stops_run {g = g} {h = h} {x = x} {u = u} other stops = record {
   own = λ own s o pending k.
       subst (IsRefused g s o u h) (sym stops.why)
@@ -49,27 +49,27 @@ stops_run {g = g} {h = h} {x = x} {u = u} other stops = record {
 }
 
 -- What was held leads on to the byte that comes, whether the opcode of the open run has acted or not.
-module _ {S : Type 0} {g : Ghosts S} {t : S} {h : Holding} {u : S} {h' : Holding} {next : List ℕ} {x : Placed} (more : TookMore g) (first : (b : ℕ) (bs : List ℕ) → next ≡ b ∷ bs → x.byte ≡ b) where
+module _ {S : Type 0} {g : Ghosts S} {t : S} {h : ReadingState} {u : S} {h' : ReadingState} {next : List ℕ} {x : Placed} (more : TookMore g) (first : (b : ℕ) (bs : List ℕ) → next ≡ b ∷ bs → x.byte ≡ b) where
   pub passes_acted : {s : S} {o : Outcome} {pending : List Placed} → Acted g t h u h' next → Continues g s o t h (x ∷ pending) → Continues g s o u h' (x ∷ pending)
   passes_acted {s} {o} {pending} (as_it_was sink holding) k =
-      subst (λ (t : S). Continues g s o t h' (x ∷ pending)) (sym sink) (subst (λ (h : Holding). Continues g s o t h (x ∷ pending)) (sym holding) k)
+      subst (λ (t : S). Continues g s o t h' (x ∷ pending)) (sym sink) (subst (λ (h : ReadingState). Continues g s o t h (x ∷ pending)) (sym holding) k)
   passes_acted (ahead b bs is other acts) k = passes_run more acts (ap is_operand_byte (first b bs is) ∙ other) k
   passes_acted {s} {o} {pending} (bound b bs is ends sink binds) k =
       subst (λ (t : S). Continues g s o t h' (x ∷ pending)) (sym sink)
-      (subst (λ (held : Holding). Continues g s o t held (x ∷ pending)) (sym (binds.holds (held_body binds.is k).at.half))
+      (subst (λ (held : ReadingState). Continues g s o t held (x ∷ pending)) (sym (binds.holds (held_body binds.is k).at.half))
       (body_bound binds.is k binds.held (ap bodies.ends_body (first b bs is) ∙ ends) binds.hidden))
 
   pub stops_acted : {v : S} {r : Refusal} → Acted g t h u h' next → StopsByte g u h' x v r → StopsByte g t h x v r
-  stops_acted {v} {r} (as_it_was sink holding) stops = subst (λ (t : S). StopsByte g t h x v r) sink (subst (λ (h : Holding). StopsByte g u h x v r) holding stops)
+  stops_acted {v} {r} (as_it_was sink holding) stops = subst (λ (t : S). StopsByte g t h x v r) sink (subst (λ (h : ReadingState). StopsByte g u h x v r) holding stops)
   stops_acted {v} {r} (ahead b bs is other acts) stops =
       let x_other = ap is_operand_byte (first b bs is) ∙ other in
       record {
         own = λ own s o pending k.
             let there = stops.own own s o pending (passes_run more acts x_other k) in
-            (there.0, there.1, there.2 ∙ ap (λ (h : Holding). h.machine.left) acts.holds);
+            (there.0, there.1, there.2 ∙ ap (λ (h : ReadingState). h.machine.left) acts.holds);
         broke = λ broke.
             behind_run u h' x_other acts
-            (breaks_code (ap (λ (h : Holding). h.open_body) acts.holds ∙ acts.between) (ap (λ (h : Holding). h.open_run) acts.holds) (stops.broke broke));
+            (breaks_code (ap (λ (h : ReadingState). h.open_body) acts.holds ∙ acts.between) (ap (λ (h : ReadingState). h.open_run) acts.holds) (stops.broke broke));
       }
   stops_acted {v} {r} (bound b bs is ends sink binds) stops = record {
     own = λ own s o pending k.
@@ -83,36 +83,36 @@ module _ {S : Type 0} {g : Ghosts S} {t : S} {h : Holding} {u : S} {h' : Holding
           place = code.place;
           part = λ s known o k.
               let x_ends = ap bodies.ends_body (first b bs is) ∙ ends in
-              let after : Holding = record h { machine = after_body h.machine binds.body.name h.body; half = 27 ∷ []; open_run = None; run = []; open_body = None; body = [] } in
+              let after : ReadingState = record h { machine = after_body h.machine binds.body.name h.body; half = 27 ∷ []; open_run = None; run = []; open_body = None; body = [] } in
               let holds : h' ≡ after = binds.holds (held_body binds.is k.continues).at.half in
               let past : ContinuesPast g s known o t after (x ∷ []) = record {
                 continues = body_bound binds.is k.continues binds.held x_ends binds.hidden;
                 done = same_done binds.is k.continues binds.held x_ends binds.hidden ∙ k.done;
               } in
-              let here : BreaksCode g t after x v r = subst (λ (w : S). BreaksCode g w after x v r) sink (subst (λ (held : Holding). BreaksCode g u held x v r) holds code) in
+              let here : BreaksCode g t after x v r = subst (λ (w : S). BreaksCode g w after x v r) sink (subst (λ (held : ReadingState). BreaksCode g u held x v r) holds code) in
               some_in_body (here.part s known o past);
         });
   }
 
 -- as much is left to charge
-pub left_acted : {S : Type 0} {g : Ghosts S} {t : S} {h : Holding} {u : S} {h' : Holding} {next : List ℕ} → Acted g t h u h' next → h'.machine.left ≡ h.machine.left
-left_acted (as_it_was sink holding) = ap (λ (h : Holding). h.machine.left) holding
-left_acted (ahead b bs is other acts) = ap (λ (h : Holding). h.machine.left) acts.holds
+pub left_acted : {S : Type 0} {g : Ghosts S} {t : S} {h : ReadingState} {u : S} {h' : ReadingState} {next : List ℕ} → Acted g t h u h' next → h'.machine.left ≡ h.machine.left
+left_acted (as_it_was sink holding) = ap (λ (h : ReadingState). h.machine.left) holding
+left_acted (ahead b bs is other acts) = ap (λ (h : ReadingState). h.machine.left) acts.holds
 left_acted (bound b bs is ends sink binds) = binds.left
 
 -- the run that is open is where it was
-pub run_acted : {S : Type 0} {g : Ghosts S} {t : S} {h : Holding} {u : S} {h' : Holding} {next : List ℕ} (n : ℕ) → Acted g t h u h' next → RunAt n h.open_run → RunAt n h'.open_run
-run_acted n (as_it_was sink holding) run = subst (λ (h : Holding). RunAt n h.open_run) (sym holding) run
-run_acted n (ahead b bs is other acts) run = subst (λ (h : Holding). RunAt n h.open_run) (sym acts.holds) tt
+pub run_acted : {S : Type 0} {g : Ghosts S} {t : S} {h : ReadingState} {u : S} {h' : ReadingState} {next : List ℕ} (n : ℕ) → Acted g t h u h' next → RunAt n h.open_run → RunAt n h'.open_run
+run_acted n (as_it_was sink holding) run = subst (λ (h : ReadingState). RunAt n h.open_run) (sym holding) run
+run_acted n (ahead b bs is other acts) run = subst (λ (h : ReadingState). RunAt n h.open_run) (sym acts.holds) tt
 run_acted n (bound b bs is ends sink binds) run = subst (RunAt n) (sym binds.closed) tt
 
 -- One after another.
 
 -- Nothing was taken, and all is as it was.
-abbrev pub conveys_nothing : {S : Type 0} (g : Ghosts S) (t : S) (h : Holding) → Conveys g t h []
+abbrev pub conveys_nothing : {S : Type 0} (g : Ghosts S) (t : S) (h : ReadingState) → LeadsThrough g t h []
 conveys_nothing g t h = record { sink = t; holding = h; left = refl; run = λ n all before. before; passes = λ s o pending k. k; none = λ _. (refl, refl) }
 
-pub leads_nowhere : {S : Type 0} {g : Ghosts S} {t v : S} {h held : Holding} (next : List ℕ) → v ≡ t → held ≡ h → LeadsOn g t h v held [] next
+pub leads_nowhere : {S : Type 0} {g : Ghosts S} {t v : S} {h held : ReadingState} (next : List ℕ) → v ≡ t → held ≡ h → LeadsOn g t h v held [] next
 leads_nowhere {g = g} {t = t} {h = h} next sink same = record { conveys = conveys_nothing g t h; acted = as_it_was sink same }
 
 abbrev pub IsAt : ℕ → Placed → Type 0
@@ -128,28 +128,28 @@ all_rest n [] ys all = all
 all_rest n (x ∷ xs) ys all = all_rest n xs ys (All-tail (IsAt n) x (xs ++ ys) all)
 
 -- An opcode acts ahead of a byte once, or a body is bound.
-pub acted_then : {S : Type 0} {g : Ghosts S} {t : S} {h : Holding} {u : S} {h' : Holding} {v : S} {h'' : Holding} {next : List ℕ} → Acted g t h u h' next → Acted g u h' v h'' next → Acted g t h v h'' next
-acted_then {S = S} {g = g} {t = t} {h' = h'} {v = v} {h'' = h''} {next = next} (as_it_was sink holding) then = subst (λ (held : Holding). Acted g t held v h'' next) holding (subst (λ (w : S). Acted g w h' v h'' next) sink then)
-acted_then {S = S} {g = g} {t = t} {h = h} {h' = h'} {v = v} {next = next} first (as_it_was sink holding) = subst (λ (held : Holding). Acted g t h v held next) (sym holding) (subst (λ (w : S). Acted g t h w h' next) (sym sink) first)
+pub acted_then : {S : Type 0} {g : Ghosts S} {t : S} {h : ReadingState} {u : S} {h' : ReadingState} {v : S} {h'' : ReadingState} {next : List ℕ} → Acted g t h u h' next → Acted g u h' v h'' next → Acted g t h v h'' next
+acted_then {S = S} {g = g} {t = t} {h' = h'} {v = v} {h'' = h''} {next = next} (as_it_was sink holding) then = subst (λ (held : ReadingState). Acted g t held v h'' next) holding (subst (λ (w : S). Acted g w h' v h'' next) sink then)
+acted_then {S = S} {g = g} {t = t} {h = h} {h' = h'} {v = v} {next = next} first (as_it_was sink holding) = subst (λ (held : ReadingState). Acted g t h v held next) (sym holding) (subst (λ (w : S). Acted g t h w h' next) (sym sink) first)
 acted_then (ahead b bs is other acts) (ahead c cs is' other' acts') =
-    absurd (no_some (sym acts'.is ∙ ap (λ (h : Holding). h.open_run) acts.holds))
+    absurd (no_some (sym acts'.is ∙ ap (λ (h : ReadingState). h.open_run) acts.holds))
 acted_then (bound b bs is ends sink binds) (ahead c cs is' other' acts') =
     absurd (no_some (sym acts'.is ∙ binds.closed))
 acted_then (ahead b bs is other acts) (bound c cs is' ends' sink' binds') =
-    absurd (no_some (sym binds'.is ∙ ap (λ (h : Holding). h.open_body) acts.holds ∙ acts.between))
+    absurd (no_some (sym binds'.is ∙ ap (λ (h : ReadingState). h.open_body) acts.holds ∙ acts.between))
 acted_then (bound b bs is ends sink binds) (bound c cs is' ends' sink' binds') =
     absurd (no_some (sym binds'.is ∙ binds.between))
 
 -- It acted, or is bound, where no byte is a character by itself, or a code is half read.
-pub acted_typed : {S : Type 0} {g : Ghosts S} {t : S} {h : Holding} {u : S} {h' : Holding} {next : List ℕ} → Acted g t h u h' next → (set : CharSet) → h'.half ≡ [] → AllCharacters h'.machine.sets set → (u ≡ t) × (h' ≡ h)
+pub acted_typed : {S : Type 0} {g : Ghosts S} {t : S} {h : ReadingState} {u : S} {h' : ReadingState} {next : List ℕ} → Acted g t h u h' next → (set : CharSet) → h'.half ≡ [] → AllCharacters h'.machine.sets set → (u ≡ t) × (h' ≡ h)
 acted_typed (as_it_was sink holding) set rested chars = (sink, holding)
-acted_typed (ahead b bs is other acts) set rested chars = absurd (acts.alone set (subst (λ (held : Holding). AllCharacters held.machine.sets set) acts.holds chars))
+acted_typed (ahead b bs is other acts) set rested chars = absurd (acts.alone set (subst (λ (held : ReadingState). AllCharacters held.machine.sets set) acts.holds chars))
 acted_typed (bound b bs is ends sink binds) set rested chars = absurd (binds.waits rested)
 
 -- Bytes were taken, and then more of those that came next.
-module _ {S : Type 0} {g : Ghosts S} {t : S} {h : Holding} {u : S} {h' : Holding} {xs : List Placed} {next : List ℕ} (more : TookMore g) (first : LeadsOn g t h u h' xs next) where
+module _ {S : Type 0} {g : Ghosts S} {t : S} {h : ReadingState} {u : S} {h' : ReadingState} {xs : List Placed} {next : List ℕ} (more : TookMore g) (first : LeadsOn g t h u h' xs next) where
   -- what these come to, where the first of them comes next
-  unfoldable pub conveys_then : (x : Placed) (ys : List Placed) → (rest : List ℕ) → next ≡ x.byte ∷ rest → Conveys g u h' (x ∷ ys) → Conveys g t h (xs ++ x ∷ ys)
+  unfoldable pub conveys_then : (x : Placed) (ys : List Placed) → (rest : List ℕ) → next ≡ x.byte ∷ rest → LeadsThrough g u h' (x ∷ ys) → LeadsThrough g t h (xs ++ x ∷ ys)
   conveys_then x ys rest is then =
       let c = first.conveys in
       let byte = λ (b : ℕ) (bs : List ℕ) (there : next ≡ b ∷ bs). let same : x.byte ∷ rest ≡ b ∷ bs = sym is ∙ there in ap (λ (zs : List ℕ). get_or zs 0 0) same in
@@ -166,12 +166,12 @@ module _ {S : Type 0} {g : Ghosts S} {t : S} {h : Holding} {u : S} {h' : Holding
         none = λ none. absurd (omega (arith, ap length none, length-append xs (x ∷ ys)));
       }
 
-  pub leads_then : (v : S) (h'' : Holding) (ys : List Placed) (then_next : List ℕ) → next ≡ bytes_of ys ++ then_next → LeadsOn g u h' v h'' ys then_next → LeadsOn g t h v h'' (xs ++ ys) then_next
+  pub leads_then : (v : S) (h'' : ReadingState) (ys : List Placed) (then_next : List ℕ) → next ≡ bytes_of ys ++ then_next → LeadsOn g u h' v h'' ys then_next → LeadsOn g t h v h'' (xs ++ ys) then_next
   unfolding conveys_then
   leads_then v h'' [] then_next is then =
       let same = then.conveys.none refl in
       let c = first.conveys in
-      let acted : Acted g u h' v h'' then_next = subst (λ (held : Holding). Acted g u held v h'' then_next) same.1 (subst (λ (w : S). Acted g w then.conveys.holding v h'' then_next) same.0 then.acted) in
+      let acted : Acted g u h' v h'' then_next = subst (λ (held : ReadingState). Acted g u held v h'' then_next) same.1 (subst (λ (w : S). Acted g w then.conveys.holding v h'' then_next) same.0 then.acted) in
       subst (λ (zs : List Placed). LeadsOn g t h v h'' zs then_next) (sym (append-nil xs)) (record {
         conveys = c;
         acted = acted_then (subst (Acted g c.sink c.holding u h') is first.acted) acted;
@@ -182,36 +182,36 @@ module _ {S : Type 0} {g : Ghosts S} {t : S} {h : Holding} {u : S} {h' : Holding
   }
 
   -- They lead to a byte that is refused or breaks, or to characters of which one does.
-  pub stops_then : {x : Placed} {v : S} {r : Refusal} (ys : List Placed) (rest : List ℕ) → next ≡ bytes_of ys ++ x.byte ∷ rest → (c : Conveys g u h' ys) → StopsByte g c.sink c.holding x v r →
-      (k : Conveys g t h (xs ++ ys)) × StopsByte g k.sink k.holding x v r
+  pub stops_then : {x : Placed} {v : S} {r : Refusal} (ys : List Placed) (rest : List ℕ) → next ≡ bytes_of ys ++ x.byte ∷ rest → (c : LeadsThrough g u h' ys) → StopsByte g c.sink c.holding x v r →
+      (k : LeadsThrough g t h (xs ++ ys)) × StopsByte g k.sink k.holding x v r
   unfolding conveys_then
   stops_then {x} {v} {r} [] rest is c stops =
       let same = c.none refl in
       let at = first.conveys in
       let byte = λ (b : ℕ) (bs : List ℕ) (there : next ≡ b ∷ bs). let same : x.byte ∷ rest ≡ b ∷ bs = sym is ∙ there in ap (λ (zs : List ℕ). get_or zs 0 0) same in
-      let here = stops_acted more byte first.acted (subst (λ (held : Holding). StopsByte g u held x v r) same.1 (subst (λ (w : S). StopsByte g w c.holding x v r) same.0 stops)) in
-      subst (λ (zs : List Placed). (k : Conveys g t h zs) × StopsByte g k.sink k.holding x v r) (sym (append-nil xs)) (at, here)
+      let here = stops_acted more byte first.acted (subst (λ (held : ReadingState). StopsByte g u held x v r) same.1 (subst (λ (w : S). StopsByte g w c.holding x v r) same.0 stops)) in
+      subst (λ (zs : List Placed). (k : LeadsThrough g t h zs) × StopsByte g k.sink k.holding x v r) (sym (append-nil xs)) (at, here)
   stops_then {x} (y ∷ ys) rest is c stops = (conveys_then y ys (bytes_of ys ++ x.byte ∷ rest) is c, stops)
 
-  pub halts_then : {text : List ℕ} {i : ℕ} {v : S} {r : Refusal} (ys : List Placed) (rest : List ℕ) → next ≡ bytes_of ys ++ rest → (c : Conveys g u h' ys) → StopsText g c.sink c.holding text i v r →
-      (k : Conveys g t h (xs ++ ys)) × StopsText g k.sink k.holding text i v r
+  pub halts_then : {text : List ℕ} {i : ℕ} {v : S} {r : Refusal} (ys : List Placed) (rest : List ℕ) → next ≡ bytes_of ys ++ rest → (c : LeadsThrough g u h' ys) → StopsText g c.sink c.holding text i v r →
+      (k : LeadsThrough g t h (xs ++ ys)) × StopsText g k.sink k.holding text i v r
   unfolding conveys_then
   halts_then {text} {i} {v} {r} [] rest is c stops =
       let same = c.none refl in
       let at = first.conveys in
-      let here : StopsText g u h' text i v r = subst (λ (held : Holding). StopsText g u held text i v r) same.1 (subst (λ (w : S). StopsText g w c.holding text i v r) same.0 stops) in
+      let here : StopsText g u h' text i v r = subst (λ (held : ReadingState). StopsText g u held text i v r) same.1 (subst (λ (w : S). StopsText g w c.holding text i v r) same.0 stops) in
       let still = acted_typed first.acted here.set here.text_is.rested here.text_is.chars in
-      let there : StopsText g at.sink at.holding text i v r = subst (λ (held : Holding). StopsText g at.sink held text i v r) still.1 (subst (λ (w : S). StopsText g w h' text i v r) still.0 here) in
-      subst (λ (zs : List Placed). (k : Conveys g t h zs) × StopsText g k.sink k.holding text i v r) (sym (append-nil xs)) (at, there)
+      let there : StopsText g at.sink at.holding text i v r = subst (λ (held : ReadingState). StopsText g at.sink held text i v r) still.1 (subst (λ (w : S). StopsText g w h' text i v r) still.0 here) in
+      subst (λ (zs : List Placed). (k : LeadsThrough g t h zs) × StopsText g k.sink k.holding text i v r) (sym (append-nil xs)) (at, there)
   halts_then (y ∷ ys) rest is c stops = (conveys_then y ys (bytes_of ys ++ rest) is c, stops)
 
 -- What stops at a byte.
 
-pub stops_own : {S : Type 0} (g : Ghosts S) (t : S) (h : Holding) (x : Placed) (u : S) (r : Refusal) → cause_of r.fault ≡ stream → ((s : S) (o : Outcome) (pending : List Placed) → Continues g s o t h (x ∷ pending) → IsRefused g s o u h r) → StopsByte g t h x u r
+pub stops_own : {S : Type 0} (g : Ghosts S) (t : S) (h : ReadingState) (x : Placed) (u : S) (r : Refusal) → cause_of r.fault ≡ stream → ((s : S) (o : Outcome) (pending : List Placed) → Continues g s o t h (x ∷ pending) → IsRefused g s o u h r) → StopsByte g t h x u r
 stops_own g t h x u r is refuses = record { own = λ own. refuses; broke = λ broke. absurd (broke is) }
 
 -- a byte calls or shows a body that can't be charged, or for which memory is wanting
-pub cannot_stops : {S : Type 0} {g : Ghosts S} {t : S} {h : Holding} {x : Placed} {fault : Fault} (left : ℕ) (m : Machine) (bytes : List ℕ) → left ≡ m.left →
+pub cannot_stops : {S : Type 0} {g : Ghosts S} {t : S} {h : ReadingState} {x : Placed} {fault : Fault} (left : ℕ) (m : Machine) (bytes : List ℕ) → left ≡ m.left →
     ((s : S) (o : Outcome) (pending : List Placed) (k : Continues g s o t h (x ∷ pending)) → front h.machine (k.rest ++ x ∷ pending) ≡ shown_front m x.place bytes pending) →
     (0 < length bytes → length bytes ≤ m.left → Breaks g t h x t (refusal Memory x.place)) →
     ((fault ≡ Budget) × (left < length bytes)) ⊎ ((fault ≡ Memory) × (0 < length bytes) × (length bytes ≤ left)) → StopsByte g t h x t (refusal fault x.place)

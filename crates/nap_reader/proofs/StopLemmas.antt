@@ -1,4 +1,4 @@
-use Rattle.nap_reader.proofs.Common.{All, All-head, All-tail, Breaks, BreaksFrom, Came, Continues, Conveys, Fault, Ghosts, Holding, LeadsTo, List, Machine, Outcome, Placed, Reaches, Reader, Refusal, Stops, StopsAt, StopsByte, StopsText, [], ap, arith, at_byte, begun, budget_of, bytes_of, cause_of, draw_fault, drop, drop_at, fault_of, fed_of, get_or, in_text, left_of, length, length-append, length-drop, length-map, length-take-le, of_body, of_piece, place_at, placed_at, placed_from, refl, refusal, sink_of, subst, suc, sym, take, take-append-drop, zero, ℕ, ◌++◌, ◌+◌, ◌-◌, ◌<◌, ◌∙◌, ◌∷◌, ◌≡◌, ◌≤◌}
+use Rattle.nap_reader.proofs.Common.{All, All-head, All-tail, Breaks, BreaksFrom, Came, Continues, LeadsThrough, Fault, Ghosts, ReadingState, LeadsTo, List, Machine, Outcome, Placed, Reaches, Reader, Refusal, Stops, StopsAt, StopsByte, StopsText, [], ap, arith, at_byte, begun, budget_of, bytes_of, cause_of, draw_fault, drop, drop_at, fault_of, fed_of, get_or, in_text, left_of, length, length-append, length-drop, length-map, length-take-le, of_body, of_piece, place_at, placed_at, placed_from, refl, refusal, sink_of, subst, suc, sym, take, take-append-drop, zero, ℕ, ◌++◌, ◌+◌, ◌-◌, ◌<◌, ◌∙◌, ◌∷◌, ◌≡◌, ◌≤◌}
 use Rattle.nap_reader.proofs.Base.{IsAt, Lawful, acted_typed, all_front, breaks_byte, breaks_inside, breaks_more, breaks_place, bytes_of-append, bytes_of-placed, came_coming, came_next, came_none, came_take, cut, leads_left, leads_machine, leads_unrefused, left_acted, length-placed, stops_acted}
 use Rattle.nap_reader.proofs.PieceLemmas.{broken_amid, first_placed, known_amid, known_with, leads_past, length_taken, stops_by}
 use Rattle.nap_reader.proofs.TakingLemmas.{place_at-drop}
@@ -17,7 +17,7 @@ place_of_all n [] i less all = absurd (omega (arith, less))
 place_of_all n (x ∷ xs) zero less all = All-head (IsAt n) x xs all
 place_of_all n (x ∷ xs) (suc i) less all = place_of_all n xs i (omega (arith, less)) (All-tail (IsAt n) x xs all)
 
-module _ {S : Type 0} {g : Ghosts S} {old : Reader S g} {piece : List ℕ} {at : ℕ} {t : S} {h : Holding} {frames : List Placed} (new : Reader S g) (leads : LeadsTo old piece at t h frames) (left : left_of new ≡ h.machine.left) (laws : Lawful g) where
+module _ {S : Type 0} {g : Ghosts S} {old : Reader S g} {piece : List ℕ} {at : ℕ} {t : S} {h : ReadingState} {frames : List Placed} (new : Reader S g) (leads : LeadsTo old piece at t h frames) (left : left_of new ≡ h.machine.left) (laws : Lawful g) where
   -- The byte that came is refused, or reading breaks with it.
   pub stops_byte : {x : Placed} {r : Refusal} {rest : List Placed} {until : ℕ} → StopsByte g t h x (sink_of new) r → Came frames rest piece at until (fed_of old + at) (x ∷ []) → fed_of new ≡ fed_of old + until → (i : ℕ) × StopsAt old new piece r i
   unfolding placed_from
@@ -106,7 +106,7 @@ place_at-taken (x ∷ xs) (suc n) zero less = refl
 place_at-taken (x ∷ xs) (suc n) (suc i) less = place_at-taken xs n i (omega (arith, less))
 
 -- Where what came so far leads to a byte that is refused or breaks, or to characters of which one does.
-module _ {S : Type 0} {g : Ghosts S} {old : Reader S g} {piece : List ℕ} {at : ℕ} {t : S} {h : Holding} {frames : List Placed} (by : Reaches old piece at t h frames) (laws : Lawful g) (many : ℕ)
+module _ {S : Type 0} {g : Ghosts S} {old : Reader S g} {piece : List ℕ} {at : ℕ} {t : S} {h : ReadingState} {frames : List Placed} (by : Reaches old piece at t h frames) (laws : Lawful g) (many : ℕ)
     (fit : (length frames ≡ 0 → at + many ≤ length piece) × (0 < length frames → many ≤ length frames)) where
   abbrev all : List Placed
   all = frames ++ placed_from (fed_of old + at) (drop at piece)
@@ -137,11 +137,11 @@ module _ {S : Type 0} {g : Ghosts S} {old : Reader S g} {piece : List ℕ} {at :
         ∙ drop_at (take n all) (rest ++ placed_from (fed_of old + until) (drop until piece)) n (length-take-le n all (omega (arith, few, all_long)))
 
     -- what leads there
-    reached : (P : S → Holding → Type 0) → (c : Conveys g t h (take n all)) → P c.sink c.holding → (n ≡ 0 → P t h → P by.sink by.holding) →
-        (u : S) × (held : Holding) × LeadsTo old piece until u held rest × (h.machine.left ≡ held.machine.left) × P u held
+    reached : (P : S → ReadingState → Type 0) → (c : LeadsThrough g t h (take n all)) → P c.sink c.holding → (n ≡ 0 → P t h → P by.sink by.holding) →
+        (u : S) × (held : ReadingState) × LeadsTo old piece until u held rest × (h.machine.left ≡ held.machine.left) × P u held
     reached P c here first = by_first (take n all) refl
       where
-        by_first : (xs : List Placed) → take n all ≡ xs → (u : S) × (held : Holding) × LeadsTo old piece until u held rest × (h.machine.left ≡ held.machine.left) × P u held
+        by_first : (xs : List Placed) → take n all ≡ xs → (u : S) × (held : ReadingState) × LeadsTo old piece until u held rest × (h.machine.left ≡ held.machine.left) × P u held
         by_first [] gone =
             let gone_is = c.none gone in
             let still = came_none frames rest piece at until (fed_of old + at) (take n all) gone came in (
@@ -154,7 +154,7 @@ module _ {S : Type 0} {g : Ghosts S} {old : Reader S g} {piece : List ℕ} {at :
         by_first (y ∷ ys) some =
             let front : next ≡ y.byte ∷ (bytes_of ys ++ bytes_of (drop n all)) =
             sym next_is ∙ ap bytes_of (sym (take-append-drop n all)) ∙ bytes_of-append (take n all) (drop n all) ∙ ap (λ (zs : List Placed). bytes_of zs ++ bytes_of (drop n all)) some in
-            let past = subst (λ (zs : List Placed). (c : Conveys g t h zs) → Came frames rest piece at until (fed_of old + at) zs → LeadsTo old piece until c.sink c.holding rest) (sym some)
+            let past = subst (λ (zs : List Placed). (c : LeadsThrough g t h zs) → Came frames rest piece at until (fed_of old + at) zs → LeadsTo old piece until c.sink c.holding rest) (sym some)
             (leads_past laws.more by (bytes_of ys ++ bytes_of (drop n all)) front) in
             (c.sink, c.holding, past c came, sym c.left, here)
 
@@ -162,7 +162,7 @@ module _ {S : Type 0} {g : Ghosts S} {old : Reader S g} {piece : List ℕ} {at :
   pub stops_reached : {r : Refusal} {index : ℕ} (new : Reader S g) → left_of new ≡ h.machine.left → index ≤ many → Stops g t h all many index (sink_of new) r → fed_of new ≡ fed_of old + at + (index + 1 - length frames) → (i : ℕ) × StopsAt old new piece r i
   stops_reached {r} {index} new left few (at_byte x behind is c stops) fed =
       let (u, held, leads, same, there) =
-      reached index few (λ (u : S) (held : Holding). StopsByte g u held x (sink_of new) r) c stops
+      reached index few (λ (u : S) (held : ReadingState). StopsByte g u held x (sink_of new) r) c stops
       (λ zero here.
       let first : next ≡ x.byte ∷ bytes_of behind = sym next_is ∙ ap bytes_of (ap (λ (m : ℕ). drop m all) (sym zero) ∙ is) in
       stops_acted laws.more (λ b bs e. ap (λ (zs : List ℕ). get_or zs 0 0) (sym first ∙ e)) by.acted here) in
@@ -175,10 +175,10 @@ module _ {S : Type 0} {g : Ghosts S} {old : Reader S g} {piece : List ℕ} {at :
       let behind = rest first few' in
       let left_there = length-drop first frames in
       let (u, held, leads, same, there) =
-      reached first few' (λ (u : S) (held : Holding). StopsText g u held (bytes_of texts) taken (sink_of new) r) c stops
+      reached first few' (λ (u : S) (held : ReadingState). StopsText g u held (bytes_of texts) taken (sink_of new) r) c stops
       (λ zero here.
       let typed = acted_typed by.acted here.set here.text_is.rested here.text_is.chars in
-      subst (λ (held : Holding). StopsText g by.sink held (bytes_of texts) taken (sink_of new) r) typed.1 (subst (λ (w : S). StopsText g w h (bytes_of texts) taken (sink_of new) r) typed.0 here)) in
+      subst (λ (held : ReadingState). StopsText g by.sink held (bytes_of texts) taken (sink_of new) r) typed.1 (subst (λ (w : S). StopsText g w h (bytes_of texts) taken (sink_of new) r) typed.0 here)) in
       stops_text new leads (left ∙ same) laws there
       (subst (Came behind (drop size behind) piece from (from + (size - length behind)) (fed_of old + from)) (ap (take size) (sym (then_is first few')))
       (came_take behind piece from (fed_of old + from) size leads.within (λ empty. grind (arith, empty, left_there, less, inside_slice, fit.0, fit.1)) (λ some. grind (arith, some, left_there, inside_slice, fit.1))))

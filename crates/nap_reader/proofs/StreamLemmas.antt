@@ -1,4 +1,4 @@
-use Rattle.nap_reader.proofs.Common.{All, All-cons, All-nil, Bool, Code, CodeSets, DrawFault, Drawn, Entry, Err, Front, IsMade, IsWord, Kind, Lessens, List, LongRun, Machine, Mode, None, Ok, Opcode, Option, Placed, Refusal, Result, Some, Unfinished, Work, [], act, after_body, all_at, ap, append_assoc, arith, begun, between, body_front, body_front_by, body_of, bound_front, bytes_of, code_front, code_rule, cond, continue, continue_by, drawn_front, drop, drop-append-le, drop_of_length-le, ends_of, eqb, eqb-false, eqb-true, false, front, front_by, front_in, go, half_read, in_body, is_operand, is_operand_byte, kind_of, length, length-append, length-drop, length-map, length-prefix_len, lt-ltb, ltb, ltb-false, ltb-true, nat_tests, onward, opcode_front, open_run, outcome, outcome_from, pause, place_at, placed_from, prefix_len-append, prefix_len-le-length, prepend, refl, refusal, refuse, refused_index, refused_stays, rule, run_front, run_length, run_limit, shown_front, start_machine, store_limit, subst, suc, sym, take, take-append-le, true, whole_length, whole_stays, words_of, zero, ℕ, ⊤, ◌++◌, ◌+◌, ◌-◌, ◌<◌, ◌∙◌, ◌∷◌, ◌≡◌, ◌≢◌, ◌≤◌}
+use Rattle.nap_reader.proofs.Common.{All, All-cons, All-nil, Bool, Code, CodeSets, DrawFault, RuleResult, Entry, Err, Front, IsMade, IsWord, Kind, Lessens, List, LongRun, Machine, Mode, None, Ok, Opcode, Option, Placed, Refusal, Result, Some, Unfinished, Work, [], act, after_body, all_at, ap, append_assoc, arith, begun, between, body_front, body_front_by, body_of, bound_front, bytes_of, code_front, code_rule, cond, continue, continue_by, drawn_front, drop, drop-append-le, drop_of_length-le, ends_of, eqb, eqb-false, eqb-true, false, front, front_by, front_in, outcome_within, half_read, in_body, is_operand, is_operand_byte, kind_of, length, length-append, length-drop, length-map, length-prefix_len, lt-ltb, ltb, ltb-false, ltb-true, nat_tests, outcome_by_front, opcode_front, open_run, outcome, outcome_from, pause, place_at, placed_from, prefix_len-append, prefix_len-le-length, prepend, refl, refusal, refuse, refused_index, refused_stays, rule, run_front, run_length, run_limit, shown_front, start_machine, store_limit, subst, suc, sym, take, take-append-le, true, whole_length, whole_stays, words_of, zero, ℕ, ⊤, ◌++◌, ◌+◌, ◌-◌, ◌<◌, ◌∙◌, ◌∷◌, ◌≡◌, ◌≢◌, ◌≤◌}
 use Rattle.nap_reader.specs.Course.{Stays}
 use Rattle.nap_codes.specs.declared.code.Code.TheVariants as code
 use Rattle.nap_codes.specs.Front as codes
@@ -26,13 +26,13 @@ Falls {M} {E} {F} {U} {B} front count = (m : M) (xs : List B) (es : List E) (m' 
     front m xs ≡ act es m' ys → count m' ≤ count m
 
 module _ {M E F U B : Type 0} (front : M → List B → course.Front M E F U B) (left count : M → ℕ) (falls : Falls front count) where
-  go-falls : (f : ℕ) (m : M) (xs : List B) → count (go front f m xs).machine ≤ count m
-  unfolding go
-  go-falls zero m xs = omega arith
-  go-falls (suc f) m xs = at (front m xs) refl (λ m' ys. go-falls f m' ys)
+  outcome_within-falls : (f : ℕ) (m : M) (xs : List B) → count (outcome_within front f m xs).machine ≤ count m
+  unfolding outcome_within
+  outcome_within-falls zero m xs = omega arith
+  outcome_within-falls (suc f) m xs = at (front m xs) refl (λ m' ys. outcome_within-falls f m' ys)
     where
-      at : (n : course.Front M E F U B) → front m xs ≡ n → ((m' : M) (ys : List B) → count (go front f m' ys).machine ≤ count m') →
-          count (onward (go front f) m xs n).machine ≤ count m
+      at : (n : course.Front M E F U B) → front m xs ≡ n → ((m' : M) (ys : List B) → count (outcome_within front f m' ys).machine ≤ count m') →
+          count (outcome_by_front (outcome_within front f) m xs n).machine ≤ count m
       at (pause u) e ih = omega arith
       at (refuse x) e ih = omega arith
       at (act es m' ys) e ih = omega (arith, ih m' ys, falls m xs es m' ys e)
@@ -40,21 +40,21 @@ module _ {M E F U B : Type 0} (front : M → List B → course.Front M E F U B) 
   -- what comes of an input doesn't raise it
   pub outcome-falls : (m : M) (xs : List B) → count (outcome front left m xs).machine ≤ count m
   unfolding outcome
-  outcome-falls m xs = go-falls (suc (length xs + left m)) m xs
+  outcome-falls m xs = outcome_within-falls (suc (length xs + left m)) m xs
 
 module _ {M E F U B : Type 0} (front : M → List B → course.Front M E F U B) (left : M → ℕ) (lessens : Lessens front left) where
   -- fronts to spare change nothing
-  go-spare : (f g : ℕ) (m : M) (xs : List B) → length xs + left m < f → length xs + left m < g →
-      go front f m xs ≡ go front g m xs
-  unfolding go
-  go-spare zero g m xs hf hg = absurd (omega arith)
-  go-spare (suc f) zero m xs hf hg = absurd (omega arith)
-  go-spare (suc f) (suc g) m xs hf hg =
-      at (front m xs) refl (λ m' ys h h'. go-spare f g m' ys h h')
+  outcome_within-spare : (f g : ℕ) (m : M) (xs : List B) → length xs + left m < f → length xs + left m < g →
+      outcome_within front f m xs ≡ outcome_within front g m xs
+  unfolding outcome_within
+  outcome_within-spare zero g m xs hf hg = absurd (omega arith)
+  outcome_within-spare (suc f) zero m xs hf hg = absurd (omega arith)
+  outcome_within-spare (suc f) (suc g) m xs hf hg =
+      at (front m xs) refl (λ m' ys h h'. outcome_within-spare f g m' ys h h')
     where
       at : (n : course.Front M E F U B) → front m xs ≡ n →
-          ((m' : M) (ys : List B) → length ys + left m' < f → length ys + left m' < g → go front f m' ys ≡ go front g m' ys) →
-          onward (go front f) m xs n ≡ onward (go front g) m xs n
+          ((m' : M) (ys : List B) → length ys + left m' < f → length ys + left m' < g → outcome_within front f m' ys ≡ outcome_within front g m' ys) →
+          outcome_by_front (outcome_within front f) m xs n ≡ outcome_by_front (outcome_within front g) m xs n
       at (pause u) e ih = refl
       at (refuse x) e ih = refl
       at (act es m' ys) e ih =
@@ -62,17 +62,17 @@ module _ {M E F U B : Type 0} (front : M → List B → course.Front M E F U B) 
           ap (prepend es) (ih m' ys (omega arith) (omega arith))
 
   -- what comes of an input is what its front gives, and then what comes of the rest
-  pub outcome-front : (m : M) (xs : List B) → outcome front left m xs ≡ onward (outcome front left) m xs (front m xs)
-  unfolding outcome go
+  pub outcome-front : (m : M) (xs : List B) → outcome front left m xs ≡ outcome_by_front (outcome front left) m xs (front m xs)
+  unfolding outcome outcome_within
   outcome-front m xs = at (front m xs) refl
     where
       at : (n : course.Front M E F U B) → front m xs ≡ n →
-          onward (go front (length xs + left m)) m xs n ≡ onward (outcome front left) m xs n
+          outcome_by_front (outcome_within front (length xs + left m)) m xs n ≡ outcome_by_front (outcome front left) m xs n
       at (pause u) e = refl
       at (refuse x) e = refl
       at (act es m' ys) e =
           let less = lessens m xs es m' ys e in
-          ap (prepend es) (go-spare (length xs + left m) (suc (length ys + left m')) m' ys less (omega arith))
+          ap (prepend es) (outcome_within-spare (length xs + left m) (suc (length ys + left m')) m' ys less (omega arith))
 
 module _ {M E F U B : Type 0} (front : M → List B → course.Front M E F U B) (left : M → ℕ) (lessens : Lessens front left) (stays : Stays front) where
   in_pieces : (f : ℕ) (m : M) (xs ys : List B) → length xs + left m < f →
@@ -80,7 +80,7 @@ module _ {M E F U B : Type 0} (front : M → List B → course.Front M E F U B) 
   in_pieces zero m xs ys h = absurd (omega arith)
   in_pieces (suc f) m xs ys h = at (front m xs) refl (λ m' zs h'. in_pieces f m' zs ys h')
     where
-      whole : (m : M) (xs : List B) → outcome front left m xs ≡ onward (outcome front left) m xs (front m xs)
+      whole : (m : M) (xs : List B) → outcome front left m xs ≡ outcome_by_front (outcome front left) m xs (front m xs)
       whole = outcome-front front left lessens
 
       at : (n : course.Front M E F U B) → front m xs ≡ n →
@@ -109,8 +109,8 @@ IsOfWords _ = ⊤
 -- these entries are put, and the work is then this: nothing, what an opcode's rule gives of words, or what a code's rule gives
 pub data Puts (work : Work) : List Entry → Work → Type 0 where
   puts_nothing : Puts work [] work
-  by_rule : (op : Opcode) (run : List ℕ) (d : Drawn) → All IsWord run → rule work op run ≡ Ok d → Puts work d.entries d.work
-  by_code : (c : Code) (d : Drawn) → IsMade c → code_rule work c ≡ Ok d → Puts work d.entries d.work
+  by_rule : (op : Opcode) (run : List ℕ) (d : RuleResult) → All IsWord run → rule work op run ≡ Ok d → Puts work d.entries d.work
+  by_code : (c : Code) (d : RuleResult) → IsMade c → code_rule work c ≡ Ok d → Puts work d.entries d.work
 
 -- The second is the first with these bytes behind. What is unread after it and what is left then, taken together, are below k,
 -- and no more is left to charge.
@@ -179,7 +179,7 @@ pub words_of-append : (xs ys : List Placed) → words_of (xs ++ ys) ≡ words_of
 words_of-append [] ys = refl
 words_of-append (x ∷ xs) ys = ap (λ (ws : List ℕ). (x.byte - 64) ∷ ws) (words_of-append xs ys)
 
-drawn_fronts : (m : Machine) (place : ℕ) (rest q : List Placed) (by : Result Drawn DrawFault) (k : ℕ) → length rest + left_of m < k → ((d : Drawn) → by ≡ Ok d → Puts m.work d.entries d.work) →
+drawn_fronts : (m : Machine) (place : ℕ) (rest q : List Placed) (by : Result RuleResult DrawFault) (k : ℕ) → length rest + left_of m < k → ((d : RuleResult) → by ≡ Ok d → Puts m.work d.entries d.work) →
     Fronts q m.work m.left k (drawn_front m place rest by) (drawn_front m place (rest ++ q) by)
 drawn_fronts m place rest q (Ok drawn) k h puts = acts refl h (omega arith) (puts drawn refl)
 drawn_fronts m place rest q (Err fault) k h puts = refuses
@@ -324,7 +324,7 @@ front-stays = record {
 }
 
 -- what comes of a list is what its front gives, and then what comes of the rest
-pub outcome_from-front : (m : Machine) (xs : List Placed) → outcome_from m xs ≡ onward outcome_from m xs (front m xs)
+pub outcome_from-front : (m : Machine) (xs : List Placed) → outcome_from m xs ≡ outcome_by_front outcome_from m xs (front m xs)
 outcome_from-front = outcome-front front left_of front-lessens
 
 -- what comes of a list in two pieces

@@ -1,18 +1,18 @@
-use Rattle.nap_reader.proofs.Common.{ActsRun, Bool, Call, Calls, Conveys, Define, DrawFault, Drawn, DrawsBy, Err, Fault, Ghosts, Holding, IsLive, IsOver, LeadsOn, Leaves, LexerState, List, NoCharacters, None, Nothing, Ok, OnErr, OnOk, OpenRun, Option, Placed, Progresses, Refusal, Request, Result, Sink, Some, Stop, Stops, StopsByte, StopsRun, StopsText, Takes, TakesBy, TellsSink, Work, Works, [], after_drawing, ap, arith, asked, asks_if, at_byte, bytes_of, carried, draw_fault, drop, drop-append-le, drop-drop, drop-map, false, false≢true, get_or, if◌then◌else◌, in_text, inl, inr, is_err, length, length-drop, no_names, place_at, placed_at, refl, refusal, rule, run_by, spaced, subst, suc, sym, take, take-add, take-append-drop, true, with_machine, zero, ℕ, ◌*◌, ◌++◌, ◌+◌, ◌-◌, ◌<◌, ◌∙◌, ◌∷◌, ◌≡◌, ◌≢◌, ◌≤◌, ◌⊎◌}
-use Rattle.nap_reader.proofs.Base.{TookMore, byte-spaced, bytes_of-append, halts_then, leads_nowhere, leads_then, stops_then, words_kept}
+use Rattle.nap_reader.proofs.Common.{ActsRun, Bool, Call, Calls, LeadsThrough, Define, DrawFault, RuleResult, DrawsBy, Err, Fault, Ghosts, ReadingState, IsLive, IsOver, LeadsOn, Leaves, LexerState, List, NoCharacters, None, Nothing, Ok, OnErr, OnOk, OpenRun, Option, Placed, Progresses, Refusal, Request, Result, Sink, Some, Stop, Stops, StopsByte, StopsRun, StopsText, Takes, TakesBy, FaultMatchesSink, Work, Works, [], after_drawing, ap, arith, state_after_request, clear_request_if, at_byte, bytes_of, operand_words, draw_fault, drop, drop-append-le, drop-drop, drop-map, false, false≢true, get_or, if◌then◌else◌, in_text, inl, inr, is_err, length, length-drop, no_names, place_at, placed_at, refl, refusal, rule, run_by, placed_by_step, subst, suc, sym, take, take-add, take-append-drop, true, with_machine, zero, ℕ, ◌*◌, ◌++◌, ◌+◌, ◌-◌, ◌<◌, ◌∙◌, ◌∷◌, ◌≡◌, ◌≢◌, ◌≤◌, ◌⊎◌}
+use Rattle.nap_reader.proofs.Base.{TookMore, byte-placed_by_step, bytes_of-append, halts_then, leads_nowhere, leads_then, stops_then, words_kept}
 use Rattle.nap_draw.specs.Draws as draws
 use Rattle.nap_reader.specs.declared.machine.Machine.{Machine}
 
 -- What is held where a machine is known.
 
 -- A rule drew: a sink that was t is u.
-pub record Drew {S : Type 0} (g : Ghosts S) (by : Result Drawn DrawFault) (t : S) (drawn : Drawn) (u : S) : Type 0 where
+pub record Drew {S : Type 0} (g : Ghosts S) (by : Result RuleResult DrawFault) (t : S) (drawn : RuleResult) (u : S) : Type 0 where
   pub is : by ≡ Ok drawn
   pub took : g.took t drawn.entries u
   pub clear : g.failed t ≡ false → g.failed u ≡ false
 
 -- what is held once codes have acted
-pub held_is : {S : Type 0} {g : Ghosts S} (h : Holding) (m : Machine S g) (work : Work) (lexer : LexerState) (open_run : Option OpenRun) → m.work ≡ work → m.lexer ≡ lexer → m.open_run ≡ open_run →
+pub held_is : {S : Type 0} {g : Ghosts S} (h : ReadingState) (m : Machine S g) (work : Work) (lexer : LexerState) (open_run : Option OpenRun) → m.work ≡ work → m.lexer ≡ lexer → m.open_run ≡ open_run →
     with_machine h m ≡ record h { machine = record h.machine { work = work; sets = lexer.sets }; half = lexer.half; open_run = open_run; run = run_by open_run m.run.items }
 held_is h m work lexer open_run is_work is_lexer is_run =
     ap (λ (w : Work). record h { machine = record h.machine { work = w; sets = m.lexer.sets }; half = m.lexer.half; open_run = m.open_run; run = run_by m.open_run m.run.items }) is_work
@@ -20,10 +20,10 @@ held_is h m work lexer open_run is_work is_lexer is_run =
     ∙ ap (λ (o : Option OpenRun). record h { machine = record h.machine { work = work; sets = lexer.sets }; half = lexer.half; open_run = o; run = run_by o m.run.items }) is_run
 
 -- an opcode may unbind all names
-pub asked_is : (h : Holding) (drawn : Drawn) → asked (record h { machine = record h.machine { work = drawn.work } }) (asks_if drawn.clears) ≡ record h { machine = after_drawing h.machine drawn }
+pub asked_is : (h : ReadingState) (drawn : RuleResult) → state_after_request (record h { machine = record h.machine { work = drawn.work } }) (clear_request_if drawn.clears) ≡ record h { machine = after_drawing h.machine drawn }
 asked_is h drawn = at drawn.clears
   where
-    at : (b : Bool) → asked (record h { machine = record h.machine { work = drawn.work } }) (asks_if b)
+    at : (b : Bool) → state_after_request (record h { machine = record h.machine { work = drawn.work } }) (clear_request_if b)
         ≡ record h { machine = record h.machine { work = drawn.work; names = if b then no_names else h.machine.names } }
     at true = refl
     at false = refl
@@ -31,12 +31,12 @@ asked_is h drawn = at drawn.clears
 -- No run is open, before or then, and the machine has this work and this lexer then.
 pub record LeftBy {S : Type 0} {g : Ghosts S} (old new : Machine S g) (work : Work) (lexer : LexerState) : Type 0 where
   pub before : old.open_run ≡ None
-  pub closed : new.open_run ≡ None
+  pub store_bound : new.open_run ≡ None
   pub work_is : new.work ≡ work
   pub lexer_is : new.lexer ≡ lexer
 
 -- this is held then
-pub left_is : {S : Type 0} {g : Ghosts S} {old new : Machine S g} {work : Work} {lexer : LexerState} → LeftBy old new work lexer → (h : Holding) →
+pub left_is : {S : Type 0} {g : Ghosts S} {old new : Machine S g} {work : Work} {lexer : LexerState} → LeftBy old new work lexer → (h : ReadingState) →
     with_machine h new ≡ record (with_machine h old) { machine = record h.machine { work = work; sets = lexer.sets }; half = lexer.half }
 left_is {old = old} {new = new} {work = work} {lexer = lexer} left h =
     held_is h new work lexer None left.work_is left.lexer_is left.closed
@@ -45,9 +45,9 @@ left_is {old = old} {new = new} {work = work} {lexer = lexer} left h =
 -- The open run of a machine.
 module _ {S : Type 0} {g : Ghosts S} (old : Machine S g) (open_run : OpenRun) (is : old.open_run ≡ Some open_run) where
   -- it acts
-  pub executes : (new : Machine S g) (drawn : Drawn) → (new.work ≡ drawn.work) × (new.lexer ≡ old.lexer) × (new.open_run ≡ None) → Drew g (rule old.work open_run.op (carried old.run.items)) old.sink drawn new.sink → (h : Holding) → h.open_body ≡ None →
-      ActsRun g old.sink (with_machine h old) new.sink (asked (with_machine h new) (asks_if drawn.clears))
-  executes new drawn (work, lexer, closed) drew h between = record {
+  pub executes : (new : Machine S g) (drawn : RuleResult) → (new.work ≡ drawn.work) × (new.lexer ≡ old.lexer) × (new.open_run ≡ None) → Drew g (rule old.work open_run.op (operand_words old.run.items)) old.sink drawn new.sink → (h : ReadingState) → h.open_body ≡ None →
+      ActsRun g old.sink (with_machine h old) new.sink (state_after_request (with_machine h new) (clear_request_if drawn.clears))
+  executes new drawn (work, lexer, store_bound) drew h between = record {
     open_run = open_run;
     between = between;
     is = is;
@@ -57,12 +57,12 @@ module _ {S : Type 0} {g : Ghosts S} (old : Machine S g) (open_run : OpenRun) (i
     took = drew.took;
     clear = drew.clear;
     holds =
-        ap (λ (held : Holding). asked held (asks_if drawn.clears)) (held_is h new drawn.work old.lexer None work lexer closed)
+        ap (λ (held : ReadingState). state_after_request held (clear_request_if drawn.clears)) (held_is h new drawn.work old.lexer None work lexer store_bound)
         ∙ asked_is (record (with_machine h old) { open_run = None; run = [] }) drawn;
   }
 
   -- or doesn't
-  pub fails_run : (u : S) (fault : DrawFault) → DrawsBy g.took g.broke g.failed (rule old.work open_run.op (carried old.run.items)) old.sink u fault (draws.cause_of fault) → (h : Holding) → h.open_body ≡ None →
+  pub fails_run : (u : S) (fault : DrawFault) → DrawsBy g.took g.broke g.failed (rule old.work open_run.op (operand_words old.run.items)) old.sink u fault (draws.cause_of fault) → (h : ReadingState) → h.open_body ≡ None →
       StopsRun g old.sink (with_machine h old) u (refusal (draw_fault fault) open_run.place)
   fails_run u fault drew h between = record {
     open_run = open_run;
@@ -85,18 +85,18 @@ lacked (Ok _) A failed was fails so = let bad : ⊥ = cc in absurd bad
 lacked (Err _) A failed was fails so = so
 
 -- it stops
-pub stop_takes : {S : Type 0} {g : Ghosts S} {old new : Machine S g} {bytes : List Placed} {ended : Bool} {count : ℕ} {r : Refusal} {u : S} → new.refusal ≡ Some r → new.sink ≡ u → count ≤ length bytes → TellsSink g old.sink u r.fault →
-    ((h : Holding) (behind : List Placed) → h.open_body ≡ None → (ended ≡ true → IsOver (bytes_of behind)) → Stops g old.sink (with_machine h old) (bytes ++ behind) (length bytes) count u r) → Takes old new bytes ended count Stop
+pub stop_takes : {S : Type 0} {g : Ghosts S} {old new : Machine S g} {bytes : List Placed} {ended : Bool} {count : ℕ} {r : Refusal} {u : S} → new.refusal ≡ Some r → new.sink ≡ u → count ≤ length bytes → FaultMatchesSink g old.sink u r.fault →
+    ((h : ReadingState) (behind : List Placed) → h.open_body ≡ None → (ended ≡ true → IsOver (bytes_of behind)) → Stops g old.sink (with_machine h old) (bytes ++ behind) (length bytes) count u r) → Takes old new bytes ended count Stop
 stop_takes {S} {g} {old} {new} {bytes} {ended} {count} {r} is same few tells stops = record {
   within = few;
-  leaves = record { why = r; is = is; tells = subst (λ (u : S). TellsSink g old.sink u r.fault) (sym same) tells };
+  leaves = record { why = r; is = is; tells = subst (λ (u : S). FaultMatchesSink g old.sink u r.fault) (sym same) tells };
   goes = λ some. inr (inl refl);
   closed = λ nothing. let bad : ⊥ = cc in absurd bad;
   by = λ h behind between over. (r, is, subst (λ (u : S). Stops g old.sink (with_machine h old) (bytes ++ behind) (length bytes) count u r) (sym same) (stops h behind between over));
 }
 
 -- a fault that isn't the sink's tells nothing of it
-pub own_tells : {S : Type 0} (g : Ghosts S) (t : S) {fault : Fault} → fault ≢ Sink → TellsSink g t t fault
+pub own_tells : {S : Type 0} (g : Ghosts S) (t : S) {fault : Fault} → fault ≢ Sink → FaultMatchesSink g t t fault
 own_tells g t other = (λ device. absurd (other device), λ works fails. absurd (false≢true (sym works ∙ fails)))
 
 -- it goes on where its sink worked if it did before
@@ -111,29 +111,29 @@ leaves_from {g = g} old mid new request still leaves = by request leaves
     by _ w = works w
 
 -- it may ask that all names are unbound
-pub asks_takes : {S : Type 0} {g : Ghosts S} {old new : Machine S g} {xs : List Placed} {ended : Bool} {count : ℕ} (clears : Bool) → Works old new → new.open_run ≡ None → count ≤ length xs → (0 < length xs → Progresses old new count (asks_if clears)) →
-    ((h : Holding) (behind : List Placed) → h.open_body ≡ None → (ended ≡ true → IsOver (bytes_of behind)) →
-    LeadsOn g old.sink (with_machine h old) new.sink (asked (with_machine h new) (asks_if clears)) (take count (xs ++ behind)) (bytes_of (drop count (xs ++ behind)))) → Takes old new xs ended count (asks_if clears)
-asks_takes true works closed few goes leads = record { within = few; leaves = works; goes = goes; closed = λ nothing less. closed; by = leads }
-asks_takes false works closed few goes leads = record { within = few; leaves = works; goes = goes; closed = λ nothing less. closed; by = leads }
+pub asks_takes : {S : Type 0} {g : Ghosts S} {old new : Machine S g} {xs : List Placed} {ended : Bool} {count : ℕ} (clears : Bool) → Works old new → new.open_run ≡ None → count ≤ length xs → (0 < length xs → Progresses old new count (clear_request_if clears)) →
+    ((h : ReadingState) (behind : List Placed) → h.open_body ≡ None → (ended ≡ true → IsOver (bytes_of behind)) →
+    LeadsOn g old.sink (with_machine h old) new.sink (state_after_request (with_machine h new) (clear_request_if clears)) (take count (xs ++ behind)) (bytes_of (drop count (xs ++ behind)))) → Takes old new xs ended count (clear_request_if clears)
+asks_takes true works store_bound few goes leads = record { within = few; leaves = works; goes = goes; closed = λ nothing less. store_bound; by = leads }
+asks_takes false works store_bound few goes leads = record { within = few; leaves = works; goes = goes; closed = λ nothing less. store_bound; by = leads }
 
 -- It takes one byte.
 pub one_takes : {S : Type 0} {g : Ghosts S} {old new : Machine S g} {x : Placed} {zs : List Placed} {ended : Bool} {request : Request} → Leaves old new request → new.open_run ≡ None →
-    ((h : Holding) (behind : List Placed) → h.open_body ≡ None → TakesBy g old.sink (with_machine h old) new.sink (with_machine h new) (x ∷ (zs ++ behind)) (length (x ∷ zs)) 1 new.refusal request) → Takes old new (x ∷ zs) ended 1 request
-one_takes leaves closed by = record {
+    ((h : ReadingState) (behind : List Placed) → h.open_body ≡ None → TakesBy g old.sink (with_machine h old) new.sink (with_machine h new) (x ∷ (zs ++ behind)) (length (x ∷ zs)) 1 new.refusal request) → Takes old new (x ∷ zs) ended 1 request
+one_takes leaves store_bound by = record {
   within = omega arith;
   leaves = leaves;
   goes = λ some. inl (omega arith);
-  closed = λ nothing less. closed;
+  closed = λ nothing less. store_bound;
   by = λ h behind between over. by h behind between;
 }
 
 -- the bytes of a slice from one on
 pub takes_at : {S : Type 0} {g : Ghosts S} {old new : Machine S g} (place step : ℕ) (bytes : List ℕ) (at : ℕ) → at < length bytes → {ended : Bool} {count n : ℕ} {request : Request} → count ≡ at + n →
-    Takes old new (placed_at (get_or bytes at 0) (place + step * at) ∷ spaced (place + step * (at + 1)) step (drop (at + 1) bytes)) ended n request → Takes old new (drop at (spaced place step bytes)) ended (count - at) request
+    Takes old new (placed_at (get_or bytes at 0) (place + step * at) ∷ placed_by_step (place + step * (at + 1)) step (drop (at + 1) bytes)) ended n request → Takes old new (drop at (placed_by_step place step bytes)) ended (count - at) request
 takes_at {old = old} {new = new} place step bytes at less {ended} {count} {n} {request} is takes =
-    subst (λ (k : ℕ). Takes old new (drop at (spaced place step bytes)) ended k request) (let e : n ≡ count - at = omega (arith, is) in e)
-    (subst (λ (xs : List Placed). Takes old new xs ended n request) (sym (byte-spaced place step bytes at less)) takes)
+    subst (λ (k : ℕ). Takes old new (drop at (placed_by_step place step bytes)) ended k request) (let e : n ≡ count - at = omega (arith, is) in e)
+    (subst (λ (xs : List Placed). Takes old new xs ended n request) (sym (byte-placed_by_step place step bytes at less)) takes)
 
 -- What a machine takes of bytes, and then of those behind them.
 
@@ -153,9 +153,9 @@ next_parts all n m =
     ap bytes_of (sym (take-append-drop m (drop n all))) ∙ bytes_of-append (take m (drop n all)) (drop m (drop n all))
     ∙ ap (λ (xs : List Placed). bytes_of (take m (drop n all)) ++ bytes_of xs) (two_parts all n m).1
 
-module _ {S : Type 0} {g : Ghosts S} {t : S} {h : Holding} {u : S} {h' : Holding} (all : List Placed) (n : ℕ) (more : TookMore g) (first : LeadsOn g t h u h' (take n all) (bytes_of (drop n all))) where
+module _ {S : Type 0} {g : Ghosts S} {t : S} {h : ReadingState} {u : S} {h' : ReadingState} (all : List Placed) (n : ℕ) (more : TookMore g) (first : LeadsOn g t h u h' (take n all) (bytes_of (drop n all))) where
   -- They lead on.
-  pub leads_behind : {v : S} {h'' : Holding} (m : ℕ) → LeadsOn g u h' v h'' (take m (drop n all)) (bytes_of (drop m (drop n all))) →
+  pub leads_behind : {v : S} {h'' : ReadingState} (m : ℕ) → LeadsOn g u h' v h'' (take m (drop n all)) (bytes_of (drop m (drop n all))) →
       LeadsOn g t h v h'' (take (n + m) all) (bytes_of (drop (n + m) all))
   leads_behind {v} {h''} m later =
       let parts = two_parts all n m in
@@ -170,18 +170,18 @@ module _ {S : Type 0} {g : Ghosts S} {t : S} {h : Holding} {u : S} {h' : Holding
       let is : bytes_of (drop n all) ≡ bytes_of (take m (drop n all)) ++ x.byte ∷ bytes_of behind =
       next_parts all n m ∙ ap (λ (xs : List Placed). bytes_of (take m (drop n all)) ++ bytes_of xs) (sym parts.1 ∙ there) in
       let both = stops_then more first (take m (drop n all)) (bytes_of behind) is c stops in
-      let k = subst (λ (xs : List Placed). (k : Conveys g t h xs) × StopsByte g k.sink k.holding x v r) (sym parts.0) both in
+      let k = subst (λ (xs : List Placed). (k : LeadsThrough g t h xs) × StopsByte g k.sink k.holding x v r) (sym parts.0) both in
       at_byte x behind (sym parts.1 ∙ there) k.0 k.1
   stops_behind {v} {r} many m (in_text before taken size is less within place c stops) =
       let parts = two_parts all n before in
       let text = bytes_of (take size (drop before (drop n all))) in
       let both = halts_then more first (take before (drop n all)) (bytes_of (drop (n + before) all)) (next_parts all n before) c stops in
-      let k = subst (λ (xs : List Placed). (k : Conveys g t h xs) × StopsText g k.sink k.holding text taken v r) (sym parts.0) both in
+      let k = subst (λ (xs : List Placed). (k : LeadsThrough g t h xs) × StopsText g k.sink k.holding text taken v r) (sym parts.0) both in
       in_text (n + before) taken size (omega (arith, is)) less (omega (arith, within, less)) (sym (place_at-drop all n m) ∙ place) k.0
       (subst (λ (xs : List Placed). StopsText g k.0.sink k.0.holding (bytes_of (take size xs)) taken v r) parts.1 k.1)
 
   -- They lead to a call.
-  pub calls_behind : {v : S} {h'' : Holding} {name : ℕ} (m : ℕ) → Calls g u h' v h'' (drop n all) m name → Calls g t h v h'' all (n + m) name
+  pub calls_behind : {v : S} {h'' : ReadingState} {name : ℕ} (m : ℕ) → Calls g u h' v h'' (drop n all) m name → Calls g t h v h'' all (n + m) name
   calls_behind m calls = record {
     byte = calls.byte;
     behind = calls.behind;
@@ -197,7 +197,7 @@ module _ {S : Type 0} {g : Ghosts S} {t : S} {h : Holding} {u : S} {h' : Holding
     named = calls.named;
   }
 
-  pub takes_behind : (new : Machine S g) (k : Holding) (request : Request) (many m : ℕ) → TakesBy g u h' new.sink (with_machine k new) (drop n all) (many - n) m new.refusal request → TakesBy g t h new.sink (with_machine k new) all many (n + m) new.refusal request
+  pub takes_behind : (new : Machine S g) (k : ReadingState) (request : Request) (many m : ℕ) → TakesBy g u h' new.sink (with_machine k new) (drop n all) (many - n) m new.refusal request → TakesBy g t h new.sink (with_machine k new) all many (n + m) new.refusal request
   takes_behind new k (Define name show) many m (some, graphic, later) = (omega (arith, some), graphic, leads_behind m later)
   takes_behind new k (Call name) many m (index, counted, calls) = (n + index, omega (arith, counted), calls_behind index calls)
   takes_behind new k Stop many m (why, is, stops) = (why, is, stops_behind many m stops)
@@ -207,7 +207,7 @@ module _ {S : Type 0} {g : Ghosts S} {t : S} {h : Holding} {u : S} {h' : Holding
 pub record Took {S : Type 0} {g : Ghosts S} (old new : Machine S g) (xs : List Placed) (ended : Bool) (count : ℕ) : Type 0 where
   pub within : count ≤ length xs
   pub works : Works old new
-  pub by : (h : Holding) (behind : List Placed) → h.open_body ≡ None → (ended ≡ true → IsOver (bytes_of behind)) →
+  pub by : (h : ReadingState) (behind : List Placed) → h.open_body ≡ None → (ended ≡ true → IsOver (bytes_of behind)) →
       LeadsOn g old.sink (with_machine h old) new.sink (with_machine h new) (take count (xs ++ behind)) (bytes_of (drop count (xs ++ behind)))
 
 -- It took none so far, and is as it was.
@@ -219,7 +219,7 @@ took_same {g = g} {xs = xs} left same live = record {
 }
 
 pub took_none : {S : Type 0} {g : Ghosts S} {old : Machine S g} (xs : List Placed) (ended : Bool) → IsLive old → old.open_run ≡ None → Took old old xs ended 0
-took_none xs ended live closed = took_same (record { before = closed; closed = closed; work_is = refl; lexer_is = refl }) refl live
+took_none xs ended live store_bound = took_same (record { before = store_bound; closed = store_bound; work_is = refl; lexer_is = refl }) refl live
 
 -- Nothing is asked.
 pub took : {S : Type 0} {g : Ghosts S} {old new : Machine S g} {xs : List Placed} {ended : Bool} {count : ℕ} → Takes old new xs ended count Nothing → Took old new xs ended count
@@ -251,13 +251,13 @@ takes_then {g = g} {old = old} {mid = mid} {new = new} {xs = xs} {count = count}
 }
   where
     by_goes : mid.open_run ≡ None → Progresses mid new n request → Progresses old new (count + n) request
-    by_goes closed (inl some) = inl (omega (arith, some))
-    by_goes closed (inr (inl stops)) = inr (inl stops)
-    by_goes closed (inr (inr (over, opened))) = absurd (opened closed)
+    by_goes store_bound (inl some) = inl (omega (arith, some))
+    by_goes store_bound (inr (inl stops)) = inr (inl stops)
+    by_goes store_bound (inr (inr (over, opened))) = absurd (opened store_bound)
 
     by_further : (0 < count) ⊎ ((count < length xs) × (mid.open_run ≡ None)) → Progresses old new (count + n) request
     by_further (inl some) = inl (omega (arith, some))
-    by_further (inr (less, closed)) = by_goes closed (takes.goes (omega (arith, less, length-drop count xs)))
+    by_further (inr (less, store_bound)) = by_goes store_bound (takes.goes (omega (arith, less, length-drop count xs)))
 
 -- It took none before, and was as it is.
 pub takes_same : {S : Type 0} {g : Ghosts S} {old mid new : Machine S g} {xs : List Placed} {ended : Bool} {n : ℕ} {request : Request} → Takes mid new xs ended n request → LeftBy old mid old.work old.lexer → mid.sink ≡ old.sink → IsLive mid → TookMore g → 0 < length xs →

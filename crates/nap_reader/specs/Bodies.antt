@@ -2,14 +2,14 @@ use Rattle.std.specs.Prelude.{ℕ, suc, ◌-◌, ◌==◌, ◌&&◌, nat_le, Boo
 use Rattle.nap_reader.specs.declared.fault.Fault.{Fault}
 use Rattle.nap_reader.specs.declared.fault.Fault.TheVariants as faults
 
--- The bodies of macros.
+-- The bodies of macros (PROFILE.md, Macros).
 
--- where a stream stands: between two codes, or in the body of the macro of this name, which is shown at its end or not
+-- where a stream is: between two codes, or in the body of the macro of this name, which is presented at its end or not
 pub data Mode : Type 0 where
   between : Mode
   in_body : ℕ → Bool → Mode
 
--- the bodies of the 96 names; a name that isn't bound has an empty one, which does as little
+-- the bodies of the 96 names; a name that isn't bound has an empty one, which has the same effect
 abbrev pub no_names : List (List ℕ)
 no_names = replicate 96 []
 
@@ -23,28 +23,28 @@ bind names name body = set names (name - 0x20) body
 abbrev pub store_limit : ℕ
 store_limit = 1048576
 
--- what stands behind the name of a definition: no end of the body yet; a fault, with the index of the byte at which it
--- stands; or so many bytes of the body, and then the two bytes that end it
+-- what comes after the name of a definition: no end of the body yet; a fault, with the index of its byte; or the number
+-- of bytes of the body, before the two bytes that end it
 pub data BodyFront : Type 0 where
   unfinished : BodyFront
   refused : Fault → ℕ → BodyFront
   ended : ℕ → BodyFront
 
--- the same, where it is known of the bytes behind the first, which belongs to the body
-abbrev pub one_further : BodyFront → BodyFront
-one_further unfinished = unfinished
-one_further (refused fault i) = refused fault (suc i)
-one_further (ended n) = ended (suc n)
+-- the body's state with one byte before those of which it is known, which belongs to the body
+abbrev pub one_byte_later : BodyFront → BodyFront
+one_byte_later unfinished = unfinished
+one_byte_later (refused fault i) = refused fault (suc i)
+one_byte_later (ended n) = ended (suc n)
 
--- a byte of the body, which needs room in the store
+-- a byte of the body, which needs space in the store
 abbrev pub stores : ℕ → BodyFront → BodyFront
-stores room further = if room == 0 then refused faults.Store 0 else one_further further
+stores room further = if room == 0 then refused faults.Store 0 else one_byte_later further
 
--- whether a byte behind ESC ends a body: DEF MACRO, DEFP MACRO, DEFT MACRO, DEF DRCS, DEF TEXTURE or END
+-- whether a byte after ESC ends a body: DEF MACRO, DEFP MACRO, DEFT MACRO, DEF DRCS, DEF TEXTURE or END
 abbrev pub ends_body : ℕ → Bool
 ends_body byte = nat_le 0x40 byte && nat_le byte 0x45
 
--- ESC, which belongs to the body where a byte behind it neither ends the body nor has the eighth bit
+-- ESC, which belongs to the body if the byte after it neither ends the body nor has the eighth bit
 abbrev pub at_escape : ℕ → List ℕ → BodyFront → BodyFront
 at_escape room [] further = unfinished
 at_escape room (byte ∷ bytes) further =
@@ -54,7 +54,7 @@ abbrev pub at_byte : ℕ → ℕ → List ℕ → BodyFront → BodyFront
 at_byte room byte bytes further =
     if nat_le 0x80 byte then refused faults.EighthBit 0 else if byte == 0x1B then at_escape room bytes further else stores room further
 
--- what stands behind the name of a definition, where the store has this room left
+-- what comes after the name of a definition, if the store has this much space left
 unfoldable pub body_front : ℕ → List ℕ → BodyFront
 body_front room [] = unfinished
 body_front room (byte ∷ bytes) = at_byte room byte bytes (body_front (room - 1) bytes)

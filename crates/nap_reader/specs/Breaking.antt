@@ -6,9 +6,9 @@ use Rattle.nap_reader.specs.declared.fault.Fault.TheVariants as faults
 use Rattle.nap_reader.specs.declared.fault.Refusal.{Refusal}
 use Rattle.nap_reader.specs.Stream.{Outcome, Unfinished, open_run, open_body, is_operand_byte, begun, with_run}
 
--- Where a reading breaks that the stream itself doesn't refuse: memory is wanting, or the sink's device fails.
+-- Where reading breaks though the stream itself isn't refused: memory is lacking, or the sink's device fails.
 
--- where the fault of a refusal comes from
+-- the cause of a refusal, by its fault
 abbrev pub cause_of : Fault → Cause
 cause_of faults.Memory = memory
 cause_of faults.Sink = device
@@ -22,122 +22,124 @@ run_place _ = None
 abbrev pub open_place : Outcome → Option ℕ
 open_place o = run_place o.unfinished
 
--- what is known once this byte shows whether an open run is over
+-- the outcome once this byte shows whether an open run is over
 abbrev pub closed_by : Outcome → ℕ → Outcome
 closed_by o b = if is_operand_byte b then o else with_run o
 
--- the byte joins an open run
+-- the byte is one more of an open run
 abbrev pub Joins : Outcome → ℕ → Type 0
 Joins o b = (is_operand_byte b ≡ true) × IsSome (open_place o)
 
--- the byte stands in a body
-abbrev pub StandsInBody : Outcome → Type 0
-StandsInBody o = o.unfinished ≡ Some open_body
+-- the byte is in a body
+abbrev pub IsInBody : Outcome → Type 0
+IsInBody o = o.unfinished ≡ Some open_body
 
--- a body that is called or shown by a byte behind p is charged
+-- a body that a byte after p calls or presents is charged
 abbrev pub IsCharged : ℕ → List ℕ → ℕ → Type 0
 IsCharged budget p b = (begun budget (p ++ b ∷ [])).machine.left < (begun budget p).machine.left
 
--- A byte behind p stands in a body, or calls or shows one, of which further bytes are read then.
+-- A byte after p is in a body, or calls or presents one, of which further bytes are read then.
 abbrev pub UsesBody : ℕ → List ℕ → ℕ → Type 0
-UsesBody budget p b = StandsInBody (begun budget p) ⊎ IsCharged budget p b
+UsesBody budget p b = IsInBody (begun budget p) ⊎ IsCharged budget p b
 
--- A byte behind p joins an open run, or uses a body: the reader may want memory of its own.
+-- A byte after p is one more of an open run, or uses a body: the reader may need memory of its own.
 abbrev pub WantsMemory : ℕ → List ℕ → ℕ → Type 0
 WantsMemory budget p b = Joins (begun budget p) b ⊎ UsesBody budget p b
 
--- A byte behind p joins an open run, or brings entries: more than those of the run that it ends. Or it uses a body.
-abbrev pub Brings : ℕ → List ℕ → ℕ → Type 0
-Brings budget p b =
+-- A byte after p is one more of an open run, or adds entries besides those of the run that it ends, or uses a body.
+abbrev pub AddsEntries : ℕ → List ℕ → ℕ → Type 0
+AddsEntries budget p b =
     Joins (begun budget p) b ⊎ ((begun budget (p ++ b ∷ [])).entries ≢ (closed_by (begun budget p) b).entries) ⊎ UsesBody budget p b
 
--- The place of what breaks with a byte behind p: of the opcode whose run it ends, or of the byte, which is one that can
--- break; where the stream itself refuses nothing, but that it may refuse what comes of a body that is charged.
+-- The place of what breaks at a byte after p: that of the opcode whose run the byte ends, or of the byte, if it is one
+-- that can break. The stream itself isn't refused there, except by what comes of a body that is charged.
 abbrev pub PlacedWith : (ℕ → List ℕ → ℕ → Type 0) → ℕ → List ℕ → ℕ → ℕ → Type 0
 PlacedWith Can budget p b place =
     ((is_operand_byte b ≡ false) × (open_place (begun budget p) ≡ Some place) × ((with_run (begun budget p)).refusal ≡ None))
     ⊎ ((place ≡ length p) × Can budget p b × (IsCharged budget p b ⊎ ((begun budget (p ++ b ∷ [])).refusal ≡ None)))
 
--- the same within a whole stream: where one of its bytes is read, or at the opcode that acts at its end
+-- the place of what breaks within a whole stream: that of one of its bytes, or of the opcode that acts at its end
 abbrev pub PlacedWithin : (ℕ → List ℕ → ℕ → Type 0) → ℕ → List ℕ → ℕ → Type 0
 PlacedWithin Can budget p place =
     ((i : ℕ) × (i < length p) × PlacedWith Can budget (take i p) (slice_index p i) place)
     ⊎ ((open_place (begun budget p) ≡ Some place) × ((with_run (begun budget p)).refusal ≡ None))
 
--- a byte behind p can break here
+-- reading can break here, at a byte after p
 abbrev pub CanBreakAt : ℕ → List ℕ → ℕ → ℕ → Type 0
-CanBreakAt budget p b place = PlacedWith Brings budget p b place
+CanBreakAt budget p b place = PlacedWith AddsEntries budget p b place
 
--- a whole stream can break here
+-- reading of a whole stream can break here
 abbrev pub BreaksWithin : ℕ → List ℕ → ℕ → Type 0
-BreaksWithin budget p place = PlacedWithin Brings budget p place
+BreaksWithin budget p place = PlacedWithin AddsEntries budget p place
 
--- a reader can lack memory of its own here, with a byte behind p
+-- a reader can lack memory of its own here, at a byte after p
 abbrev pub CanLackAt : ℕ → List ℕ → ℕ → ℕ → Type 0
 CanLackAt budget p b place = PlacedWith WantsMemory budget p b place
 
--- the same within a whole stream
+-- a reader can lack memory of its own here, within a whole stream
 abbrev pub LacksWithin : ℕ → List ℕ → ℕ → Type 0
 LacksWithin budget p place = PlacedWithin WantsMemory budget p place
 
--- What a sink has then: a sink that was s took what was known, and of the entries that come next none or a front, behind
--- which there is one that it hasn't; or that one broke.
+-- What a sink has then: a sink that was s took the known entries, and none or a prefix of those that come next, after
+-- which there is at least one that it hasn't; or one of them broke.
 abbrev pub TookPart : {S : Type 0} → Ghosts S → S → List Entry → List Entry → S → Cause → Type 0
 TookPart g s known more t stream = ⊥
 TookPart g s known more t memory = g.took s known t ⊎ Stops (λ s es t. g.took s (known ++ es) t) s more t
 TookPart g s known more t device =
     ((g.failed s ≡ true) × g.took s known t) ⊎ Breaks (λ s es e t. g.broke s (known ++ es) e t) s more t
 
--- The sink has all entries of the one outcome, and a part of those that the other has more. That has no refusal.
+-- The sink has all entries of the one outcome, and a part of those that the other outcome has more. The other outcome
+-- has no refusal.
 pub record BreaksBetween {S : Type 0} (g : Ghosts S) (s : S) (before after : Outcome) (t : S) (cause : Cause) : Type 0 where
   pub more : List Entry
   pub adds : after.entries ≡ before.entries ++ more
   pub unrefused : after.refusal ≡ None
-  pub part : TookPart g s before.entries more t cause
+  pub sublist : TookPart g s before.entries more t cause
 
--- a part of a list was taken, or all of it
+-- a prefix of a list was taken, or all of it
 abbrev pub TakesPart : {S : Type 0} → Ghosts S → S → List Entry → List Entry → S → Type 0
 TakesPart g s known more t = (first : List Entry) × (rest : List Entry) × (more ≡ first ++ rest) × g.took s (known ++ first) t
 
--- What a sink has then where a body is charged: what was known, and of the entries that come next a part; or one of them broke.
+-- What a sink has then if a body is charged: the known entries, and a prefix of those that come next; or one of them
+-- broke.
 abbrev pub TookFront : {S : Type 0} → Ghosts S → S → List Entry → List Entry → S → Cause → Type 0
 TookFront g s known more t stream = ⊥
 TookFront g s known more t memory = TakesPart g s known more t
 TookFront g s known more t device =
     ((g.failed s ≡ true) × TakesPart g s known more t) ⊎ Breaks (λ s es e t. g.broke s (known ++ es) e t) s more t
 
--- A sink that was s has the entries that were known, and a part of those that the outcome has more.
+-- A sink that was s has the known entries, and a part of those that the outcome has more.
 pub record BreaksFrom {S : Type 0} (g : Ghosts S) (s : S) (known : List Entry) (o : Outcome) (t : S) (cause : Cause) : Type 0 where
   pub more : List Entry
   pub adds : o.entries ≡ known ++ more
-  pub part : TookFront g s known more t cause
+  pub sublist : TookFront g s known more t cause
 
--- the opcode whose run is open behind p acts, and breaks
+-- the opcode whose run is open after p acts, and breaks
 pub record BreaksInRun {S : Type 0} (g : Ghosts S) (s : S) (budget : ℕ) (p : List ℕ) (t : S) (r : Refusal) : Type 0 where
   pub place : open_place (begun budget p) ≡ Some r.place
-  pub part : BreaksBetween g s (begun budget p) (with_run (begun budget p)) t (cause_of r.fault)
+  pub sublist : BreaksBetween g s (begun budget p) (with_run (begun budget p)) t (cause_of r.fault)
 
--- What is known once the byte behind p shows whether a run is over is there, and of what is known with the byte a part, not
--- all of it; or what was known before, and as much as came of a body that is charged.
+-- The sink has the entries known once the byte after p shows whether a run is over, and a part of those known with the
+-- byte, not all; or the entries known before, and those that came of a body that is charged.
 abbrev pub BreaksWith : {S : Type 0} → Ghosts S → S → ℕ → List ℕ → ℕ → S → Cause → Type 0
 BreaksWith g s budget p b t cause =
     BreaksBetween g s (closed_by (begun budget p) b) (begun budget (p ++ b ∷ [])) t cause
     ⊎ (IsCharged budget p b × BreaksFrom g s (begun budget p).entries (begun budget (p ++ b ∷ [])) t cause)
 
--- The byte behind p breaks at its own place: what it joins or brings isn't all there, but what the run gives that it ends.
--- Memory was wanting to the reader itself, or to its sink for these entries.
+-- The byte after p breaks at its own place: not all of the entries that it adds are there, but those of the run that it
+-- ends are. Memory was lacking to the reader itself, or to its sink for these entries.
 pub record BreaksAtByte {S : Type 0} (g : Ghosts S) (s : S) (budget : ℕ) (p : List ℕ) (b : ℕ) (t : S) (r : Refusal) : Type 0 where
   pub place : r.place ≡ length p
-  pub brings : Brings budget p b
+  pub brings : AddsEntries budget p b
   pub wants : cause_of r.fault ≡ memory → WantsMemory budget p b ⊎ g.wants s (begun budget (p ++ b ∷ [])).entries
-  pub part : BreaksWith g s budget p b t (cause_of r.fault)
+  pub sublist : BreaksWith g s budget p b t (cause_of r.fault)
 
 -- the entries of the one outcome are the first of the other's
 abbrev pub Begins : Outcome → Outcome → Type 0
 Begins o whole = (more : List Entry) × (whole.entries ≡ o.entries ++ more)
 
--- The byte behind p breaks: the opcode whose run it ends does, whose entries come first of those with the byte; or what it
--- brings itself.
+-- The byte after p breaks: either the opcode whose run it ends, whose entries come first of those with the byte; or
+-- what the byte adds itself.
 abbrev pub BreaksAt : {S : Type 0} → Ghosts S → S → ℕ → List ℕ → ℕ → S → Refusal → Type 0
 BreaksAt g s budget p b t r =
     ((is_operand_byte b ≡ false) × Begins (with_run (begun budget p)) (begun budget (p ++ b ∷ [])) × BreaksInRun g s budget p t r)

@@ -1,11 +1,11 @@
 use Rattle.std.specs.Prelude.{ℕ}
 
--- How many bytes of bodies one reading may be charged with (our profile).
+-- The number of bytes of bodies that one reading may be charged with (PROFILE.md, Macros).
 
--- the most that can be chosen
+-- the greatest budget that can be chosen
 abbrev pub most_budget : ℕ
 most_budget = 67108864
 
--- the usual number
+-- the usual budget
 abbrev pub usual_budget : ℕ
 usual_budget = 1048576

@@ -12,7 +12,7 @@ abbrev pub HasRule : Option OpenRun → Type 0
 HasRule None = ⊤
 HasRule (Some open_run) = IsDrawn open_run.op
 
--- This has one proof at most, so a value may carry it.
+-- HasRule has at most one proof, so a value may carry it.
 pub HasRule-prop : (open_run : Option OpenRun) → IsProp (HasRule open_run)
 HasRule-prop None = hlevel props
 HasRule-prop (Some open_run) = IsDrawn-prop open_run.op
@@ -26,11 +26,11 @@ pub HasName-prop : (body : Option OpenBody) → IsProp (HasName body)
 HasName-prop None = hlevel props
 HasName-prop (Some body) = hlevel props
 
--- all bytes from 20 to 7F are by themselves characters of this set
+-- each of the bytes from 20 to 7F alone is a character of this set
 abbrev pub AllCharacters : CodeSets → CharSet → Type 0
 AllCharacters sets set = (b : ℕ) → IsGraphic b → codes.front sets (b ∷ []) ≡ codes.whole (code.Char set b) 1 sets
 
--- they aren't where a run is open
+-- the bytes from 20 to 7F aren't characters while a run is open
 abbrev pub NoCharacters : LexerState → Option OpenRun → Type 0
 NoCharacters lexer None = ⊤
 NoCharacters lexer (Some open_run) = (set : CharSet) → AllCharacters lexer.sets set → ⊥

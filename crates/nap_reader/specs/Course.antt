@@ -1,14 +1,14 @@
 use Rattle.std.specs.Prelude.{ℕ, suc, zero, ◌+◌, ◌≡◌, ◌<◌, List, [], ◌++◌, length, Option, Some, None}
 
--- What stands at the front of a machine's input: nothing that is whole yet, with what is unfinished; a refusal; or a code
--- that acts. That gives its entries, the machine that it leaves, and the input that stands there then.
+-- What is at the front of a machine's input: no complete code yet, with what is unfinished; a refusal; or a code that
+-- acts, with its entries, the machine after it, and the input that remains.
 pub data Front (M E F U B : Type 0) : Type 0 where
   pause : U → Front M E F U B
   refuse : F → Front M E F U B
   act : List E → M → List B → Front M E F U B
 
--- What comes of an input: the entries; the refusal where there is one, else what is unfinished; the machine, and the
--- input that is not whole.
+-- What comes of an input: the entries; the refusal, or else what is unfinished; the machine, and the input that isn't
+-- complete.
 pub record Outcome (M E F U B : Type 0) : Type 0 where
   pub entries : List E
   pub refusal : Option F
@@ -16,7 +16,7 @@ pub record Outcome (M E F U B : Type 0) : Type 0 where
   pub machine : M
   pub rest : List B
 
--- these entries first
+-- the outcome with these entries first
 abbrev pub prepend : {M E F U B : Type 0} → List E → Outcome M E F U B → Outcome M E F U B
 prepend es o = record { entries = es ++ o.entries; refusal = o.refusal; unfinished = o.unfinished; machine = o.machine; rest = o.rest }
 
@@ -26,23 +26,23 @@ paused m xs u = record { entries = []; refusal = None; unfinished = u; machine =
 abbrev pub refused : {M E F U B : Type 0} → M → F → Outcome M E F U B
 refused m f = record { entries = []; refusal = Some f; unfinished = None; machine = m; rest = [] }
 
--- what comes of an input by its front, where what comes of the input after that is known
-abbrev pub onward : {M E F U B : Type 0} → (M → List B → Outcome M E F U B) → M → List B → Front M E F U B → Outcome M E F U B
-onward next m xs (pause u) = paused m xs (Some u)
-onward next m xs (refuse f) = refused m f
-onward next m xs (act es m' ys) = prepend es (next m' ys)
+-- the outcome of an input by its front, if the outcome of the input after it is known
+abbrev pub outcome_by_front : {M E F U B : Type 0} → (M → List B → Outcome M E F U B) → M → List B → Front M E F U B → Outcome M E F U B
+outcome_by_front next m xs (pause u) = paused m xs (Some u)
+outcome_by_front next m xs (refuse f) = refused m f
+outcome_by_front next m xs (act es m' ys) = prepend es (next m' ys)
 
--- front after front, this many at most
-unfoldable pub go : {M E F U B : Type 0} → (M → List B → Front M E F U B) → ℕ → M → List B → Outcome M E F U B
-go front zero m xs = paused m xs None
-go front (suc fuel) m xs = onward (go front fuel) m xs (front m xs)
+-- the outcome after this many fronts at most
+unfoldable pub outcome_within : {M E F U B : Type 0} → (M → List B → Front M E F U B) → ℕ → M → List B → Outcome M E F U B
+outcome_within front zero m xs = paused m xs None
+outcome_within front (suc fuel) m xs = outcome_by_front (outcome_within front fuel) m xs (front m xs)
 
--- Front after front, until nothing whole is left. Each code that acts lessens what is unread and what the machine has
--- left, taken together, so this many fronts are enough.
+-- The outcome of all fronts, until no complete code is left. Each code that acts lessens what is unread and what the
+-- machine has left, taken together, so this many fronts are enough.
 unfoldable pub outcome : {M E F U B : Type 0} → (M → List B → Front M E F U B) → (M → ℕ) → M → List B → Outcome M E F U B
-outcome front left m xs = go front (suc (length xs + left m)) m xs
+outcome front left m xs = outcome_within front (suc (length xs + left m)) m xs
 
--- what comes of an input once more of it has come, where what came of the input before is known
+-- the outcome once more of the input has come, if the outcome of the input before is known
 abbrev pub continue_by : {M E F U B : Type 0} → (M → List B → Outcome M E F U B) → Option F → Outcome M E F U B → List B → Outcome M E F U B
 continue_by next (Some f) o ys = o
 continue_by next None o ys = prepend o.entries (next o.machine (o.rest ++ ys))
@@ -55,7 +55,7 @@ abbrev pub Lessens : {M E F U B : Type 0} → (M → List B → Front M E F U B)
 Lessens {M} {E} {F} {U} {B} front left = (m : M) (xs : List B) (es : List E) (m' : M) (ys : List B) →
     front m xs ≡ act es m' ys → length ys + left m' < length xs + left m
 
--- A front that is whole stays what it is when more input comes behind it.
+-- A complete front stays what it is when more input comes after it.
 pub record Stays {M E F U B : Type 0} (front : M → List B → Front M E F U B) : Type 0 where
   pub acting : (m : M) (xs : List B) (es : List E) (m' : M) (ys zs : List B) →
       front m xs ≡ act es m' ys → front m (xs ++ zs) ≡ act es m' (ys ++ zs)

@@ -5,7 +5,7 @@ use Rattle.nap_draw.specs.declared.fault.DrawFault.TheVariants as draw_faults
 use Rattle.nap_reader.specs.declared.fault.Fault.{Fault}
 use Rattle.nap_reader.specs.declared.fault.Fault.TheVariants as faults
 
--- the number by which a refusal is known
+-- the number of a refusal
 abbrev pub number_of : Fault → ℕ
 number_of faults.EighthBit = 1
 number_of faults.BadEscape = 2
@@ -30,7 +30,7 @@ number_of faults.Unended = 20
 number_of faults.Memory = 21
 number_of faults.Sink = 22
 
--- the name by which it is printed
+-- the name of a refusal, as it is printed
 abbrev pub name_of : Fault → List ℕ
 name_of faults.EighthBit = codes "EighthBit"
 name_of faults.BadEscape = codes "BadEscape"

@@ -6,12 +6,12 @@ use Rattle.nap_list.specs.Reading.{Reading, NoneFailed, IsCutOff, IsReadWhole, r
 use Rattle.nap_reader.specs.declared.fault.Fault.TheVariants as faults
 use Rattle.nap_reader.specs.declared.feeding.FeedFault.{FeedFault}
 use Rattle.nap_reader.specs.declared.feeding.FeedFault.TheVariants as feed_fault
-use Rattle.nap_reader.specs.Standing.{Stands, StopsBy, budget_of, left_of, refusal_of, sink_of}
+use Rattle.nap_reader.specs.Standing.{HasRead, StopsBy, budget_of, left_of, refusal_of, sink_of}
 
--- A reader that is fed what an input gives.
+-- Feeding a reader what an input gives.
 
--- The last read of an input that gave the bytes p: how the input stood before it, and what it had given by then, which shows
--- no refusal. Each read up to there gave a byte or more.
+-- The last read of an input that gave the bytes p: how the input was before the read, and the bytes that it had given
+-- by then, which show no refusal. Each read up to there gave at least one byte.
 pub record LastRead {I : Type 0} (i : inlet.Ghosts I) (budget : ℕ) (p : List ℕ) (start end : I) : Type 0 where
   pub mid : I
   pub before : List ℕ
@@ -23,7 +23,7 @@ pub record LastRead {I : Type 0} (i : inlet.Ghosts I) (budget : ℕ) (p : List �
   pub once : i.calls end ≤ i.calls mid + 1
   pub unrefused : (begun budget before).refusal ≡ None
 
--- the input was read to its end; or it failed, or was read too often, before that; or the stream was refused
+-- the input was read to its end; or it failed, or was read too often, before its end; or the stream was refused
 abbrev pub EndsBy : List ℕ → Reading → Option Refusal → Result (Unit {0}) FeedFault → Type 0
 EndsBy p seen refusal (Ok done) = IsReadWhole seen p × (refusal ≡ None)
 EndsBy p seen refusal (Err feed_fault.Read) = IsCutOff seen p × (refusal ≡ None)
@@ -35,14 +35,14 @@ StopsInLast g s budget before last t left (Err (feed_fault.Refused r)) =
     (i : ℕ) × (i < length last) × StopsBy g s budget (before ++ take i last) (slice_index last i) t left r (cause_of r.fault)
 StopsInLast g s budget before last t left _ = ⊤
 
--- A reader that stood for no bytes was fed the bytes p.
+-- A reader that had read no bytes was fed the bytes p.
 pub record Feeds {I S : Type 0} (i : inlet.Ghosts I) {g : Ghosts S} (old new : Reader S g) (s : S) (p : List ℕ) (start end : I) (answer : Result (Unit {0}) FeedFault) : Type 0 where
-  pub stands : Stands new s p
+  pub stands : HasRead new s p
   pub last : LastRead i (budget_of old) p start end
   pub ends : EndsBy p (reading i start end) (refusal_of new) answer
   pub stops : StopsInLast g s (budget_of old) last.before last.last (sink_of new) (left_of new) answer
 
--- whether the sink has failed: only where that is the refusal
+-- whether the sink has failed, which is so only if that is the refusal
 abbrev pub FailsBy : Bool → Result (Unit {0}) FeedFault → Type 0
 FailsBy failed (Err (feed_fault.Refused r)) = (r.fault ≡ faults.Sink → failed ≡ true) × (r.fault ≢ faults.Sink → failed ≡ false)
 FailsBy failed _ = failed ≡ false

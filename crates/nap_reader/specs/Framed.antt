@@ -1,61 +1,61 @@
 use Rattle.std.specs.Prelude.{◌≡◌, ◌≢◌, ◌<◌, ◌≤◌, ◌+◌, ◌++◌, ℕ, List, [], ◌∷◌, All, drop, length, take}
 use Rattle.nap_reader.specs.declared.frames.Frame.{Frame}
-use Rattle.nap_reader.specs.Stored.{part}
+use Rattle.nap_reader.specs.Stored.{sublist}
 use Rattle.nap_reader.specs.Stream.{Placed, all_at, bytes_of}
 
--- What the bodies that are being read have still to give.
+-- What remains to be read of the bodies that are being read.
 
 -- a byte at a place
 abbrev pub placed_at : ℕ → ℕ → Placed
 placed_at byte place = record { byte = byte; place = place }
 
--- bytes, the first of them at this place, and each further one so far behind the one before it
-unfoldable pub spaced : ℕ → ℕ → List ℕ → List Placed
-spaced place step [] = []
-spaced place step (b ∷ bs) = placed_at b place ∷ spaced (place + step) step bs
+-- bytes, the first at this place, and each further one this far after the one before
+unfoldable pub placed_by_step : ℕ → ℕ → List ℕ → List Placed
+placed_by_step place step [] = []
+placed_by_step place step (b ∷ bs) = placed_at b place ∷ placed_by_step (place + step) step bs
 
 -- the bytes of one body
 abbrev pub frame_bytes : List ℕ → Frame → List Placed
-frame_bytes bytes frame = all_at frame.place (part bytes frame.next frame.end)
+frame_bytes bytes frame = all_at frame.place (sublist bytes frame.next frame.end)
 
--- the bytes of all, from the last down
+-- the unread bytes of all bodies, the innermost first
 abbrev pub unread : List ℕ → List Frame → List Placed
 unread bytes [] = []
 unread bytes (frame ∷ frames) = unread bytes frames ++ frame_bytes bytes frame
 
--- each has a byte to give, in the store
+-- each frame has at least one byte left, in the store
 abbrev pub IsFrame : ℕ → Frame → Type 0
 IsFrame n frame = (frame.next < frame.end) × (frame.end ≤ n)
 
 abbrev pub FramesIn : ℕ → List Frame → Type 0
 FramesIn n frames = All (IsFrame n) frames
 
--- these bytes at this place are what the innermost body has still to give
+-- these bytes at this place remain of the innermost body
 pub record Innermost (bytes : List ℕ) (frames : List Frame) (text : List ℕ) (place : ℕ) : Type 0 where
   pub before : List Frame
   pub frame : Frame
   pub last : frames ≡ before ++ frame ∷ []
-  pub text_is : text ≡ part bytes frame.next frame.end
+  pub text_is : text ≡ sublist bytes frame.next frame.end
   pub place_is : place ≡ frame.place
 
--- so many bytes at the front of the text were given, each at this place
+-- this many bytes at the beginning of the text were given, each at this place
 abbrev pub GivesFrom : List ℕ → List Frame → ℕ → List ℕ → ℕ → List Frame → Type 0
 GivesFrom bytes old place text count new = unread bytes old ≡ all_at place (take count text) ++ unread bytes new
 
--- these bytes, with the place of the first, come next: of the innermost body, else of the piece from this index on
-pub record Comes (stored : List ℕ) (frames : List Frame) (piece : List ℕ) (at fed : ℕ) (text : List ℕ) (place : ℕ) : Type 0 where
+-- these bytes, with the place of the first, come next: of the innermost body, or else of the piece from this index on
+pub record AreNextBytes (stored : List ℕ) (frames : List Frame) (piece : List ℕ) (at fed : ℕ) (text : List ℕ) (place : ℕ) : Type 0 where
   pub of_piece : frames ≡ [] → (text ≡ drop at piece) × (place ≡ fed)
   pub of_body : frames ≢ [] → Innermost stored frames text place
 
--- the bytes of all bodies, and then of the piece
+-- the unread bytes of all bodies, and then those of the piece
 abbrev pub all_next : List ℕ → List Frame → List ℕ → ℕ → List ℕ
 all_next stored frames piece at = bytes_of (unread stored frames) ++ drop at piece
 
--- what of them comes behind those that come next
-abbrev pub behind : List ℕ → List Frame → List ℕ → ℕ → List ℕ → List ℕ
-behind stored frames piece at text = drop (length text) (all_next stored frames piece at)
+-- the bytes after those that come next
+abbrev pub bytes_after : List ℕ → List Frame → List ℕ → ℕ → List ℕ → List ℕ
+bytes_after stored frames piece at text = drop (length text) (all_next stored frames piece at)
 
--- so many of them were taken
+-- this many of the bytes that come next were taken
 pub record MovesOn (stored : List ℕ) (old new : List Frame) (at until fed counted n : ℕ) : Type 0 where
   pub of_piece : old ≡ [] → (new ≡ []) × (until ≡ at + n) × (counted ≡ fed + n)
   pub of_body : old ≢ [] → (until ≡ at) × (counted ≡ fed)

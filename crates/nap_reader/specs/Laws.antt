@@ -1,5 +1,5 @@
 use Rattle.std.specs.Prelude.{◌≡◌, ◌≢◌, ◌⊎◌, ◌<◌, ◌≤◌, ◌+◌, ℕ, false, List, [], ◌∷◌, ◌++◌, Some, None, All, ⊤, length, take, slice_index}
-use Rattle.nap_reader.specs.Shared.{Code, CodeSets, Opcode, code_rule, stream, memory, rule, Entry, Ghosts, run_limit, Refusal, between, cause_of, BreaksFrom, BreaksInRun, BreaksWithin, LacksWithin, pause, continue, onward, Placed, Machine, Outcome, bytes_of, words_of, is_operand, open_run, drawn_front, front, placed_from, outcome_from, begun, means}
+use Rattle.nap_reader.specs.Shared.{Code, CodeSets, Opcode, code_rule, stream, memory, rule, Entry, Ghosts, run_limit, Refusal, between, cause_of, BreaksFrom, BreaksInRun, BreaksWithin, LacksWithin, pause, continue, outcome_by_front, Placed, Machine, Outcome, bytes_of, words_of, is_operand, open_run, drawn_front, front, placed_from, outcome_from, begun, means}
 use Rattle.nap_values.specs.Laws.{IsOperandByte}
 use Rattle.nap_codes.specs.declared.code.Code.TheVariants as code
 use Rattle.nap_codes.specs.Front as codes
@@ -7,28 +7,28 @@ use Rattle.nap_list.specs.State.{Legal}
 use Rattle.nap_list.specs.Range.{AllInRange}
 use Rattle.nap_reader.specs.Standing.{StopsBy}
 
--- What comes of a list is what its front gives, and then what comes of the list that stands there then.
+-- The outcome of a list is what its front gives, and then the outcome of the list that remains.
 abbrev pub FrontAfterFront : Type 0
-FrontAfterFront = (m : Machine) (xs : List Placed) → outcome_from m xs ≡ onward outcome_from m xs (front m xs)
+FrontAfterFront = (m : Machine) (xs : List Placed) → outcome_from m xs ≡ outcome_by_front outcome_from m xs (front m xs)
 
--- between two codes, the byte of an opcode, and behind it operand bytes, no more than a run may have
+-- between two codes, the byte of an opcode, and after it operand bytes, no more than a run may have
 pub record IsRun (m : Machine) (op : Opcode) (x : Placed) (operands : List Placed) : Type 0 where
   pub mode : m.mode ≡ between
   pub names : codes.front m.sets (x.byte ∷ []) ≡ codes.whole (code.Op op) 1 m.sets
   pub carriers : All IsOperandByte (bytes_of operands)
   pub few : length operands ≤ run_limit
 
--- An opcode acts by its rule where a byte comes behind its run that is no operand byte.
+-- An opcode acts by its rule if the byte after its run is no operand byte.
 abbrev pub RunActs : Type 0
 RunActs = (m : Machine) (op : Opcode) (x : Placed) (operands : List Placed) (y : Placed) (ys : List Placed) → IsRun m op x operands → is_operand y ≡ false →
     front m ((x ∷ operands) ++ y ∷ ys) ≡ drawn_front m x.place (y ∷ ys) (rule m.work op (words_of operands))
 
--- It waits where nothing comes behind.
+-- An opcode waits if nothing comes after its run.
 abbrev pub RunWaits : Type 0
 RunWaits = (m : Machine) (op : Opcode) (x : Placed) (operands : List Placed) → IsRun m op x operands →
     front m (x ∷ operands) ≡ pause (open_run op x.place (words_of operands))
 
--- It is a code by itself: neither an opcode nor an operand, and it neither calls a macro nor defines one.
+-- The code stands alone: it is neither an opcode nor an operand, and neither calls nor defines a macro.
 abbrev pub IsAlone : Code → Type 0
 IsAlone (code.Op op) = ⊥
 IsAlone (code.Operand word) = ⊥
@@ -36,71 +36,72 @@ IsAlone (code.Call name) = ⊥
 IsAlone (code.DefMacro name show) = ⊥
 IsAlone _ = ⊤
 
--- between two codes, the bytes of a code that acts alone, the last of which is this one, and the code sets after it
+-- between two codes, the bytes of a code that acts alone, the last of which is this one, and the code sets after the
+-- code
 pub record IsCodeAlone (m : Machine) (c : Code) (before : List Placed) (last : Placed) (after : CodeSets) : Type 0 where
   pub mode : m.mode ≡ between
   pub alone : IsAlone c
   pub names : codes.front m.sets (bytes_of before ++ last.byte ∷ []) ≡ codes.whole c (length before + 1) after
 
--- It acts by its rule, or adds nothing, whatever stands behind it.
+-- A code that stands alone acts by its rule, or adds nothing, whatever comes after it.
 abbrev pub CodeActs : Type 0
 CodeActs = (m : Machine) (c : Code) (before : List Placed) (last : Placed) (after : CodeSets) (ys : List Placed) → IsCodeAlone m c before last after →
     front m (before ++ last ∷ ys) ≡ drawn_front (record m { sets = after }) last.place ys (code_rule m.work c)
 
--- More bytes behind add entries at the end alone.
+-- More bytes add entries at the end only.
 abbrev pub MoreBytesKeepEntries : Type 0
 MoreBytesKeepEntries = (budget : ℕ) (p q : List ℕ) →
     (more : List Entry) × ((begun budget (p ++ q)).entries ≡ (begun budget p).entries ++ more)
 
--- More bytes behind a stream that is refused leave its entries and its refusal.
+-- More bytes after a refused stream change neither its entries nor its refusal.
 abbrev pub MoreBytesKeepRefusal : Type 0
 MoreBytesKeepRefusal = (budget : ℕ) (p q : List ℕ) (r : Refusal) → (begun budget p).refusal ≡ Some r →
     begun budget (p ++ q) ≡ begun budget p
 
--- all the bytes of the pieces, one piece after another
+-- all bytes of the pieces, one piece after another
 abbrev pub joined : List (List ℕ) → List ℕ
 joined [] = []
 joined (piece ∷ pieces) = piece ++ joined pieces
 
--- what is known of a stream once these pieces have come, where it stands at this place
+-- the outcome of a stream once these pieces have come, from this place on
 abbrev pub in_pieces : ℕ → Outcome → List (List ℕ) → Outcome
 in_pieces n o [] = o
 in_pieces n o (piece ∷ pieces) = in_pieces (n + length piece) (continue outcome_from o (placed_from n piece)) pieces
 
--- What is known of a stream that comes in pieces is what is known of its bytes, so two ways to cut it agree.
+-- The outcome of a stream that comes in pieces is that of its bytes, so any two ways to cut the stream agree.
 abbrev pub PiecesAgree : Type 0
 PiecesAgree = (budget : ℕ) (pieces : List (List ℕ)) → in_pieces 0 (begun budget []) pieces ≡ begun budget (joined pieces)
 
--- An accepted stream has a legal list.
+-- An accepted stream has a legal display list.
 abbrev pub AcceptedIsLegal : Type 0
 AcceptedIsLegal = (budget : ℕ) (p : List ℕ) → (means budget p).refusal ≡ None → Legal (means budget p).entries
 
--- What is read is in range, so far and in the whole.
+-- The values of all entries are in range, both so far and in the whole.
 abbrev pub ReadValuesAreInRange : Type 0
 ReadValuesAreInRange = (budget : ℕ) (p : List ℕ) → AllInRange (begun budget p).entries × AllInRange (means budget p).entries
 
--- What has begun comes first in the entries of the whole stream.
+-- The entries so far are the first of those of the whole stream.
 abbrev pub BegunComesFirst : Type 0
 BegunComesFirst = (budget : ℕ) (p : List ℕ) → (more : List Entry) × ((means budget p).entries ≡ (begun budget p).entries ++ more)
 
--- there may be no memory for some of the first entries of a list
+-- memory may be lacking for some of the first entries of a list
 abbrev pub WantsSome : {S : Type 0} → Ghosts S → S → List Entry → Type 0
 WantsSome g s list = (first : List Entry) × (rest : List Entry) × (list ≡ first ++ rest) × g.wants s first
 
--- Reading the bytes p broke where they can break. The sink has all entries that were known, and a part of those that the
--- outcome has more. Memory was wanting to the reader itself, or to its sink for some of the first entries.
+-- Reading of the bytes p broke where it can break. The sink has all known entries, and a part of those that the outcome
+-- has more. Memory was lacking to the reader itself, or to its sink for some of the first entries.
 pub record BreaksAmong {S : Type 0} (g : Ghosts S) (s : S) (budget : ℕ) (p : List ℕ) (known : List Entry) (o : Outcome) (t : S) (r : Refusal) : Type 0 where
   pub place : BreaksWithin budget p r.place
   pub wants : cause_of r.fault ≡ memory → LacksWithin budget p r.place ⊎ WantsSome g s o.entries
   pub from : BreaksFrom g s known o t (cause_of r.fault)
 
--- A reader that broke in the last bytes that it was fed keeps the entries of those before.
+-- A reader that broke in the last bytes that it was fed keeps the entries of the bytes before.
 abbrev pub FedBreaksAmong : {S : Type 0} → Ghosts S → Type 0
 FedBreaksAmong {S = S} g = (s : S) (budget : ℕ) (before last : List ℕ) (i : ℕ) (t : S) (left : ℕ) (r : Refusal) → i < length last → cause_of r.fault ≢ stream →
     StopsBy g s budget (before ++ take i last) (slice_index last i) t left r (cause_of r.fault) →
     BreaksAmong g s budget (before ++ last) (begun budget before).entries (begun budget (before ++ last)) t r
 
--- One that broke at the opcode that acts at the end keeps the entries before that.
+-- A reader that broke at the opcode that acts at the end keeps the entries before that opcode.
 abbrev pub EndBreaksAmong : {S : Type 0} → Ghosts S → Type 0
 EndBreaksAmong {S = S} g = (s : S) (budget : ℕ) (p : List ℕ) (t : S) (r : Refusal) → (begun budget p).refusal ≡ None →
     BreaksInRun g s budget p t r → BreaksAmong g s budget p (begun budget p).entries (means budget p) t r

@@ -1,11 +1,11 @@
--- what a stream means
+-- What a stream means.
 pub mod Bodies
 pub mod Budgets
 pub mod Course
 pub mod Faults
 pub mod Kinds
 pub mod Stream
--- what a reader answers of it
+-- What a reader answers about a stream.
 pub mod Breaking
 pub mod Standing
 pub mod Looking
@@ -14,14 +14,14 @@ pub mod Laws
 pub mod Collecting
 pub mod Counting
 pub mod Twice
--- what a reader keeps and does, which no one sees
+-- What a reader keeps and does, which no caller sees.
 pub mod Below
 pub mod Shared
 pub mod Carried
 pub mod Stored
 pub mod Framed
 pub mod Prefix
-pub mod Holding
+pub mod ReadingStates
 pub mod Steps
-pub mod Coming
+pub mod NextBytes
 pub mod Pieces

@@ -1,44 +1,45 @@
 use Rattle.std.specs.Prelude.{All, Bool, ◌≡◌, ◌<◌, ◌≤◌, ◌+◌, ◌-◌, ◌++◌, ℕ, List, [], ◌∷◌, Some, None, false, true, length, take, drop, slice_index, IsSome}
-use Rattle.nap_reader.specs.Shared.{Ghosts, Refusal, Input, Reader, placed_at, spaced, Continues, Holding, RunAt, held_by, unread_of, Outcome, Placed, begun, bytes_of, place_at}
+use Rattle.nap_reader.specs.Shared.{Ghosts, Refusal, Input, Reader, placed_at, placed_by_step, Continues, ReadingState, RunAt, reading_state_by, unread_of, Outcome, Placed, begun, bytes_of, place_at}
 use Rattle.nap_reader.specs.declared.fault.Fault.TheVariants as faults
 use Rattle.nap_reader.specs.declared.machine.Machine.{Machine}
 use Rattle.nap_reader.specs.declared.machine.Request.{Request}
-use Rattle.nap_reader.specs.Coming.{Counts, IsNext, Reads}
-use Rattle.nap_reader.specs.Standing.{Stands, StopsAt, budget_of, charged_of, fed_of, refusal_of, sink_of, turns_of}
+use Rattle.nap_reader.specs.NextBytes.{HasReadOn, IsNext, Reads}
+use Rattle.nap_reader.specs.Standing.{HasRead, StopsAt, budget_of, charged_of, fed_of, refusal_of, sink_of, turns_of}
 use Rattle.nap_reader.specs.Steps.{Acted, Takes}
 
--- How a piece is read. No one sees this.
+-- How a piece is read. No caller sees these definitions.
 
--- What was taken of a piece.
+-- How much of a piece was taken.
 
--- The byte with this index called or showed a body, which is read in part: what a sink was and what was held before the byte,
--- and what led on since. All that comes of bodies is at the place of the byte, and so is the run that is open.
-pub record Amid {S : Type 0} {g : Ghosts S} (old : Reader S g) (piece : List ℕ) (i : ℕ) (t : S) (h : Holding) (frames : List Placed) : Type 0 where
+-- The byte with this index called or presented a body, which is read in part: what the sink was and what was pending
+-- before the byte, and what led on since. All that comes of bodies has the place of the byte, and so has an open run.
+pub record AmidCall {S : Type 0} {g : Ghosts S} (old : Reader S g) (piece : List ℕ) (i : ℕ) (t : S) (h : ReadingState) (frames : List Placed) : Type 0 where
   pub sink : S
-  pub holding : Holding
-  pub before : (s : S) (p : List ℕ) → Stands old s p → Continues g s (begun (budget_of old) (p ++ take i piece)) sink holding []
+  pub holding : ReadingState
+  pub before : (s : S) (p : List ℕ) → HasRead old s p → Continues g s (begun (budget_of old) (p ++ take i piece)) sink holding []
   pub since : (s : S) (o : Outcome) (pending : List Placed) → Continues g s o sink holding (placed_at (slice_index piece i) (fed_of old + i) ∷ pending) →
       Continues g s o t h (frames ++ pending)
   pub less : h.machine.left < holding.machine.left
   pub there : All (λ (x : Placed). x.place ≡ fed_of old + i) frames
   pub run : RunAt (fed_of old + i) h.open_run
 
--- The bytes of a piece up to this index were taken, the last of them perhaps in part: what a sink is, what is held, and what
--- comes of bodies.
-pub record LeadsTo {S : Type 0} {g : Ghosts S} (old : Reader S g) (piece : List ℕ) (at : ℕ) (t : S) (h : Holding) (frames : List Placed) : Type 0 where
+-- The bytes of a piece before this index were taken, the last of them perhaps in part: what the sink is, what is
+-- pending, and what comes of bodies.
+pub record LeadsTo {S : Type 0} {g : Ghosts S} (old : Reader S g) (piece : List ℕ) (at : ℕ) (t : S) (h : ReadingState) (frames : List Placed) : Type 0 where
   pub live : refusal_of old ≡ None
   pub within : at ≤ length piece
-  pub alone : frames ≡ [] → (s : S) (p : List ℕ) → Stands old s p → Continues g s (begun (budget_of old) (p ++ take at piece)) t h []
-  pub amid : 0 < length frames → (i : ℕ) × (at ≡ i + 1) × Amid old piece i t h frames
+  pub alone : frames ≡ [] → (s : S) (p : List ℕ) → HasRead old s p → Continues g s (begun (budget_of old) (p ++ take at piece)) t h []
+  pub amid : 0 < length frames → (i : ℕ) × (at ≡ i + 1) × AmidCall old piece i t h frames
 
--- They lead to this sink and to what is held, where the opcode of the run that they end with may have acted.
-pub record Reaches {S : Type 0} {g : Ghosts S} (old : Reader S g) (piece : List ℕ) (at : ℕ) (t : S) (h : Holding) (frames : List Placed) : Type 0 where
+-- The bytes before the index lead to this sink and to these pending bytes; the opcode of the run that they end with may
+-- have acted.
+pub record Reaches {S : Type 0} {g : Ghosts S} (old : Reader S g) (piece : List ℕ) (at : ℕ) (t : S) (h : ReadingState) (frames : List Placed) : Type 0 where
   pub sink : S
-  pub holding : Holding
+  pub holding : ReadingState
   pub leads : LeadsTo old piece at sink holding frames
   pub acted : Acted g sink holding t h (bytes_of frames ++ drop at piece)
 
--- A reader has come so far in a piece: the invariant of the loop.
+-- The invariant of the loop: a reader has read the piece up to this index.
 pub record ReadsTo {S : Type 0} {g : Ghosts S} (old : Reader S g) (piece : List ℕ) (machine : Machine S g) (input : Input) : Type 0 where
   pub reads : Reads input piece
   pub live : machine.refusal ≡ None
@@ -46,46 +47,46 @@ pub record ReadsTo {S : Type 0} {g : Ghosts S} (old : Reader S g) (piece : List 
   pub fed : input.fed ≡ fed_of old + input.at
   pub turns : turns_of old ≤ input.turns
   pub clear : g.failed (sink_of old) ≡ false → g.failed machine.sink ≡ false
-  pub reaches : Reaches old piece input.at machine.sink (held_by machine input) (unread_of input)
+  pub reaches : Reaches old piece input.at machine.sink (reading_state_by machine input) (unread_of input)
 
--- Where a reader had come so far, it has come further.
+-- A reader that had read the piece up to some index has read it further.
 abbrev pub GoesOn : {S : Type 0} {g : Ghosts S} → List ℕ → Machine S g → Input → Machine S g → Input → Type 0
 GoesOn {S} {g} piece machine input machine' input' =
     (old : Reader S g) → refusal_of old ≡ None → ReadsTo old piece machine input → ReadsTo old piece machine' input'
 
--- So many bytes were read at least, and it has.
+-- A reader that had read the piece up to some index has read at least this many bytes more.
 pub record Goes {S : Type 0} {g : Ghosts S} (piece : List ℕ) (count : ℕ) (machine : Machine S g) (input : Input) (machine' : Machine S g) (input' : Input) : Type 0 where
-  pub counts : Counts input input' piece count
+  pub counts : HasReadOn input input' piece count
   pub on : GoesOn piece machine input machine' input'
 
--- All of the piece was taken.
+-- All bytes of the piece were taken.
 pub record TakesPiece {S : Type 0} {g : Ghosts S} (old new : Reader S g) (piece : List ℕ) : Type 0 where
   pub live : refusal_of new ≡ None
   pub budget : budget_of new ≡ budget_of old
-  pub stands : (s : S) (p : List ℕ) → Stands old s p → Stands new s (p ++ piece)
+  pub stands : (s : S) (p : List ℕ) → HasRead old s p → HasRead new s (p ++ piece)
   pub clear : g.failed (sink_of old) ≡ false → g.failed (sink_of new) ≡ false
   pub fed : fed_of new ≡ fed_of old + length piece
   pub turns : turns_of old ≡ fed_of old + charged_of old → turns_of new ≡ fed_of new + charged_of new
   pub more_turns : turns_of old ≤ turns_of new
 
--- The stream was refused at a byte of it, or reading broke there.
+-- The stream was refused at a byte of the piece, or reading broke there.
 pub record RefusesPiece {S : Type 0} {g : Ghosts S} (old new : Reader S g) (piece : List ℕ) : Type 0 where
   pub why : Refusal
   pub is : refusal_of new ≡ Some why
   pub budget : budget_of new ≡ budget_of old
-  pub stands : (s : S) (p : List ℕ) → Stands old s p → Stands new s (p ++ piece)
+  pub stands : (s : S) (p : List ℕ) → HasRead old s p → HasRead new s (p ++ piece)
   pub stops : (i : ℕ) × StopsAt old new piece why i
   pub failed : why.fault ≡ faults.Sink → g.failed (sink_of new) ≡ true
   pub kept : g.failed (sink_of old) ≡ false → g.failed (sink_of new) ≡ true → why.fault ≡ faults.Sink
   pub more_turns : turns_of old ≤ turns_of new
 
--- It is refused; and where a reader had come so far, it is so at a byte of the piece, whatever else of it is so.
+-- Reading stopped; if the reader had read the piece up to some index, it stopped at a byte of the piece.
 abbrev pub StopsFrom : {S : Type 0} {g : Ghosts S} → List ℕ → Machine S g → Input → Machine S g → Input → Type 0
 StopsFrom {S} {g} piece machine input machine' input' = IsSome machine'.refusal
     × ((old new : Reader S g) → refusal_of old ≡ None → ReadsTo old piece machine input → new.machine ≡ machine' → new.input ≡ input' → RefusesPiece old new piece)
 
--- The machine took bytes of the slice that comes next, the last of them at this place, where no body was open.
-pub record Turn {S : Type 0} {g : Ghosts S} (old now : Machine S g) (input : Input) (piece : List ℕ) (count : ℕ) (request : Request) (place : ℕ) : Type 0 where
+-- The machine took bytes of the slice that comes next, the last of them at this place, while no body was open.
+pub record TakesSlice {S : Type 0} {g : Ghosts S} (old now : Machine S g) (input : Input) (piece : List ℕ) (count : ℕ) (request : Request) (place : ℕ) : Type 0 where
   pub reads : Reads input piece
   pub between : input.body ≡ None
   pub first : ℕ
@@ -93,10 +94,10 @@ pub record Turn {S : Type 0} {g : Ghosts S} (old now : Machine S g) (input : Inp
   pub text : List ℕ
   pub ended : Bool
   pub next : IsNext input piece first step text ended
-  pub takes : Takes old now (spaced first step text) ended count request
-  pub last : 0 < count → place ≡ place_at (spaced first step text) (count - 1)
+  pub takes : Takes old now (placed_by_step first step text) ended count request
+  pub last : 0 < count → place ≡ place_at (placed_by_step first step text) (count - 1)
 
--- A reader was at the begin of the piece, and took all of it; or it was refused.
+-- A reader at the beginning of the piece took all of it; or it was refused.
 abbrev pub ReadsPiece : {S : Type 0} {g : Ghosts S} → List ℕ → Machine S g → Input → Machine S g → Input → Type 0
 ReadsPiece {S} {g} piece machine input machine' input' =
     (old new : Reader S g) → old.machine ≡ machine → old.input ≡ input → new.machine ≡ machine' → new.input ≡ input' → TakesPiece old new piece

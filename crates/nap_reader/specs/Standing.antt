@@ -1,5 +1,5 @@
 use Rattle.std.specs.Prelude.{◌≡◌, ◌-◌, ◌+◌, ◌<◌, ◌≤◌, ◌++◌, ℕ, List, [], ◌∷◌, Option, Some, None, length, take, slice_index}
-use Rattle.nap_reader.specs.Shared.{Ghosts, Cause, stream, Refusal, Reader, store_limit, Outcome, begun, cause_of, BreaksAt, Continues, holding_of}
+use Rattle.nap_reader.specs.Shared.{Ghosts, Cause, stream, Refusal, Reader, store_limit, Outcome, begun, cause_of, BreaksAt, Continues, reading_state}
 
 -- what a reader shows
 
@@ -21,12 +21,12 @@ turns_of reader = reader.input.turns
 abbrev pub charged_of : {S : Type 0} {g : Ghosts S} → Reader S g → ℕ
 charged_of reader = reader.input.charged
 
--- what is left to be charged
+-- the budget left to be charged
 abbrev pub left_of : {S : Type 0} {g : Ghosts S} → Reader S g → ℕ
 left_of reader = budget_of reader - charged_of reader
 
--- What a reader keeps of bodies: how many are being read, how many bytes of bodies it has, and how many of the bytes that
--- ended those which were shown.
+-- What a reader keeps of bodies: the number that are being read, the number of their bytes, and the number of bytes
+-- that ended those which were presented.
 
 abbrev pub frames_of : {S : Type 0} {g : Ghosts S} → Reader S g → ℕ
 frames_of reader = length reader.input.frames.stack.items
@@ -37,31 +37,34 @@ bodies_of reader = reader.input.store.stored + length reader.input.store.body
 abbrev pub pairs_of : {S : Type 0} {g : Ghosts S} → Reader S g → ℕ
 pairs_of reader = length reader.input.store.bytes - bodies_of reader
 
--- these are no more than the bytes that were charged, or than all bodies may have
+-- the kept bytes are no more than those that were charged, and no more than all bodies may have
 pub record IsBounded {S : Type 0} {g : Ghosts S} (reader : Reader S g) : Type 0 where
   pub frames : frames_of reader ≤ charged_of reader
   pub bodies : bodies_of reader ≤ store_limit
   pub pairs : refusal_of reader ≡ None → pairs_of reader ≤ charged_of reader
 
--- A sink that was s has taken the entries of the outcome, this is left to charge, and this is its refusal.
+-- A sink that was s has taken the entries of the outcome, this much is left to charge, and this is the refusal of the
+-- outcome.
 pub record IsKnown {S : Type 0} (g : Ghosts S) (s : S) (o : Outcome) (t : S) (n : ℕ) (answer : Option Refusal) : Type 0 where
   pub refusal : o.refusal ≡ answer
   pub taken : g.took s o.entries t
   pub left : o.machine.left ≡ n
 
--- Reading broke at the byte behind p, up to which nothing was refused. What is charged for the byte was charged or wasn't yet.
+-- Reading broke at the byte after p, before which nothing was refused. The budget is the one before or after the charge
+-- for this byte.
 pub record IsBroken {S : Type 0} (g : Ghosts S) (s : S) (budget : ℕ) (p : List ℕ) (b : ℕ) (t : S) (n : ℕ) (r : Refusal) : Type 0 where
   pub before : (begun budget p).refusal ≡ None
   pub breaks : BreaksAt g s budget p b t r
   pub left : n ≤ (begun budget p).machine.left
-  pub charged : (begun budget (p ++ b ∷ [])).machine.left ≤ n
+  pub after_charge : (begun budget (p ++ b ∷ [])).machine.left ≤ n
 
--- Reading stopped at the byte behind p with this refusal: the stream's own, or it broke.
+-- Reading stopped at the byte after p with this refusal: the stream's own, or it broke.
 abbrev pub StopsBy : {S : Type 0} → Ghosts S → S → ℕ → List ℕ → ℕ → S → ℕ → Refusal → Cause → Type 0
 StopsBy g s budget p b t left r stream = IsKnown g s (begun budget (p ++ b ∷ [])) t left (Some r)
 StopsBy g s budget p b t left r _ = IsBroken g s budget p b t left r
 
--- what a reader shows that was fed the bytes p, with a refusal of this cause: the stream's, or it broke at a byte of p
+-- what a reader shows that was fed the bytes p, with a refusal of this cause: the stream's own, or reading broke at a
+-- byte of p
 abbrev pub AnswersBy : {S : Type 0} → Ghosts S → S → ℕ → List ℕ → S → ℕ → Refusal → Cause → Type 0
 AnswersBy g s budget p t left r stream = IsKnown g s (begun budget p) t left (Some r)
 AnswersBy g s budget p t left r _ = (i : ℕ) × (i < length p) × IsBroken g s budget (take i p) (slice_index p i) t left r
@@ -71,19 +74,19 @@ abbrev pub Answers : {S : Type 0} → Ghosts S → S → ℕ → List ℕ → S 
 Answers g s budget p t left None = IsKnown g s (begun budget p) t left None
 Answers g s budget p t left (Some r) = AnswersBy g s budget p t left r (cause_of r.fault)
 
--- A reader stands for the sink that it was given and the bytes so far: it shows what is known of them, and where it isn't
--- refused, what they mean with any bytes behind comes of what it holds.
-pub record Stands {S : Type 0} {g : Ghosts S} (reader : Reader S g) (s : S) (p : List ℕ) : Type 0 where
+-- A reader has read these bytes into the sink that it was given: it shows their outcome, and unless that is refused,
+-- the outcome of these bytes with any others after them comes of what it keeps.
+pub record HasRead {S : Type 0} {g : Ghosts S} (reader : Reader S g) (s : S) (p : List ℕ) : Type 0 where
   pub answers : Answers g s (budget_of reader) p (sink_of reader) (left_of reader) (refusal_of reader)
   pub fed : refusal_of reader ≡ None → fed_of reader ≡ length p
-  pub continues : refusal_of reader ≡ None → Continues g s (begun (budget_of reader) p) (sink_of reader) (holding_of reader) []
+  pub continues : refusal_of reader ≡ None → Continues g s (begun (budget_of reader) p) (sink_of reader) (reading_state reader) []
 
--- The refusal came at the byte with this index, behind which nothing was taken.
+-- The refusal came at the byte with this index, after which nothing was taken.
 pub record StopsAt {S : Type 0} {g : Ghosts S} (old new : Reader S g) (piece : List ℕ) (r : Refusal) (i : ℕ) : Type 0 where
   pub within : i < length piece
   pub fed : fed_of new ≡ fed_of old + (i + 1)
-  pub before : (s : S) (p : List ℕ) → Stands old s p → (begun (budget_of old) (p ++ take i piece)).refusal ≡ None
-  pub there : (s : S) (p : List ℕ) → Stands old s p →
+  pub before : (s : S) (p : List ℕ) → HasRead old s p → (begun (budget_of old) (p ++ take i piece)).refusal ≡ None
+  pub there : (s : S) (p : List ℕ) → HasRead old s p →
       StopsBy g s (budget_of old) (p ++ take i piece) (slice_index piece i) (sink_of new) (left_of new) r (cause_of r.fault)
 
 -- The end of a stream.

@@ -2,40 +2,40 @@ use Rattle.std.specs.Prelude.{◌≡◌, ◌≤◌, ◌+◌, ◌-◌, ◌++◌, 
 use Rattle.nap_reader.specs.declared.store.Span.{Span}
 use Rattle.nap_reader.specs.Bodies.{bind, store_limit}
 
--- Where a reader keeps the bodies of macros.
+-- The store of the bodies of macros.
 
--- a part of a list
-abbrev pub part : List ℕ → ℕ → ℕ → List ℕ
-part bytes start end = take (end - start) (drop start bytes)
+-- the part of a list from an index, of this length
+abbrev pub sublist : List ℕ → ℕ → ℕ → List ℕ
+sublist bytes start end = take (end - start) (drop start bytes)
 
-abbrev pub part_at : List ℕ → Span → List ℕ
-part_at bytes span = part bytes span.start span.end
+abbrev pub sublist_at : List ℕ → Span → List ℕ
+sublist_at bytes span = sublist bytes span.start span.end
 
--- the bodies by their names; all bytes that were stored, one body behind another, some with the two bytes that ended
--- them; those of the body that is open; and how many bytes the bodies before it had
+-- the bodies by their names; all bytes that were stored, one body after another, some with the two bytes that ended
+-- them; the bytes of the open body; and the number of bytes of the bodies before it
 pub record StoreState : Type 0 where
   pub names : List (List ℕ)
   pub bytes : List ℕ
   pub body : List ℕ
   pub stored : ℕ
 
--- the open body has these bytes more
-abbrev pub grown : StoreState → List ℕ → StoreState
-grown store more = record store { bytes = store.bytes ++ more; body = store.body ++ more }
+-- the store with these bytes appended to the open body
+abbrev pub store_grown : StoreState → List ℕ → StoreState
+store_grown store more = record store { bytes = store.bytes ++ more; body = store.body ++ more }
 
--- the name is bound to the open body, which is over
-abbrev pub closed : StoreState → ℕ → StoreState
-closed store name = record store { names = bind store.names name store.body; body = []; stored = store.stored + length store.body }
+-- the store with the name bound to the open body, which has ended
+abbrev pub store_bound : StoreState → ℕ → StoreState
+store_bound store name = record store { names = bind store.names name store.body; body = []; stored = store.stored + length store.body }
 
--- the same, where the two bytes that ended the body are stored behind it
-abbrev pub shown : StoreState → ℕ → ℕ → StoreState
-shown store name ender = record (closed store name) { bytes = store.bytes ++ 0x1B ∷ ender ∷ [] }
+-- the store with the name bound to the open body, and with the two bytes that ended the body stored after it
+abbrev pub store_shown : StoreState → ℕ → ℕ → StoreState
+store_shown store name ender = record (store_bound store name) { bytes = store.bytes ++ 0x1B ∷ ender ∷ [] }
 
--- a part that lies before this index
+-- the part lies before this index
 abbrev pub IsBefore : ℕ → Span → Type 0
 IsBefore n span = (span.start ≤ span.end) × (span.end ≤ n)
 
--- bodies that are bound lie before the open one, and all bodies are within the limit
+-- all bound bodies lie before the open one, and all bodies together are within the limit
 pub record IsStore (bytes : List ℕ) (spans : List Span) (from stored : ℕ) : Type 0 where
   pub bound : All (IsBefore from) spans
   pub all : length spans ≡ 96

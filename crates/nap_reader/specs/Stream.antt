@@ -1,6 +1,6 @@
 use Rattle.std.specs.Prelude.{ℕ, zero, suc, ◌+◌, ◌-◌, ◌&&◌, nat_lt, nat_le, Bool, true, false, if◌then◌else◌, List, [], ◌∷◌, ◌++◌, length, map, take, drop, Option, Some, None, Result, Ok, Err}
 use Rattle.std.specs.List.{prefix_len}
-use Rattle.nap_reader.specs.Below.{CodeSets, Opcode, Entry, Opened, Work, DrawFault, code_rule, run_limit, Drawn, rule}
+use Rattle.nap_reader.specs.Below.{CodeSets, Opcode, Entry, OpenDefinition, Work, DrawFault, code_rule, run_limit, RuleResult, rule}
 use Rattle.nap_codes.specs.declared.code.Code.TheVariants as code
 use Rattle.nap_codes.specs.CodeSets.{start_sets}
 use Rattle.nap_codes.specs.Front as codes
@@ -16,7 +16,7 @@ use Rattle.nap_reader.specs.Bodies as bodies
 use Rattle.nap_reader.specs.Bodies.{Mode, between, in_body, no_names, body_of, bind, store_limit, body_front}
 use Rattle.nap_reader.specs.Course as course
 
--- a byte, and the place that it has in the input
+-- a byte, and its place in the input
 pub record Placed : Type 0 where
   pub byte : ℕ
   pub place : ℕ
@@ -29,12 +29,12 @@ placed_from n (b ∷ bs) = record { byte = b; place = n } ∷ placed_from (suc n
 abbrev pub bytes_of : List Placed → List ℕ
 bytes_of xs = map (λ x. x.byte) xs
 
--- these bytes, all of them at this place
+-- these bytes, each of them at this place
 abbrev pub all_at : ℕ → List ℕ → List Placed
 all_at place bytes = map (λ b. record { byte = b; place = place }) bytes
 
--- what stands between two codes, or before a body: the drawing state, the code sets, what may still be charged, the
--- bodies by their names, and how many bytes of bodies there were
+-- what is known between two codes, or before a body: the drawing state, the code sets, what may still be charged, the
+-- bodies by their names, and the number of bytes of bodies
 pub record Machine : Type 0 where
   pub work : Work
   pub sets : CodeSets
@@ -43,7 +43,7 @@ pub record Machine : Type 0 where
   pub stored : ℕ
   pub mode : Mode
 
--- what a stream has begun where nothing whole is left
+-- what a stream has begun when no complete code is left
 pub data Unfinished : Type 0 where
   nothing : Unfinished
   -- the bytes of a half-read code
@@ -62,7 +62,7 @@ Front = course.Front Machine Entry Refusal Unfinished Placed
 abbrev pub refusal : Fault → ℕ → Refusal
 refusal fault place = record { fault = fault; place = place }
 
--- operand bytes
+-- Operand bytes.
 
 abbrev pub is_operand_byte : ℕ → Bool
 is_operand_byte b = nat_le 64 b && nat_lt b 128
@@ -70,7 +70,7 @@ is_operand_byte b = nat_le 64 b && nat_lt b 128
 abbrev pub is_operand : Placed → Bool
 is_operand x = is_operand_byte x.byte
 
--- how many operand bytes stand at the front
+-- the number of operand bytes at the front
 abbrev pub run_length : List Placed → ℕ
 run_length xs = prefix_len is_operand xs
 
@@ -78,41 +78,41 @@ run_length xs = prefix_len is_operand xs
 abbrev pub words_of : List Placed → List ℕ
 words_of xs = map (λ x. x.byte - 64) xs
 
--- the machine once a code has drawn, which may unbind all names
-abbrev pub after_drawing : Machine → Drawn → Machine
+-- the machine after a code has drawn, which may unbind all names
+abbrev pub after_drawing : Machine → RuleResult → Machine
 after_drawing m drawn = record m { work = drawn.work; names = if drawn.clears then no_names else m.names }
 
--- the rule of an opcode, a character or a control has acted
-abbrev pub drawn_front : Machine → ℕ → List Placed → Result Drawn DrawFault → Front
+-- the front after the rule of an opcode, a character or a control has acted
+abbrev pub drawn_front : Machine → ℕ → List Placed → Result RuleResult DrawFault → Front
 drawn_front m place rest (Ok drawn) = course.act drawn.entries (after_drawing m drawn) rest
 drawn_front m place rest (Err fault) = course.refuse (refusal (draw_fault fault) place)
 
--- A run that reaches the end of the list isn't over.
+-- the front of an opcode on its whole run; a run that reaches the end of the list hasn't ended
 abbrev pub closed_front : Machine → Opcode → ℕ → List Placed → List Placed → Front
 closed_front m op place run [] = course.pause (open_run op place (words_of run))
 closed_front m op place run (x ∷ xs) = drawn_front m place (x ∷ xs) (rule m.work op (words_of run))
 
--- an opcode on its run, and what stands behind the run
+-- the front of an opcode on its run, with the bytes after the run
 abbrev pub run_front : Machine → Opcode → ℕ → List Placed → List Placed → Front
 run_front m op place run rest =
     if nat_lt run_limit (length run) then course.refuse (refusal faults.LongRun place)
     else closed_front m op place run rest
 
--- an opcode takes the longest run of operand bytes behind it
+-- the front of an opcode, which takes the longest run of operand bytes after it
 abbrev pub opcode_front : Machine → Opcode → ℕ → List Placed → Front
 opcode_front m op place xs = run_front m op place (take (run_length xs) xs) (drop (run_length xs) xs)
 
--- the machine once so many bytes were charged
-abbrev pub charged : Machine → ℕ → Machine
-charged m n = record m { left = m.left - n }
+-- the machine after this many bytes were charged
+abbrev pub after_charge : Machine → ℕ → Machine
+after_charge m n = record m { left = m.left - n }
 
--- bytes of a body come next, all of them at this place, where they can be charged
+-- the front if the bytes of a body come next, each at this place, provided they can be charged
 abbrev pub shown_front : Machine → ℕ → List ℕ → List Placed → Front
 shown_front m place bytes rest =
     if nat_lt m.left (length bytes) then course.refuse (refusal faults.Budget place)
-    else course.act [] (charged m (length bytes)) (all_at place bytes ++ rest)
+    else course.act [] (after_charge m (length bytes)) (all_at place bytes ++ rest)
 
--- what stands at the front where a code of this kind ends at this place, and this stands behind it
+-- the front if a code of this kind ends at this place, with the bytes after the code
 abbrev pub code_front : Machine → Kind → ℕ → List Placed → Front
 code_front m (kinds.Opens op) place rest = opcode_front m op place rest
 code_front m kinds.Strays place rest = course.refuse (refusal faults.Stray place)
@@ -128,7 +128,7 @@ place_at [] i = 0
 place_at (x ∷ xs) zero = x.place
 place_at (x ∷ xs) (suc i) = place_at xs i
 
--- these bytes of a code were read, or none
+-- the unfinished code of these bytes, if there are any
 abbrev pub half_read : List ℕ → Unfinished
 half_read [] = nothing
 half_read (b ∷ bs) = half_code (b ∷ bs)
@@ -138,12 +138,12 @@ front_by m xs codes.unfinished = course.pause (half_read (bytes_of xs))
 front_by m xs (codes.refused fault i) = course.refuse (refusal (code_fault fault) (place_at xs i))
 front_by m xs (codes.whole code n sets) = code_front (record m { sets = sets }) (kind_of code) (place_at xs (n - 1)) (drop n xs)
 
--- the machine once the name is bound to the body
+-- the machine after the name was bound to the body
 abbrev pub after_body : Machine → ℕ → List ℕ → Machine
 after_body m name body = record m { names = bind m.names name body; stored = m.stored + length body; mode = between }
 
--- The body is whole. Its first bytes are so many, and behind them stand the two that end it, which are the next code of
--- the stream. A body that is shown comes next once more, with these two, and then what stands behind them.
+-- The front if the body is complete: this many bytes, and after them the two that end the body, which are the next code
+-- of the stream. A body that is presented comes next once more, with these two, before what comes after them.
 abbrev pub bound_front : Machine → ℕ → Bool → ℕ → List Placed → Front
 bound_front m name false n xs = course.act [] (after_body m name (take n (bytes_of xs))) (drop n xs)
 bound_front m name true n xs =
@@ -154,7 +154,7 @@ body_front_by m name show xs bodies.unfinished = course.pause open_body
 body_front_by m name show xs (bodies.refused fault i) = course.refuse (refusal fault (place_at xs i))
 body_front_by m name show xs (bodies.ended n) = bound_front m name show n xs
 
--- what stands at the front of the list, in this mode
+-- what is at the front of the list, in this mode
 abbrev pub front_in : Mode → Machine → List Placed → Front
 front_in between m xs = front_by m xs (codes.front m.sets (bytes_of xs))
 front_in (in_body name show) m xs = body_front_by m name show xs (body_front (store_limit - m.stored) (bytes_of xs))
@@ -162,16 +162,17 @@ front_in (in_body name show) m xs = body_front_by m name show xs (body_front (st
 unfoldable pub front : Machine → List Placed → Front
 front m xs = front_in m.mode m xs
 
--- An empty body takes no byte, and nothing is charged for it: its end alone is a step.
+-- the number of steps that the end of a body may take besides its bytes: an empty body takes no byte and is charged
+-- nothing, so its end alone is a step
 abbrev pub ends_of : Mode → ℕ
 ends_of between = 0
 ends_of (in_body name show) = 1
 
--- what each front lessens, with the length of the list
+-- what each front lessens, together with the length of the list
 abbrev pub left_of : Machine → ℕ
 left_of m = m.left + ends_of m.mode
 
--- what comes of a list from here on
+-- the outcome of a list, from this machine on
 abbrev pub outcome_from : Machine → List Placed → Outcome
 outcome_from m xs = course.outcome front left_of m xs
 
@@ -179,14 +180,14 @@ outcome_from m xs = course.outcome front left_of m xs
 abbrev pub start_machine : ℕ → Machine
 start_machine budget = record { work = start_work; sets = start_sets; left = budget; names = no_names; stored = 0; mode = between }
 
--- what is known of a stream that may go on
+-- the outcome of a stream so far, which may go on
 abbrev pub begun : ℕ → List ℕ → Outcome
 begun budget p = outcome_from (start_machine budget) (placed_from 0 p)
 
--- the end of a stream
+-- The end of a stream.
 
--- an outcome in which the opcode at this place acted at last
-abbrev pub with_drawn : Outcome → ℕ → Result Drawn DrawFault → Outcome
+-- an outcome in which the opcode at this place acted last
+abbrev pub with_drawn : Outcome → ℕ → Result RuleResult DrawFault → Outcome
 with_drawn o place (Ok drawn) = record {
   entries = o.entries ++ drawn.entries;
   refusal = None;
@@ -200,16 +201,16 @@ abbrev pub with_run_by : Outcome → Option Unfinished → Outcome
 with_run_by o (Some (open_run op place run)) = with_drawn o place (rule o.machine.work op run)
 with_run_by o _ = o
 
--- an open run acts
+-- the outcome after the open run acts
 abbrev pub with_run : Outcome → Outcome
 with_run o = with_run_by o o.unfinished
 
--- a definition that is open at the end is refused there
-abbrev pub with_definition : Outcome → ℕ → Option Opened → Outcome
+-- the outcome after a definition that is open at the end is refused there
+abbrev pub with_definition : Outcome → ℕ → Option OpenDefinition → Outcome
 with_definition o n None = o
 with_definition o n (Some opened) = record o { refusal = Some (refusal faults.Unended n) }
 
--- a code or a body that is unfinished at the end is refused there
+-- the outcome after a code or a body that is unfinished at the end is refused there
 abbrev pub with_code : Outcome → ℕ → Option Unfinished → Outcome
 with_code o n (Some (half_code bytes)) = record o { refusal = Some (refusal faults.Cut n) }
 with_code o n (Some open_body) = record o { refusal = Some (refusal faults.Unended n) }
@@ -223,7 +224,7 @@ abbrev pub ended_by : Outcome → ℕ → Option Refusal → Outcome
 ended_by o n (Some r) = o
 ended_by o n None = with_end (with_run o) n (with_run o).refusal
 
--- the stream ends here, at this place: an open run acts, then what is unfinished is refused
+-- the outcome of a stream that ends at this place: an open run acts, then what is unfinished is refused
 abbrev pub ended : ℕ → Outcome → Outcome
 ended n o = ended_by o n o.refusal
 

@@ -1,29 +1,29 @@
-//! A body that is being read.
+//! The body of a macro that is being defined.
 ghost use Rattle.std.specs.Prelude.{◌≡◌};
 ghost use Rattle.std.specs.List.{prefix_len};
 ghost use Rattle.nap_reader.specs.Prefix.{is_of_body};
 ghost use Rattle.nap_reader.specs.Bodies as bodies;
 
-/// A macro's body that hasn't ended.
+/// A macro body that isn't ended (PROFILE.md, Macros).
 #[derive(Clone, Copy, Drop)]
 pub(crate) struct OpenBody {
-    /// The macro's name.
+    /// The name of the macro.
     pub(crate) name: u8,
-    /// Whether it is shown once it has ended.
+    /// Whether the body is presented as soon as it is defined (DEFP MACRO).
     pub(crate) show: bool,
-    /// The place of an ESC, of which the next byte shows whether it belongs to the body.
+    /// The place of an ESC that may belong to the body, which the next byte decides.
     pub(crate) escape: Option<u64>,
 }
 
-/// Whether a byte behind ESC ends a body.
+/// Whether a byte after ESC ends a body.
 pub(crate) fn ends_body(byte: u8) -> bool
     ensures { result ≡ bodies.ends_body byte }
 {
     byte >= 0x40 && byte <= 0x45
 }
 
-/// How many bytes at the front are neither ESC nor above `7F`.
-pub(crate) fn body_bytes(bytes: &[u8]) -> usize
+/// Returns how many bytes at the beginning are neither ESC nor above `7F`.
+pub(crate) fn body_prefix_len(bytes: &[u8]) -> usize
     ensures { result ≡ prefix_len is_of_body bytes.now }
 {
     let mut count = 0;

@@ -1,10 +1,10 @@
-//! How much a reading may be charged.
+//! The budget of a reading.
 ghost use Rattle.std.specs.Prelude.{◌≡◌, ◌≤◌, ◌↔◌, IsSome, IfSome};
 ghost use Rattle.nap_reader.specs.Budgets.{most_budget, usual_budget};
 
 use std::marker::Model;
 
-/// How many bytes of macro bodies one reading may be charged with (our profile).
+/// The number of bytes of macro bodies that one reading may be charged (PROFILE.md, Limits).
 #[derive(Clone, Copy, PartialEq, Eq, Debug, Drop)]
 pub struct Budget(u32);
 
@@ -25,10 +25,10 @@ impl Budget {
     /// The greatest budget, in bytes.
     pub const MOST: u32 = 67_108_864;
 
-    /// The usual budget, in bytes.
+    /// The default budget, in bytes.
     pub const USUAL: u32 = 1_048_576;
 
-    /// The budget of this many bytes.
+    /// Returns the budget of this many bytes, or `None` above `MOST_WORDS`.
     pub fn new(bytes: u32) -> Option<Budget>
         ensures found { IsSome result ↔ (bytes ≤ most_budget) }
         ensures value { IfSome result (λ budget. budget ≡ bytes) }
@@ -40,14 +40,14 @@ impl Budget {
         }
     }
 
-    /// The budget of a reading for which none is chosen.
+    /// Returns the default budget.
     pub fn usual() -> Budget
         ensures { result ≡ usual_budget }
     {
         Budget(Self::USUAL)
     }
 
-    /// The budget in bytes.
+    /// Returns the budget in bytes.
     pub fn get(self) -> u32
         ensures value { result ≡ self }
         ensures most { result ≤ most_budget }

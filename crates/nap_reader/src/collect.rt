@@ -1,10 +1,10 @@
-//! Reads a page into a sink, and keeps none of its bytes.
+//! Reading of a page into a sink, without keeping its bytes.
 ghost use Rattle.std.specs.Prelude.{◌≡◌, ◌+◌, ◌-◌, ◌<◌, ◌≤◌, ◌^◌, ℕ, List, false, length};
 ghost use Rattle.std.specs.Io.KnownBytes.{Consumes};
 ghost use Rattle.nap_list.specs.State.{start};
 ghost use Rattle.nap_list.specs.Limits.{reads_limit};
 ghost use Rattle.nap_list.specs.Reading.{reading};
-ghost use Rattle.nap_reader.specs.Collecting.{IsCollected, IsRead, IsReadOut};
+ghost use Rattle.nap_reader.specs.Collecting.{IsCollected, IsRead, IsDrained};
 
 use crate::budget::Budget;
 use crate::fault::Refusal;
@@ -13,24 +13,24 @@ use crate::reader::Reader;
 use nap_list::{Inlet, READS, Sink};
 use std::alloc::Global;
 
-/// An input failed, or was read as often as one may be.
+/// A read failed, or there were as many reads as one input may have.
 #[derive(Clone, Copy, PartialEq, Eq, Drop)]
 pub struct ReadFault;
 
-/// The most bytes of one read.
-const ROOM: usize = 65_536;
+/// The greatest number of bytes of one read.
+const READ_SIZE: usize = 65_536;
 
-/// Reads an input to its end, in so many reads or fewer, and keeps nothing.
-fn read_out<I: Inlet>(input: &mut I, room: &mut [u8], most: u64) -> Result<(), ReadFault>
+/// Reads and drops the rest of the input, with at most `most` reads.
+fn drain<I: Inlet>(input: &mut I, buffer: &mut [u8], most: u64) -> Result<(), ReadFault>
     requires calls { I.calls input.old + most < 2 ^ 64 - 1 }
-    requires room { 0 < length room.old }
+    requires room { 0 < length buffer.old }
     ensures few { I.calls input.new ≤ I.calls input.old + most }
     ensures more { I.calls input.old ≤ I.calls input.new }
     ensures read { let seen = reading I.Inlet input.old input.new in
-        (p : List ℕ) × Consumes (I.left input.old) (I.left input.new) p × IsReadOut most p seen result }
+        (p : List ℕ) × Consumes (I.left input.old) (I.left input.new) p × IsDrained most p seen result }
 {
     for _ in 0..most {
-        let Ok(count) = input.read(room) else {
+        let Ok(count) = input.read(buffer) else {
             return Err(ReadFault);
         };
         if count == 0 {
@@ -40,7 +40,7 @@ fn read_out<I: Inlet>(input: &mut I, room: &mut [u8], most: u64) -> Result<(), R
     Err(ReadFault)
 }
 
-/// The sink with all entries of the page that the input gives, or why that is refused. All of the input is read.
+/// Returns the sink with all entries of the page that an input gives, or the page's refusal. Reads all of the input.
 pub fn read_input<I: Inlet, S: Sink + Drop>(
     alloc: Global,
     budget: Budget,
@@ -56,22 +56,22 @@ pub fn read_input<I: Inlet, S: Sink + Drop>(
 {
     let before = input.calls();
     let mut reader = Reader::new(alloc, budget, sink);
-    let mut room = [0; ROOM];
-    match feed_from(&mut reader, input, &mut room) {
+    let mut buffer = [0; READ_SIZE];
+    match feed_from(&mut reader, input, &mut buffer) {
         Ok(()) => match reader.finish() {
             Ok(sink) => Ok(Ok(sink)),
             Err(stopped) => Ok(Err(stopped.refusal)),
         },
         Err(FeedFault::Read) => Err(ReadFault),
-        // A read that fails comes before a refusal.
+        // A failed read replaces a refusal.
         Err(FeedFault::Refused(refusal)) => {
-            read_out(input, &mut room, READS - (input.calls() - before))?;
+            drain(input, &mut buffer, READS - (input.calls() - before))?;
             Ok(Err(refusal))
         }
     }
 }
 
-/// The sink with all entries of a stream, or why that is refused.
+/// Returns the sink with all entries of a stream, or the stream's refusal.
 pub fn read_stream<S: Sink + Drop>(
     alloc: Global,
     budget: Budget,

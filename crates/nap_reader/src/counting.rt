@@ -1,4 +1,4 @@
-//! A sink with the number of entries that it took.
+//! A sink with a count of its entries.
 ghost use Rattle.std.specs.Prelude.{◌≡◌, false, Some, Option};
 ghost use Rattle.nap_list.specs.State.{start};
 ghost use Rattle.nap_reader.specs.Collecting.{IsCounted};
@@ -11,7 +11,7 @@ use nap_list::{Batch, BatchFault, Entry, Shape, Sink, SinkFault};
 use std::alloc::Global;
 use std::marker::Model;
 
-/// Counts the entries that another sink takes, as long as a `u64` holds their number.
+/// Counts the entries that another sink takes, as long as a `u64` holds the number.
 #[derive(Drop)]
 pub(crate) struct CountingSink<S: Sink + Drop> {
     sink: S,
@@ -19,15 +19,15 @@ pub(crate) struct CountingSink<S: Sink + Drop> {
 }
 
 impl<S: Sink + Drop> Model for CountingSink<S> {
-    ghost use Rattle.nap_reader.specs.Counting.{Counting};
+    ghost use Rattle.nap_reader.specs.Counting.{CountedSink};
 
-    ghost Value = { Counting S };
+    ghost Value = { CountedSink S };
 
     ghost view = { λ s. record { sink = s.sink; count = s.count } };
 }
 
 impl<S: Sink + Drop> CountingSink<S> {
-    /// A sink over this one, of whose entries none is counted.
+    /// Returns a counting sink over a sink, with the count zero.
     pub(crate) fn new(sink: S) -> CountingSink<S>
         ensures { result ≡ record { sink = sink; count = Some 0 } }
     {
@@ -37,14 +37,14 @@ impl<S: Sink + Drop> CountingSink<S> {
         }
     }
 
-    /// How many entries it took, if a `u64` can hold their number.
+    /// Returns the number of entries taken, if a `u64` can hold it.
     pub(crate) fn count(&self) -> Option<u64>
         ensures { result ≡ self.now.count }
     {
         self.count
     }
 
-    /// The sink that took them.
+    /// Returns the other sink.
     pub(crate) fn into_inner(self) -> S
         ensures { result ≡ self.sink }
     {
@@ -53,8 +53,8 @@ impl<S: Sink + Drop> CountingSink<S> {
     }
 }
 
-/// The count after `entries` more, if a `u64` can hold it.
-fn counted(count: Option<u64>, entries: usize) -> Option<u64>
+/// Returns the count plus `entries`, if a `u64` can hold it.
+fn count_plus(count: Option<u64>, entries: usize) -> Option<u64>
     ensures grows { GrowsBy entries count result }
     ensures none { entries ≡ 0 → result ≡ count }
 {
@@ -74,7 +74,7 @@ impl<S: Sink + Drop> Sink for CountingSink<S> {
 
     fn put(&mut self, entry: Entry) -> Result<(), SinkFault> {
         self.sink.put(entry)?;
-        self.count = counted(self.count, 1);
+        self.count = count_plus(self.count, 1);
         Ok(())
     }
 
@@ -84,13 +84,13 @@ impl<S: Sink + Drop> Sink for CountingSink<S> {
             Ok(()) => batch.len(),
             Err(stop) => stop.taken,
         };
-        self.count = counted(self.count, taken);
+        self.count = count_plus(self.count, taken);
         put
     }
 
     fn put_shape(&mut self, alloc: Global, shape: &Shape) -> Result<(), SinkFault> {
         self.sink.put_shape(alloc, shape)?;
-        self.count = counted(self.count, 1);
+        self.count = count_plus(self.count, 1);
         Ok(())
     }
 
@@ -103,7 +103,7 @@ impl<S: Sink + Drop> Sink for CountingSink<S> {
     ghost took_broke = { λ s t u d e x a b. S.took_broke s.sink t.sink u.sink d e x a.took b };
 }
 
-/// The sink with all entries of a stream, and how many they are, if a `u64` can hold it; or why that is refused.
+/// Returns the sink with all entries of a stream and their number, if a `u64` can hold it; or the stream's refusal.
 pub fn read_counted<S: Sink + Drop>(
     alloc: Global,
     budget: Budget,

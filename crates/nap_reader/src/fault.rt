@@ -1,4 +1,4 @@
-//! Why a stream is refused, and where.
+//! Refusals (PROFILE.md, Refusals).
 ghost use Rattle.std.specs.Prelude.{◌≡◌};
 ghost use Rattle.nap_draw.specs.Draws.{fault_of};
 ghost use Rattle.nap_reader.specs.Faults.{number_of, name_of, code_fault, draw_fault};
@@ -8,16 +8,17 @@ use nap_draw::DrawFault;
 use nap_list::SinkFault;
 use thiserror::Error;
 
-/// Why a stream is refused. It prints what is wrong; `name` is the word that goes with its number.
+/// Why a stream is refused (PROFILE.md, Refusals). Its `Display` text says what is wrong; `name` returns the name of
+/// its number.
 #[derive(Clone, Copy, PartialEq, Eq, Debug, Drop, Error)]
 pub enum Fault {
     /// A byte `80` to `FF`.
     #[error("a byte has its eighth bit set")]
     EighthBit,
-    /// An escape sequence that this profile doesn't have.
+    /// A byte that continues no escape sequence of the profile.
     #[error("no such escape sequence")]
     BadEscape,
-    /// SS2 or SS3, and then a byte below `20`.
+    /// A byte below `20` after SS2 or SS3.
     #[error("a control stands behind a single shift")]
     ShiftAlone,
     /// A code of the PDI set under a single shift, also an opcode that is left out.
@@ -26,43 +27,43 @@ pub enum Fault {
     /// An argument outside its range.
     #[error("an argument is out of range")]
     BadArgument,
-    /// A code that this profile leaves out by name.
+    /// A code that the profile leaves out by name.
     #[error("{0} is left out")]
     LeftOut(Left),
-    /// DOMAIN in three dimensions: b6 of its first word is set.
+    /// DOMAIN in three dimensions: b6 of its word is set.
     #[error("three dimensions are asked for")]
     ThreeD,
-    /// An opcode wholly lacks an operand that it needs.
+    /// A required operand of an opcode is missing entirely.
     #[error("an operand is missing")]
     Missing,
     /// SET COLOR with more than one operand.
     #[error("more than one colour is set")]
     ManyColours,
-    /// A point of the opcode isn't in the square.
+    /// A point of the opcode isn't on the unit screen.
     #[error("a point lies outside the unit square")]
     Outside,
-    /// The opcode starts at the pen, which text, a field, a clearing or a reset has left.
+    /// The opcode starts at the pen, whose position isn't known after text, RESET, CS or FIELD.
     #[error("the pen's place isn't known")]
     PenUnknown,
-    /// SET COLOR where the colour is that of a reset, with no address.
+    /// SET COLOR without an address to set, since a reset selected the colour.
     #[error("there is no address to set")]
     NoAddress,
-    /// An operand byte past `RUN_LIMIT`.
+    /// More than `RUN_LIMIT` operand bytes of one opcode.
     #[error("an opcode has too many operand bytes")]
     LongRun,
-    /// More displacements of one arc or polygon than its shape can hold.
+    /// More displacements than an arc or polygon may have.
     #[error("a shape has too many points")]
     ManyPoints,
     /// REPEAT or REPEAT TO EOL where the last entry isn't a character.
     #[error("there is no character to repeat")]
     NothingToRepeat,
-    /// A word with no run open.
+    /// An operand word outside a run.
     #[error("an operand stands without an opcode")]
     Stray,
-    /// A call or a presentation would pass the budget.
+    /// A call or presentation would exceed the budget.
     #[error("the macros would pass the budget")]
     Budget,
-    /// The bodies of the macros would pass their limit.
+    /// The macro bodies would exceed their limit.
     #[error("the macros would pass the store")]
     Store,
     /// The input ends inside a code.
@@ -71,7 +72,7 @@ pub enum Fault {
     /// The input ends inside a macro body or a definition.
     #[error("the stream ends inside a definition")]
     Unended,
-    /// A growth was refused for want of memory.
+    /// Memory ran out.
     #[error("no memory")]
     Memory,
     /// The sink's device failed.
@@ -80,7 +81,7 @@ pub enum Fault {
 }
 
 impl Fault {
-    /// The number by which refusals are known, from 1.
+    /// Returns the number of the refusal, from 1.
     pub fn number(self) -> u8
         ensures { result ≡ number_of self }
     {
@@ -110,7 +111,7 @@ impl Fault {
         }
     }
 
-    /// The name by which refusals are printed, without the name of what is left out.
+    /// Returns the name of the refusal, without the name of a code that is left out.
     pub fn name(self) -> &'static str
         ensures { result.now ≡ name_of self }
     {
@@ -183,12 +184,12 @@ impl From<SinkFault> for Fault {
     }
 }
 
-/// Why a stream is refused, and where.
+/// A refusal: its fault and its place (PROFILE.md, Refusals).
 #[derive(Clone, Copy, PartialEq, Eq, Debug, Drop, Error)]
 #[error("{fault} at {place}")]
 pub struct Refusal {
-    /// Why.
+    /// The fault.
     pub fault: Fault,
-    /// The offset of a byte of the input, or the input's length for what is found at its end.
+    /// The offset of a byte of the input, or the length of the input for what is found at its end.
     pub place: u64,
 }

@@ -1,10 +1,10 @@
-//! Feeds a reader what an input gives.
+//! Feeding of a reader from an input.
 ghost use Rattle.std.specs.Prelude.{◌≡◌, ◌+◌, ◌*◌, ◌^◌, ◌<◌, ◌≤◌, ℕ, List, [], None, false, length};
 ghost use Rattle.std.specs.Io.KnownBytes.{Consumes};
 ghost use Rattle.nap_list.specs.Limits.{reads_limit};
 ghost use Rattle.nap_reader.specs.declared.feeding.FeedFault.TheVariants.{Refused};
 ghost use Rattle.nap_reader.specs.Feeding.{FailsBy, Feeds};
-ghost use Rattle.nap_reader.specs.Standing.{Stands, budget_of, fed_of, refusal_of, sink_of};
+ghost use Rattle.nap_reader.specs.Standing.{HasRead, budget_of, fed_of, refusal_of, sink_of};
 
 use crate::fault::Refusal;
 use crate::reader::Reader;
@@ -30,8 +30,7 @@ impl From<Refusal> for FeedFault {
     }
 }
 
-/// Feeds a new reader all that an input gives, read by read into the room. Nothing is read behind a refusal or a failed
-/// read.
+/// Feeds a new reader all that an input gives, reading into `scratch`. Nothing is read after a refusal or a failed read.
 pub fn feed_from<I: Inlet, S: Sink>(
     reader: &mut Reader<S>,
     input: &mut I,
@@ -46,7 +45,7 @@ pub fn feed_from<I: Inlet, S: Sink>(
     ensures budget { budget_of reader.new ≡ budget_of reader.old }
     ensures more { I.calls input.old ≤ I.calls input.new }
     ensures feeds { (p : List ℕ) × Consumes (I.left input.old) (I.left input.new) p
-        × ((s : S) → Stands reader.old s [] → Feeds I.Inlet reader.old reader.new s p input.old input.new result) }
+        × ((s : S) → HasRead reader.old s [] → Feeds I.Inlet reader.old reader.new s p input.old input.new result) }
     ensures fails { S.failed (sink_of reader.old) ≡ false → FailsBy (S.failed (sink_of reader.new)) result }
 {
     for _ in 0..READS {

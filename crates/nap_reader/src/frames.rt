@@ -1,13 +1,13 @@
-//! The bodies that are being read.
+//! The macro bodies that are being read.
 ghost use Rattle.std.specs.Prelude.{true, ℕ, List, ◌≡◌, ◌<◌, ◌≤◌, ◌+◌, ◌↔◌, [], ◌∷◌, ◌++◌, length, MatchOption, OnOk};
 ghost use Rattle.smallvec.specs.SmallVec.{HasRoomFor};
-ghost use Rattle.nap_reader.specs.Framed.{Comes, FramesIn, GivesFrom, Innermost, behind, unread};
+ghost use Rattle.nap_reader.specs.Framed.{AreNextBytes, FramesIn, GivesFrom, Innermost, bytes_after, unread};
 
 use crate::store::Span;
 use smallvec::SmallVec;
 use std::alloc::{AllocError, Global};
 
-/// A body that is being read: the bytes of the store from the next one to the end, all of them at one place.
+/// A body that is being read: its unread bytes in the store, all of them with one place.
 #[derive(Clone, Copy, Default, Drop)]
 pub(crate) struct Frame {
     next: usize,
@@ -15,14 +15,14 @@ pub(crate) struct Frame {
     place: u64,
 }
 
-/// The bodies that are being read, the innermost last. Each has a byte that is unread.
+/// The bodies that are being read, the innermost last. Each has an unread byte.
 #[derive(Drop)]
 pub(crate) struct Frames {
     stack: SmallVec<Frame, 8>,
 }
 
 impl Frames {
-    /// No body is being read.
+    /// Returns no bodies.
     pub(crate) fn new(alloc: Global) -> Frames
         ensures { result.stack.items ≡ [] }
     {
@@ -38,7 +38,7 @@ impl Frames {
         self.stack.clear();
     }
 
-    /// Makes room for one more body.
+    /// Reserves memory for one more body.
     pub(crate) fn reserve(&mut self) -> Result<(), AllocError>
         ensures items { self.new.stack.items ≡ self.old.stack.items }
         ensures ok { OnOk result (HasRoomFor self.new.stack 1) }
@@ -46,7 +46,7 @@ impl Frames {
         self.stack.reserve(1)
     }
 
-    /// This part of the store comes next, at this place. There is room for it.
+    /// Adds a part of the store as the innermost body, with this place. Memory for it has to be reserved.
     pub(crate) fn push_reserved(&mut self, span: Span, place: u64)
         requires some { span.start < span.end }
         requires room { HasRoomFor self.old.stack 1 }
@@ -59,7 +59,7 @@ impl Frames {
         });
     }
 
-    /// Where in the store the byte is that comes next, where a body gives it.
+    /// Returns the index in the store of the next byte, if a body is being read.
     pub(crate) fn next(&self) -> Option<usize>
         ensures { MatchOption result (self.now.stack.items ≡ []) (λ next. (before : List Frame) × (frame : Frame) × (self.now.stack.items ≡ before ++ frame ∷ []) × (next ≡ frame.next)) }
     {
@@ -75,7 +75,7 @@ impl Frames {
         self.stack.is_empty()
     }
 
-    /// The bytes that the innermost body has still to give, with their place.
+    /// Returns the unread bytes of the innermost body, with their place.
     pub(crate) fn innermost<'a>(&self, bytes: &'a [u8]) -> Option<(&'a [u8], u64)>
         requires { FramesIn (length bytes.now) self.now.stack.items }
         ensures { MatchOption result (self.now.stack.items ≡ []) (λ x. Innermost bytes.now self.now.stack.items x.0.now x.1) }
@@ -84,12 +84,12 @@ impl Frames {
         Some((&bytes[frame.next..frame.end], frame.place))
     }
 
-    /// The byte that comes behind the innermost body: of the body outside it, else of the piece.
-    pub(crate) fn byte_behind(&self, bytes: &[u8], piece: &[u8], at: usize) -> Option<u8>
+    /// Returns the byte after the innermost body: of the body outside it, else of the piece.
+    pub(crate) fn byte_after(&self, bytes: &[u8], piece: &[u8], at: usize) -> Option<u8>
         requires framed { FramesIn (length bytes.now) self.now.stack.items }
         requires within { at ≤ length piece.now }
-        ensures { (text : List ℕ) (fed place : ℕ) → Comes bytes.now self.now.stack.items piece.now at fed text place →
-            MatchOption result (behind bytes.now self.now.stack.items piece.now at text ≡ []) (λ byte. (rest : List ℕ) × (behind bytes.now self.now.stack.items piece.now at text ≡ byte ∷ rest)) }
+        ensures { (text : List ℕ) (fed place : ℕ) → AreNextBytes bytes.now self.now.stack.items piece.now at fed text place →
+            MatchOption result (bytes_after bytes.now self.now.stack.items piece.now at text ≡ []) (λ byte. (rest : List ℕ) × (bytes_after bytes.now self.now.stack.items piece.now at text ≡ byte ∷ rest)) }
     {
         let frames = self.stack.as_slice();
         if frames.len() > 1 {
@@ -101,8 +101,8 @@ impl Frames {
         Some(piece[at])
     }
 
-    /// Takes this many bytes of the innermost body, which has as many.
-    pub(crate) fn skip(&mut self, bytes: &[u8], count: usize)
+    /// Advances past `operand_count` bytes of the innermost body, which has as many.
+    pub(crate) fn take_from_innermost(&mut self, bytes: &[u8], count: usize)
         requires { FramesIn (length bytes.now) self.old.stack.items }
         ensures given { (text : List ℕ) (place : ℕ) → Innermost bytes.now self.old.stack.items text place → count ≤ length text →
             GivesFrom bytes.now self.old.stack.items place text count self.new.stack.items }

@@ -1,9 +1,9 @@
-//! What comes next of a stream: bytes of the bodies that are called, and then of the piece.
+//! The input of a reader: the bytes of called bodies, and then those of the piece.
 ghost use Rattle.std.specs.Prelude.{◌≡◌, ◌+◌, ◌≤◌, ℕ, List, [], None, length, IsTrue, MatchOption};
 ghost use Rattle.nap_reader.specs.Bodies.{no_names, store_limit};
 ghost use Rattle.nap_reader.specs.Budgets.{most_budget};
 ghost use Rattle.nap_reader.specs.Carried.{HasName, HasName-prop};
-ghost use Rattle.nap_reader.specs.Framed.{Comes, FramesIn, behind, unread};
+ghost use Rattle.nap_reader.specs.Framed.{AreNextBytes, FramesIn, bytes_after, unread};
 
 use crate::body::OpenBody;
 use crate::budget::Budget;
@@ -17,7 +17,7 @@ mod calls;
 mod defining;
 mod keeping;
 
-/// The bodies of the macros, those that are being read, and how much was read of them and of the stream.
+/// The macro bodies, those that are being read, and the counts of bytes read.
 #[derive(Drop)]
 pub(crate) struct Input {
     pub(crate) store: Store,
@@ -25,13 +25,13 @@ pub(crate) struct Input {
     pub(crate) body: Option<OpenBody>,
     pub(crate) frames: Frames,
     pub(crate) budget: Budget,
-    /// How many bytes of the piece were taken.
+    /// The number of bytes of the piece that were consumed.
     pub(crate) at: usize,
-    /// How many bytes of the stream were taken.
+    /// The number of bytes of the stream that were consumed.
     pub(crate) fed: u64,
-    /// How many bytes of the stream and of bodies were taken.
+    /// The number of bytes of the stream and of bodies that were consumed.
     pub(crate) turns: u64,
-    /// How many bytes of bodies were charged.
+    /// The number of bytes of bodies that were charged.
     pub(crate) charged: u64,
     ghost within: { charged ≤ budget },
     ghost small: { charged ≤ most_budget },
@@ -44,10 +44,10 @@ pub(crate) struct Input {
 }
 
 impl Input {
-    ghost use Rattle.nap_reader.specs.Coming.{Advances, CanAdvance, IsNext, Reads, Sets, coming};
+    ghost use Rattle.nap_reader.specs.NextBytes.{Advances, CanAdvance, IsNext, Reads, StoresBody, next_bytes};
     ghost use Rattle.nap_reader.specs.Steps.{IsOver};
 
-    /// Nothing was read yet.
+    /// Returns the input before any byte.
     pub(crate) fn new(alloc: Global, budget: Budget) -> Input
         ensures store { result.store ≡ record { names = no_names; bytes = []; body = []; stored = 0 } }
         ensures none { (result.body ≡ None) × (result.frames.stack.items ≡ []) }
@@ -92,18 +92,19 @@ impl Input {
         }
     }
 
-    /// A new piece comes.
-    pub(crate) fn begin(&mut self)
+    /// Begins a new piece.
+    pub(crate) fn begin_piece(&mut self)
         ensures { self.new ≡ record self.old { at = 0 } }
     {
         self.at = 0;
     }
 
-    /// The bytes that come next, if there are any, and whether a byte that is no operand comes behind them.
+    /// Returns the next bytes that lie together, if there are any, and whether a byte that isn't an operand byte
+    /// follows them.
     #[inline(always)]
     pub(crate) fn next_slice<'a>(&'a self, piece: &'a [u8]) -> Option<(Slice<'a>, bool)>
         requires { Reads self.now piece.now }
-        ensures { MatchOption result (coming self.now piece.now ≡ []) (λ x. IsNext self.now piece.now x.0.place x.0.step x.0.bytes.now x.1) }
+        ensures { MatchOption result (next_bytes self.now piece.now ≡ []) (λ x. IsNext self.now piece.now x.0.place x.0.step x.0.bytes.now x.1) }
     {
         let Some((bytes, place)) = self.frames.innermost(self.store.bytes()) else {
             if self.at == piece.len() {
@@ -124,20 +125,20 @@ impl Input {
         Some((slice, self.is_ended(piece)))
     }
 
-    /// Whether a byte that is no operand comes behind the innermost body.
+    /// Whether a byte that isn't an operand byte follows the innermost body.
     #[inline(always)]
     fn is_ended(&self, piece: &[u8]) -> bool
         requires { Reads self.now piece.now }
-        ensures { (text : List ℕ) (place : ℕ) → Comes self.now.store.bytes self.now.frames.stack.items piece.now self.now.at self.now.fed text place →
-            IsTrue result → IsOver (behind self.now.store.bytes self.now.frames.stack.items piece.now self.now.at text) }
+        ensures { (text : List ℕ) (place : ℕ) → AreNextBytes self.now.store.bytes self.now.frames.stack.items piece.now self.now.at self.now.fed text place →
+            IsTrue result → IsOver (bytes_after self.now.store.bytes self.now.frames.stack.items piece.now self.now.at text) }
     {
-        match self.frames.byte_behind(self.store.bytes(), piece, self.at) {
+        match self.frames.byte_after(self.store.bytes(), piece, self.at) {
             Some(byte) => !is_operand(byte),
             None => false,
         }
     }
 
-    /// Passes so many of the bytes that come next, no more than their slice has.
+    /// Advances past `operand_count` of the next bytes, at most those of their slice.
     #[inline(always)]
     pub(crate) fn advance(&mut self, count: usize)
         requires { CanAdvance self.old count }
@@ -148,13 +149,13 @@ impl Input {
             self.at += count;
             self.fed += count as u64;
         } else {
-            self.frames.skip(self.store.bytes(), count);
+            self.frames.take_from_innermost(self.store.bytes(), count);
         }
     }
 
     /// Unbinds all names.
     pub(crate) fn clear(&mut self)
-        ensures { Sets self.old self.new (record self.old.store { names = no_names }) self.old.body }
+        ensures { StoresBody self.old self.new (record self.old.store { names = no_names }) self.old.body }
     {
         self.store.clear();
     }

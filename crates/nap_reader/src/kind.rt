@@ -7,27 +7,27 @@ use nap_codes::{Code, Opcode};
 /// What a reader does with a code.
 #[derive(Clone, Copy, Drop)]
 pub(crate) enum Kind {
-    /// It opens a run of operand bytes.
+    /// Opens a run of operand bytes.
     Opens(Opcode),
-    /// It is an operand word outside a run.
+    /// Is refused as Stray: an operand word outside a run.
     Strays,
-    /// It adds nothing.
+    /// Adds nothing.
     AddsNothing,
-    /// It is a character or a control, which acts by itself.
+    /// Acts: a character or a control.
     Acts(Code),
-    /// It calls the macro of this name.
+    /// Calls the macro with this name.
     Calls(u8),
-    /// It defines the macro of this name, whose body comes next.
+    /// Defines the macro with this name.
     Binds {
         /// The name.
         name: u8,
-        /// Whether the body is shown once it has ended.
+        /// Whether the body is presented as soon as it is defined.
         show: bool,
     },
 }
 
 impl Kind {
-    /// The kind of a code.
+    /// Returns what a reader does with a code.
     pub(crate) fn of(code: Code) -> Kind
         ensures { result ≡ kind_of code }
     {

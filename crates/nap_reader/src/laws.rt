@@ -1,4 +1,4 @@
-//! Laws of what a stream means, which no call can break.
+//! Laws about the meaning of streams. Each is the contract of a function that does nothing.
 ghost use Rattle.std.specs.Prelude.{◌≡◌};
 ghost use Rattle.nap_reader.specs.Laws.{AcceptedIsLegal, BegunComesFirst, CodeActs, EndBreaksAmong, FedBreaksAmong, FrontAfterFront, MoreBytesKeepEntries, MoreBytesKeepRefusal, PiecesAgree, ReadValuesAreInRange, RunActs, RunWaits};
 ghost use Rattle.nap_reader.specs.Bodies.{store_limit};
@@ -8,32 +8,32 @@ ghost use Rattle.nap_reader.specs.declared.store.TheConstants.{STORE_LIMIT};
 
 use nap_list::Sink;
 
-/// What a stream means is told front after front, with no bound on how many there are.
+/// The meaning of a stream is found front after front, with no bound on their number.
 #[tactic(auto, using(crate::proofs::PublicLaws::front_after_front))]
 pub fn front_after_front()
     ensures { FrontAfterFront }
 {}
 
-/// An opcode acts by its rule once a byte comes behind its run that is no operand byte, and waits until then.
+/// An opcode acts by its rule when a byte that isn't an operand byte follows its run, and not before.
 #[tactic(auto, using(crate::proofs::PublicLaws::run_acts, crate::proofs::PublicLaws::run_waits))]
 pub fn opcodes_take_their_runs()
     ensures acts { RunActs }
     ensures waits { RunWaits }
 {}
 
-/// A character, a control, a shift or a designation acts by its rule, or adds nothing, whatever stands behind it.
+/// A character, control, shift or designation acts by its rule or adds nothing, whatever follows it.
 #[tactic(auto, using(crate::proofs::PublicLaws::code_acts))]
 pub fn codes_act_alone()
     ensures { CodeActs }
 {}
 
-/// More bytes behind a stream change no entry that it has given: its entries come first in those of the longer stream.
+/// More bytes after a stream change none of its entries, which are a prefix of those of the longer stream.
 #[tactic(auto, using(crate::proofs::PublicLaws::more_bytes_keep_entries))]
 pub fn more_bytes_keep_entries()
     ensures { MoreBytesKeepEntries }
 {}
 
-/// More bytes behind a stream that is refused change nothing at all.
+/// More bytes after a refused stream change nothing.
 #[tactic(auto, using(crate::proofs::PublicLaws::more_bytes_keep_refusal))]
 pub fn more_bytes_keep_refusal()
     ensures { MoreBytesKeepRefusal }
@@ -45,34 +45,35 @@ pub fn pieces_agree()
     ensures { PiecesAgree }
 {}
 
-/// The list of a stream that is accepted is legal.
+/// The list of an accepted stream is legal.
 pub fn accepted_is_legal()
     ensures { AcceptedIsLegal }
 {}
 
-/// The points, colours and numbers of what is read are in the ranges of their types.
+/// The values of entries that were read are in the ranges of their types.
 pub fn read_values_are_in_range()
     ensures { ReadValuesAreInRange }
 {}
 
-/// The entries of what has begun come first in those of the whole stream.
+/// The entries of the meaning so far are a prefix of those of the whole stream.
 #[tactic(auto, using(crate::proofs::PublicLaws::begun_comes_first))]
 pub fn begun_comes_first()
     ensures { BegunComesFirst }
 {}
 
-/// A reader that broke, for want of memory or at its sink, leaves a part of the entries of the bytes that it was fed.
+/// A reader that broke, for lack of memory or at its sink, leaves part of the entries of the bytes that it was fed.
 pub fn fed_breaks_among<S: Sink>()
     ensures { FedBreaksAmong S.Sink }
 {}
 
-/// A reader that broke at the opcode that acts at the end of a stream leaves a part of the entries of the stream.
+/// A reader that broke at the end of a stream, in the opcode that acts there, leaves part of the entries of the stream.
 #[tactic(auto, using(crate::proofs::PublicLaws::end_breaks_among))]
 pub fn end_breaks_among<S: Sink>()
     ensures { EndBreaksAmong S.Sink }
 {}
 
-/// The limits are those of our profile: 1,048,576 bytes of bodies; budgets up to 67,108,864, of which 1,048,576 is usual.
+/// The constants have the values of the profile: 1,048,576 bytes of bodies; budgets up to 67,108,864, by default
+/// 1,048,576 (PROFILE.md, Limits).
 pub fn limits()
     ensures store { STORE_LIMIT ≡ store_limit }
     ensures most { MOST ≡ most_budget }

@@ -1,4 +1,4 @@
-//! Reads a stream, in any pieces, into a sink of entries.
+//! Reads a stream, in any pieces, into a sink of entries (PROFILE.md, How a stream is read).
 #![tactic(auto)]
 
 mod body;

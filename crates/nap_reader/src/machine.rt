@@ -1,4 +1,4 @@
-//! What the codes of a stream work on.
+//! The state that codes work on.
 ghost use Rattle.std.specs.Prelude.{◌≡◌, ◌≢◌, ◌≤◌, Bool, [], None, Some, length, vec_len, IsOk, MatchResult, OnOk};
 ghost use Rattle.nap_codes.specs.CodeSets.{start_sets};
 ghost use Rattle.nap_draw.specs.Limits.{run_limit};
@@ -26,36 +26,36 @@ mod runs;
 
 pub(crate) use answering::Refused;
 
-/// An opcode whose operands are still coming.
+/// An opcode whose run isn't ended.
 #[derive(Clone, Copy, Drop)]
 pub(crate) struct OpenRun {
     pub(crate) op: Opcode,
     pub(crate) place: u64,
 }
 
-/// What a code asks of the input.
+/// What a code requests of the input.
 #[derive(Clone, Copy, Drop)]
 pub(crate) enum Request {
     /// Nothing.
     Nothing,
-    /// All names are unbound.
+    /// Unbinds all names.
     Clear,
-    /// The macro of the name is called.
+    /// Calls the macro with this name.
     Call(u8),
-    /// The macro of the name is defined: its body comes next. And whether that is shown once it has ended.
+    /// Defines the macro with this name, and whether it is presented as soon as it is defined.
     Define(u8, bool),
-    /// The byte behind those that were taken is refused, or breaks, and the refusal is kept.
+    /// The next byte is refused or breaks, and the refusal is kept.
     Stop,
 }
 
-/// How many bytes were taken, and what their last code asks of the input.
+/// The number of bytes that were consumed, and what their last code requests of the input.
 #[derive(Clone, Copy, Drop)]
 pub(crate) struct Taken {
     pub(crate) count: usize,
     pub(crate) request: Request,
 }
 
-/// What codes work on.
+/// The state that codes work on: the work, the code sets, the open run, the refusal and the sink.
 #[derive(Drop)]
 pub(crate) struct Machine<S: Sink> {
     alloc: Global,
@@ -75,7 +75,7 @@ pub(crate) struct Machine<S: Sink> {
 impl<S: Sink> Machine<S> {
     ghost use Rattle.nap_reader.specs.Steps.{Executes, FailsRun, IsLive, Refuses};
 
-    /// The machine before any code.
+    /// Returns the state before any code.
     pub(crate) fn new(alloc: Global, sink: S) -> Machine<S>
         ensures work { result.work ≡ start_work }
         ensures lexer { result.lexer ≡ record { sets = start_sets; half = [] } }
@@ -126,7 +126,7 @@ impl<S: Sink> Machine<S> {
         (first, machine)
     }
 
-    /// The sink as it stands.
+    /// Returns the sink.
     pub(crate) fn into_sink(self) -> S
         ensures { result ≡ self.sink }
     {
@@ -143,7 +143,7 @@ impl<S: Sink> Machine<S> {
         sink
     }
 
-    /// Executes the open run where the stream ends.
+    /// Executes the open run at the end of the stream.
     pub(crate) fn end_run(&mut self) -> Result<(), Refusal>
         requires live { IsLive self.old }
         ensures closed { OnOk result (self.new.open_run ≡ None) }
@@ -162,7 +162,7 @@ impl<S: Sink> Machine<S> {
         }
     }
 
-    /// So many bytes were taken before the one that is refused, or breaks.
+    /// Keeps the refusal of a stream, and returns how many bytes were consumed before it.
     #[inline(never)]
     fn stop(&mut self, count: usize, fault: Fault, place: u64) -> Taken
         ensures kept { Refuses self.old self.new (refusal fault place) }
@@ -176,7 +176,7 @@ impl<S: Sink> Machine<S> {
     }
 }
 
-/// So many bytes were taken, and nothing is asked.
+/// Returns that `operand_count` bytes were consumed, and nothing is requested.
 #[inline(always)]
 fn took(count: usize) -> Taken
     ensures { result ≡ record { count = count; request = Request.Nothing } }

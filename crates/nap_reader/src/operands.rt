@@ -1,4 +1,4 @@
-//! The operand bytes at the front of a piece.
+//! The operand bytes at the beginning of a piece.
 ghost use Rattle.std.specs.Prelude.{All, ℕ, List, take, ◌≡◌, ◌<◌, ◌≤◌, ◌++◌, ◌⊎◌, false, true, length, vec_len, None, IfSome, MatchOption};
 ghost use Rattle.std.specs.List.{prefix_len};
 ghost use Rattle.nap_draw.specs.Limits.{run_limit};
@@ -8,15 +8,15 @@ ghost use Rattle.nap_reader.specs.Stream.{is_operand_byte};
 use crate::prefix::prefix_from;
 use nap_draw::RUN_LIMIT;
 
-/// How many bytes at the front are of operands.
-pub(crate) fn operand_bytes(bytes: &[u8]) -> usize
+/// Returns how many bytes at the beginning are operand bytes.
+pub(crate) fn operand_prefix_len(bytes: &[u8]) -> usize
     ensures { result ≡ prefix_len is_operand_byte bytes.now }
 {
     prefix_from(bytes, 0x40)
 }
 
-/// The operand bytes at the front, if they are no more than a run may have, and another byte comes behind them: one of these,
-/// or behind them all.
+/// Returns the operand bytes at the beginning, if they are no more than a run may have and another byte follows them,
+/// in the piece or after it.
 #[inline]
 pub(crate) fn whole_run(piece: &[u8], ended: bool) -> Option<&[u8]>
     ensures short { IfSome result (λ run. length run.now ≤ run_limit) }
@@ -33,7 +33,7 @@ pub(crate) fn whole_run(piece: &[u8], ended: bool) -> Option<&[u8]>
     Some(&piece[..count])
 }
 
-/// All of these, where another byte comes behind them.
+/// Returns all bytes, if another byte follows them.
 #[inline(never)]
 fn last_run(piece: &[u8], ended: bool) -> Option<&[u8]>
     ensures { MatchOption result (ended ≡ false) (λ run. (ended ≡ true) × (run.now ≡ piece.now)) }
@@ -44,7 +44,7 @@ fn last_run(piece: &[u8], ended: bool) -> Option<&[u8]>
     None
 }
 
-/// Whether a byte is one of an operand.
+/// Whether a byte is an operand byte, from `40` to `7F`.
 pub(crate) fn is_operand(byte: u8) -> bool
     ensures { result ≡ is_operand_byte byte }
 {

@@ -1,4 +1,4 @@
-//! How many bytes of a range are at the front of a piece, counted in blocks.
+//! The number of bytes of a range at the beginning of a piece, counted in blocks.
 ghost use Rattle.std.specs.Prelude.{map, drop, not, ◌≡◌, ◌+◌, ◌≤◌, ◌<◌, length};
 ghost use Rattle.std.specs.List.{prefix_len};
 ghost use Rattle.std.specs.Simd.Lanes.{mask_l};
@@ -6,7 +6,7 @@ ghost use Rattle.nap_reader.specs.Prefix.{is_from};
 
 use std::simd::prelude::*;
 
-/// How many bytes at the front are from the least to `7F`.
+/// Returns how many bytes at the beginning are from `least` to `7F`.
 pub(crate) fn prefix_from(piece: &[u8], least: u8) -> usize
     requires { least < 0x80 }
     ensures { result ≡ prefix_len (is_from least) piece.now }
@@ -22,19 +22,19 @@ pub(crate) fn prefix_from(piece: &[u8], least: u8) -> usize
     prefix_end(piece, at, least)
 }
 
-/// Where these bytes end that are at this place and behind it, byte by byte.
+/// Returns the index after the bytes from `least` to `7F` that begin at `from`, counted byte by byte.
 fn prefix_end(piece: &[u8], from: usize, least: u8) -> usize
     requires { from ≤ length piece.now }
     ensures { result ≡ from + prefix_len (is_from least) (drop from piece.now) }
 {
     let mut at = from;
-    while at < piece.len() && is_from(piece[at], least) {
+    while at < piece.len() && is_at_least(piece[at], least) {
         at += 1;
     }
     at
 }
 
-/// A bit for each byte of the block that is another.
+/// Returns a bit for each byte of a block that isn't from `least` to `7F`.
 fn others_in(block: u8x32, least: u8) -> u64
     requires { least < 0x80 }
     ensures { result ≡ mask_l (map (λ b. not (is_from least b)) block) }
@@ -44,8 +44,8 @@ fn others_in(block: u8x32, least: u8) -> u64
         .to_bitmask()
 }
 
-/// Whether the byte is one of these.
-fn is_from(byte: u8, least: u8) -> bool
+/// Whether a byte is from `least` to `7F`.
+fn is_at_least(byte: u8, least: u8) -> bool
     ensures { result ≡ is_from least byte }
 {
     byte >= least && byte < 0x80

@@ -1,7 +1,7 @@
-//! The bodies of the macros.
+//! The store of macro bodies.
 ghost use Rattle.std.specs.Prelude.{◌≡◌, ◌+◌, ◌<◌, ◌≤◌, [], ◌∷◌, ◌++◌, length, OnOk, OnErr, IfOk};
 ghost use Rattle.nap_reader.specs.Bodies.{no_names, body_of, store_limit};
-ghost use Rattle.nap_reader.specs.Stored.{IsBefore, closed, grown, part_at, shown};
+ghost use Rattle.nap_reader.specs.Stored.{IsBefore, store_bound, store_grown, sublist_at, store_shown};
 ghost use Rattle.nap_codes.specs.Laws.{IsGraphic};
 
 use std::alloc::{AllocError, Global};
@@ -9,7 +9,8 @@ use std::marker::Model;
 
 mod growing;
 
-/// The most bytes of macro bodies in one stream, those that were bound again or cleared with them (our profile).
+/// The greatest number of bytes of macro bodies in one stream, those that were bound again or cleared included
+/// (PROFILE.md, Limits).
 pub const STORE_LIMIT: usize = 1_048_576;
 
 /// A part of the store.
@@ -19,10 +20,10 @@ pub(crate) struct Span {
     pub(crate) end: usize,
 }
 
-/// No bytes.
+/// The empty part.
 const EMPTY: Span = Span { start: 0, end: 0 };
 
-/// The bodies of the macros, one behind another, and those that the names are bound to.
+/// The macro bodies, one after another, and those that the names are bound to.
 #[derive(Drop)]
 pub(crate) struct Store {
     bytes: Vec<u8>,
@@ -33,17 +34,17 @@ pub(crate) struct Store {
 
 impl Model for Store {
     ghost use Rattle.std.specs.Prelude.{map, drop};
-    ghost use Rattle.nap_reader.specs.Stored.{IsStore, StoreState, part_at};
+    ghost use Rattle.nap_reader.specs.Stored.{IsStore, StoreState, sublist_at};
 
     ghost Value = { StoreState };
 
-    ghost view = { λ s. record { names = map (part_at s.bytes.items) s.spans; bytes = s.bytes.items; body = drop s.from s.bytes.items; stored = s.stored } };
+    ghost view = { λ s. record { names = map (sublist_at s.bytes.items) s.spans; bytes = s.bytes.items; body = drop s.from s.bytes.items; stored = s.stored } };
 
     ghost invariant = { λ s. IsStore s.bytes.items s.spans s.from s.stored };
 }
 
 impl Store {
-    /// No bodies, and no memory taken.
+    /// Returns an empty store, which takes no memory.
     pub(crate) fn new(alloc: Global) -> Store
         ensures { result ≡ record { names = no_names; bytes = []; body = []; stored = 0 } }
     {
@@ -65,14 +66,14 @@ impl Store {
         self.stored = 0;
     }
 
-    /// How many bytes more the bodies may have.
-    pub(crate) fn room(&self) -> usize
+    /// Returns how many more bytes the bodies may have.
+    pub(crate) fn space_left(&self) -> usize
         ensures { result + (self.now.stored + length self.now.body) ≡ store_limit }
     {
         STORE_LIMIT - self.stored - (self.bytes.len() - self.from)
     }
 
-    /// How many bytes the open body has.
+    /// Returns the number of bytes of the open body.
     pub(crate) fn open_len(&self) -> usize
         ensures count { result ≡ length self.now.body }
         ensures few { result ≤ store_limit }
@@ -80,20 +81,20 @@ impl Store {
         self.bytes.len() - self.from
     }
 
-    /// Adds a byte to the open body.
+    /// Appends a byte to the open body.
     pub(crate) fn push(&mut self, byte: u8) -> Result<(), AllocError>
         requires { self.old.stored + length self.old.body < store_limit }
-        ensures ok { OnOk result (self.new ≡ grown self.old (byte ∷ [])) }
+        ensures ok { OnOk result (self.new ≡ store_grown self.old (byte ∷ [])) }
         ensures err { OnErr result (self.new ≡ self.old) }
     {
         self.bytes.push(byte)?;
         Ok(())
     }
 
-    /// Binds the name to the open body, which is over.
+    /// Ends the open body, and binds it to the name.
     pub(crate) fn bind(&mut self, name: u8)
         requires { IsGraphic name }
-        ensures { self.new ≡ closed self.old name }
+        ensures { self.new ≡ store_bound self.old name }
     {
         let end = self.bytes.len();
         self.spans[usize::from(name - 0x20)] = Span {
@@ -104,12 +105,12 @@ impl Store {
         self.from = end;
     }
 
-    /// Binds the name to the open body, which is over, and stores ESC and the byte that ended it behind the body: all of
-    /// these come next. The two don't count for the limit.
+    /// Ends the open body, binds it to the name, and stores ESC and the byte that ended it after the body, which are
+    /// presented with it. These two don't count for the limit.
     pub(crate) fn show(&mut self, name: u8, ender: u8) -> Result<Span, AllocError>
         requires { IsGraphic name }
-        ensures ok { OnOk result (self.new ≡ shown self.old name ender) }
-        ensures next { IfOk result (λ span. part_at self.new.bytes span ≡ self.old.body ++ 0x1B ∷ ender ∷ []) }
+        ensures ok { OnOk result (self.new ≡ store_shown self.old name ender) }
+        ensures next { IfOk result (λ span. sublist_at self.new.bytes span ≡ self.old.body ++ 0x1B ∷ ender ∷ []) }
         ensures within { IfOk result (λ span. (span.start < span.end) × (span.end ≤ length self.new.bytes)) }
         ensures err { OnErr result (self.new ≡ self.old) }
     {
@@ -134,16 +135,16 @@ impl Store {
         self.spans = [EMPTY; 96];
     }
 
-    /// Where the body of the name is.
+    /// Returns where the body of a name is.
     pub(crate) fn span(&self, name: u8) -> Span
         requires { name < 0x80 }
-        ensures body { part_at self.now.bytes result ≡ body_of self.now.names name }
+        ensures body { sublist_at self.now.bytes result ≡ body_of self.now.names name }
         ensures within { IsBefore (length self.now.bytes) result }
     {
         self.spans[usize::from(name.saturating_sub(0x20))]
     }
 
-    /// All bytes that were stored.
+    /// Returns all bytes of the store.
     pub(crate) fn bytes(&self) -> &[u8]
         ensures { result.now ≡ self.now.bytes }
     {

@@ -1,16 +1,16 @@
-//! The bytes at the front of a piece that are of a text.
+//! The bytes of a text at the beginning of a piece.
 ghost use Rattle.std.specs.Prelude.{All, drop, length, take, ◌≡◌, ◌≤◌};
 ghost use Rattle.std.specs.List.{prefix_len};
-ghost use Rattle.nap_list.specs.Batches.{IsTyped};
+ghost use Rattle.nap_list.specs.Batches.{IsTextByte};
 ghost use Rattle.nap_reader.specs.Prefix.{is_from, is_of_text};
 
 use crate::prefix::prefix_from;
 use nap_codes::format_effector;
 
-/// The bytes at the front that are from `20` to `7F`, or format effectors of one byte.
+/// Returns the bytes at the beginning that are from `20` to `7F` or format effectors of one byte.
 pub(crate) fn text_bytes(piece: &[u8]) -> &[u8]
     ensures bytes { result.now ≡ take (prefix_len is_of_text piece.now) piece.now }
-    ensures typed { All IsTyped result.now }
+    ensures typed { All IsTextByte result.now }
 {
     let mut at = prefix_from(piece, 0x20);
     while at < piece.len() && format_effector(piece[at]).is_some() {
@@ -20,7 +20,7 @@ pub(crate) fn text_bytes(piece: &[u8]) -> &[u8]
     &piece[..at]
 }
 
-/// How many bytes from this place on are from `20` to `7F`. Behind a format effector there is often none.
+/// Returns how many bytes from an index on are from `20` to `7F`. After a format effector there is often none.
 #[inline]
 fn graphic_bytes(piece: &[u8], at: usize) -> usize
     requires { at ≤ length piece.now }

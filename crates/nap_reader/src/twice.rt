@@ -1,7 +1,7 @@
 //! Reads a page into one sink, and where it is accepted into another.
 ghost use Rattle.std.specs.Prelude.{◌≡◌, [], None, false};
 ghost use Rattle.nap_list.specs.State.{start};
-ghost use Rattle.nap_reader.specs.Standing.{Stands, budget_of, fed_of, refusal_of, sink_of};
+ghost use Rattle.nap_reader.specs.Standing.{HasRead, budget_of, fed_of, refusal_of, sink_of};
 ghost use Rattle.nap_reader.specs.Twice.{IsReadTwice, ReadsTo};
 
 use crate::budget::Budget;
@@ -14,7 +14,7 @@ use std::alloc::Global;
 fn read_whole<S: Sink>(reader: &mut Reader<S>, stream: &[u8]) -> Result<(), Refusal>
     requires unread { fed_of reader.old ≡ 0 }
     requires unrefused { refusal_of reader.old ≡ None }
-    ensures { (s : S) → Stands reader.old s [] → ReadsTo S.Sink s (budget_of reader.old) stream.now (sink_of reader.new) result }
+    ensures { (s : S) → HasRead reader.old s [] → ReadsTo S.Sink s (budget_of reader.old) stream.now (sink_of reader.new) result }
 {
     reader.feed(stream)?;
     reader.end()?;

@@ -6,8 +6,8 @@ use Rattle.std.proofs.lemmas.List.Elements.{All-head, All-tail, All-map, All-wea
 use Rattle.nap_values.specs.Digits.{value_of, digits_of}
 use Rattle.nap_values.specs.Laws.{IsWord}
 use Rattle.nap_values.specs.TwosComplement.{signed_of, bits_of}
-use Rattle.nap_values.specs.Packed.{words_in, HoldsWords, x_in, y_in}
-use Rattle.nap_values.specs.Spellings.{words_of_pairs, bytes_of}
+use Rattle.nap_values.specs.PackedCoordinates.{words_in, HoldsWords, x_in, y_in}
+use Rattle.nap_values.specs.Spellings.{words_of_pairs, operand_bytes}
 use Rattle.nap_values.proofs.DigitLemmas.{value_of-below, value_of-digits_of}
 use Rattle.nap_values.proofs.CoordinateLemmas.{bits_of-signed_of}
 use Rattle.nap_values.proofs.PackedLemmas.{length-words_in, holding_fits, pair_words-values, x_in-below, y_in-below}
@@ -41,14 +41,14 @@ bytes_of_value (suc places) high (byte ∷ bytes) all len =
 bytes_of_value _ high bytes all len = absurd (omega arith)
 
 -- bytes have the value of their words and of the mark in each
-value_of-bytes_of : (places : ℕ) (words : List ℕ) → length words ≡ places →
-    value_of 256 places (bytes_of words) ≡ value_of 256 places (replicate places 64) + value_of 256 places words
+value_of-operand_bytes : (places : ℕ) (words : List ℕ) → length words ≡ places →
+    value_of 256 places (operand_bytes words) ≡ value_of 256 places (replicate places 64) + value_of 256 places words
 unfolding value_of
-value_of-bytes_of zero [] len = refl
-value_of-bytes_of (suc places) (word ∷ words) len =
-    let rest = value_of-bytes_of places words (omega arith) in
+value_of-operand_bytes zero [] len = refl
+value_of-operand_bytes (suc places) (word ∷ words) len =
+    let rest = value_of-operand_bytes places words (omega arith) in
     omega (arith, rest)
-value_of-bytes_of _ words len = absurd (omega arith)
+value_of-operand_bytes _ words len = absurd (omega arith)
 
 marks : value_of 256 8 (replicate 8 64) ≡ 0x4040_4040_4040_4040
 unfolding value_of
@@ -62,19 +62,19 @@ each_below (byte ∷ bytes) all (suc i) = each_below bytes (All-tail (λ b. b < 
 swapped : (n : ℕ) → swap_bytes w64 n ≡ from_le_bytes w64 (to_be_bytes w64 n)
 swapped n = omega arith
 
-pub bytes_of_words : (n : ℕ) → HoldsWords n → to_le_bytes w64 (swap_bytes w64 (0x4040_4040_4040_4040 + n)) ≡ bytes_of (words_in n)
+pub bytes_of_words : (n : ℕ) → HoldsWords n → to_le_bytes w64 (swap_bytes w64 (0x4040_4040_4040_4040 + n)) ≡ operand_bytes (words_in n)
 unfolding words_in
 bytes_of_words n words =
     let ws = words_in n in
-    let below : All (λ b. b < 256) (bytes_of ws) =
+    let below : All (λ b. b < 256) (operand_bytes ws) =
     All-map (λ b. b < 256) (λ word. 64 + word) ws (All-weaker IsWord (λ word. 64 + word < 256) (λ word fits. omega arith) ws words) in
-    let len : length (bytes_of ws) ≡ 8 = length-map ws (λ word. 64 + word) ∙ length-words_in n words in
+    let len : length (operand_bytes ws) ≡ 8 = length-map ws (λ word. 64 + word) ∙ length-words_in n words in
     let is : value_of 256 8 ws ≡ n = value_of-digits_of 256 8 n (omega arith) (omega (arith, holding_fits n words)) in
-    let value = value_of-bytes_of 8 ws (length-words_in n words) in
-    let number : 0x4040_4040_4040_4040 + n ≡ 0 * 256 ^ 8 + value_of 256 8 (bytes_of ws) = omega (arith, is, value, marks) in
-    let high_first : to_be_bytes w64 (0x4040_4040_4040_4040 + n) ≡ bytes_of ws =
-    ap (bytes_high_first 8) number ∙ bytes_of_value 8 0 (bytes_of ws) below len in
-    le_bytes_8 (bytes_of ws) (swap_bytes w64 (0x4040_4040_4040_4040 + n)) len (each_below (bytes_of ws) below)
+    let value = value_of-operand_bytes 8 ws (length-words_in n words) in
+    let number : 0x4040_4040_4040_4040 + n ≡ 0 * 256 ^ 8 + value_of 256 8 (operand_bytes ws) = omega (arith, is, value, marks) in
+    let high_first : to_be_bytes w64 (0x4040_4040_4040_4040 + n) ≡ operand_bytes ws =
+    ap (bytes_high_first 8) number ∙ bytes_of_value 8 0 (operand_bytes ws) below len in
+    le_bytes_8 (operand_bytes ws) (swap_bytes w64 (0x4040_4040_4040_4040 + n)) len (each_below (operand_bytes ws) below)
     (swapped (0x4040_4040_4040_4040 + n) ∙ ap (from_le_bytes w64) high_first)
 
 -- the words of a number are those of its parts

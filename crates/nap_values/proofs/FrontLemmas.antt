@@ -1,7 +1,7 @@
 use Rattle.std.proofs.Common.{◌≡◌, ℕ, suc, zero, ◌-◌, ◌%◌, ◌<◌, ◌≤◌, List, [], ◌∷◌, ◌++◌, map, length, replicate, take, refl, sym, ap, ◌∙◌, arith}
 use Rattle.std.proofs.lemmas.List.{take-map}
 use Rattle.nap_values.specs.Digits.{value_of}
-use Rattle.nap_values.specs.Operands.{carried, x_digit, y_digit, g_digit, r_digit, b_digit, multi_of, single_of, colour_of}
+use Rattle.nap_values.specs.Operands.{operand_words, x_digit, y_digit, g_digit, r_digit, b_digit, multi_of, single_of, colour_of}
 use Rattle.nap_values.proofs.DigitLemmas.{value_of-take}
 use Rattle.nap_values.proofs.PublicLaws.{missing_words_are_zero}
 
@@ -43,11 +43,11 @@ colour_of-front run =
     (missing_words_are_zero (take 8 run) (8 - length run)).2
     ∙ rw (front-value 4 8 g_digit run, front-value 4 8 r_digit run, front-value 4 8 b_digit run) refl
 
-pub single_of-front : (bytes run : List ℕ) → carried bytes ≡ front 8 run → single_of (carried (take 4 bytes)) ≡ single_of run
+pub single_of-front : (bytes run : List ℕ) → operand_words bytes ≡ front 8 run → single_of (operand_words (take 4 bytes)) ≡ single_of run
 unfolding single_of
 single_of-front bytes run is =
     ap (value_of 64 4) (sym (take-map (λ byte. byte % 64) 4 bytes))
-    ∙ value_of-take 64 4 4 (carried bytes) (omega arith)
+    ∙ value_of-take 64 4 4 (operand_words bytes) (omega arith)
     ∙ ap (value_of 64 4) is
     ∙ (missing_words_are_zero (take 8 run) (8 - length run)).1
     ∙ value_of-take 64 4 8 run (omega arith)

@@ -4,7 +4,7 @@ use Rattle.std.proofs.lemmas.Int.{ints}
 use Rattle.nap_values.specs.Coordinates.{Coordinates, IsInSquare, point_with, point_at}
 use Rattle.nap_values.specs.TwosComplement.{signed_of, bits_of}
 use Rattle.nap_values.specs.Operands.{multi_of}
-use Rattle.nap_values.specs.Packed.{words_in, HoldsWords, x_in, y_in}
+use Rattle.nap_values.specs.PackedCoordinates.{words_in, HoldsWords, x_in, y_in}
 use Rattle.nap_values.proofs.CoordinateLemmas.{bits_of-signed_of, point_with-back}
 use Rattle.nap_values.proofs.PackedLemmas.{x_in-below, y_in-below}
 

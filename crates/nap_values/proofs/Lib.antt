@@ -11,10 +11,10 @@ mod PackedLemmas
 mod PackedColourLemmas
 mod PartLemmas
 mod MotionLemmas
-mod WalkLemmas
+mod MovingPointLemmas
 mod SignLemmas
 mod GatherLemmas
 mod InsideLemmas
 mod RunLemmas
-mod CarriedLemmas
+mod OperandWordLemmas
 mod FrontLemmas

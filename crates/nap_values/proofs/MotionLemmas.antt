@@ -3,11 +3,11 @@ use Rattle.std.proofs.lemmas.List.{length-map}
 use Rattle.std.proofs.lemmas.List.Elements.{All-head, All-tail, All-map}
 use Rattle.nap_values.specs.Digits.{value_of, digits_of}
 use Rattle.nap_values.specs.Operands.{x_digit, y_digit}
-use Rattle.nap_values.specs.Packed.{words_in, HoldsWords, x_in, y_in, packed}
+use Rattle.nap_values.specs.PackedCoordinates.{words_in, HoldsWords, x_in, y_in, packed_coordinates}
 use Rattle.nap_values.proofs.SpellingLemmas.{x_digits-below, y_digits-below}
 use Rattle.nap_values.proofs.MaskLemmas.{masked, value_of-scaled, everywhere}
 use Rattle.nap_values.proofs.SumLemmas.{bytes_sum, digits_sum, sum-digits}
-use Rattle.nap_values.proofs.PackedLemmas.{length-words_in, x_masked, y_masked, packed-parts, packed-words, x_in-packed, y_in-packed}
+use Rattle.nap_values.proofs.PackedLemmas.{length-words_in, x_masked, y_masked, packed_coordinates-parts, packed_coordinates-words, x_in-packed_coordinates, y_in-packed_coordinates}
 
 -- Sums and differences of the numbers that words hold, in 24 bits.
 
@@ -116,23 +116,23 @@ module _ (m n : ℕ) (m_words : HoldsWords m) (n_words : HoldsWords n) where
 
   pub added-parts : bit_and ((bit_and m 0x3838_3838_3838_3838 + 0xC7C7_C7C7_C7C7_C7C7 + bit_and n 0x3838_3838_3838_3838) % 18446744073709551616) 0x3838_3838_3838_3838
       + bit_and ((bit_and m 0x0707_0707_0707_0707 + 0xF8F8_F8F8_F8F8_F8F8 + bit_and n 0x0707_0707_0707_0707) % 18446744073709551616) 0x0707_0707_0707_0707
-      ≡ packed ((x_in m + x_in n) % 16777216) ((y_in m + y_in n) % 16777216)
-  added-parts = ap₂ (λ x y. x + y) x_added y_added ∙ sym (packed-parts ((x_in m + x_in n) % 16777216) ((y_in m + y_in n) % 16777216))
+      ≡ packed_coordinates ((x_in m + x_in n) % 16777216) ((y_in m + y_in n) % 16777216)
+  added-parts = ap₂ (λ x y. x + y) x_added y_added ∙ sym (packed_coordinates-parts ((x_in m + x_in n) % 16777216) ((y_in m + y_in n) % 16777216))
 
   pub taken-parts : bit_and ((bit_and m 0x3838_3838_3838_3838 + (18446744073709551616 - bit_and n 0x3838_3838_3838_3838)) % 18446744073709551616) 0x3838_3838_3838_3838
       + bit_and ((bit_and m 0x0707_0707_0707_0707 + (18446744073709551616 - bit_and n 0x0707_0707_0707_0707)) % 18446744073709551616) 0x0707_0707_0707_0707
-      ≡ packed ((x_in m + (16777216 - x_in n)) % 16777216) ((y_in m + (16777216 - y_in n)) % 16777216)
+      ≡ packed_coordinates ((x_in m + (16777216 - x_in n)) % 16777216) ((y_in m + (16777216 - y_in n)) % 16777216)
   taken-parts =
       ap₂ (λ x y. x + y) x_taken y_taken
-      ∙ sym (packed-parts ((x_in m + (16777216 - x_in n)) % 16777216) ((y_in m + (16777216 - y_in n)) % 16777216))
+      ∙ sym (packed_coordinates-parts ((x_in m + (16777216 - x_in n)) % 16777216) ((y_in m + (16777216 - y_in n)) % 16777216))
 
 -- two numbers of which 24 bits are kept
 module _ (x y : ℕ) where
-  pub kept-words : HoldsWords (packed (x % 16777216) (y % 16777216))
-  kept-words = packed-words (x % 16777216) (y % 16777216) (omega arith) (omega arith)
+  pub kept-words : HoldsWords (packed_coordinates (x % 16777216) (y % 16777216))
+  kept-words = packed_coordinates-words (x % 16777216) (y % 16777216) (omega arith) (omega arith)
 
-  pub kept-x : x_in (packed (x % 16777216) (y % 16777216)) ≡ x % 16777216
-  kept-x = x_in-packed (x % 16777216) (y % 16777216) (omega arith) (omega arith)
+  pub kept-x : x_in (packed_coordinates (x % 16777216) (y % 16777216)) ≡ x % 16777216
+  kept-x = x_in-packed_coordinates (x % 16777216) (y % 16777216) (omega arith) (omega arith)
 
-  pub kept-y : y_in (packed (x % 16777216) (y % 16777216)) ≡ y % 16777216
-  kept-y = y_in-packed (x % 16777216) (y % 16777216) (omega arith) (omega arith)
+  pub kept-y : y_in (packed_coordinates (x % 16777216) (y % 16777216)) ≡ y % 16777216
+  kept-y = y_in-packed_coordinates (x % 16777216) (y % 16777216) (omega arith) (omega arith)

@@ -7,7 +7,7 @@ use Rattle.nap_values.specs.Digits.{value_of, digits_of}
 use Rattle.nap_values.specs.Operands.{g_digit, r_digit, b_digit}
 use Rattle.nap_values.specs.Spellings.{words_of_triples}
 use Rattle.nap_values.specs.Laws.{IsWord}
-use Rattle.nap_values.specs.Packed.{words_in, HoldsWords}
+use Rattle.nap_values.specs.PackedCoordinates.{words_in, HoldsWords}
 use Rattle.nap_values.specs.PackedColours.{packed_colour}
 use Rattle.nap_values.proofs.DigitLemmas.{value_of-digits_of, digits_of-value_of, length-digits_of, digits_of-below}
 use Rattle.nap_values.proofs.SpellingLemmas.{AreTwoBits, length-words_of_triples, words_of_triples-words, digits-words_of_triples, words_of_triples-digits, g_digits-below, r_digits-below, b_digits-below}

@@ -7,7 +7,7 @@ use Rattle.nap_values.specs.Operands.{x_digit, y_digit}
 use Rattle.nap_values.specs.Spellings.{words_of_pairs}
 use Rattle.nap_values.specs.Laws.{IsWord}
 use Rattle.nap_values.specs.TwosComplement.{signed_of, bits_of}
-use Rattle.nap_values.specs.Packed.{words_in, HoldsWords, x_in, y_in, packed}
+use Rattle.nap_values.specs.PackedCoordinates.{words_in, HoldsWords, x_in, y_in, packed_coordinates}
 use Rattle.nap_values.proofs.DigitLemmas.{value_of-digits_of, digits_of-value_of, value_of-below, length-digits_of, digits_of-below}
 use Rattle.nap_values.proofs.SpellingLemmas.{length-words_of_pairs, words_of_pairs-words, x_digits-words_of_pairs, y_digits-words_of_pairs, words_of_pairs-digits, x_digits-below, y_digits-below}
 use Rattle.nap_values.proofs.CoordinateLemmas.{bits_of-signed_of}
@@ -46,20 +46,20 @@ module _ (x y : ℕ) (x_fits : x < 16777216) (y_fits : y < 16777216) where
       ap (value_of 8 8) (y_digits-words_of_pairs (digits_of 8 8 x) (digits_of 8 8 y) same_length (digits_of-below 8 8 y (omega arith) y_fits))
       ∙ value_of-digits_of 8 8 y (omega arith) y_fits
 
-  pub words_in-packed : words_in (packed x y) ≡ pair_words x y
-  unfolding packed
-  words_in-packed = words_in-value (pair_words x y) pair_words-words length-pair_words
+  pub words_in-packed_coordinates : words_in (packed_coordinates x y) ≡ pair_words x y
+  unfolding packed_coordinates
+  words_in-packed_coordinates = words_in-value (pair_words x y) pair_words-words length-pair_words
 
-  pub packed-words : HoldsWords (packed x y)
-  packed-words = rw words_in-packed pair_words-words
+  pub packed_coordinates-words : HoldsWords (packed_coordinates x y)
+  packed_coordinates-words = rw words_in-packed_coordinates pair_words-words
 
-  pub x_in-packed : x_in (packed x y) ≡ x
+  pub x_in-packed_coordinates : x_in (packed_coordinates x y) ≡ x
   unfolding x_in
-  x_in-packed = rw words_in-packed x_value-pair_words
+  x_in-packed_coordinates = rw words_in-packed_coordinates x_value-pair_words
 
-  pub y_in-packed : y_in (packed x y) ≡ y
+  pub y_in-packed_coordinates : y_in (packed_coordinates x y) ≡ y
   unfolding y_in
-  y_in-packed = rw words_in-packed y_value-pair_words
+  y_in-packed_coordinates = rw words_in-packed_coordinates y_value-pair_words
 
 -- eight words are those of their two numbers
 pub pair_words-values : (words : List ℕ) → All IsWord words → length words ≡ 8 →
@@ -86,9 +86,9 @@ value_of-words_of_pairs (suc places) (x ∷ xs) (y ∷ ys) len_x len_y =
 value_of-words_of_pairs _ xs ys len_x len_y = absurd (omega arith)
 
 -- a number's digits in base 8, in a byte each
-pub packed-parts : (x y : ℕ) → packed x y ≡ value_of 256 8 (digits_of 8 8 x) * 8 + value_of 256 8 (digits_of 8 8 y)
-unfolding packed
-packed-parts x y = value_of-words_of_pairs 8 (digits_of 8 8 x) (digits_of 8 8 y) (length-digits_of 8 8 x) (length-digits_of 8 8 y)
+pub packed_coordinates-parts : (x y : ℕ) → packed_coordinates x y ≡ value_of 256 8 (digits_of 8 8 x) * 8 + value_of 256 8 (digits_of 8 8 y)
+unfolding packed_coordinates
+packed_coordinates-parts x y = value_of-words_of_pairs 8 (digits_of 8 8 x) (digits_of 8 8 y) (length-digits_of 8 8 x) (length-digits_of 8 8 y)
 
 -- a number that holds words
 module _ (n : ℕ) (words : HoldsWords n) where
@@ -114,9 +114,9 @@ module _ (n : ℕ) (words : HoldsWords n) where
   unfolding y_in
   y_in-below = y_value-below (words_in n) words
 
-  pub packed-in : packed (x_in n) (y_in n) ≡ n
-  unfolding packed x_in y_in
-  packed-in = ap (value_of 256 8) (sym (pair_words-values (words_in n) words length-words_in)) ∙ value-words_in
+  pub packed_coordinates-in : packed_coordinates (x_in n) (y_in n) ≡ n
+  unfolding packed_coordinates x_in y_in
+  packed_coordinates-in = ap (value_of 256 8) (sym (pair_words-values (words_in n) words length-words_in)) ∙ value-words_in
 
   -- the digits of x, and those of y, by themselves
   pub x_masked : bit_and n 0x3838_3838_3838_3838 ≡ value_of 256 8 (map x_digit (words_in n)) * 8
@@ -154,7 +154,7 @@ module _ (n : ℕ) (words : HoldsWords n) where
 
 -- the digits of x of one number with those of y of another
 module _ (m n : ℕ) (m_words : HoldsWords m) (n_words : HoldsWords n) where
-  pub crossed-parts : bit_and m 0x3838_3838_3838_3838 + bit_and n 0x0707_0707_0707_0707 ≡ packed (x_in m) (y_in n)
+  pub crossed-parts : bit_and m 0x3838_3838_3838_3838 + bit_and n 0x0707_0707_0707_0707 ≡ packed_coordinates (x_in m) (y_in n)
   unfolding x_in y_in
   crossed-parts =
       let xs = digits_of-value_of 8 8 (map x_digit (words_in m)) (omega arith) (x_digits-below (words_in m) m_words)
@@ -163,19 +163,19 @@ module _ (m n : ℕ) (m_words : HoldsWords m) (n_words : HoldsWords n) where
       (length-map (words_in n) y_digit ∙ length-words_in n n_words) in
       ap₂ (λ x y. x + y) (x_masked m m_words) (y_masked n n_words)
       ∙ ap₂ (λ x y. value_of 256 8 x * 8 + value_of 256 8 y) (sym xs) (sym ys)
-      ∙ sym (packed-parts (x_in m) (y_in n))
+      ∙ sym (packed_coordinates-parts (x_in m) (y_in n))
 
   pub crossed-words : HoldsWords (bit_and m 0x3838_3838_3838_3838 + bit_and n 0x0707_0707_0707_0707)
-  crossed-words = subst HoldsWords (sym crossed-parts) (packed-words (x_in m) (y_in n) (x_in-below m m_words) (y_in-below n n_words))
+  crossed-words = subst HoldsWords (sym crossed-parts) (packed_coordinates-words (x_in m) (y_in n) (x_in-below m m_words) (y_in-below n n_words))
 
 -- a displacement's words are those of its parts
-pub move_words : (n : ℕ) → HoldsWords n → packed (bits_of (signed_of (x_in n))) (bits_of (signed_of (y_in n))) ≡ n
-move_words n words = rw (bits_of-signed_of (x_in n) (x_in-below n words), bits_of-signed_of (y_in n) (y_in-below n words)) (packed-in n words)
+pub move_words : (n : ℕ) → HoldsWords n → packed_coordinates (bits_of (signed_of (x_in n))) (bits_of (signed_of (y_in n))) ≡ n
+move_words n words = rw (bits_of-signed_of (x_in n) (x_in-below n words), bits_of-signed_of (y_in n) (y_in-below n words)) (packed_coordinates-in n words)
 
-packed_zeros : packed 0 0 ≡ 0
-unfolding packed value_of digits_of words_of_pairs
+packed_zeros : packed_coordinates 0 0 ≡ 0
+unfolding packed_coordinates value_of digits_of words_of_pairs
 packed_zeros = refl
 
 -- zero holds eight words of no bits
 pub zero_words : HoldsWords 0
-zero_words = subst HoldsWords packed_zeros (packed-words 0 0 (omega arith) (omega arith))
+zero_words = subst HoldsWords packed_zeros (packed_coordinates-words 0 0 (omega arith) (omega arith))

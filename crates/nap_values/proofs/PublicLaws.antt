@@ -2,14 +2,14 @@ use Rattle.std.proofs.Common.{negsuc, ◌≤ℤ◌, ◌<ℤ◌, ◌≡◌, ℕ, 
 use Rattle.std.proofs.lemmas.List.{length-map, map-append}
 use Rattle.std.proofs.lemmas.Int.{ints}
 use Rattle.nap_values.specs.Digits.{value_of, digits_of}
-use Rattle.nap_values.specs.Coordinates.{Displacement, point_at, moved, displacement_to}
+use Rattle.nap_values.specs.Coordinates.{Displacement, point_at, displaced_point, displacement_to}
 use Rattle.nap_values.specs.Colours.{Components}
 use Rattle.nap_values.specs.TwosComplement.{bits_of}
 use Rattle.nap_values.specs.Operands.{x_digit, y_digit, g_digit, r_digit, b_digit, multi_of, single_of, colour_of}
-use Rattle.nap_values.specs.Spellings.{bytes_of, move_bytes, point_bytes, addr_bytes, grb_bytes}
+use Rattle.nap_values.specs.Spellings.{operand_bytes, move_bytes, point_bytes, addr_bytes, grb_bytes}
 use Rattle.nap_values.specs.Laws.{IsWord, IsOnlySpelling, MovesSpellOnce, PointsSpellOnce, AddressesSpellOnce, ColoursSpellOnce, MissingWordsAreZero, ValuesAreInRange, DisplacementsLeadThere, DisplacementsAreUnique, PointsAreInside}
 use Rattle.nap_values.proofs.DigitLemmas.{value_of-digits_of, digits_of-value_of, value_of-below, length-digits_of, digits_of-below, value_of-append-zeros}
-use Rattle.nap_values.proofs.SpellingLemmas.{words_of-bytes_of, bytes_of-operand_bytes, g_digits-below, r_digits-below, b_digits-below}
+use Rattle.nap_values.proofs.SpellingLemmas.{words_of-operand_bytes, operand_bytes-operand_bytes, g_digits-below, r_digits-below, b_digits-below}
 use Rattle.nap_values.proofs.PackedLemmas.{pair_words, length-pair_words, pair_words-words, x_value-pair_words, y_value-pair_words, pair_words-values, x_value-below, y_value-below}
 use Rattle.nap_values.proofs.PackedColourLemmas.{triple_words, length-triple_words, triple_words-words, values-triple_words, triple_words-values}
 use Rattle.nap_values.proofs.CoordinateLemmas.{bits_of-signed_of, signed_of-bits_of, bits_of-below, signed_of-low, signed_of-high, point_with-in_square, point_with-back}
@@ -20,12 +20,12 @@ use Rattle.nap_values.proofs.CoordinateLemmas.{bits_of-signed_of, signed_of-bits
 spelling_of_words : {V : Type 0} (read : List ℕ → V) (size : ℕ) (value : V) (words : List ℕ) →
     length words ≡ size → All IsWord words → read words ≡ value →
     ((others : List ℕ) → All IsWord others → length others ≡ size → read others ≡ value → others ≡ words) →
-    IsOnlySpelling read size value (bytes_of words)
+    IsOnlySpelling read size value (operand_bytes words)
 spelling_of_words read size value words size_is all is only = record {
   size_is = length-map words (λ word. 64 + word) ∙ size_is;
-  carriers = bytes_of-operand_bytes words all;
-  read_back = ap read (words_of-bytes_of words) ∙ is;
-  only = λ others all_words same read_so. ap bytes_of (only others all_words same read_so);
+  carriers = operand_bytes-operand_bytes words all;
+  read_back = ap read (words_of-operand_bytes words) ∙ is;
+  only = λ others all_words same read_so. ap operand_bytes (only others all_words same read_so);
 }
 
 -- displacements with the same parts
@@ -142,14 +142,14 @@ way_in_range : (a b : ℕ) → a < 8388608 → b < 8388608 → (negsuc 8388607 �
 way_in_range a b a_below b_below = (omega (arith, ints), omega (arith, ints))
 
 pub displacements_lead_there : DisplacementsLeadThere
-unfolding moved displacement_to
+unfolding displaced_point displacement_to
 displacements_lead_there p q p_inside q_inside =
     let x = way_in_range p.x q.x p_inside.0 q_inside.0 in
     let y = way_in_range p.y q.y p_inside.1 q_inside.1 in
     ((x.0, x.1, y.0, y.1), rw (there p.x q.x, there p.y q.y) (point_with-in_square q q_inside))
 
 pub displacements_are_unique : DisplacementsAreUnique
-unfolding moved displacement_to
+unfolding displaced_point displacement_to
 displacements_are_unique p q m is =
     let back = point_with-back (pos p.x +ℤ m.x) (pos p.y +ℤ m.y) q is in
     let x_is : pos q.x -ℤ pos p.x ≡ m.x = omega (arith, ints, back.1) in

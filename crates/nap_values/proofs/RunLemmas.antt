@@ -3,7 +3,7 @@ use Rattle.std.proofs.lemmas.List.{length-replicate}
 use Rattle.std.proofs.lemmas.List.Elements.{All-nil, All-cons, All-append}
 use Rattle.nap_values.specs.Digits.{value_of}
 use Rattle.nap_values.specs.Laws.{IsWord}
-use Rattle.nap_values.specs.Packed.{words_in, HoldsWords}
+use Rattle.nap_values.specs.PackedCoordinates.{words_in, HoldsWords}
 use Rattle.nap_values.proofs.DigitLemmas.{value_of-append-zeros}
 use Rattle.nap_values.proofs.PackedLemmas.{words_in-value}
 

@@ -6,7 +6,7 @@ use lib.Bits.{and_high}
 use Rattle.nap_values.specs.Digits.{value_of, digits_of}
 use Rattle.nap_values.specs.Operands.{x_digit, y_digit}
 use Rattle.nap_values.specs.Laws.{IsWord}
-use Rattle.nap_values.specs.Packed.{words_in, HoldsWords, x_in, y_in}
+use Rattle.nap_values.specs.PackedCoordinates.{words_in, HoldsWords, x_in, y_in}
 use Rattle.nap_values.proofs.DigitLemmas.{value_of-below}
 use Rattle.nap_values.proofs.SpellingLemmas.{x_digits-below, y_digits-below}
 

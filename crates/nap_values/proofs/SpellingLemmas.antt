@@ -1,19 +1,19 @@
 use Rattle.std.proofs.Common.{◌≡◌, ℕ, suc, ◌+◌, ◌-◌, ◌*◌, ◌/◌, ◌%◌, ◌<◌, List, [], ◌∷◌, map, length, All, refl, ap, arith}
 use Rattle.std.proofs.lemmas.List.Elements.{All-nil, All-cons, All-head, All-tail, All-map, All-weaker}
 use Rattle.nap_values.specs.Operands.{x_digit, y_digit, g_digit, r_digit, b_digit}
-use Rattle.nap_values.specs.Spellings.{words_of_pairs, words_of_triples, colour_word, bytes_of, words_of}
+use Rattle.nap_values.specs.Spellings.{words_of_pairs, words_of_triples, colour_word, operand_bytes, words_of}
 use Rattle.nap_values.specs.Laws.{IsWord, IsOperandByte}
 
 -- The bytes that carry words, and the digits that words hold.
 
-pub words_of-bytes_of : (words : List ℕ) → words_of (bytes_of words) ≡ words
-words_of-bytes_of [] = refl
-words_of-bytes_of (word ∷ words) =
+pub words_of-operand_bytes : (words : List ℕ) → words_of (operand_bytes words) ≡ words
+words_of-operand_bytes [] = refl
+words_of-operand_bytes (word ∷ words) =
     let first : 64 + word - 64 ≡ word = omega arith in
-    rw (first, words_of-bytes_of words) refl
+    rw (first, words_of-operand_bytes words) refl
 
-pub bytes_of-operand_bytes : (words : List ℕ) → All IsWord words → All IsOperandByte (bytes_of words)
-bytes_of-operand_bytes words all =
+pub operand_bytes-operand_bytes : (words : List ℕ) → All IsWord words → All IsOperandByte (operand_bytes words)
+operand_bytes-operand_bytes words all =
     All-map IsOperandByte (λ word. 64 + word) words
     (All-weaker IsWord (λ word. IsOperandByte (64 + word)) (λ word below. (omega arith, omega arith)) words all)
 

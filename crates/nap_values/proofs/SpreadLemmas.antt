@@ -11,8 +11,8 @@ use Rattle.nap_values.proofs.DigitLemmas.{value_of-digits_of}
 abbrev pub parted : ℕ → ℕ → ℕ → ℕ
 parted gap mask n = bit_and (bit_or n (n * 2 ^ gap)) mask
 
-moved : (a b u v : ℕ) → (a * u + b) * v ≡ (a * v) * u + b * v
-moved a b u v = add-mul (a * u) b v ∙ ap (λ m. m + b * v) (mul_right_comm a u v)
+displaced_point : (a b u v : ℕ) → (a * u + b) * v ≡ (a * v) * u + b * v
+displaced_point a b u v = add-mul (a * u) b v ∙ ap (λ m. m + b * v) (mul_right_comm a u v)
 
 below_moved : (b gap width : ℕ) → b * 2 ^ gap < 2 ^ width → b < 2 ^ width
 below_moved b gap width room = omega (arith, mul-le-mul_left b (pow_pos gap), room)
@@ -23,7 +23,7 @@ parted-lanes : (width gap mask a b : ℕ) → b * 2 ^ gap < 2 ^ width → mask <
 parted-lanes width gap mask a b room mask_room =
     let own = below_moved b gap width room in
     rw (
-      moved a b (2 ^ width) (2 ^ gap),
+      displaced_point a b (2 ^ width) (2 ^ gap),
       or_block width a (a * 2 ^ gap) b (b * 2 ^ gap) own room,
       and_block width (bit_or a (a * 2 ^ gap)) mask (bit_or b (b * 2 ^ gap)) mask (or_lt width b (b * 2 ^ gap) own room) mask_room,
     ) refl

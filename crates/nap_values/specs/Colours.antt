@@ -1,11 +1,11 @@
 use Rattle.std.specs.Prelude.{ℕ, ◌<◌}
 
--- the parts of a colour
+-- the green, red and blue components of a colour
 pub record Components : Type 0 where
   pub g : ℕ
   pub r : ℕ
   pub b : ℕ
 
--- each part is below 2^16
+-- each component is below 2^16
 abbrev pub HasSixteenBitParts : Components → Type 0
 HasSixteenBitParts c = (c.g < 65536) × (c.r < 65536) × (c.b < 65536)

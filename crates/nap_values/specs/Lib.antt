@@ -6,5 +6,5 @@ pub mod Domains
 pub mod Operands
 pub mod Spellings
 pub mod Laws
-pub mod Packed
+pub mod PackedCoordinates
 pub mod PackedColours

@@ -1,10 +1,10 @@
-//! Addresses of the colour map, and colours.
+//! Addresses of the colour map, and colours by their components.
 
 ghost use Rattle.std.specs.Prelude.{◌≡◌, ◌<◌, ◌↔◌, IsSome, IfSome};
 
 use std::marker::Model;
 
-/// The address of an entry of the colour map, from 0 to 16,777,215 (single-value operands).
+/// An address of the colour map, from 0 to 16,777,215: the value of a single-value operand (PROFILE.md, Operands).
 #[derive(Clone, Copy, PartialEq, Eq, Debug, Drop)]
 pub struct Addr(u32);
 
@@ -21,10 +21,10 @@ impl Model for Addr {
 }
 
 impl Addr {
-    /// Each address is below this.
+    /// Every address is below this limit.
     pub const LIMIT: u32 = 16_777_216;
 
-    /// The address with this number, None above 16,777,215.
+    /// Returns the address with this number, or `None` above 16,777,215.
     pub fn try_new(number: u32) -> Option<Addr>
         ensures found { IsSome result ↔ (number < 16777216) }
         ensures value { IfSome result (λ a. a ≡ number) }
@@ -36,7 +36,7 @@ impl Addr {
         }
     }
 
-    /// The address with this number.
+    /// Returns the address with this number, which is in range.
     pub(crate) fn new(number: u32) -> Addr
         requires { number < 16777216 }
         ensures { result ≡ number }
@@ -44,7 +44,7 @@ impl Addr {
         Addr(number)
     }
 
-    /// The address's number.
+    /// Returns the number of the address.
     pub fn get(self) -> u32
         ensures value { result ≡ self }
         ensures below { result < 16777216 }
@@ -53,7 +53,8 @@ impl Addr {
     }
 }
 
-/// A colour by its parts, green, red and blue in the order of the standard, each of 16 bits.
+/// A colour by its green, red and blue components, 16 bits each: the value of the operand of SET COLOR (PROFILE.md,
+/// Operands).
 #[derive(Clone, Copy, PartialEq, Eq, Debug, Drop)]
 pub struct Grb {
     g: u16,
@@ -72,17 +73,17 @@ impl Model for Grb {
 }
 
 impl Grb {
-    /// Each part is below this.
+    /// Every component is below this limit.
     pub const LIMIT: u32 = 65_536;
 
-    /// The colour with these parts.
+    /// Returns the colour with these components.
     pub fn new(g: u16, r: u16, b: u16) -> Grb
         ensures { result ≡ record { g = g; r = r; b = b } }
     {
         Grb { g, r, b }
     }
 
-    /// The colour with these parts, None where one is above 65,535.
+    /// Returns the colour with these components, or `None` if one is above 65,535.
     pub fn try_new(g: u32, r: u32, b: u32) -> Option<Grb>
         ensures found { IsSome result ↔ ((g < 65536) × (r < 65536) × (b < 65536)) }
         ensures value { IfSome result (λ colour. colour ≡ record { g = g; r = r; b = b }) }
@@ -93,21 +94,21 @@ impl Grb {
         Some(Grb::new(g, r, b))
     }
 
-    /// The green part.
+    /// Returns the green component.
     pub fn g(self) -> u16
         ensures { result ≡ self.g }
     {
         self.g
     }
 
-    /// The red part.
+    /// Returns the red component.
     pub fn r(self) -> u16
         ensures { result ≡ self.r }
     {
         self.r
     }
 
-    /// The blue part.
+    /// Returns the blue component.
     pub fn b(self) -> u16
         ensures { result ≡ self.b }
     {

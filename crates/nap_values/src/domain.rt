@@ -4,7 +4,8 @@ ghost use Rattle.std.specs.Prelude.{◌≡◌, ◌≤◌, ◌↔◌, IsSome, IfS
 
 use std::marker::Model;
 
-/// How many words an operand has: 1 to 8 where it is multi-value, 1 to 4 where it is single-value (DOMAIN).
+/// The operand lengths, in words: 1 to 8 for a multi-value operand, 1 to 4 for a single-value operand (PROFILE.md,
+/// DOMAIN).
 #[derive(Clone, Copy, PartialEq, Eq, Debug, Drop)]
 pub struct Domain {
     multi: u8,
@@ -25,13 +26,13 @@ impl Model for Domain {
 }
 
 impl Domain {
-    /// The operand lengths at the start of a stream.
+    /// The operand lengths at the start of a stream: 3 and 1 (PROFILE.md, The drawing state).
     pub const START: Domain = Domain {
         multi: 3,
         single: 1,
     };
 
-    /// The domain with these lengths, None where the first is outside 1 to 8 or the second outside 1 to 4.
+    /// Returns the operand lengths, or `None` if `multi` is outside 1 to 8 or `single` outside 1 to 4.
     pub fn try_new(multi: u8, single: u8) -> Option<Domain>
         ensures found { IsSome result ↔ ((1 ≤ multi) × (multi ≤ 8) × (1 ≤ single) × (single ≤ 4)) }
         ensures value { IfSome result (λ d. d ≡ record { multi = multi; single = single }) }
@@ -43,7 +44,7 @@ impl Domain {
         }
     }
 
-    /// The words of a multi-value operand.
+    /// Returns the number of words of a multi-value operand.
     pub fn multi(self) -> u8
         ensures value { result ≡ self.multi }
         ensures least { 1 ≤ result }
@@ -52,7 +53,7 @@ impl Domain {
         self.multi
     }
 
-    /// The words of a single-value operand.
+    /// Returns the number of words of a single-value operand.
     pub fn single(self) -> u8
         ensures value { result ≡ self.single }
         ensures least { 1 ≤ result }

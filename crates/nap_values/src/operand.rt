@@ -1,48 +1,50 @@
-//! Reading of operands: the values that words spell. A byte carries a word in its low six bits, whatever its others are.
+//! Decoding of operands that are given as bytes. A byte carries a word in its low six bits; its other bits are ignored.
 
 ghost use Rattle.std.specs.Prelude.{◌≡◌, ◌≤◌, ◌-◌, ◌++◌, length, take, replicate};
-ghost use Rattle.nap_values.specs.Operands.{carried, multi_of, single_of, colour_of};
-ghost use Rattle.nap_values.specs.Packed.{words_in};
+ghost use Rattle.nap_values.specs.Operands.{operand_words, multi_of, single_of, colour_of};
+ghost use Rattle.nap_values.specs.PackedCoordinates.{words_in};
 
 use crate::colours::{Addr, Grb};
 use crate::displacement::Move;
-use crate::packed::Packed;
+use crate::packed::PackedWords;
 use crate::packed_colours::colour_in;
 use crate::word::Word;
 
-/// The low six bits of each of eight bytes.
+/// Selects the low six bits of each of eight bytes.
 const LOW: u64 = 0x3F3F_3F3F_3F3F_3F3F;
 
-/// The low six bits of the first three of eight bytes.
+/// Selects the low six bits of the first three of eight bytes.
 const LOW_OF_THREE: u64 = 0x3F3F_3F00_0000_0000;
 
-/// The most words of an operand.
-pub(crate) const MOST: usize = 8;
+/// The greatest number of words of an operand.
+pub(crate) const MOST_WORDS: usize = 8;
 
-/// The displacement that the bytes of a multi-value operand spell, eight at most. Words that it lacks are zero (PDI operands).
+/// Decodes a multi-value operand of at most eight bytes as a displacement. Missing words count as zero (PROFILE.md,
+/// Operands).
 #[inline]
 pub fn multi_bytes(operand: &[u8]) -> Move
     requires { length operand.now ≤ 8 }
-    ensures { result ≡ multi_of (carried operand.now) }
+    ensures { result ≡ multi_of (operand_words operand.now) }
 {
     if let [first, second, third] = operand {
-        return Move::spelled(eight([*first, *second, *third, 0, 0, 0, 0, 0]));
+        return Move::from_words(pack_eight([*first, *second, *third, 0, 0, 0, 0, 0]));
     }
-    Move::spelled(several(operand))
+    Move::from_words(pack_padded(operand))
 }
 
-/// The displacement that the first three of eight bytes spell.
+/// Decodes the first three of eight bytes as a multi-value operand of three words.
 #[inline]
-pub fn multi_of_three(block: &[u8; 8]) -> Move
-    ensures { result ≡ multi_of (carried (take 3 block.now)) }
+pub fn multi_first_three(block: &[u8; 8]) -> Move
+    ensures { result ≡ multi_of (operand_words (take 3 block.now)) }
 {
-    Move::spelled(Packed::new(u64::from_be_bytes(*block) & LOW_OF_THREE))
+    Move::from_words(PackedWords::new(u64::from_be_bytes(*block) & LOW_OF_THREE))
 }
 
-/// The address that the bytes of a single-value operand spell, four at most. Words that it lacks are zero (PDI operands).
+/// Decodes a single-value operand of at most four bytes as an address. Missing words count as zero (PROFILE.md,
+/// Operands).
 pub fn single_bytes(operand: &[u8]) -> Addr
     requires { length operand.now ≤ 4 }
-    ensures { result ≡ single_of (carried operand.now) }
+    ensures { result ≡ single_of (operand_words operand.now) }
 {
     let mut number: u32 = 0;
     let mut unit = Addr::LIMIT;
@@ -53,36 +55,36 @@ pub fn single_bytes(operand: &[u8]) -> Addr
     Addr::new(number)
 }
 
-/// The colour that the bytes of a multi-value operand spell, eight at most. Words that it lacks are zero (SET COLOR). Two
-/// bytes are read without a call.
+/// Decodes a multi-value operand of at most eight bytes as a colour. Missing words count as zero (PROFILE.md,
+/// Operands). An operand of two bytes is decoded without a further call.
 pub fn colour_bytes(operand: &[u8]) -> Grb
     requires { length operand.now ≤ 8 }
-    ensures { result ≡ colour_of (carried operand.now) }
+    ensures { result ≡ colour_of (operand_words operand.now) }
 {
     let words = if let [first, second] = operand {
-        eight([*first, *second, 0, 0, 0, 0, 0, 0])
+        pack_eight([*first, *second, 0, 0, 0, 0, 0, 0])
     } else {
-        several(operand)
+        pack_padded(operand)
     };
     colour_in(words)
 }
 
-/// The words that eight bytes carry.
+/// Packs the words that eight bytes carry.
 #[inline]
-fn eight(bytes: [u8; MOST]) -> Packed
-    ensures { words_in result ≡ carried bytes }
+fn pack_eight(bytes: [u8; MOST_WORDS]) -> PackedWords
+    ensures { words_in result ≡ operand_words bytes }
 {
-    Packed::new(u64::from_be_bytes(bytes) & LOW)
+    PackedWords::new(u64::from_be_bytes(bytes) & LOW)
 }
 
-/// The words that any number of bytes carry, and zero behind them. It is a call of its own, so that loops over three have
-/// room for theirs.
+/// Packs the words that at most eight bytes carry, with zero words after them. Not inlined, so that loops over three
+/// bytes keep their registers.
 #[inline(never)]
-fn several(run: &[u8]) -> Packed
+fn pack_padded(run: &[u8]) -> PackedWords
     requires { length run.now ≤ 8 }
-    ensures { words_in result ≡ carried run.now ++ replicate (8 - length run.now) 0 }
+    ensures { words_in result ≡ operand_words run.now ++ replicate (8 - length run.now) 0 }
 {
-    let mut bytes = [0; MOST];
+    let mut bytes = [0; MOST_WORDS];
     bytes[..run.len()].copy_from_slice(run);
-    eight(bytes)
+    pack_eight(bytes)
 }

@@ -1,30 +1,30 @@
-//! Eight words in a number, a byte for each, the first in the highest byte. A word has three bits of x above three bits of
-//! y, so the digits of both in base 8 stand side by side.
+//! Eight words packed into a number, one byte for each, the first in the highest byte. A word has three bits of x above
+//! three bits of y, so the base-8 digits of x and y alternate.
 
 ghost use Rattle.std.specs.Prelude.{◌≡◌, ◌+◌, ◌-◌, ◌%◌, ◌<◌, ◌≤◌, ◌↔◌, All, IsTrue};
 ghost use Rattle.nap_values.specs.Digits.{value_of, digits_of};
-ghost use Rattle.nap_values.specs.Packed.{HoldsWords, x_in, y_in, packed};
+ghost use Rattle.nap_values.specs.PackedCoordinates.{HoldsWords, x_in, y_in, packed_coordinates};
 
 use std::marker::Model;
 
-/// The digits of x.
-const X: u64 = 0x3838_3838_3838_3838;
+/// Selects the digits of x.
+const X_DIGITS: u64 = 0x3838_3838_3838_3838;
 
-/// The digits of y.
-const Y: u64 = 0x0707_0707_0707_0707;
+/// Selects the digits of y.
+const Y_DIGITS: u64 = 0x0707_0707_0707_0707;
 
-/// All other bits than those of x.
-const BESIDE_X: u64 = 0xC7C7_C7C7_C7C7_C7C7;
+/// Selects all bits but those of x.
+const ALL_BUT_X: u64 = 0xC7C7_C7C7_C7C7_C7C7;
 
-/// All other bits than those of y.
-const BESIDE_Y: u64 = 0xF8F8_F8F8_F8F8_F8F8;
+/// Selects all bits but those of y.
+const ALL_BUT_Y: u64 = 0xF8F8_F8F8_F8F8_F8F8;
 
-/// The highest bits of x and of y.
+/// Selects the sign bits of x and y.
 const SIGNS: u64 = 0x2400_0000_0000_0000;
 
-/// Each digit in base 8 of a number of 24 bits, in a byte of its own.
+/// Spreads the eight base-8 digits of a 24-bit number, one to a byte.
 #[inline]
-fn spread(n: u32) -> u64
+fn spread_digits(n: u32) -> u64
     requires { n < 16777216 }
     ensures value { result ≡ value_of 256 8 (digits_of 8 8 n) }
     ensures bound { result ≤ 0x0707_0707_0707_0707 }
@@ -36,9 +36,9 @@ fn spread(n: u32) -> u64
     (quarters | quarters << 5) & 0x0707_0707_0707_0707
 }
 
-/// The number of 24 bits that has these digits in base 8, a byte for each.
+/// Returns the 24-bit number whose base-8 digits are these bytes.
 #[inline]
-fn gathered(digits: u64) -> u32
+fn gathered_number(digits: u64) -> u32
     requires { All (λ d. d < 8) (digits_of 256 8 digits) }
     ensures { result ≡ value_of 8 8 (digits_of 256 8 digits) }
 {
@@ -48,13 +48,13 @@ fn gathered(digits: u64) -> u32
     (quads - quads / 4_294_967_296 * 4_294_963_200) as u32
 }
 
-/// Eight words, in the number that has them in its bytes.
+/// Eight words, packed into the bytes of a number.
 #[derive(Clone, Copy, Drop)]
-pub(crate) struct Packed(u64);
+pub(crate) struct PackedWords(u64);
 
-impl Model for Packed {
+impl Model for PackedWords {
     ghost use Rattle.std.specs.Prelude.{ℕ};
-    ghost use Rattle.nap_values.specs.Packed.{HoldsWords};
+    ghost use Rattle.nap_values.specs.PackedCoordinates.{HoldsWords};
 
     ghost Value = { ℕ };
 
@@ -65,17 +65,17 @@ impl Model for Packed {
     ghost inverse = { λ n. record { 0 = n } };
 }
 
-impl Packed {
-    /// The words that a number holds.
+impl PackedWords {
+    /// Returns the words that a number holds.
     #[inline]
-    pub(crate) fn new(number: u64) -> Packed
+    pub(crate) fn new(number: u64) -> PackedWords
         requires { HoldsWords number }
         ensures { result ≡ number }
     {
-        Packed(number)
+        PackedWords(number)
     }
 
-    /// The number that holds them.
+    /// Returns the number that holds the words.
     #[inline]
     pub(crate) fn get(self) -> u64
         ensures value { result ≡ self }
@@ -84,99 +84,98 @@ impl Packed {
         self.0
     }
 
-    /// The words that hold these 24 bits of x and of y.
+    /// Returns the words that hold the 24 bits of x and of y.
     #[inline]
-    pub(crate) fn holding(x: u32, y: u32) -> Packed
+    pub(crate) fn from_coordinates(x: u32, y: u32) -> PackedWords
         requires x_fits { x < 16777216 }
         requires y_fits { y < 16777216 }
-        ensures { result ≡ packed x y }
+        ensures { result ≡ packed_coordinates x y }
     {
-        Packed(spread(x) * 8 + spread(y))
+        PackedWords(spread_digits(x) * 8 + spread_digits(y))
     }
 
-    /// The 24 bits of x.
+    /// Returns the 24 bits of x.
     #[inline]
     pub(crate) fn x_bits(self) -> u32
         ensures value { result ≡ x_in self }
         ensures below { result < 16777216 }
     {
-        gathered(self.0 / 8 & Y)
+        gathered_number(self.0 / 8 & Y_DIGITS)
     }
 
-    /// The 24 bits of y.
+    /// Returns the 24 bits of y.
     #[inline]
     pub(crate) fn y_bits(self) -> u32
         ensures value { result ≡ y_in self }
         ensures below { result < 16777216 }
     {
-        gathered(self.0 & Y)
+        gathered_number(self.0 & Y_DIGITS)
     }
 
-    /// The words without the bits of y.
+    /// Returns the words with y set to zero.
     #[inline]
-    pub(crate) fn x_alone(self) -> Packed
-        ensures { result ≡ packed (x_in self) 0 }
+    pub(crate) fn x_only(self) -> PackedWords
+        ensures { result ≡ packed_coordinates (x_in self) 0 }
     {
-        Packed(self.0 & X)
+        PackedWords(self.0 & X_DIGITS)
     }
 
-    /// The words without the bits of x.
+    /// Returns the words with x set to zero.
     #[inline]
-    pub(crate) fn y_alone(self) -> Packed
-        ensures { result ≡ packed 0 (y_in self) }
+    pub(crate) fn y_only(self) -> PackedWords
+        ensures { result ≡ packed_coordinates 0 (y_in self) }
     {
-        Packed(self.0 & Y)
+        PackedWords(self.0 & Y_DIGITS)
     }
 
-    /// The words with this x and the y of the others.
+    /// Returns the words with this x and the y of `others`.
     #[inline]
-    pub(crate) fn crossed(self, others: Packed) -> Packed
-        ensures { result ≡ packed (x_in self) (y_in others) }
+    pub(crate) fn with_y_of(self, others: PackedWords) -> PackedWords
+        ensures { result ≡ packed_coordinates (x_in self) (y_in others) }
     {
-        Packed((self.0 & X) + (others.0 & Y))
+        PackedWords((self.0 & X_DIGITS) + (others.0 & Y_DIGITS))
     }
 
-    /// The sums of x and of y, of which 24 bits are kept. A carry goes through the bits beside the digits, which are all
-    /// set.
+    /// Adds x to x and y to y, modulo 2^24. Carries pass through the other bits, which are all set for the addition.
     #[inline]
-    pub(crate) fn sum(self, others: Packed) -> Packed
-        ensures { result ≡ packed ((x_in self + x_in others) % 16777216) ((y_in self + y_in others) % 16777216) }
+    pub(crate) fn sum(self, others: PackedWords) -> PackedWords
+        ensures { result ≡ packed_coordinates ((x_in self + x_in others) % 16777216) ((y_in self + y_in others) % 16777216) }
     {
-        let x = ((self.0 & X) + BESIDE_X).wrapping_add(others.0 & X) & X;
-        let y = ((self.0 & Y) + BESIDE_Y).wrapping_add(others.0 & Y) & Y;
-        Packed(x + y)
+        let x = ((self.0 & X_DIGITS) + ALL_BUT_X).wrapping_add(others.0 & X_DIGITS) & X_DIGITS;
+        let y = ((self.0 & Y_DIGITS) + ALL_BUT_Y).wrapping_add(others.0 & Y_DIGITS) & Y_DIGITS;
+        PackedWords(x + y)
     }
 
-    /// The sum of x alone, of which 24 bits are kept, where these words have no bits of y.
+    /// Adds x to x, modulo 2^24. Requires that these words have y zero.
     #[inline]
-    pub(crate) fn x_advanced(self, step: Packed) -> Packed
-        requires { packed (x_in self) 0 ≡ self }
-        ensures { result ≡ packed ((x_in self + x_in step) % 16777216) 0 }
+    pub(crate) fn x_sum(self, step: PackedWords) -> PackedWords
+        requires { packed_coordinates (x_in self) 0 ≡ self }
+        ensures { result ≡ packed_coordinates ((x_in self + x_in step) % 16777216) 0 }
     {
-        Packed(self.0.wrapping_add((step.0 & X) + BESIDE_X) & X)
+        PackedWords(self.0.wrapping_add((step.0 & X_DIGITS) + ALL_BUT_X) & X_DIGITS)
     }
 
-    /// The sum of y alone, of which 24 bits are kept, where these words have no bits of x.
+    /// Adds y to y, modulo 2^24. Requires that these words have x zero.
     #[inline]
-    pub(crate) fn y_advanced(self, step: Packed) -> Packed
-        requires { packed 0 (y_in self) ≡ self }
-        ensures { result ≡ packed 0 ((y_in self + y_in step) % 16777216) }
+    pub(crate) fn y_sum(self, step: PackedWords) -> PackedWords
+        requires { packed_coordinates 0 (y_in self) ≡ self }
+        ensures { result ≡ packed_coordinates 0 ((y_in self + y_in step) % 16777216) }
     {
-        Packed(self.0.wrapping_add((step.0 & Y) + BESIDE_Y) & Y)
+        PackedWords(self.0.wrapping_add((step.0 & Y_DIGITS) + ALL_BUT_Y) & Y_DIGITS)
     }
 
-    /// The differences of x and of y, of which 24 bits are kept. A borrow goes through the bits beside the digits, which
-    /// are all clear.
+    /// Subtracts x from x and y from y, modulo 2^24. Borrows pass through the other bits, which are all clear for the
+    /// subtraction.
     #[inline]
-    pub(crate) fn difference(self, others: Packed) -> Packed
-        ensures { result ≡ packed ((x_in self + (16777216 - x_in others)) % 16777216) ((y_in self + (16777216 - y_in others)) % 16777216) }
+    pub(crate) fn difference(self, others: PackedWords) -> PackedWords
+        ensures { result ≡ packed_coordinates ((x_in self + (16777216 - x_in others)) % 16777216) ((y_in self + (16777216 - y_in others)) % 16777216) }
     {
-        let x = (self.0 & X).wrapping_sub(others.0 & X) & X;
-        let y = (self.0 & Y).wrapping_sub(others.0 & Y) & Y;
-        Packed(x + y)
+        let x = (self.0 & X_DIGITS).wrapping_sub(others.0 & X_DIGITS) & X_DIGITS;
+        let y = (self.0 & Y_DIGITS).wrapping_sub(others.0 & Y_DIGITS) & Y_DIGITS;
+        PackedWords(x + y)
     }
 
-    /// Whether both x and y are below 2^23.
+    /// Whether x and y are both below 2^23, that is, on the unit screen.
     #[inline]
     pub(crate) fn is_inside(self) -> bool
         ensures { IsTrue result ↔ ((x_in self < 8388608) × (y_in self < 8388608)) }

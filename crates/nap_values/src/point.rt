@@ -1,15 +1,14 @@
-//! Points of the unit square.
+//! Points of the unit screen.
 
 ghost use Rattle.std.specs.Prelude.{◌≡◌, ◌<◌, ◌↔◌, IsSome, IfSome};
 
 use crate::displacement::Move;
-use crate::packed::Packed;
+use crate::packed::PackedWords;
 use std::fmt;
 use std::marker::Model;
 
-/// A point of the unit square: its coordinates in units of 2^-23, each from 0 to 8,388,607.
-///
-/// It is kept as it is spelled, as eight words.
+/// A point of the unit screen: its coordinates in units of 2^-23, each from 0 to 8,388,607 (PROFILE.md, Operands). It
+/// is stored as the eight words that spell it.
 #[derive(Clone, Copy, Drop)]
 pub struct Point {
     words: u64,
@@ -18,15 +17,15 @@ pub struct Point {
 impl Model for Point {
     ghost use Rattle.std.specs.Prelude.{◌≡◌, ◌<◌};
     ghost use Rattle.nap_values.specs.Coordinates.{Coordinates};
-    ghost use Rattle.nap_values.specs.Packed.{HoldsWords, x_in, y_in, packed};
+    ghost use Rattle.nap_values.specs.PackedCoordinates.{HoldsWords, x_in, y_in, packed_coordinates};
 
     ghost Value = { Coordinates };
 
     ghost view = { λ p. record { x = x_in p.words; y = y_in p.words } };
 
-    ghost invariant = { λ p. HoldsWords p.words × (packed (x_in p.words) (y_in p.words) ≡ p.words) × (x_in p.words < 8388608) × (y_in p.words < 8388608) };
+    ghost invariant = { λ p. HoldsWords p.words × (packed_coordinates (x_in p.words) (y_in p.words) ≡ p.words) × (x_in p.words < 8388608) × (y_in p.words < 8388608) };
 
-    ghost inverse = { λ v. record { words = packed v.x v.y } };
+    ghost inverse = { λ v. record { words = packed_coordinates v.x v.y } };
 
     ghost inverse_ok = { λ p kept i. record { words = kept.1 i } };
 }
@@ -64,14 +63,14 @@ impl fmt::Debug for Point {
 }
 
 impl Point {
-    ghost use Rattle.nap_values.specs.Coordinates.{point_at, moved, displacement_to};
+    ghost use Rattle.nap_values.specs.Coordinates.{point_at, displaced_point, displacement_to};
     ghost use Rattle.nap_values.specs.Operands.{multi_of};
-    ghost use Rattle.nap_values.specs.Packed.{HoldsWords, words_in, x_in, y_in};
+    ghost use Rattle.nap_values.specs.PackedCoordinates.{HoldsWords, words_in, x_in, y_in};
 
-    /// Each coordinate is below this.
+    /// Every coordinate is below this limit.
     pub const LIMIT: u32 = 8_388_608;
 
-    /// The lower left corner of the square.
+    /// Returns the lower left corner of the unit screen.
     #[inline]
     pub fn origin() -> Point
         ensures { result ≡ record { x = 0; y = 0 } }
@@ -79,7 +78,7 @@ impl Point {
         Point { words: 0 }
     }
 
-    /// The point with these coordinates, None where one is above 8,388,607.
+    /// Returns the point with these coordinates, or `None` if one is above 8,388,607.
     #[inline]
     pub fn try_new(x: u32, y: u32) -> Option<Point>
         ensures found { IsSome result ↔ ((x < 8388608) × (y < 8388608)) }
@@ -87,16 +86,16 @@ impl Point {
     {
         if x < Self::LIMIT && y < Self::LIMIT {
             Some(Point {
-                words: Packed::holding(x, y).get(),
+                words: PackedWords::from_coordinates(x, y).get(),
             })
         } else {
             None
         }
     }
 
-    /// The point that these eight words spell, None outside the square.
+    /// Returns the point that these eight words spell, or `None` outside the unit screen.
     #[inline]
-    pub(crate) fn spelled(words: Packed) -> Option<Point>
+    pub(crate) fn from_words(words: PackedWords) -> Option<Point>
         ensures { result ≡ point_at (multi_of (words_in words)) }
     {
         let number = words.get();
@@ -107,19 +106,19 @@ impl Point {
         }
     }
 
-    /// The eight words that spell it.
+    /// Returns the eight words that spell the point.
     #[inline]
-    pub(crate) fn words(self) -> Packed
+    pub(crate) fn words(self) -> PackedWords
         ensures words { HoldsWords result }
         ensures x { x_in result ≡ self.x }
         ensures y { y_in result ≡ self.y }
         ensures x_below { x_in result < 8388608 }
         ensures y_below { y_in result < 8388608 }
     {
-        Packed::new(self.words)
+        PackedWords::new(self.words)
     }
 
-    /// The coordinate from left to right.
+    /// Returns the horizontal coordinate, from the left.
     #[inline]
     pub fn x(self) -> u32
         ensures value { result ≡ self.x }
@@ -128,7 +127,7 @@ impl Point {
         self.words().x_bits()
     }
 
-    /// The coordinate from the bottom up.
+    /// Returns the vertical coordinate, from the bottom.
     #[inline]
     pub fn y(self) -> u32
         ensures value { result ≡ self.y }
@@ -137,29 +136,29 @@ impl Point {
         self.words().y_bits()
     }
 
-    /// The point straight across from this one, above or below the other.
+    /// Returns the point with this y and the x of `other`.
     #[inline]
-    pub fn across(self, other: Point) -> Point
+    pub fn with_x_of(self, other: Point) -> Point
         ensures { result ≡ record { x = other.x; y = self.y } }
     {
         Point {
-            words: other.words().crossed(self.words()).get(),
+            words: other.words().with_y_of(self.words()).get(),
         }
     }
 
-    /// The point this far away, None outside the square.
+    /// Returns the point moved by a displacement, or `None` outside the unit screen.
     #[inline]
     pub fn by(self, step: Move) -> Option<Point>
-        ensures { result ≡ moved self step }
+        ensures { result ≡ displaced_point self step }
     {
-        Point::spelled(self.words().sum(step.words()))
+        Point::from_words(self.words().sum(step.words()))
     }
 
-    /// How far it is from here to the other point.
+    /// Returns the displacement from this point to `other`.
     #[inline]
     pub fn to(self, other: Point) -> Move
         ensures { result ≡ displacement_to self other }
     {
-        Move::spelled(other.words().difference(self.words()))
+        Move::from_words(other.words().difference(self.words()))
     }
 }

@@ -1,14 +1,14 @@
-//! Numbers of 24 bits, the highest of which is their sign.
+//! 24-bit numbers in two's complement.
 ghost use Rattle.std.specs.Prelude.{◌≡◌, ◌<◌, ◌≤ℤ◌, ◌<ℤ◌, pos, negsuc};
 ghost use Rattle.nap_values.specs.TwosComplement.{signed_of, bits_of};
 
-/// All bits of a number are below this.
+/// Every 24-bit number is below this limit.
 const MODULUS: u32 = 16_777_216;
 
-/// Bits from here on have the sign.
+/// Bits from here on stand for a negative number.
 const SIGN: u32 = 8_388_608;
 
-/// The number that these bits stand for.
+/// Returns the signed number that 24 bits stand for.
 #[inline]
 pub(crate) fn signed(bits: u32) -> i32
     requires { bits < 16777216 }
@@ -21,7 +21,7 @@ pub(crate) fn signed(bits: u32) -> i32
     }
 }
 
-/// The bits that stand for this number.
+/// Returns the 24 bits that stand for a signed number.
 #[inline]
 pub(crate) fn bits(number: i32) -> u32
     requires low { negsuc 8388607 ≤ℤ number }

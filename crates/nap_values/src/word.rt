@@ -1,10 +1,10 @@
-//! The words that operands consist of.
+//! The six-bit words that operands are made of.
 
 ghost use Rattle.std.specs.Prelude.{◌≡◌, ◌<◌, ◌%◌, ◌↔◌, IsSome, IfSome};
 
 use std::marker::Model;
 
-/// Six bits of an operand, as one byte of a stream carries them (PDI operands).
+/// A word: six bits of an operand, carried by one byte of the stream (PROFILE.md, Operands).
 #[derive(Clone, Copy, PartialEq, Eq, Debug, Drop)]
 pub struct Word(u8);
 
@@ -21,13 +21,13 @@ impl Model for Word {
 }
 
 impl Word {
-    /// The word of no bits.
+    /// The word whose bits are all zero.
     pub const ZERO: Word = Word(0);
 
-    /// Each word is below this.
+    /// Every word is below this limit.
     pub const LIMIT: u8 = 64;
 
-    /// The word with this number, None above 63.
+    /// Returns the word with this number, or `None` above 63.
     pub fn try_new(number: u8) -> Option<Word>
         ensures found { IsSome result ↔ (number < 64) }
         ensures value { IfSome result (λ word. word ≡ number) }
@@ -39,7 +39,7 @@ impl Word {
         }
     }
 
-    /// The word that a byte carries: its low six bits (PDI operands).
+    /// Returns the word that a byte carries: its low six bits (PROFILE.md, Operands).
     #[inline]
     pub fn of_byte(byte: u8) -> Word
         ensures { result ≡ byte % 64 }
@@ -47,7 +47,7 @@ impl Word {
         Word(byte % Self::LIMIT)
     }
 
-    /// The word's number, from 0 to 63.
+    /// Returns the number of the word, from 0 to 63.
     #[inline]
     pub fn get(self) -> u8
         ensures value { result ≡ self }

@@ -1,43 +1,43 @@
-//! Reading of operands that are given as words.
+//! Decoding of operands that are given as words.
 
 ghost use Rattle.std.specs.Prelude.{◌≡◌, ◌-◌, ◌++◌, length, take, replicate};
-ghost use Rattle.nap_values.specs.Operands.{carried, multi_of, single_of, colour_of};
+ghost use Rattle.nap_values.specs.Operands.{operand_words, multi_of, single_of, colour_of};
 
 use crate::colours::{Addr, Grb};
 use crate::displacement::Move;
-use crate::operand::{MOST, colour_bytes, multi_bytes, single_bytes};
+use crate::operand::{MOST_WORDS, colour_bytes, multi_bytes, single_bytes};
 use crate::word::Word;
 
-/// The displacement that the words of a multi-value operand spell. Words that the run lacks are zero, and those behind the
-/// eighth don't count. So nothing depends on `size`, the operand's length in the domain (PDI operands).
+/// Decodes a multi-value operand as a displacement. Missing words count as zero, and words after the eighth are
+/// ignored, so the result doesn't depend on `size`, the operand length (PROFILE.md, Operands).
 pub fn multi(run: &[Word], size: u8) -> Move
     ensures { result ≡ multi_of run.now }
 {
-    multi_bytes(&padded(run))
+    multi_bytes(&padded_bytes(run))
 }
 
-/// The address that the words of a single-value operand spell. Words that the run lacks are zero, and those behind the
-/// fourth don't count. So nothing depends on `size`, the operand's length in the domain (PDI operands).
+/// Decodes a single-value operand as an address. Missing words count as zero, and words after the fourth are ignored,
+/// so the result doesn't depend on `size`, the operand length (PROFILE.md, Operands).
 pub fn single(run: &[Word], size: u8) -> Addr
     ensures { result ≡ single_of run.now }
 {
-    single_bytes(&padded(run)[..4])
+    single_bytes(&padded_bytes(run)[..4])
 }
 
-/// The colour that the words of a multi-value operand spell. Words that the run lacks are zero, and those behind the eighth
-/// don't count. So nothing depends on `size`, the operand's length in the domain (SET COLOR).
+/// Decodes a multi-value operand as a colour. Missing words count as zero, and words after the eighth are ignored, so
+/// the result doesn't depend on `size`, the operand length (PROFILE.md, Operands).
 pub fn colour(run: &[Word], size: u8) -> Grb
     ensures { result ≡ colour_of run.now }
 {
-    colour_bytes(&padded(run))
+    colour_bytes(&padded_bytes(run))
 }
 
-/// The first eight words of a run, a byte for each, and zero behind them.
-fn padded(run: &[Word]) -> [u8; MOST]
-    ensures { carried result ≡ take 8 run.now ++ replicate (8 - length run.now) 0 }
+/// Returns the first eight words, one to a byte, padded with zero bytes.
+fn padded_bytes(run: &[Word]) -> [u8; MOST_WORDS]
+    ensures { operand_words result ≡ take 8 run.now ++ replicate (8 - length run.now) 0 }
 {
-    let mut bytes = [0; MOST];
-    for at in 0..run.len().min(MOST) {
+    let mut bytes = [0; MOST_WORDS];
+    for at in 0..run.len().min(MOST_WORDS) {
         bytes[at] = run[at].get();
     }
     bytes

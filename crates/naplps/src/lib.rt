@@ -47,7 +47,9 @@ pub mod lines {
 /// What an entry holds.
 pub mod entry {
     /// What it is drawn with.
-    pub use nap_list::{CharSize, Colour, Hand, Held, Ink, Origin, Pen, Preset, TextLook, Texture};
+    pub use nap_list::{
+        Attributes, CharSize, Colour, Hand, Ink, Origin, Pen, Preset, TextLook, Texture,
+    };
 
     /// Where it is, and which of its kind it is.
     pub use nap_codes::{CharSet, CursorKind, Mask, Size, TextStep};
@@ -74,7 +76,9 @@ pub mod sink {
     pub use nap_list::{CountSink, ListSink};
 
     /// The state that the entries so far leave, and its parts.
-    pub use nap_list::{Base, Definition, Drawing, Known, LastChar, MapColour, Opened, State};
+    pub use nap_list::{
+        Base, Definition, Drawing, Known, LastChar, MapColour, OpenDefinition, State,
+    };
 }
 
 /// Where the bytes of a page come from, and where they go.

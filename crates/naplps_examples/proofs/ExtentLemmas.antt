@@ -3,7 +3,7 @@ use Rattle.naplps.specs.declared.sink.Drawing.{Drawing}
 use Rattle.naplps.specs.declared.sink.ShapeKind.{ShapeKind}
 use Rattle.naplps.specs.declared.sink.ShapeKind.TheVariants as kinds
 use Rattle.naplps.specs.Coordinates.{Coordinates}
-use Rattle.naplps.specs.Shapes.{outline, round, shape_on}
+use Rattle.naplps.specs.Shapes.{outline, circle_closed, shape_on}
 use Rattle.naplps_examples.specs.declared.extent.Extent.{Extent}
 use Rattle.naplps_examples.specs.Extents.{with_entry, with_point}
 
@@ -18,7 +18,7 @@ greatest a b c = omega arith
 again : (e : Extent) (p q : Coordinates) → with_point (with_point (with_point e p) q) p ≡ with_point (with_point e p) q
 again e p q = simp (least, greatest)
 
-rounded : (e : Extent) (points : List Coordinates) → fold with_point e (round points) ≡ fold with_point e points
+rounded : (e : Extent) (points : List Coordinates) → fold with_point e (circle_closed points) ≡ fold with_point e points
 rounded e [] = refl
 rounded e (p ∷ []) = refl
 rounded e (p ∷ q ∷ []) = again e p q

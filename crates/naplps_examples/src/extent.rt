@@ -1,7 +1,7 @@
 //! A sink of one's own: how far the shapes of a page reach.
 ghost use Rattle.std.specs.Prelude.{◌≡◌, ◌≢◌, Some, false, fold, IfOk, IfErr};
 ghost use Rattle.naplps.specs.Budgets.{usual_budget};
-ghost use Rattle.naplps.specs.Shapes.{drawn_shape};
+ghost use Rattle.naplps.specs.Shapes.{entry_of_shape};
 ghost use Rattle.naplps.specs.State.{start};
 ghost use Rattle.naplps.specs.Stream.{means};
 ghost use Rattle.naplps.specs.Streams.{IsAccepted, list_of};
@@ -77,7 +77,7 @@ impl Extent {
 
     /// The extent with the points of one more arc or polygon.
     pub fn with_shape(self, shape: &Shape) -> Extent
-        ensures { result ≡ with_entry self (drawn_shape shape.now) }
+        ensures { result ≡ with_entry self (entry_of_shape shape.now) }
     {
         self.with(shape.from).with_all(shape.others)
     }

@@ -12,7 +12,7 @@ use Rattle.nap_list.specs.declared.device.inlet.Inlet as inlet
 use Rattle.nap_list.specs.declared.device.outlet.Outlet as outlet
 use Rattle.nap_list.specs.declared.entry.Entry.{Entry}
 use Rattle.nap_list.specs.declared.sink.Sink.{Ghosts}
-use Rattle.nap_list.specs.Flushing.{FlushedOnce, flushed}
+use Rattle.nap_list.specs.Flushing.{FlushedOnce, flush_count}
 use Rattle.nap_list.specs.Reading.{reading}
 use Rattle.nap_list.specs.State.{start}
 use Rattle.nap_reader.specs.declared.fault.Refusal.{Refusal}
@@ -22,16 +22,16 @@ use Rattle.nap_reader.specs.Breaking.{cause_of, BreaksInRun}
 use Rattle.nap_reader.specs.declared.reader.Reader.{Reader}
 use Rattle.nap_reader.specs.Feeding.{Feeds, LastRead}
 use Rattle.nap_reader.specs.Laws.{BreaksAmong}
-use Rattle.nap_reader.specs.Standing.{Answers, AnswersBy, IsKnown, IsTaken, Stands, budget_of, left_of, refusal_of, sink_of}
+use Rattle.nap_reader.specs.Standing.{Answers, AnswersBy, IsKnown, IsTaken, HasRead, budget_of, left_of, refusal_of, sink_of}
 use Rattle.nap_reader.specs.Stream.{Outcome, begun, means, ended_by}
 use Rattle.nap_reader.proofs.PublicLaws.{begun_comes_first, end_breaks_among, fed_breaks_among, more_bytes_keep_entries}
 use Rattle.nap_canon.specs.declared.conversion.ConvertFault.{ConvertFault}
 use Rattle.nap_canon.specs.declared.conversion.ConvertFault.TheVariants as fault
 use Rattle.nap_canon.specs.Concluding.{Concludes}
 use Rattle.nap_canon.specs.Converting.{StopsAtOnce, IsFrontOf, Converts}
-use Rattle.nap_canon.specs.Sinking.{Canonical, shown, Sends, Begun, Took, Broke}
+use Rattle.nap_canon.specs.Sinking.{Canonical, sending_of, Sends, StartsText, Took, Broke}
 use Rattle.nap_canon.specs.Streams.{list_of}
-use Rattle.nap_canon.specs.Text.{header, begun_tail, written, pieces, text}
+use Rattle.nap_canon.specs.Text.{header, text_end_after_header, pieces_bytes, pieces, text}
 use Rattle.nap_canon.proofs.conversions.WentOutLemmas.{front_refl, Leaves, concluded, leaves_whole, leaves_refused, leaves_cut, leaves_broken}
 
 -- An output that was written to the end is flushed once, where no write failed.
@@ -44,14 +44,14 @@ module _ {O : Type 0} (o : outlet.Ghosts O) (law : (x : O) → o.write_failed x 
       by_flag true h = absurd (false≢true (sym works ∙ law w h))
       by_flag false h = h
 
-  pub flushed_once : (t : Canonical O) (u : O) → Writes (sending o w 0) (shown o t) → o.flushes u ≡ flushed (o.failed t.outlet) (o.flushes t.outlet) →
+  pub flushed_once : (t : Canonical O) (u : O) → Writes (sending o w 0) (sending_of o t) → o.flushes u ≡ flush_count (o.failed t.outlet) (o.flushes t.outlet) →
       o.write_failed u ≡ o.write_failed t.outlet → FlushedOnce o w u
   flushed_once t u wrote flushes kept =
       let failed : o.failed t.outlet ≡ wrote.fails = wrote.failed ∙ ap (λ (b : Bool). b || wrote.fails) works in
       let write_failed : o.write_failed t.outlet ≡ wrote.fails = wrote.write_failed ∙ ap (λ (b : Bool). b || wrote.fails) unfailed in
       flushes
-      ∙ ap (λ (b : Bool). flushed b (o.flushes t.outlet)) (failed ∙ sym (kept ∙ write_failed))
-      ∙ ap (flushed (o.write_failed u)) wrote.flushes
+      ∙ ap (λ (b : Bool). flush_count b (o.flushes t.outlet)) (failed ∙ sym (kept ∙ write_failed))
+      ∙ ap (flush_count (o.write_failed u)) wrote.flushes
 
 -- what a conversion ensures of what it read and wrote
 abbrev pub Converted : {I O : Type 0} → inlet.Ghosts I → outlet.Ghosts O → ℕ → I → I → O → O → Result ℕ ConvertFault → Type 0
@@ -63,7 +63,7 @@ Converted i o budget initial final w u answer =
 
 -- What a reader shows.
 
-module _ {S : Type 0} {g : Ghosts S} (reader : Reader S g) (s : S) (p : List ℕ) (h : Stands reader s p) where
+module _ {S : Type 0} {g : Ghosts S} (reader : Reader S g) (s : S) (p : List ℕ) (h : HasRead reader s p) where
   unrefused : (budget : ℕ) → budget_of reader ≡ budget → refusal_of reader ≡ None → IsKnown g s (begun budget p) (sink_of reader) (left_of reader) None
   unrefused budget same none =
       subst (λ (b : ℕ). IsKnown g s (begun b p) (sink_of reader) (left_of reader) None) same
@@ -79,21 +79,21 @@ module _ {S : Type 0} {g : Ghosts S} (reader : Reader S g) (s : S) (p : List ℕ
 means_refused : (budget : ℕ) (p : List ℕ) (r : Refusal) → (begun budget p).refusal ≡ Some r → means budget p ≡ begun budget p
 means_refused budget p r is = ap (ended_by (begun budget p) (length p)) is
 
-module _ {O : Type 0} (o : outlet.Ghosts O) (w : O) (s : Canonical O) (begins : Begun o w s) (g : Ghosts (Canonical O))
+module _ {O : Type 0} (o : outlet.Ghosts O) (w : O) (s : Canonical O) (begins : StartsText o w s) (g : Ghosts (Canonical O))
     (took_is : (t : Canonical O) (d : List Entry) → g.took s d t → Took o s d t)
     (broke_is : (t : Canonical O) (d : List Entry) (e : Entry) → g.broke s d e t → Broke o s d e t) (failed_is : g.failed s ≡ o.failed s.outlet)
     (wants_none : (d : List Entry) → g.wants s d → ⊥) where
   -- the header was not written
-  pub header_fails : {I : Type 0} (i : inlet.Ghosts I) (input : I) (reader : Reader (Canonical O) g) → Stands reader s [] → refusal_of reader ≡ None → o.failed s.outlet ≡ true →
+  pub header_fails : {I : Type 0} (i : inlet.Ghosts I) (input : I) (reader : Reader (Canonical O) g) → HasRead reader s [] → refusal_of reader ≡ None → o.failed s.outlet ≡ true →
       (u : O) (answer : Result ℕ ConvertFault) → Keeps (o.taken s.outlet) (o.taken u) → o.failed u ≡ true → Concludes s.written (Ok tt) (o.failed u) answer →
       (q : List ℕ) × Appends (o.taken w) (o.taken u) q × Converts (budget_of reader) [] (reading i input input) q (o.failed u) answer
-      × StopsAtOnce i (budget_of reader) [] input input q × Writes (sending o w 0) (shown o s)
+      × StopsAtOnce i (budget_of reader) [] input input q × Writes (sending o w 0) (sending_of o s)
   header_fails i input reader h none fails u answer keeps failed ends =
-      let sent : Sends (sending o w 0) header true (shown o s) = subst (λ (broke : Bool). Sends (sending o w 0) header broke (shown o s)) fails begins.begins in
+      let sent : Sends (sending o w 0) header true (sending_of o s) = subst (λ (broke : Bool). Sends (sending o w 0) header broke (sending_of o s)) fails begins.begins in
       let q = take sent.part header in
       let front : (d : List Entry) → IsFrontOf q (text d) = λ d. (
-        drop sent.part header ++ written begun_tail (pieces Two start d),
-        ap (λ (bytes : List ℕ). bytes ++ written begun_tail (pieces Two start d)) (sym (take-append-drop sent.part header)) ∙ append_assoc q (drop sent.part header) (written begun_tail (pieces Two start d)),
+        drop sent.part header ++ pieces_bytes text_end_after_header (pieces Two start d),
+        ap (λ (bytes : List ℕ). bytes ++ pieces_bytes text_end_after_header (pieces Two start d)) (sym (take-append-drop sent.part header)) ∙ append_assoc q (drop sent.part header) (pieces_bytes text_end_after_header (pieces Two start d)),
       ) in
       let is : answer ≡ Err (fault.Write s.written) = subst (λ (b : Bool). Concludes s.written (Ok tt) b answer) failed ends in (
         q,
@@ -192,16 +192,16 @@ module _ {O : Type 0} (o : outlet.Ghosts O) (w : O) (s : Canonical O) (begins : 
           at device is = broken (λ own. let bad = sym is ∙ own in cc)
 
   -- a conversion that was fed something, and the output as it is given back
-  module _ (works : o.failed s.outlet ≡ false) {I : Type 0} (i : inlet.Ghosts I) (initial final : I) (old new : Reader (Canonical O) g) (stands : Stands old s []) (same : budget_of new ≡ budget_of old) (budget : ℕ)
+  module _ (works : o.failed s.outlet ≡ false) {I : Type 0} (i : inlet.Ghosts I) (initial final : I) (old new : Reader (Canonical O) g) (stands : HasRead old s []) (same : budget_of new ≡ budget_of old) (budget : ℕ)
       (is : budget_of old ≡ budget) (law : (x : O) → o.write_failed x ≡ true → o.failed x ≡ true) (unfailed : o.failed w ≡ false) (u : O) (answer : Result ℕ ConvertFault) where
     abbrev Fed : Result (Unit {0}) FeedFault → Type 0
-    Fed r = (p : List ℕ) × Consumes (i.left initial) (i.left final) p × ((s : Canonical O) → Stands old s [] → Feeds i old new s p initial final r)
+    Fed r = (p : List ℕ) × Consumes (i.left initial) (i.left final) p × ((s : Canonical O) → HasRead old s [] → Feeds i old new s p initial final r)
 
     -- what is known of it, where it is of the sink as it was left
     abbrev Closes : Canonical O → Result (Unit {0}) FeedFault → Type 0
     Closes t fed =
         Keeps (o.taken t.outlet) (o.taken u) × (o.failed t.outlet ≡ true → o.failed u ≡ true) × Concludes t.written fed (o.failed u) answer
-        × (o.flushes u ≡ flushed (o.failed t.outlet) (o.flushes t.outlet)) × (o.write_failed u ≡ o.write_failed t.outlet)
+        × (o.flushes u ≡ flush_count (o.failed t.outlet) (o.flushes t.outlet)) × (o.write_failed u ≡ o.write_failed t.outlet)
 
     -- with its last read
     closes : (p : List ℕ) → Consumes (i.left initial) (i.left final) p → (last : LastRead i (budget_of old) p initial final) (t : Canonical O) (fed : Result (Unit {0}) FeedFault) →
@@ -218,14 +218,14 @@ module _ {O : Type 0} (o : outlet.Ghosts O) (w : O) (s : Canonical O) (begins : 
           flushed_once o law w unfailed t u wrote flushes kept,
         )
 
-    pub whole_converts : Fed (Ok tt) → (t : Canonical O) → ((p : List ℕ) → Stands new s p → IsTaken g s (means (budget_of new) p) t None) → Closes t (Ok tt) →
+    pub whole_converts : Fed (Ok tt) → (t : Canonical O) → ((p : List ℕ) → HasRead new s p → IsTaken g s (means (budget_of new) p) t None) → Closes t (Ok tt) →
         Converted i o budget initial final w u answer
     whole_converts (p, read, feeds) t taken =
         let h = feeds s stands in
         closes p read h.last t (Ok tt) (whole_leaves works i initial final old new p same h t (taken p h.stands))
 
-    pub end_converts : Fed (Ok tt) → (t : Canonical O) (r : Refusal) → (cause_of r.fault ≡ stream → (p : List ℕ) → Stands new s p → IsTaken g s (means (budget_of new) p) t (Some r)) →
-        (refusal_of new ≡ None → cause_of r.fault ≢ stream → (p : List ℕ) → Stands new s p → BreaksInRun g s (budget_of new) p t r) → Closes t (Err (feed_fault.Refused r)) →
+    pub end_converts : Fed (Ok tt) → (t : Canonical O) (r : Refusal) → (cause_of r.fault ≡ stream → (p : List ℕ) → HasRead new s p → IsTaken g s (means (budget_of new) p) t (Some r)) →
+        (refusal_of new ≡ None → cause_of r.fault ≢ stream → (p : List ℕ) → HasRead new s p → BreaksInRun g s (budget_of new) p t r) → Closes t (Err (feed_fault.Refused r)) →
         Converted i o budget initial final w u answer
     end_converts (p, read, feeds) t r own broke =
         let h = feeds s stands in

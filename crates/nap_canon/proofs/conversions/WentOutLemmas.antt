@@ -5,7 +5,7 @@ use Rattle.std.proofs.lemmas.List.{take-append-drop}
 use Rattle.std.specs.Io.KnownBytes.{Appends, Keeps}
 use Rattle.std.proofs.KnownBytes.{Appends-kept}
 use Rattle.nap_list.specs.Sending.{sending, Writes, Grows, grows_more}
-use Rattle.nap_canon.specs.declared.tail.Tail.{Tail}
+use Rattle.nap_canon.specs.declared.text_end.TextEnd.{TextEnd}
 use Rattle.nap_canon.specs.declared.form.Form.{Form}
 use Rattle.nap_canon.specs.declared.form.Form.TheVariants.{Two}
 use Rattle.nap_draw.specs.Draws.{Cause, stream, memory, device}
@@ -25,10 +25,10 @@ use Rattle.nap_reader.proofs.PublicLaws.{begun_comes_first}
 use Rattle.nap_canon.specs.declared.conversion.ConvertFault.{ConvertFault}
 use Rattle.nap_canon.specs.Concluding.{Concludes, answer_of}
 use Rattle.nap_canon.specs.Converting.{count_of, IsFrontOf, RefusesBy, Converts}
-use Rattle.nap_canon.specs.Sinking.{Canonical, shown, bytes_of, bytes_behind, Begun, Took, Broke}
+use Rattle.nap_canon.specs.Sinking.{Canonical, sending_of, entry_bytes, entry_bytes_after, StartsText, Took, Broke}
 use Rattle.nap_canon.specs.Streams.{list_of}
-use Rattle.nap_canon.specs.Text.{header, begun_tail, written, tail_after, pieces, entry_pieces, text}
-use Rattle.nap_canon.specs.TextParts.{written-append}
+use Rattle.nap_canon.specs.Text.{header, text_end_after_header, pieces_bytes, text_end_after, pieces, entry_pieces, text}
+use Rattle.nap_canon.specs.TextParts.{pieces_bytes-append}
 use Rattle.nap_canon.proofs.sinks.SinkingLemmas.{first_of_text, header_sent, sink_writes_text}
 use Rattle.nap_canon.proofs.texts.TextLemmas.{text_of_entries}
 
@@ -42,69 +42,69 @@ front_trans {A} xs ys zs h k = (h.0 ++ k.0, k.1 ∙ ap (λ (front : List A). fro
 
 -- the text of the first entries stands first in that of all
 text_front : (d e : List Entry) → IsFrontOf d e → IsFrontOf (text d) (text e)
-text_front d e h = (written (tail_after begun_tail (pieces Two start d)) (pieces Two (walk start d) h.0), ap text h.1 ∙ text_of_entries Two d h.0)
+text_front d e h = (pieces_bytes (text_end_after text_end_after_header (pieces Two start d)) (pieces Two (walk start d) h.0), ap text h.1 ∙ text_of_entries Two d h.0)
 
-module _ {O : Type 0} (o : outlet.Ghosts O) (w : O) (s : Canonical O) (begins : Begun o w s) (works : o.failed s.outlet ≡ false) where
+module _ {O : Type 0} (o : outlet.Ghosts O) (w : O) (s : Canonical O) (begins : StartsText o w s) (works : o.failed s.outlet ≡ false) where
   -- the text of what a sink took went out
-  took_text : (t : Canonical O) (d : List Entry) → Took o s d t → Grows (sending o w 0) (text d) (shown o t)
+  took_text : (t : Canonical O) (d : List Entry) → Took o s d t → Grows (sending o w 0) (text d) (sending_of o t)
   took_text t d h = (sink_writes_text o w s t d begins works h).grows
 
   -- What a sink wrote that failed amid an entry: the text of those before, and a part of its bytes.
   abbrev broke_bytes : (t : Canonical O) (d : List Entry) (e : Entry) → Broke o s d e t → List ℕ
-  broke_bytes t d e h = text d ++ take h.part (bytes_behind s d e)
+  broke_bytes t d e h = text d ++ take h.part (entry_bytes_after s d e)
 
-  broke_text : (t : Canonical O) (d : List Entry) (e : Entry) (h : Broke o s d e t) → Grows (sending o w 0) (broke_bytes t d e h) (shown o t)
+  broke_text : (t : Canonical O) (d : List Entry) (e : Entry) (h : Broke o s d e t) → Grows (sending o w 0) (broke_bytes t d e h) (sending_of o t)
   broke_text t d e h =
       let none = header_sent Two o w s begins works in
-      let part = take h.part (bytes_behind s d e) in
+      let part = take h.part (entry_bytes_after s d e) in
       let bytes = first_of_text Two o w s begins works d in
-      let all : header ++ (bytes_of s d ++ part) ≡ text d ++ part =
-      ap (λ (bs : List ℕ). header ++ (bs ++ part)) bytes ∙ sym (append_assoc header (written begun_tail (pieces Two start d)) part) in
-      subst (λ (bs : List ℕ). Grows (sending o w 0) bs (shown o t)) all
-      (grows_more (sending o w 0) (shown o s) (shown o t) header (bytes_of s d ++ part) none.grows h.grows)
+      let all : header ++ (entry_bytes s d ++ part) ≡ text d ++ part =
+      ap (λ (bs : List ℕ). header ++ (bs ++ part)) bytes ∙ sym (append_assoc header (pieces_bytes text_end_after_header (pieces Two start d)) part) in
+      subst (λ (bs : List ℕ). Grows (sending o w 0) bs (sending_of o t)) all
+      (grows_more (sending o w 0) (sending_of o s) (sending_of o t) header (entry_bytes s d ++ part) none.grows h.grows)
 
   -- that is a front of the text of any list that goes on so
   broke_front : (t : Canonical O) (d : List Entry) (e : Entry) (rest : List Entry) (h : Broke o s d e t) → IsFrontOf (broke_bytes t d e h) (text (d ++ e ∷ rest))
   unfolding pieces
   broke_front t d e rest h =
       let u = walk start d in
-      let tail = tail_after begun_tail (pieces Two start d) in
+      let text_end = text_end_after text_end_after_header (pieces Two start d) in
       let one = entry_pieces Two u e in
-      let behind : bytes_behind s d e ≡ written tail one =
-      ap (λ (f : Form). written (tail_after s.tail (pieces f s.state d)) (entry_pieces f (walk s.state d) e)) begins.form_is
-      ∙ ap (λ (t : Tail). written (tail_after t (pieces Two s.state d)) (entry_pieces Two (walk s.state d) e)) begins.tail
-      ∙ ap (λ (v : State). written (tail_after begun_tail (pieces Two v d)) (entry_pieces Two (walk v d) e)) begins.state in
-      let later = written (tail_after tail one) (pieces Two (after u e) rest) in
-      let more : written tail (pieces Two u (e ∷ rest)) ≡ bytes_behind s d e ++ later =
-      written-append tail one (pieces Two (after u e) rest) ∙ ap (λ (bs : List ℕ). bs ++ later) (sym behind) in
-      let parts : bytes_behind s d e ≡ take h.part (bytes_behind s d e) ++ drop h.part (bytes_behind s d e) = sym (take-append-drop h.part (bytes_behind s d e)) in (
-        drop h.part (bytes_behind s d e) ++ later,
+      let behind : entry_bytes_after s d e ≡ pieces_bytes text_end one =
+      ap (λ (f : Form). pieces_bytes (text_end_after s.text_end (pieces f s.state d)) (entry_pieces f (walk s.state d) e)) begins.form_is
+      ∙ ap (λ (t : TextEnd). pieces_bytes (text_end_after t (pieces Two s.state d)) (entry_pieces Two (walk s.state d) e)) begins.text_end
+      ∙ ap (λ (v : State). pieces_bytes (text_end_after text_end_after_header (pieces Two v d)) (entry_pieces Two (walk v d) e)) begins.state in
+      let later = pieces_bytes (text_end_after text_end one) (pieces Two (after u e) rest) in
+      let more : pieces_bytes text_end (pieces Two u (e ∷ rest)) ≡ entry_bytes_after s d e ++ later =
+      pieces_bytes-append text_end one (pieces Two (after u e) rest) ∙ ap (λ (bs : List ℕ). bs ++ later) (sym behind) in
+      let parts : entry_bytes_after s d e ≡ take h.part (entry_bytes_after s d e) ++ drop h.part (entry_bytes_after s d e) = sym (take-append-drop h.part (entry_bytes_after s d e)) in (
+        drop h.part (entry_bytes_after s d e) ++ later,
         text_of_entries Two d (e ∷ rest)
-            ∙ ap (λ (bs : List ℕ). text d ++ bs) (more ∙ ap (λ (bs : List ℕ). bs ++ later) parts ∙ append_assoc (take h.part (bytes_behind s d e)) (drop h.part (bytes_behind s d e)) later)
-            ∙ sym (append_assoc (text d) (take h.part (bytes_behind s d e)) (drop h.part (bytes_behind s d e) ++ later)),
+            ∙ ap (λ (bs : List ℕ). text d ++ bs) (more ∙ ap (λ (bs : List ℕ). bs ++ later) parts ∙ append_assoc (take h.part (entry_bytes_after s d e)) (drop h.part (entry_bytes_after s d e)) later)
+            ∙ sym (append_assoc (text d) (take h.part (entry_bytes_after s d e)) (drop h.part (entry_bytes_after s d e) ++ later)),
       )
 
   -- A conversion that read the bytes p so.
   module _ (budget : ℕ) (p : List ℕ) (seen : Reading) (before : List ℕ) (known_first : IsFrontOf (begun budget before).entries (begun budget p).entries) where
     -- What went out is a front of the text, behind that of what was known before the last read.
     pub record WentOut (t : Canonical O) (q : List ℕ) : Type 0 where
-      pub grows : Grows (sending o w 0) q (shown o t)
+      pub grows : Grows (sending o w 0) q (sending_of o t)
       pub front : IsFrontOf q (text (list_of budget p))
       pub left : IsReadWhole seen p ⊎ IsFrontOf q (text (begun budget p).entries)
-      pub written : IsFrontOf (text (begun budget before).entries) q
+      pub pieces_bytes : IsFrontOf (text (begun budget before).entries) q
 
     -- how a conversion ends that left the sink so
     abbrev pub Leaves : Canonical O → Result (Unit {0}) FeedFault → Type 0
     Leaves t fed = (q : List ℕ) × WentOut t q × (o.failed t.outlet ≡ false → Converts budget p seen q false (answer_of t.written fed))
 
-    counts : (t : Canonical O) (q : List ℕ) → Grows (sending o w 0) q (shown o t) → t.written ≡ count_of q
+    counts : (t : Canonical O) (q : List ℕ) → Grows (sending o w 0) q (sending_of o t) → t.written ≡ count_of q
     counts t q h = omega (arith, h.count)
 
     -- the output as it is given back
     pub concluded : (t : Canonical O) (fed : Result (Unit {0}) FeedFault) (u : O) (answer : Result ℕ ConvertFault) → Leaves t fed → Keeps (o.taken t.outlet) (o.taken u) →
         (o.failed t.outlet ≡ true → o.failed u ≡ true) → Concludes t.written fed (o.failed u) answer →
         (q : List ℕ) × Appends (o.taken w) (o.taken u) q × Converts budget p seen q (o.failed u) answer × IsFrontOf (text (begun budget before).entries) q
-        × Writes (sending o w 0) (shown o t)
+        × Writes (sending o w 0) (sending_of o t)
     concluded t fed u answer (q, out, right) keeps fails ends = (q, Appends-kept _ _ _ q out.grows.taken keeps, at (o.failed u) refl ends, out.written, out.grows.writes)
       where
         works_on : (b : Bool) → o.failed t.outlet ≡ b → o.failed u ≡ false → b ≡ false
@@ -191,7 +191,7 @@ module _ {O : Type 0} (o : outlet.Ghosts O) (w : O) (s : Canonical O) (begins : 
               left = left q q_first;
               written = front_trans (text (begun budget before).entries) (text d) q
                   (text_front (begun budget before).entries d (front_trans (begun budget before).entries known d first (taken, refl)))
-                  (take h.part (bytes_behind s d next), refl);
+                  (take h.part (entry_bytes_after s d next), refl);
             },
             λ whole. let bad = sym h.failed ∙ whole in cc,
           )

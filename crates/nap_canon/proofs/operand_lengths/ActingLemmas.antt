@@ -10,23 +10,23 @@ use Rattle.nap_codes.specs.declared.code_set.CodeSets.{CodeSets}
 use Rattle.nap_codes.specs.declared.opcode.Opcode.{Opcode}
 use Rattle.nap_codes.specs.CodeSets.{start_sets}
 use Rattle.nap_codes.specs.Front as codes
-use Rattle.nap_codes.specs.Lexed.{Lexed, lexed, lexed_by}
+use Rattle.nap_codes.specs.LexResults.{LexResult, lex_result, lex_result_by}
 use Rattle.nap_codes.proofs.PublicLaws.{whole_length, whole_taken, one_byte_opcode}
 use Rattle.nap_draw.specs.declared.fault.DrawFault.{DrawFault}
 use Rattle.nap_draw.specs.declared.work.Work.{Work}
 use Rattle.nap_draw.specs.Codes.{code_rule}
-use Rattle.nap_draw.specs.Rule.{Drawn, rule}
+use Rattle.nap_draw.specs.Rule.{RuleResult, rule}
 use Rattle.nap_reader.specs.declared.fault.Fault.TheVariants as faults
 use Rattle.nap_reader.specs.declared.fault.Refusal.{Refusal}
 use Rattle.nap_reader.specs.Bodies.{Mode, between, no_names, body_of}
 use Rattle.nap_reader.specs.Course as course
-use Rattle.nap_reader.specs.Course.{onward}
+use Rattle.nap_reader.specs.Course.{outcome_by_front}
 use Rattle.nap_draw.specs.Limits.{run_limit}
-use Rattle.nap_reader.specs.Stream.{Placed, Machine, Front, Outcome, bytes_of, words_of, run_length, refusal, after_drawing, drawn_front, closed_front, run_front, opcode_front, charged, shown_front, place_at, front_by, front_in, front, left_of, outcome_from, placed_from, start_machine, begun, ended_by}
+use Rattle.nap_reader.specs.Stream.{Placed, Machine, Front, Outcome, bytes_of, words_of, run_length, refusal, after_drawing, drawn_front, closed_front, run_front, opcode_front, after_charge, shown_front, place_at, front_by, front_in, front, left_of, outcome_from, placed_from, start_machine, begun, ended_by}
 use Rattle.nap_reader.proofs.PublicLaws.{front_after_front}
-use Rattle.nap_canon.specs.Acting.{Acting, acting_at, acting_in, acting_behind, acting_within, opcodes_of, ActsUnderEightAndFour}
+use Rattle.nap_canon.specs.Acting.{Acting, acting_at, acting_in, acting_after, acting_within, opcodes_of, ActsUnderEightAndFour}
 use Rattle.nap_canon.specs.Laws.{PlainOperandLengths}
-use Rattle.nap_canon.specs.Plain.{IsPlainCode, AllComeBehind}
+use Rattle.nap_canon.specs.Plain.{IsPlainCode, AllMayFollow}
 use Rattle.nap_canon.proofs.operand_lengths.FrontCodes.{no_front, lexed_front, pdi_in_gl, operands_of, run_codes}
 use Rattle.nap_canon.proofs.reading.PlacedLemmas.{bytes_of-placed}
 use Rattle.nap_canon.proofs.operand_lengths.StageLemmas.{Stage, before, lengths_stand, opcode_stage, IsQuiet, quiet_stage, IsActing, code_stage}
@@ -35,7 +35,7 @@ use Rattle.nap_canon.proofs.operand_lengths.StageLemmas.{Stage, before, lengths_
 record Asks (work : Work) (list : List Code) : Type 0 where
   stage : Stage work list
   each : All IsPlainCode list
-  behind : AllComeBehind list
+  behind : AllMayFollow list
 
 -- what is known of the opcodes of these codes
 record Known (acts : List Acting) (list : List Code) : Type 0 where
@@ -50,7 +50,7 @@ record IsStanding (m : Machine) : Type 0 where
   mode : m.mode ≡ between
   names : m.names ≡ no_names
 
-drawing_stands : (m : Machine) (d : Drawn) → IsStanding m → IsStanding (after_drawing m d)
+drawing_stands : (m : Machine) (d : RuleResult) → IsStanding m → IsStanding (after_drawing m d)
 drawing_stands m d standing = record { mode = standing.mode; names = by d.clears }
   where
     by : (clears : Bool) → cond clears no_names m.names ≡ no_names
@@ -62,34 +62,34 @@ sets_stand m sets standing = record { mode = standing.mode; names = standing.nam
 
 -- nothing is refused, so a front gives no refusal
 abbrev Going : Machine → List Placed → Front → Type 0
-Going m xs f = (onward outcome_from m xs f).refusal ≡ None
+Going m xs f = (outcome_by_front outcome_from m xs f).refusal ≡ None
 
 -- what is to be shown of a list
 abbrev Goes : ℕ → Machine → List Placed → Type 0
-Goes fuel m xs = IsStanding m → (outcome_from m xs).refusal ≡ None → Asks m.work (lexed m.sets (bytes_of xs)).codes →
-    Known (acting_within fuel m xs) (lexed m.sets (bytes_of xs)).codes
+Goes fuel m xs = IsStanding m → (outcome_from m xs).refusal ≡ None → Asks m.work (lex_result m.sets (bytes_of xs)).codes →
+    Known (acting_within fuel m xs) (lex_result m.sets (bytes_of xs)).codes
 
 -- behind a code
 
 next_plain : (work w : Work) (c : Code) (rest : List Code) → (Stage work (c ∷ rest) → Stage w rest) → Asks work (c ∷ rest) → Asks w rest
-unfolding AllComeBehind
+unfolding AllMayFollow
 next_plain work w c rest turn asks = record {
   stage = turn asks.stage;
-  each = All-tail IsPlainCode c rest asks.each;
+  each = All-text_end IsPlainCode c rest asks.each;
   behind = asks.behind.1;
 }
 
-nothing_lexed : (sets : CodeSets) → (lexed sets []).codes ≡ []
-nothing_lexed sets = ap (λ (l : Lexed). l.codes) (lexed_front sets [] ∙ ap (lexed_by lexed sets []) (no_front sets))
+nothing_lexed : (sets : CodeSets) → (lex_result sets []).codes ≡ []
+nothing_lexed sets = ap (λ (l : LexResult). l.codes) (lexed_front sets [] ∙ ap (lex_result_by lex_result sets []) (no_front sets))
 
 -- behind a run of operands
 
 each_behind : (words : List ℕ) (rest : List Code) → All IsPlainCode (operands_of words ++ rest) → All IsPlainCode rest
 each_behind [] rest each = each
-each_behind (word ∷ words) rest each = each_behind words rest (All-tail IsPlainCode (code.Operand word) (operands_of words ++ rest) each)
+each_behind (word ∷ words) rest each = each_behind words rest (All-text_end IsPlainCode (code.Operand word) (operands_of words ++ rest) each)
 
-come_behind : (words : List ℕ) (rest : List Code) → AllComeBehind (operands_of words ++ rest) → AllComeBehind rest
-unfolding AllComeBehind
+come_behind : (words : List ℕ) (rest : List Code) → AllMayFollow (operands_of words ++ rest) → AllMayFollow rest
+unfolding AllMayFollow
 come_behind [] rest behind = behind
 come_behind (word ∷ words) rest behind = come_behind words rest behind.1
 
@@ -111,26 +111,26 @@ known_opcode work op words rest acts stage known = record {
 -- what is to be shown of an opcode with these words behind it, and of its front
 abbrev OpcodeGoes : ℕ → Machine → Opcode → List Placed → List ℕ → List Placed → Front → Type 0
 OpcodeGoes fuel m op xs words rest f =
-    let list : List Code = code.Op op ∷ operands_of words ++ (lexed m.sets (bytes_of rest)).codes in
-    Going m xs f → Asks m.work list → Known (record { op = op; lengths = m.work.domain } ∷ acting_behind (acting_within fuel) f) list
+    let list : List Code = code.Op op ∷ operands_of words ++ (lex_result m.sets (bytes_of rest)).codes in
+    Going m xs f → Asks m.work list → Known (record { op = op; lengths = m.work.domain } ∷ acting_after (acting_within fuel) f) list
 
 module _ (fuel : ℕ) (m : Machine) (op : Opcode) (place : ℕ) (xs : List Placed) (standing : IsStanding m) where
-  drawn_goes : (words : List ℕ) (rest : List Placed) (by : Result Drawn DrawFault) → rule m.work op words ≡ by → ((w : Machine) → Goes fuel w rest) →
+  drawn_goes : (words : List ℕ) (rest : List Placed) (by : Result RuleResult DrawFault) → rule m.work op words ≡ by → ((w : Machine) → Goes fuel w rest) →
       OpcodeGoes fuel m op xs words rest (drawn_front m place rest by)
-  unfolding AllComeBehind
+  unfolding AllMayFollow
   drawn_goes words rest (Err fault) e ih going asks = let bad : ⊥ = cc in absurd bad
   drawn_goes words rest (Ok d) e ih going asks =
-      let list : List Code = (lexed m.sets (bytes_of rest)).codes in
+      let list : List Code = (lex_result m.sets (bytes_of rest)).codes in
       let asked : Asks d.work list = record {
         stage = opcode_stage m.work op words list d e asks.stage asks.behind.0;
-        each = each_behind words list (All-tail IsPlainCode (code.Op op) (operands_of words ++ list) asks.each);
+        each = each_behind words list (All-text_end IsPlainCode (code.Op op) (operands_of words ++ list) asks.each);
         behind = come_behind words list asks.behind.1;
       } in
       known_opcode m.work op words list (acting_within fuel (after_drawing m d) rest) asks.stage (ih (after_drawing m d) (drawing_stands m d standing) going asked)
 
   closed_goes : (run rest : List Placed) → ((w : Machine) → Goes fuel w rest) → OpcodeGoes fuel m op xs (words_of run) rest (closed_front m op place run rest)
   closed_goes run [] ih going asks =
-      let none : (lexed m.sets []).codes ≡ [] = nothing_lexed m.sets in
+      let none : (lex_result m.sets []).codes ≡ [] = nothing_lexed m.sets in
       subst (λ (list : List Code). Known (record { op = op; lengths = m.work.domain } ∷ []) (code.Op op ∷ operands_of (words_of run) ++ list)) (sym none)
       (known_opcode m.work op (words_of run) [] []
       (subst (λ (list : List Code). Stage m.work (code.Op op ∷ operands_of (words_of run) ++ list)) none asks.stage) known_nothing)
@@ -145,16 +145,16 @@ module _ (fuel : ℕ) (m : Machine) (op : Opcode) (place : ℕ) (xs : List Place
 
 opcode_goes : (fuel : ℕ) (m : Machine) (op : Opcode) (xs : List Placed) → IsStanding m → ((w : Machine) (ys : List Placed) → length ys < length xs → Goes fuel w ys) →
     codes.front m.sets (bytes_of xs) ≡ codes.whole (code.Op op) 1 m.sets →
-    Going m xs (front_by m xs (codes.whole (code.Op op) 1 m.sets)) → Asks m.work (code.Op op ∷ (lexed m.sets (bytes_of (drop 1 xs))).codes) →
-    Known (record { op = op; lengths = m.work.domain } ∷ acting_behind (acting_within fuel) (front_by m xs (codes.whole (code.Op op) 1 m.sets)))
-    (code.Op op ∷ (lexed m.sets (bytes_of (drop 1 xs))).codes)
+    Going m xs (front_by m xs (codes.whole (code.Op op) 1 m.sets)) → Asks m.work (code.Op op ∷ (lex_result m.sets (bytes_of (drop 1 xs))).codes) →
+    Known (record { op = op; lengths = m.work.domain } ∷ acting_after (acting_within fuel) (front_by m xs (codes.whole (code.Op op) 1 m.sets)))
+    (code.Op op ∷ (lex_result m.sets (bytes_of (drop 1 xs))).codes)
 opcode_goes fuel m op [] standing ih e going asks = absurd (omega (arith, (whole_length m.sets [] (code.Op op) 1 m.sets e).1))
 opcode_goes fuel m op (x ∷ ys) standing ih e going asks =
     let names = whole_taken m.sets (bytes_of (x ∷ ys)) (code.Op op) 1 m.sets e in
     let k : ℕ = run_length ys in
     let cut = run_codes m.sets ys (pdi_in_gl m.sets x.byte op names) in
     let few : length (drop k ys) < length (x ∷ ys) = simp length-drop (omega arith) in
-    subst (λ (list : List Code). Known (record { op = op; lengths = m.work.domain } ∷ acting_behind (acting_within fuel) (opcode_front m op x.place ys)) (code.Op op ∷ list)) (sym cut)
+    subst (λ (list : List Code). Known (record { op = op; lengths = m.work.domain } ∷ acting_after (acting_within fuel) (opcode_front m op x.place ys)) (code.Op op ∷ list)) (sym cut)
     (run_goes fuel m op x.place (x ∷ ys) standing (take k ys) (drop k ys) (λ w. ih w (drop k ys) few) going
     (subst (λ (list : List Code). Asks m.work (code.Op op ∷ list)) cut asks))
 
@@ -163,20 +163,20 @@ opcode_goes fuel m op (x ∷ ys) standing ih e going asks =
 module _ (fuel : ℕ) (m : Machine) (xs : List Placed) (after : CodeSets) (ys : List Placed) (standing : IsStanding m) (ih : (w : Machine) → Goes fuel w ys) where
   -- the codes behind it
   abbrev later : List Code
-  later = (lexed after (bytes_of ys)).codes
+  later = (lex_result after (bytes_of ys)).codes
 
   abbrev shifted : Machine
   shifted = record m { sets = after }
 
   abbrev CodeGoes : Code → Front → Type 0
-  CodeGoes c f = Going m xs f → Asks m.work (c ∷ later) → Known (acting_behind (acting_within fuel) f) (c ∷ later)
+  CodeGoes c f = Going m xs f → Asks m.work (c ∷ later) → Known (acting_after (acting_within fuel) f) (c ∷ later)
 
   idle_goes : (c : Code) → IsQuiet c → opcodes_of (c ∷ later) ≡ opcodes_of later → CodeGoes c (course.act [] shifted ys)
   idle_goes c quiet same going asks =
       let known = ih shifted (sets_stand m after standing) going (next_plain m.work m.work c later (quiet_stage m.work m.work c later quiet refl refl refl) asks) in
       record { all = known.all ∙ sym same; each = known.each }
 
-  acting_goes : (c : Code) (place : ℕ) (by : Result Drawn DrawFault) → code_rule m.work c ≡ by → IsActing c → opcodes_of (c ∷ later) ≡ opcodes_of later →
+  acting_goes : (c : Code) (place : ℕ) (by : Result RuleResult DrawFault) → code_rule m.work c ≡ by → IsActing c → opcodes_of (c ∷ later) ≡ opcodes_of later →
       CodeGoes c (drawn_front shifted place ys by)
   acting_goes c place (Err fault) e acting same going asks = let bad : ⊥ = cc in absurd bad
   acting_goes c place (Ok d) e acting same going asks =
@@ -189,10 +189,10 @@ module _ (fuel : ℕ) (m : Machine) (xs : List Placed) (after : CodeSets) (ys : 
   call_goes name place [] is going asks = at (nat_lt m.left 0) going
     where
       next : Machine
-      next = charged shifted 0
+      next = after_charge shifted 0
 
       at : (less : Bool) → Going m xs (cond less (course.refuse (refusal faults.Budget place)) (course.act [] next ys)) →
-          Known (acting_behind (acting_within fuel) (cond less (course.refuse (refusal faults.Budget place)) (course.act [] next ys))) (code.Call name ∷ later)
+          Known (acting_after (acting_within fuel) (cond less (course.refuse (refusal faults.Budget place)) (course.act [] next ys))) (code.Call name ∷ later)
       at true going = let bad : ⊥ = cc in absurd bad
       at false going =
           let known = ih next (record { mode = standing.mode; names = standing.names }) going
@@ -217,9 +217,9 @@ bytes_of-drop (suc n) (x ∷ xs) = bytes_of-drop n xs
 module _ (fuel : ℕ) (m : Machine) (xs : List Placed) (standing : IsStanding m) (ih : (w : Machine) (ys : List Placed) → length ys < length xs → Goes fuel w ys) where
   abbrev ByCode : Code → ℕ → CodeSets → Type 0
   ByCode c n after =
-      Going m xs (front_by m xs (codes.whole c n after)) → Asks m.work (c ∷ (lexed after (bytes_of (drop n xs))).codes) →
-      Known (acting_at m (codes.whole c n after) ++ acting_behind (acting_within fuel) (front_by m xs (codes.whole c n after)))
-      (c ∷ (lexed after (bytes_of (drop n xs))).codes)
+      Going m xs (front_by m xs (codes.whole c n after)) → Asks m.work (c ∷ (lex_result after (bytes_of (drop n xs))).codes) →
+      Known (acting_at m (codes.whole c n after) ++ acting_after (acting_within fuel) (front_by m xs (codes.whole c n after)))
+      (c ∷ (lex_result after (bytes_of (drop n xs))).codes)
 
   by_code : (c : Code) (n : ℕ) (after : CodeSets) → codes.front m.sets (bytes_of xs) ≡ codes.whole c n after → length (drop n xs) < length xs → ByCode c n after
   by_code (code.Op op) n after e less going asks =
@@ -238,31 +238,31 @@ module _ (fuel : ℕ) (m : Machine) (xs : List Placed) (standing : IsStanding m)
   by_code c n after e less going asks =
       acting_goes fuel m xs after (drop n xs) standing (λ w. ih w (drop n xs) less) c (place_at xs (n - 1)) (code_rule m.work c) refl tt refl going asks
 
-  by_front : (f : codes.Front) → codes.front m.sets (bytes_of xs) ≡ f → Going m xs (front_by m xs f) → Asks m.work (lexed_by lexed m.sets (bytes_of xs) f).codes →
-      Known (acting_at m f ++ acting_behind (acting_within fuel) (front_by m xs f)) (lexed_by lexed m.sets (bytes_of xs) f).codes
+  by_front : (f : codes.Front) → codes.front m.sets (bytes_of xs) ≡ f → Going m xs (front_by m xs f) → Asks m.work (lex_result_by lex_result m.sets (bytes_of xs) f).codes →
+      Known (acting_at m f ++ acting_after (acting_within fuel) (front_by m xs f)) (lex_result_by lex_result m.sets (bytes_of xs) f).codes
   by_front codes.unfinished e going asks = known_nothing
   by_front (codes.refused fault i) e going asks = let bad : ⊥ = cc in absurd bad
   by_front (codes.whole c n after) e going asks =
       let some = whole_length m.sets (bytes_of xs) c n after e in
       let size : length (bytes_of xs) ≡ length xs = length-map xs _ in
       let less : length (drop n xs) < length xs = simp length-drop (omega (arith, some.0, some.1, size)) in
-      let cut = ap (λ (bs : List ℕ). c ∷ (lexed after bs).codes) (bytes_of-drop n xs) in
-      subst (Known (acting_at m (codes.whole c n after) ++ acting_behind (acting_within fuel) (front_by m xs (codes.whole c n after)))) (sym cut)
+      let cut = ap (λ (bs : List ℕ). c ∷ (lex_result after bs).codes) (bytes_of-drop n xs) in
+      subst (Known (acting_at m (codes.whole c n after) ++ acting_after (acting_within fuel) (front_by m xs (codes.whole c n after)))) (sym cut)
       (by_code c n after e less going (subst (Asks m.work) cut asks))
 
   -- what is to be shown of the front, in this mode
   abbrev ByMode : Mode → Type 0
   ByMode mode = Going m xs (front_in mode m xs) →
-      Known (acting_in mode m xs ++ acting_behind (acting_within fuel) (front_in mode m xs)) (lexed m.sets (bytes_of xs)).codes
+      Known (acting_in mode m xs ++ acting_after (acting_within fuel) (front_in mode m xs)) (lex_result m.sets (bytes_of xs)).codes
 
-  step : (outcome_from m xs).refusal ≡ None → Asks m.work (lexed m.sets (bytes_of xs)).codes → Known (acting_within (suc fuel) m xs) (lexed m.sets (bytes_of xs)).codes
+  step : (outcome_from m xs).refusal ≡ None → Asks m.work (lex_result m.sets (bytes_of xs)).codes → Known (acting_within (suc fuel) m xs) (lex_result m.sets (bytes_of xs)).codes
   unfolding acting_within front
   step going asks =
       let bytes : List ℕ = bytes_of xs in
       let front_is : codes.Front = codes.front m.sets bytes in
-      let codes_are = ap (λ (l : Lexed). l.codes) (lexed_front m.sets bytes) in
+      let codes_are = ap (λ (l : LexResult). l.codes) (lexed_front m.sets bytes) in
       let between_codes : ByMode between = λ going.
-      subst (Known (acting_at m front_is ++ acting_behind (acting_within fuel) (front_by m xs front_is))) (sym codes_are)
+      subst (Known (acting_at m front_is ++ acting_after (acting_within fuel) (front_by m xs front_is))) (sym codes_are)
       (by_front front_is refl going (subst (Asks m.work) codes_are asks)) in
       subst ByMode (sym standing.mode) between_codes (ap (λ (o : Outcome). o.refusal) (sym (front_after_front m xs)) ∙ going)
 
@@ -280,8 +280,8 @@ pub plain_operand_lengths : PlainOperandLengths
 plain_operand_lengths budget p plain accepted =
     let m : Machine = start_machine budget in
     let xs : List Placed = placed_from 0 p in
-    let same = ap (λ (bs : List ℕ). (lexed start_sets bs).codes) (bytes_of-placed 0 p) in
-    let asks : Asks m.work (lexed start_sets p).codes = record { stage = before refl plain.plain.first; each = plain.plain.each; behind = plain.plain.behind } in
+    let same = ap (λ (bs : List ℕ). (lex_result start_sets bs).codes) (bytes_of-placed 0 p) in
+    let asks : Asks m.work (lex_result start_sets p).codes = record { stage = before refl plain.plain.first; each = plain.plain.each; behind = plain.plain.behind } in
     let going = not_refused (length p) (begun budget p) (begun budget p).refusal refl accepted in
     let known = goes (suc (length xs + left_of m)) m xs (omega arith) (record { mode = refl; names = refl }) going (subst (Asks m.work) (sym same) asks) in
     record { all = known.all ∙ ap opcodes_of same; each = known.each }

@@ -13,8 +13,8 @@ use Rattle.nap_codes.specs.declared.control.Row.{Row}
 use Rattle.nap_codes.specs.declared.control.Row.TheVariants as rows
 use Rattle.nap_codes.specs.declared.opcode.Opcode.{Opcode}
 use Rattle.nap_codes.specs.CodeSets.{set_at}
-use Rattle.nap_codes.specs.Front.{Front, unfinished, whole, refused, front, one_further, is_graphic, plain_code, gl_front, control0_front, more_front, escape_front, position_front, single_shift_front}
-use Rattle.nap_codes.specs.Lexed.{Lexed, lexed_by, lexed_within, lexed}
+use Rattle.nap_codes.specs.Front.{Front, unfinished, whole, refused, front, one_byte_later, is_graphic, non_pdi_code, gl_front, control0_front, more_front, escape_front, position_front, single_shift_front}
+use Rattle.nap_codes.specs.LexResults.{LexResult, lex_result_by, lex_result_within, lex_result}
 use Rattle.nap_codes.specs.Spelling as spells
 use Rattle.nap_codes.specs.Tables.{row_of, control0_rows}
 use Rattle.nap_codes.proofs.PublicLaws.{whole_length, whole_is_spelled}
@@ -25,21 +25,21 @@ unfolding front
 no_front sets = refl
 
 -- a code in front of what is read later
-abbrev pub with_code : Code → Lexed → Lexed
+abbrev pub with_code : Code → LexResult → LexResult
 with_code code rest = record rest { codes = code ∷ rest.codes }
 
 -- More steps than there are bytes change nothing.
-lexed_within-spare : (f g : ℕ) (sets : CodeSets) (bytes : List ℕ) → length bytes < f → length bytes < g →
-    lexed_within f sets bytes ≡ lexed_within g sets bytes
-unfolding lexed_within
-lexed_within-spare zero g sets bytes hf hg = absurd (omega arith)
-lexed_within-spare (suc f) zero sets bytes hf hg = absurd (omega arith)
-lexed_within-spare (suc f) (suc g) sets bytes hf hg =
-    at (front sets bytes) refl (λ after rest h h'. lexed_within-spare f g after rest h h')
+lex_result_within-spare : (f g : ℕ) (sets : CodeSets) (bytes : List ℕ) → length bytes < f → length bytes < g →
+    lex_result_within f sets bytes ≡ lex_result_within g sets bytes
+unfolding lex_result_within
+lex_result_within-spare zero g sets bytes hf hg = absurd (omega arith)
+lex_result_within-spare (suc f) zero sets bytes hf hg = absurd (omega arith)
+lex_result_within-spare (suc f) (suc g) sets bytes hf hg =
+    at (front sets bytes) refl (λ after rest h h'. lex_result_within-spare f g after rest h h')
   where
     at : (r : Front) → front sets bytes ≡ r →
-        ((after : CodeSets) (rest : List ℕ) → length rest < f → length rest < g → lexed_within f after rest ≡ lexed_within g after rest) →
-        lexed_by (lexed_within f) sets bytes r ≡ lexed_by (lexed_within g) sets bytes r
+        ((after : CodeSets) (rest : List ℕ) → length rest < f → length rest < g → lex_result_within f after rest ≡ lex_result_within g after rest) →
+        lex_result_by (lex_result_within f) sets bytes r ≡ lex_result_by (lex_result_within g) sets bytes r
     at unfinished e ih = refl
     at (refused fault i) e ih = refl
     at (whole code n after) e ih =
@@ -47,17 +47,17 @@ lexed_within-spare (suc f) (suc g) sets bytes hf hg =
         let less : length (drop n bytes) < length bytes = simp length-drop (omega arith) in
         ap (with_code code) (ih after (drop n bytes) (omega arith) (omega arith))
 
-pub lexed_front : (sets : CodeSets) (bytes : List ℕ) → lexed sets bytes ≡ lexed_by lexed sets bytes (front sets bytes)
-unfolding lexed lexed_within
+pub lexed_front : (sets : CodeSets) (bytes : List ℕ) → lex_result sets bytes ≡ lex_result_by lex_result sets bytes (front sets bytes)
+unfolding lex_result lex_result_within
 lexed_front sets bytes = at (front sets bytes) refl
   where
-    at : (r : Front) → front sets bytes ≡ r → lexed_by (lexed_within (length bytes)) sets bytes r ≡ lexed_by lexed sets bytes r
+    at : (r : Front) → front sets bytes ≡ r → lex_result_by (lex_result_within (length bytes)) sets bytes r ≡ lex_result_by lex_result sets bytes r
     at unfinished e = refl
     at (refused fault i) e = refl
     at (whole code n after) e =
         let some = whole_length sets bytes code n after e in
         let less : length (drop n bytes) < length bytes = simp length-drop (omega arith) in
-        ap (with_code code) (lexed_within-spare (length bytes) (suc (length (drop n bytes))) after (drop n bytes) less (omega arith))
+        ap (with_code code) (lex_result_within-spare (length bytes) (suc (length (drop n bytes))) after (drop n bytes) less (omega arith))
 
 -- where an opcode is whole, the PDI set is in GL
 
@@ -97,8 +97,8 @@ nothing_more sets byte = at (byte == 0x1B) (byte == 0x1C) (byte == 0x19)
     at false false false = refl
 
 module _ (sets : CodeSets) (byte : ℕ) (op : Opcode) where
-  by_set : (set : CodeSet) → gl_front sets byte (plain_code set byte) ≡ whole (codes.Op op) 1 sets → set ≡ code_sets.Pdi
-  unfolding gl_front plain_code
+  by_set : (set : CodeSet) → gl_front sets byte (non_pdi_code set byte) ≡ whole (codes.Op op) 1 sets → set ≡ code_sets.Pdi
+  unfolding gl_front non_pdi_code
   by_set code_sets.Pdi is = refl
   by_set code_sets.Primary is = let bad : ⊥ = cc in absurd bad
   by_set code_sets.Supplementary is = let bad : ⊥ = cc in absurd bad
@@ -107,19 +107,19 @@ module _ (sets : CodeSets) (byte : ℕ) (op : Opcode) where
   by_set code_sets.Macros is = let bad : ⊥ = cc in absurd bad
 
   by_row : (row : Option Row) → row_of control0_rows byte ≡ row → control0_front sets byte [] row ≡ whole (codes.Op op) 1 sets → set_at sets sets.gl ≡ code_sets.Pdi
-  unfolding control0_front one_further
+  unfolding control0_front one_byte_later
   by_row (Some (rows.Whole c)) e is =
       let same : c ≡ codes.Op op = cc in
       absurd (no_row byte op (e ∙ ap (λ (x : Code). Some (rows.Whole x)) same))
   by_row (Some (rows.Out name)) e is = let bad : ⊥ = cc in absurd bad
   by_row (Some rows.More) e is =
-      let more : one_further (more_front sets byte []) ≡ unfinished = ap one_further (nothing_more sets byte) in
+      let more : one_byte_later (more_front sets byte []) ≡ unfinished = ap one_byte_later (nothing_more sets byte) in
       let bad : ◌≡◌ {A = Front} unfinished (whole (codes.Op op) 1 sets) = sym more ∙ is in
       let no : ⊥ = cc in
       absurd no
   by_row None e is = at (is_graphic byte) is
     where
-      at : (graphic : Bool) → cond graphic (gl_front sets byte (plain_code (set_at sets sets.gl) byte)) (refused EighthBit 0) ≡ whole (codes.Op op) 1 sets →
+      at : (graphic : Bool) → cond graphic (gl_front sets byte (non_pdi_code (set_at sets sets.gl) byte)) (refused EighthBit 0) ≡ whole (codes.Op op) 1 sets →
           set_at sets sets.gl ≡ code_sets.Pdi
       at true is = by_set (set_at sets sets.gl) is
       at false is = let bad : ⊥ = cc in absurd bad
@@ -142,7 +142,7 @@ operands_of words = map codes.Operand words
 
 -- the first so many bytes are operands
 abbrev pub Cut : CodeSets → List Placed → ℕ → Type 0
-Cut sets xs n = (lexed sets (bytes_of xs)).codes ≡ operands_of (words_of (take n xs)) ++ (lexed sets (bytes_of (drop n xs))).codes
+Cut sets xs n = (lex_result sets (bytes_of xs)).codes ≡ operands_of (words_of (take n xs)) ++ (lex_result sets (bytes_of (drop n xs))).codes
 
 pub run_codes : (sets : CodeSets) (xs : List Placed) → set_at sets sets.gl ≡ code_sets.Pdi → Cut sets xs (run_length xs)
 run_codes sets [] pdi = refl
@@ -150,8 +150,8 @@ run_codes sets (x ∷ xs) pdi = at (is_operand x) refl (run_codes sets xs pdi)
   where
     at : (b : Bool) → is_operand x ≡ b → Cut sets xs (run_length xs) → Cut sets (x ∷ xs) (run_length (x ∷ xs))
     at true e ih =
-        let there = lexed_front sets (bytes_of (x ∷ xs)) ∙ ap (lexed_by lexed sets (bytes_of (x ∷ xs))) (operand_front sets x.byte (bytes_of xs) pdi e) in
-        let here : Cut sets (x ∷ xs) (suc (run_length xs)) = ap (λ (l : Lexed). l.codes) there ∙ ap (λ (cs : List Code). codes.Operand (x.byte - 64) ∷ cs) ih in
+        let there = lexed_front sets (bytes_of (x ∷ xs)) ∙ ap (lex_result_by lex_result sets (bytes_of (x ∷ xs))) (operand_front sets x.byte (bytes_of xs) pdi e) in
+        let here : Cut sets (x ∷ xs) (suc (run_length xs)) = ap (λ (l : LexResult). l.codes) there ∙ ap (λ (cs : List Code). codes.Operand (x.byte - 64) ∷ cs) ih in
         let size : suc (run_length xs) ≡ run_length (x ∷ xs) = rw e (omega arith) in
         subst (Cut sets (x ∷ xs)) size here
     at false e ih =

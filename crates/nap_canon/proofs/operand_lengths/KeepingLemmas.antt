@@ -22,18 +22,18 @@ use Rattle.nap_list.specs.Known.{is_known}
 use Rattle.nap_list.specs.State.{after, walk}
 use Rattle.nap_draw.specs.declared.fault.DrawFault.{DrawFault}
 use Rattle.nap_draw.specs.declared.work.Work.{Work}
-use Rattle.nap_draw.specs.Codes.{char_on, copies, puts, with_last, code_rule}
-use Rattle.nap_draw.specs.Geometry.{points_at, reached, joined, between, away, across, arc_points, poly_points}
+use Rattle.nap_draw.specs.Codes.{char_on, repeated_chars, one_entry_result, with_last, code_rule}
+use Rattle.nap_draw.specs.Geometry.{points_at, points_reached, polyline_spans, absolute_spans, relative_spans, rect_chain_spans, arc_points, poly_points}
 use Rattle.nap_draw.specs.Operands.{operands}
-use Rattle.nap_list.specs.Batches.{point_on}
-use Rattle.nap_draw.specs.Rule.{Drawn, and_then, drawn, with_drawing, moves_of, some_of, pairs_of, first_of, few_of, pen_point, draws, draws_one, goes, with_operands, from_pen, with_pairs, shape_from_pen, shape_from_point, line_on, rect_on, arc_on, poly_on, field_on, area_of, blinks, blink, maps, colours_as, set_color_rule, rule}
+use Rattle.nap_list.specs.Batches.{point_entry}
+use Rattle.nap_draw.specs.Rule.{RuleResult, and_then, rule_result, with_drawing, moves_of, at_least_one, complete_pairs, first_and_more, at_most_limit, pen_point, entries_result, entry_result, pen_result, with_operands, from_pen, with_pairs, shape_from_pen, shape_from_point, span_line_entry, rect_on, arc_on, poly_on, field_on, area_of, blinks, blink, map_rule, set_color_under, set_color_rule, rule}
 
-pub record Keeps (work : Work) (d : Drawn) : Type 0 where
+pub record Keeps (work : Work) (d : RuleResult) : Type 0 where
   pub domain : d.work.domain ≡ work.domain
   pub saved : d.work.saved ≡ work.saved
   pub definition : d.work.state.definition ≡ work.state.definition
 
-abbrev pub KeepsBy : Work → Result Drawn DrawFault → Type 0
+abbrev pub KeepsBy : Work → Result RuleResult DrawFault → Type 0
 KeepsBy work (Ok d) = Keeps work d
 KeepsBy work (Err fault) = ⊤
 
@@ -57,53 +57,53 @@ unfolding walk
 walk_keeps entry inside s [] = refl
 walk_keeps entry inside s (x ∷ xs) = walk_keeps entry inside (after s (entry x)) xs ∙ after_keeps s (entry x) (inside x)
 
-copies_keep : (s : State) (last : LastChar) (n : ℕ) → (walk s (copies s last n)).definition ≡ s.definition
-unfolding walk copies
+copies_keep : (s : State) (last : LastChar) (n : ℕ) → (walk s (repeated_chars s last n)).definition ≡ s.definition
+unfolding walk repeated_chars
 copies_keep s last zero = refl
 copies_keep s last (suc n) = copies_keep (after s (char_on s.drawing last)) last n ∙ after_keeps s (char_on s.drawing last) tt
 
 -- what the parts of the rules give
 
-by_keeps : {A : Type 0} (work : Work) (r : Result A DrawFault) (next : A → Result Drawn DrawFault) → ((x : A) → KeepsBy work (next x)) →
+by_keeps : {A : Type 0} (work : Work) (r : Result A DrawFault) (next : A → Result RuleResult DrawFault) → ((x : A) → KeepsBy work (next x)) →
     KeepsBy work (and_then r next)
 by_keeps work (Ok x) next each = each x
 by_keeps work (Err fault) next each = tt
 
 draws_keep : {A : Type 0} (work : Work) (entry : Drawing → A → Entry) → ((x : A) → IsInside (entry work.state.drawing x)) → (shapes : Option (List A)) →
-    KeepsBy work (draws work entry shapes)
+    KeepsBy work (entries_result work entry shapes)
 draws_keep work entry inside None = tt
 draws_keep work entry inside (Some shapes) =
     record { domain = refl; saved = refl; definition = walk_keeps (entry work.state.drawing) inside work.state shapes }
 
 draws_one_keeps : {A : Type 0} (work : Work) (entry : Drawing → A → Entry) → ((x : A) → IsInside (entry work.state.drawing x)) → (shape : Option A) →
-    KeepsBy work (draws_one work entry shape)
+    KeepsBy work (entry_result work entry shape)
 unfolding walk
 draws_one_keeps work entry inside None = tt
 draws_one_keeps work entry inside (Some shape) =
     record { domain = refl; saved = refl; definition = after_keeps work.state (entry work.state.drawing shape) (inside shape) }
 
-puts_keep : (work : Work) (e : Entry) → IsInside e → KeepsBy work (puts work e)
+puts_keep : (work : Work) (e : Entry) → IsInside e → KeepsBy work (one_entry_result work e)
 unfolding walk
 puts_keep work e inside = record { domain = refl; saved = refl; definition = after_keeps work.state e inside }
 
-goes_keep : (work : Work) (points : Option (List Coordinates)) → KeepsBy work (goes work points)
+goes_keep : (work : Work) (points : Option (List Coordinates)) → KeepsBy work (pen_result work points)
 unfolding walk
 goes_keep work None = tt
 goes_keep work (Some points) = record { domain = refl; saved = refl; definition = refl }
 
-value_keeps : (work : Work) (d : Drawing) → Keeps work (drawn (with_drawing work d) [])
+value_keeps : (work : Work) (d : Drawing) → Keeps work (rule_result (with_drawing work d) [])
 unfolding walk
 value_keeps work d = record { domain = refl; saved = refl; definition = refl }
 
-operands_keep : (work : Work) (run : List ℕ) (f : List Displacement → Result Drawn DrawFault) → ((ms : List Displacement) → KeepsBy work (f ms)) →
+operands_keep : (work : Work) (run : List ℕ) (f : List Displacement → Result RuleResult DrawFault) → ((ms : List Displacement) → KeepsBy work (f ms)) →
     KeepsBy work (with_operands work run f)
-operands_keep work run f each = by_keeps work (some_of (moves_of work run)) f each
+operands_keep work run f each = by_keeps work (at_least_one (moves_of work run)) f each
 
-pairs_keep : (work : Work) (run : List ℕ) (f : List Displacement → Result Drawn DrawFault) → ((ms : List Displacement) → KeepsBy work (f ms)) →
+pairs_keep : (work : Work) (run : List ℕ) (f : List Displacement → Result RuleResult DrawFault) → ((ms : List Displacement) → KeepsBy work (f ms)) →
     KeepsBy work (with_pairs work run f)
-pairs_keep work run f each = by_keeps work (pairs_of (moves_of work run)) f each
+pairs_keep work run f each = by_keeps work (complete_pairs (moves_of work run)) f each
 
-from_pen_keeps : (work : Work) (run : List ℕ) (f : Coordinates → List Displacement → Result Drawn DrawFault) →
+from_pen_keeps : (work : Work) (run : List ℕ) (f : Coordinates → List Displacement → Result RuleResult DrawFault) →
     ((p : Coordinates) (ms : List Displacement) → KeepsBy work (f p ms)) → KeepsBy work (from_pen work run f)
 from_pen_keeps work run f each =
     operands_keep work run _ (λ ms. by_keeps work (pen_point work.state.drawing.pen) (λ p. f p ms) (λ p. each p ms))
@@ -112,28 +112,28 @@ from_pen_shape : (work : Work) (run : List ℕ) (entry : Drawing → List Coordi
     ((ps : List Coordinates) → IsInside (entry work.state.drawing ps)) → KeepsBy work (shape_from_pen work run entry points)
 from_pen_shape work run entry points inside =
     operands_keep work run _
-    (λ ms. by_keeps work (few_of ms) _ (λ ms. by_keeps work (pen_point work.state.drawing.pen) _ (λ p. draws_one_keeps work entry inside (points p ms))))
+    (λ ms. by_keeps work (at_most_limit ms) _ (λ ms. by_keeps work (pen_point work.state.drawing.pen) _ (λ p. draws_one_keeps work entry inside (points p ms))))
 
 from_point_shape : (work : Work) (run : List ℕ) (entry : Drawing → List Coordinates → Entry) (points : Coordinates → List Displacement → Option (List Coordinates)) →
     ((ps : List Coordinates) → IsInside (entry work.state.drawing ps)) → KeepsBy work (shape_from_point work run entry points)
 from_point_shape work run entry points inside =
-    by_keeps work (first_of (moves_of work run)) _
-    (λ parts. by_keeps work (few_of parts.1) _ (λ ms. draws_one_keeps work entry inside (option_and_then (λ p. points p ms) (point_at parts.0))))
+    by_keeps work (first_and_more (moves_of work run)) _
+    (λ parts. by_keeps work (at_most_limit parts.1) _ (λ ms. draws_one_keeps work entry inside (option_and_then (λ p. points p ms) (point_at parts.0))))
 
-blinks_keep : (work : Work) (k : ℕ) (colour : Colour) (groups : List (List ℕ)) → Keeps work (drawn work (blinks k colour groups))
+blinks_keep : (work : Work) (k : ℕ) (colour : Colour) (groups : List (List ℕ)) → Keeps work (rule_result work (blinks k colour groups))
 unfolding walk
 blinks_keep work k colour [] = record { domain = refl; saved = refl; definition = refl }
 blinks_keep work k colour (group ∷ groups) =
     record { domain = refl; saved = refl; definition = walk_keeps (blink k colour) (λ g. tt) work.state (group ∷ groups) }
 
-maps_keep : (work : Work) (a : ℕ) (grb : Components) → KeepsBy work (maps work a grb)
+maps_keep : (work : Work) (a : ℕ) (grb : Components) → KeepsBy work (map_rule work a grb)
 maps_keep work a grb = by (is_known a grb work.state.known) refl
   where
-    by : (known : Bool) → is_known a grb work.state.known ≡ known → KeepsBy work (maps work a grb)
+    by : (known : Bool) → is_known a grb work.state.known ≡ known → KeepsBy work (map_rule work a grb)
     by true is = rw is (value_keeps work work.state.drawing)
     by false is = rw is (record { domain = refl; saved = refl; definition = refl })
 
-colours_keep : (work : Work) (colour : Colour) (grb : Components) → KeepsBy work (colours_as work colour grb)
+colours_keep : (work : Work) (colour : Colour) (grb : Components) → KeepsBy work (set_color_under work colour grb)
 unfolding walk
 colours_keep work (colours.Own origin) grb = record { domain = refl; saved = refl; definition = refl }
 colours_keep work (colours.Direct old) grb = record { domain = refl; saved = refl; definition = refl }
@@ -153,21 +153,21 @@ rule_keeps work opcodes.Reset run no_domain no_reset = absurd (no_reset refl)
 rule_keeps work opcodes.Text run no_domain no_reset = value_keeps work _
 rule_keeps work opcodes.Texture run no_domain no_reset = value_keeps work _
 rule_keeps work opcodes.PointSetAbs run no_domain no_reset = operands_keep work run _ (λ ms. goes_keep work (points_at ms))
-rule_keeps work opcodes.PointSetRel run no_domain no_reset = from_pen_keeps work run _ (λ p ms. goes_keep work (reached p ms))
-rule_keeps work opcodes.PointAbs run no_domain no_reset = operands_keep work run _ (λ ms. draws_keep work point_on (λ x. tt) (points_at ms))
-rule_keeps work opcodes.PointRel run no_domain no_reset = from_pen_keeps work run _ (λ p ms. draws_keep work point_on (λ x. tt) (reached p ms))
-rule_keeps work opcodes.LineAbs run no_domain no_reset = from_pen_keeps work run _ (λ p ms. draws_keep work line_on (λ x. tt) (option_map (joined p) (points_at ms)))
-rule_keeps work opcodes.LineRel run no_domain no_reset = from_pen_keeps work run _ (λ p ms. draws_keep work line_on (λ x. tt) (option_map (joined p) (reached p ms)))
-rule_keeps work opcodes.SetLineAbs run no_domain no_reset = pairs_keep work run _ (λ ms. draws_keep work line_on (λ x. tt) (between ms))
-rule_keeps work opcodes.SetLineRel run no_domain no_reset = pairs_keep work run _ (λ ms. draws_keep work line_on (λ x. tt) (away ms))
+rule_keeps work opcodes.PointSetRel run no_domain no_reset = from_pen_keeps work run _ (λ p ms. goes_keep work (points_reached p ms))
+rule_keeps work opcodes.PointAbs run no_domain no_reset = operands_keep work run _ (λ ms. draws_keep work point_entry (λ x. tt) (points_at ms))
+rule_keeps work opcodes.PointRel run no_domain no_reset = from_pen_keeps work run _ (λ p ms. draws_keep work point_entry (λ x. tt) (points_reached p ms))
+rule_keeps work opcodes.LineAbs run no_domain no_reset = from_pen_keeps work run _ (λ p ms. draws_keep work span_line_entry (λ x. tt) (option_map (polyline_spans p) (points_at ms)))
+rule_keeps work opcodes.LineRel run no_domain no_reset = from_pen_keeps work run _ (λ p ms. draws_keep work span_line_entry (λ x. tt) (option_map (polyline_spans p) (points_reached p ms)))
+rule_keeps work opcodes.SetLineAbs run no_domain no_reset = pairs_keep work run _ (λ ms. draws_keep work span_line_entry (λ x. tt) (absolute_spans ms))
+rule_keeps work opcodes.SetLineRel run no_domain no_reset = pairs_keep work run _ (λ ms. draws_keep work span_line_entry (λ x. tt) (relative_spans ms))
 rule_keeps work opcodes.ArcOutlined run no_domain no_reset = from_pen_shape work run (arc_on false) arc_points (λ x. tt)
 rule_keeps work opcodes.ArcFilled run no_domain no_reset = from_pen_shape work run (arc_on true) arc_points (λ x. tt)
 rule_keeps work opcodes.SetArcOutlined run no_domain no_reset = from_point_shape work run (arc_on false) arc_points (λ x. tt)
 rule_keeps work opcodes.SetArcFilled run no_domain no_reset = from_point_shape work run (arc_on true) arc_points (λ x. tt)
-rule_keeps work opcodes.RectOutlined run no_domain no_reset = from_pen_keeps work run _ (λ p ms. draws_keep work (rect_on false) (λ x. tt) (across p ms))
-rule_keeps work opcodes.RectFilled run no_domain no_reset = from_pen_keeps work run _ (λ p ms. draws_keep work (rect_on true) (λ x. tt) (across p ms))
-rule_keeps work opcodes.SetRectOutlined run no_domain no_reset = pairs_keep work run _ (λ ms. draws_keep work (rect_on false) (λ x. tt) (away ms))
-rule_keeps work opcodes.SetRectFilled run no_domain no_reset = pairs_keep work run _ (λ ms. draws_keep work (rect_on true) (λ x. tt) (away ms))
+rule_keeps work opcodes.RectOutlined run no_domain no_reset = from_pen_keeps work run _ (λ p ms. draws_keep work (rect_on false) (λ x. tt) (rect_chain_spans p ms))
+rule_keeps work opcodes.RectFilled run no_domain no_reset = from_pen_keeps work run _ (λ p ms. draws_keep work (rect_on true) (λ x. tt) (rect_chain_spans p ms))
+rule_keeps work opcodes.SetRectOutlined run no_domain no_reset = pairs_keep work run _ (λ ms. draws_keep work (rect_on false) (λ x. tt) (relative_spans ms))
+rule_keeps work opcodes.SetRectFilled run no_domain no_reset = pairs_keep work run _ (λ ms. draws_keep work (rect_on true) (λ x. tt) (relative_spans ms))
 rule_keeps work opcodes.PolyOutlined run no_domain no_reset = from_pen_shape work run (poly_on false) poly_points (λ x. tt)
 rule_keeps work opcodes.PolyFilled run no_domain no_reset = from_pen_shape work run (poly_on true) poly_points (λ x. tt)
 rule_keeps work opcodes.SetPolyOutlined run no_domain no_reset = from_point_shape work run (poly_on false) poly_points (λ x. tt)
@@ -183,7 +183,7 @@ rule_keeps work _ run no_domain no_reset = record { domain = refl; saved = refl;
 
 -- characters and controls
 
-last_keeps : (work : Work) (last : Option LastChar) (next : LastChar → Result Drawn DrawFault) → ((x : LastChar) → KeepsBy work (next x)) →
+last_keeps : (work : Work) (last : Option LastChar) (next : LastChar → Result RuleResult DrawFault) → ((x : LastChar) → KeepsBy work (next x)) →
     KeepsBy work (with_last last next)
 last_keeps work None next each = tt
 last_keeps work (Some last) next each = each last

@@ -11,13 +11,13 @@ use Rattle.nap_codes.specs.declared.opcode.Opcode.{Opcode}
 use Rattle.nap_codes.specs.declared.opcode.Opcode.TheVariants as opcodes
 use Rattle.nap_list.specs.declared.entry.Entry.{Entry}
 use Rattle.nap_list.specs.declared.entry.Entry.TheVariants as entries
-use Rattle.nap_list.specs.declared.state.Opened.{Opened}
+use Rattle.nap_list.specs.declared.state.OpenDefinition.{OpenDefinition}
 use Rattle.nap_list.specs.State.{walk}
 use Rattle.nap_draw.specs.declared.fault.DrawFault.{DrawFault}
 use Rattle.nap_draw.specs.declared.work.Work.{Work}
-use Rattle.nap_draw.specs.Codes.{ended_by, ended, opened_by, code_rule}
-use Rattle.nap_draw.specs.Rule.{Drawn, drawn, start_domain, with_domain, domain_rule, rule}
-use Rattle.nap_canon.specs.Plain.{IsNoOpcode, DomainFirst, LengthsNext, DomainNext, ResetNext, ComesBehind}
+use Rattle.nap_draw.specs.Codes.{definition_ended_by, definition_ended, definition_opened, code_rule}
+use Rattle.nap_draw.specs.Rule.{RuleResult, rule_result, start_domain, with_domain, domain_rule, rule}
+use Rattle.nap_canon.specs.Plain.{IsNoOpcode, DomainFirst, LengthsNext, DomainNext, ResetNext, MayFollowCode}
 use Rattle.nap_canon.proofs.operand_lengths.FrontCodes.{operands_of}
 use Rattle.nap_canon.proofs.operand_lengths.KeepingLemmas.{KeepsBy, rule_keeps, code_keeps}
 
@@ -59,19 +59,19 @@ comes_back work w saved definition (inr is) = inr (definition ∙ is)
 
 -- DOMAIN
 
-domain_drawn : (work : Work) (word : ℕ) (words : List ℕ) (d : Drawn) → word ≡ 31 → domain_rule work (word ∷ words) ≡ Ok d →
-    drawn (with_domain work eight_and_four words) [] ≡ d
+domain_drawn : (work : Work) (word : ℕ) (words : List ℕ) (d : RuleResult) → word ≡ 31 → domain_rule work (word ∷ words) ≡ Ok d →
+    rule_result (with_domain work eight_and_four words) [] ≡ d
 domain_drawn work word words d is by =
-    let there : ◌≡◌ {A = Result Drawn DrawFault} (Ok (drawn (with_domain work eight_and_four words) [])) (Ok d) = subst (λ (w : ℕ). domain_rule work (w ∷ words) ≡ Ok d) is by in
+    let there : ◌≡◌ {A = Result RuleResult DrawFault} (Ok (rule_result (with_domain work eight_and_four words) [])) (Ok d) = subst (λ (w : ℕ). domain_rule work (w ∷ words) ≡ Ok d) is by in
     cc
 
-domain_stage : (work : Work) (run : List ℕ) (rest : List Code) (d : Drawn) → domain_rule work run ≡ Ok d → LengthsNext (operands_of run ++ rest) → ComesBack work →
+domain_stage : (work : Work) (run : List ℕ) (rest : List Code) (d : RuleResult) → domain_rule work run ≡ Ok d → LengthsNext (operands_of run ++ rest) → ComesBack work →
     Stage d.work rest
 unfolding walk
 domain_stage work [] rest d by next back = let bad : ⊥ = cc in absurd bad
 domain_stage work (word ∷ words) rest d by next back =
-    let is : drawn (with_domain work eight_and_four words) [] ≡ d = domain_drawn work word words d next by in
-    subst (λ (x : Drawn). Stage x.work rest) is (behind (inl refl) (comes_back work (drawn (with_domain work eight_and_four words) []).work refl refl back))
+    let is : rule_result (with_domain work eight_and_four words) [] ≡ d = domain_drawn work word words d next by in
+    subst (λ (x : RuleResult). Stage x.work rest) is (behind (inl refl) (comes_back work (rule_result (with_domain work eight_and_four words) []).work refl refl back))
 
 before_domain : (work : Work) (op : Opcode) (list : List Code) → Stage work (codes.Op op ∷ list) → ComesBack work
 before_domain work op list (before closed first) = inr closed
@@ -94,7 +94,7 @@ reset_lengths domain word words rest stand next = at (word % 2 == 1) refl
     at false e = inl stand
 
 -- where the rule gives something, that is the stage behind it
-abbrev StageBy : Result Drawn DrawFault → List Code → Type 0
+abbrev StageBy : Result RuleResult DrawFault → List Code → Type 0
 StageBy (Ok d) rest = Stage d.work rest
 StageBy (Err fault) rest = ⊤
 
@@ -117,34 +117,34 @@ opcode_kind opcodes.Domain = is_domain refl
 opcode_kind opcodes.Reset = is_reset refl
 opcode_kind _ = is_other (λ e. let bad : ⊥ = cc in bad) (λ e. let bad : ⊥ = cc in bad)
 
-kept_stage : (work : Work) (by : Result Drawn DrawFault) (rest : List Code) → KeepsBy work by → work.domain ≡ eight_and_four → ComesBack work → StageBy by rest
+kept_stage : (work : Work) (by : Result RuleResult DrawFault) (rest : List Code) → KeepsBy work by → work.domain ≡ eight_and_four → ComesBack work → StageBy by rest
 kept_stage work (Ok d) rest keeps stand back = behind (inl (keeps.domain ∙ stand)) (comes_back work d.work keeps.saved keeps.definition back)
 kept_stage work (Err fault) rest keeps stand back = tt
 
-domain_by : (work : Work) (run : List ℕ) (by : Result Drawn DrawFault) (rest : List Code) → domain_rule work run ≡ by → LengthsNext (operands_of run ++ rest) →
+domain_by : (work : Work) (run : List ℕ) (by : Result RuleResult DrawFault) (rest : List Code) → domain_rule work run ≡ by → LengthsNext (operands_of run ++ rest) →
     ComesBack work → StageBy by rest
 domain_by work run (Ok d) rest e next back = domain_stage work run rest d e next back
 domain_by work run (Err fault) rest e next back = tt
 
 opcode_by : (work : Work) (op : Opcode) (run : List ℕ) (rest : List Code) → Stage work (codes.Op op ∷ operands_of run ++ rest) →
-    ComesBehind (codes.Op op) (operands_of run ++ rest) → OpcodeKind op → StageBy (rule work op run) rest
+    MayFollowCode (codes.Op op) (operands_of run ++ rest) → OpcodeKind op → StageBy (rule work op run) rest
 opcode_by work op run rest stage comes (is_domain is) =
     let back = before_domain work op (operands_of run ++ rest) stage in
-    let next : LengthsNext (operands_of run ++ rest) = subst (λ (o : Opcode). ComesBehind (codes.Op o) (operands_of run ++ rest)) is comes in
+    let next : LengthsNext (operands_of run ++ rest) = subst (λ (o : Opcode). MayFollowCode (codes.Op o) (operands_of run ++ rest)) is comes in
     subst (λ (o : Opcode). StageBy (rule work o run) rest) (sym is) (domain_by work run (domain_rule work run) rest refl next back)
 opcode_by work op run rest stage comes (is_reset is) =
     let back = before_domain work op (operands_of run ++ rest) stage in
     let stand = lengths_stand work op (operands_of run ++ rest) stage (λ e. let bad : ⊥ = cc in bad) in
-    let next : ResetNext (operands_of run ++ rest) = subst (λ (o : Opcode). ComesBehind (codes.Op o) (operands_of run ++ rest)) is comes in
+    let next : ResetNext (operands_of run ++ rest) = subst (λ (o : Opcode). MayFollowCode (codes.Op o) (operands_of run ++ rest)) is comes in
     subst (λ (o : Opcode). StageBy (rule work o run) rest) (sym is) (reset_stage work run rest stand next back)
 opcode_by work op run rest stage comes (is_other no_domain no_reset) =
     kept_stage work (rule work op run) rest (rule_keeps work op run no_domain no_reset)
     (lengths_stand work op (operands_of run ++ rest) stage no_domain) (before_domain work op (operands_of run ++ rest) stage)
 
-pub opcode_stage : (work : Work) (op : Opcode) (run : List ℕ) (rest : List Code) (d : Drawn) → rule work op run ≡ Ok d →
-    Stage work (codes.Op op ∷ operands_of run ++ rest) → ComesBehind (codes.Op op) (operands_of run ++ rest) → Stage d.work rest
+pub opcode_stage : (work : Work) (op : Opcode) (run : List ℕ) (rest : List Code) (d : RuleResult) → rule work op run ≡ Ok d →
+    Stage work (codes.Op op ∷ operands_of run ++ rest) → MayFollowCode (codes.Op op) (operands_of run ++ rest) → Stage d.work rest
 opcode_stage work op run rest d by stage comes =
-    subst (λ (r : Result Drawn DrawFault). StageBy r rest) by (opcode_by work op run rest stage comes (opcode_kind op))
+    subst (λ (r : Result RuleResult DrawFault). StageBy r rest) by (opcode_by work op run rest stage comes (opcode_kind op))
 
 -- a code that is no opcode
 
@@ -177,47 +177,47 @@ no_domain_next _ rest quiet next = next
 pub quiet_stage : (work w : Work) (c : Code) (rest : List Code) → IsQuiet c → w.domain ≡ work.domain → w.saved ≡ work.saved →
     w.state.definition ≡ work.state.definition → Stage work (c ∷ rest) → Stage w rest
 quiet_stage work w c rest quiet domain saved definition (before closed first) = before (definition ∙ closed) (first_behind c rest quiet first)
-quiet_stage work w c rest quiet domain saved definition (defining none) = defining (All-tail IsNoOpcode c rest none)
+quiet_stage work w c rest quiet domain saved definition (defining none) = defining (All-text_end IsNoOpcode c rest none)
 quiet_stage work w c rest quiet domain saved definition (behind (inl is) back) = behind (inl (domain ∙ is)) (comes_back work w saved definition back)
 quiet_stage work w c rest quiet domain saved definition (behind (inr next) back) = absurd (no_domain_next c rest quiet next)
 
 -- the end of a definition, and the start of one
 
-ended_lengths : (work : Work) (opened : Option Opened) → work.state.definition ≡ opened → work.domain ≡ eight_and_four → ComesBack work →
-    (ended_by work opened).work.domain ≡ eight_and_four
+ended_lengths : (work : Work) (opened : Option OpenDefinition) → work.state.definition ≡ opened → work.domain ≡ eight_and_four → ComesBack work →
+    (definition_ended_by work opened).work.domain ≡ eight_and_four
 ended_lengths work None e stand back = stand
 ended_lengths work (Some opened) e stand (inl is) = is
 ended_lengths work (Some opened) e stand (inr closed) = let bad : ⊥ = cc in absurd bad
 
-ended_back : (work : Work) (opened : Option Opened) → work.state.definition ≡ opened → ComesBack work → ComesBack (ended_by work opened).work
+ended_back : (work : Work) (opened : Option OpenDefinition) → work.state.definition ≡ opened → ComesBack work → ComesBack (definition_ended_by work opened).work
 unfolding walk
 ended_back work None e back = back
 ended_back work (Some opened) e (inl is) = inl is
 ended_back work (Some opened) e (inr closed) = inr refl
 
-ended_closed : (work : Work) (opened : Option Opened) → work.state.definition ≡ opened → (ended_by work opened).work.state.definition ≡ None
+ended_closed : (work : Work) (opened : Option OpenDefinition) → work.state.definition ≡ opened → (definition_ended_by work opened).work.state.definition ≡ None
 unfolding walk
 ended_closed work None e = e
 ended_closed work (Some opened) e = refl
 
 pub opens_stage : (work : Work) (c : Code) (rest : List Code) (e : Entry) → (DomainFirst (c ∷ rest) → All IsNoOpcode rest) → (DomainNext (c ∷ rest) → ⊥) →
-    Stage work (c ∷ rest) → Stage (opened_by (ended work) e).work rest
+    Stage work (c ∷ rest) → Stage (definition_opened (definition_ended work) e).work rest
 opens_stage work c rest e first_none next_none (before closed first) = defining (first_none first)
-opens_stage work c rest e first_none next_none (defining none) = defining (All-tail IsNoOpcode c rest none)
+opens_stage work c rest e first_none next_none (defining none) = defining (All-text_end IsNoOpcode c rest none)
 opens_stage work c rest e first_none next_none (behind (inl is) back) =
     let stand = ended_lengths work work.state.definition refl is back in
     behind (inl stand) (inl stand)
 opens_stage work c rest e first_none next_none (behind (inr next) back) = absurd (next_none next)
 
-pub end_stage : (work : Work) (rest : List Code) → Stage work (codes.End ∷ rest) → Stage (ended work).work rest
+pub end_stage : (work : Work) (rest : List Code) → Stage work (codes.End ∷ rest) → Stage (definition_ended work).work rest
 unfolding DomainFirst DomainNext
 end_stage work rest (before closed first) = before (ended_closed work work.state.definition refl) first
-end_stage work rest (defining none) = defining (All-tail IsNoOpcode codes.End rest none)
+end_stage work rest (defining none) = defining (All-text_end IsNoOpcode codes.End rest none)
 end_stage work rest (behind (inl is) back) =
     behind (inl (ended_lengths work work.state.definition refl is back)) (ended_back work work.state.definition refl back)
 end_stage work rest (behind (inr next) back) = absurd next
 
-quiet_by : (work : Work) (c : Code) (rest : List Code) (by : Result Drawn DrawFault) → IsQuiet c → KeepsBy work by → Stage work (c ∷ rest) → StageBy by rest
+quiet_by : (work : Work) (c : Code) (rest : List Code) (by : Result RuleResult DrawFault) → IsQuiet c → KeepsBy work by → Stage work (c ∷ rest) → StageBy by rest
 quiet_by work c rest (Ok d) quiet keeps stage = quiet_stage work d.work c rest quiet keeps.domain keeps.saved keeps.definition stage
 quiet_by work c rest (Err fault) quiet keeps stage = tt
 
@@ -241,5 +241,5 @@ code_by work (codes.DefMask mask) rest acting stage =
 code_by work codes.End rest acting stage = end_stage work rest stage
 code_by work c rest acting stage = quiet_by work c rest (code_rule work c) tt (code_keeps work c tt) stage
 
-pub code_stage : (work : Work) (c : Code) (rest : List Code) (d : Drawn) → code_rule work c ≡ Ok d → IsActing c → Stage work (c ∷ rest) → Stage d.work rest
-code_stage work c rest d by acting stage = subst (λ (r : Result Drawn DrawFault). StageBy r rest) by (code_by work c rest acting stage)
+pub code_stage : (work : Work) (c : Code) (rest : List Code) (d : RuleResult) → code_rule work c ≡ Ok d → IsActing c → Stage work (c ∷ rest) → Stage d.work rest
+code_stage work c rest d by acting stage = subst (λ (r : Result RuleResult DrawFault). StageBy r rest) by (code_by work c rest acting stage)

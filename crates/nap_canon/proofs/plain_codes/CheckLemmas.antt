@@ -8,35 +8,35 @@ use Rattle.nap_codes.specs.declared.code.Code.{Code}
 use Rattle.nap_codes.specs.declared.code.Code.TheVariants as codes
 use Rattle.nap_codes.specs.declared.code_set.CodeSet.TheVariants as code_sets
 use Rattle.nap_codes.specs.declared.opcode.Opcode.TheVariants as opcodes
-use Rattle.nap_canon.specs.declared.plain.Begun.{Begun}
-use Rattle.nap_canon.specs.declared.plain.Begun.TheVariants as begun
-use Rattle.nap_canon.specs.declared.plain.Next.{Next}
-use Rattle.nap_canon.specs.declared.plain.Next.TheVariants as next
-use Rattle.nap_canon.specs.declared.plain.Check.{Check}
-use Rattle.nap_canon.specs.Checking.{is_plain_code, begun_with, next_behind, lengths_word, reset_word, next_with, both, check_with, may_end_at, may_end}
-use Rattle.nap_canon.specs.Plain.{IsPlainCode, IsNoOpcode, DomainFirst, LengthsNext, DomainNext, ResetNext, ComesBehind, AllComeBehind, ArePlain}
+use Rattle.nap_canon.specs.declared.plain.CodesSeen.{CodesSeen}
+use Rattle.nap_canon.specs.declared.plain.CodesSeen.TheVariants as begun
+use Rattle.nap_canon.specs.declared.plain.Expected.{Expected}
+use Rattle.nap_canon.specs.declared.plain.Expected.TheVariants as next
+use Rattle.nap_canon.specs.declared.plain.PlainCheck.{PlainCheck}
+use Rattle.nap_canon.specs.Checking.{is_plain_code, seen_after, expected_after_any, lengths_word, reset_word, expected_after, check_of_parts, check_after, may_end_at, may_end}
+use Rattle.nap_canon.specs.Plain.{IsPlainCode, IsNoOpcode, DomainFirst, LengthsNext, DomainNext, ResetNext, MayFollowCode, AllMayFollow, ArePlain}
 
 -- of the first opcode
-abbrev AsksFirst : Begun → List Code → Type 0
+abbrev AsksFirst : CodesSeen → List Code → Type 0
 AsksFirst begun.Nothing rest = DomainFirst rest
 AsksFirst begun.Definition rest = All IsNoOpcode rest
 AsksFirst begun.Drawing rest = ⊤
 
 -- of the next code
-abbrev AsksNext : Next → List Code → Type 0
+abbrev AsksNext : Expected → List Code → Type 0
 AsksNext next.Any rest = ⊤
 AsksNext next.Lengths rest = LengthsNext rest
 AsksNext next.ResetWord rest = ResetNext rest
 AsksNext next.Domain rest = DomainNext rest
 
-abbrev AsksBehind : Next → List Code → Type 0
-AsksBehind n rest = AsksNext n rest × AllComeBehind rest
+abbrev AsksBehind : Expected → List Code → Type 0
+AsksBehind n rest = AsksNext n rest × AllMayFollow rest
 
-pub record Asks (check : Check) (rest : List Code) : Type 0 where
+pub record Asks (check : PlainCheck) (rest : List Code) : Type 0 where
   pub each : All IsPlainCode rest
   pub first : AsksFirst check.begun rest
   pub next : AsksNext check.next rest
-  pub behind : AllComeBehind rest
+  pub behind : AllMayFollow rest
 
 -- What is asked of a code and of those behind it is asked of those behind it from here on; or it can't be met.
 abbrev pub Turns : {S : Type 0} → (S → List Code → Type 0) → S → Code → Option S → Type 0
@@ -60,7 +60,7 @@ plain_told _ = tt
 
 -- the first opcode
 
-first_turns : (b : Begun) (code : Code) → Turns AsksFirst b code (begun_with b code)
+first_turns : (b : CodesSeen) (code : Code) → Turns AsksFirst b code (seen_after b code)
 unfolding DomainFirst
 first_turns begun.Nothing (codes.Op opcodes.Domain) = λ rest. (λ h. tt, λ h. refl)
 first_turns begun.Nothing (codes.Op _) = λ rest is. let bad : ⊥ = cc in bad
@@ -68,22 +68,22 @@ first_turns begun.Nothing (codes.DefGlyph byte) = λ rest. (λ h. h, λ h. h)
 first_turns begun.Nothing (codes.DefMask mask) = λ rest. (λ h. h, λ h. h)
 first_turns begun.Nothing _ = λ rest. (λ h. h, λ h. h)
 first_turns begun.Definition (codes.Op op) = λ rest h. All-head IsNoOpcode (codes.Op op) rest h
-first_turns begun.Definition code = λ rest. (λ h. All-tail IsNoOpcode code rest h, λ h. All-cons IsNoOpcode code rest tt h)
+first_turns begun.Definition code = λ rest. (λ h. All-text_end IsNoOpcode code rest h, λ h. All-cons IsNoOpcode code rest tt h)
 first_turns begun.Drawing code = λ rest. (λ h. tt, λ h. tt)
 
 -- what comes next
 
-comes : (code : Code) (rest : List Code) → ComesBehind code rest ↔ AsksNext (next_behind code) rest
+comes : (code : Code) (rest : List Code) → MayFollowCode code rest ↔ AsksNext (expected_after_any code) rest
 comes (codes.Op opcodes.Domain) rest = (λ h. h, λ h. h)
 comes (codes.Op opcodes.Reset) rest = (λ h. h, λ h. h)
 comes _ rest = (λ h. tt, λ h. tt)
 
-any_turns : (code : Code) (rest : List Code) → AllComeBehind (code ∷ rest) ↔ AsksBehind (next_behind code) rest
-unfolding AllComeBehind
+any_turns : (code : Code) (rest : List Code) → AllMayFollow (code ∷ rest) ↔ AsksBehind (expected_after_any code) rest
+unfolding AllMayFollow
 any_turns code rest = (λ h. ((comes code rest).0 h.0, h.1), λ h. ((comes code rest).1 h.0, h.1))
 
 lengths_turn : (word : ℕ) → Turns AsksBehind next.Lengths (codes.Operand word) (lengths_word word)
-unfolding AllComeBehind
+unfolding AllMayFollow
 lengths_turn word = at (word == 31) refl
   where
     at : (same : Bool) → (word == 31) ≡ same → Turns AsksBehind next.Lengths (codes.Operand word) (cond same (Some next.Any) None)
@@ -91,15 +91,15 @@ lengths_turn word = at (word == 31) refl
     at false e = λ rest h. let is : word ≡ 31 = h.0 in let bad : ⊥ = grind (arith, nat_tests) in bad
 
 reset_turns : (word : ℕ) → Turns AsksBehind next.ResetWord (codes.Operand word) (Some (reset_word word))
-unfolding AllComeBehind
+unfolding AllMayFollow
 reset_turns word = at (word % 2 == 1) refl
   where
     at : (odd : Bool) → (word % 2 == 1) ≡ odd → Turns AsksBehind next.ResetWord (codes.Operand word) (Some (cond odd next.Domain next.Any))
     at true e = λ rest. (λ h. (h.0 (grind (arith, nat_tests)), h.1.1), λ h. (λ is. h.0, (tt, h.1)))
     at false e = λ rest. (λ h. (tt, h.1.1), λ h. (λ is. let bad : ⊥ = grind (arith, nat_tests) in absurd bad, (tt, h.1)))
 
-next_turns : (n : Next) (code : Code) → Turns AsksBehind n code (next_with n code)
-unfolding AllComeBehind DomainNext
+next_turns : (n : Expected) (code : Code) → Turns AsksBehind n code (expected_after n code)
+unfolding AllMayFollow DomainNext
 next_turns next.Any code = λ rest. (λ h. (any_turns code rest).0 h.1, λ h. (tt, (any_turns code rest).1 h))
 next_turns next.Lengths (codes.Operand word) = lengths_turn word
 next_turns next.Lengths _ = λ rest h. h.0
@@ -111,11 +111,11 @@ next_turns next.Domain _ = λ rest h. h.0
 
 -- all of it
 
-joined : (check : Check) (code : Code) (plain : Bool) (b : Option Begun) (n : Option Next) → IsTold code plain → Turns AsksFirst check.begun code b →
-    Turns AsksBehind check.next code n → Turns Asks check code (both plain b n)
+joined : (check : PlainCheck) (code : Code) (plain : Bool) (b : Option CodesSeen) (n : Option Expected) → IsTold code plain → Turns AsksFirst check.begun code b →
+    Turns AsksBehind check.next code n → Turns Asks check code (check_of_parts plain b n)
 joined check code true (Some b) (Some n) told first behind = λ rest. (
   λ asks. record {
-    each = All-tail IsPlainCode code rest asks.each;
+    each = All-text_end IsPlainCode code rest asks.each;
     first = (first rest).0 asks.first;
     next = ((behind rest).0 (asks.next, asks.behind)).0;
     behind = ((behind rest).0 (asks.next, asks.behind)).1;
@@ -132,14 +132,14 @@ joined check code true None (Some n) told first behind = λ rest asks. first res
 joined check code true None None told first behind = λ rest asks. first rest asks.first
 joined check code false b n told first behind = λ rest asks. told (All-head IsPlainCode code rest asks.each)
 
-pub check_turns : (check : Check) (code : Code) → Turns Asks check code (check_with check code)
+pub check_turns : (check : PlainCheck) (code : Code) → Turns Asks check code (check_after check code)
 check_turns check code =
-    joined check code (is_plain_code code) (begun_with check.begun code) (next_with check.next code)
+    joined check code (is_plain_code code) (seen_after check.begun code) (expected_after check.next code)
     (plain_told code) (first_turns check.begun code) (next_turns check.next code)
 
 -- at the start
 
-abbrev pub start_check : Check
+abbrev pub start_check : PlainCheck
 start_check = record { begun = begun.Nothing; next = next.Any }
 
 pub all_asked : (list : List Code) → ArePlain list ↔ Asks start_check list
@@ -150,27 +150,27 @@ all_asked list = (
 
 -- at the end
 
-first_met : (b : Begun) → AsksFirst b []
+first_met : (b : CodesSeen) → AsksFirst b []
 unfolding DomainFirst
 first_met begun.Nothing = tt
 first_met begun.Definition = All-nil IsNoOpcode
 first_met begun.Drawing = tt
 
-abbrev IsMet : Next → Bool → Type 0
+abbrev IsMet : Expected → Bool → Type 0
 IsMet n true = AsksNext n []
 IsMet n false = AsksNext n [] → ⊥
 
-next_met : (n : Next) → IsMet n (may_end_at n)
+next_met : (n : Expected) → IsMet n (may_end_at n)
 unfolding DomainNext
 next_met next.Any = tt
 next_met next.ResetWord = tt
 next_met next.Lengths = λ h. h
 next_met next.Domain = λ h. h
 
-end_met : (check : Check) (met : Bool) → IsMet check.next met → (met ≡ true) ↔ Asks check []
-unfolding AllComeBehind
+end_met : (check : PlainCheck) (met : Bool) → IsMet check.next met → (met ≡ true) ↔ Asks check []
+unfolding AllMayFollow
 end_met check true is = (λ e. record { each = All-nil IsPlainCode; first = first_met check.begun; next = is; behind = tt }, λ asks. refl)
 end_met check false is = (λ e. let bad : ⊥ = cc in absurd bad, λ asks. absurd (is asks.next))
 
-pub nothing_asked : (check : Check) → (may_end check ≡ true) ↔ Asks check []
+pub nothing_asked : (check : PlainCheck) → (may_end check ≡ true) ↔ Asks check []
 nothing_asked check = end_met check (may_end check) (next_met check.next)

@@ -14,10 +14,10 @@ use Rattle.nap_codes.specs.CodeSets.{start_sets}
 use Rattle.nap_codes.specs.Front as codes
 use Rattle.nap_codes.specs.Front.{Front, front}
 use Rattle.nap_codes.specs.Lexer.{LexerState, Steps, StepsBy}
-use Rattle.nap_codes.specs.Lexed.{Lexed, lexed, StepsThrough, at_end, at_more, at_code, at_fault}
+use Rattle.nap_codes.specs.LexResults.{LexResult, lex_result, StepsThrough, at_end, at_more, at_code, at_fault}
 use Rattle.nap_codes.proofs.PublicLaws.{whole_stays, whole_length, whole_taken, refused_stays, refused_index, refused_taken, steps_are_lexed}
-use Rattle.nap_canon.specs.declared.plain.Check.{Check}
-use Rattle.nap_canon.specs.Checking.{check_with, may_end}
+use Rattle.nap_canon.specs.declared.plain.PlainCheck.{PlainCheck}
+use Rattle.nap_canon.specs.Checking.{check_after, may_end}
 use Rattle.nap_canon.specs.Plain.{IsPlain, ArePlain}
 use Rattle.nap_canon.proofs.operand_lengths.FrontCodes.{no_front}
 use Rattle.nap_canon.proofs.plain_codes.CheckLemmas.{Asks, Turns, check_turns, start_check, all_asked, nothing_asked}
@@ -103,7 +103,7 @@ run_from (b ∷ bytes) state half = run_by bytes b state half (λ next h. run_fr
 
 -- how far a stream is checked: its codes so far are those that the check has seen
 
-pub record Checked (bytes : List ℕ) (i : ℕ) (lexer : LexerState) (check : Check) : Type 0 where
+pub record Checked (bytes : List ℕ) (i : ℕ) (lexer : LexerState) (check : PlainCheck) : Type 0 where
   pub codes : List Code
   pub goes : (more : List Code) (fault : Option CodeFault) (end : LexerState) → StepsThrough lexer (drop i bytes) more fault end →
       StepsThrough (record { sets = start_sets; half = [] }) bytes (codes ++ more) fault end
@@ -123,7 +123,7 @@ next_byte bytes i within =
     let one : suc i ≡ i + 1 = omega arith in
     drop-cons bytes i 0 within ∙ ap (λ (k : ℕ). get_or bytes i 0 ∷ drop k bytes) one
 
-pub checked_more : (bytes : List ℕ) (i : ℕ) (lexer next : LexerState) (check : Check) → Checked bytes i lexer check → i < length bytes →
+pub checked_more : (bytes : List ℕ) (i : ℕ) (lexer next : LexerState) (check : PlainCheck) → Checked bytes i lexer check → i < length bytes →
     Steps lexer (get_or bytes i 0) steps.More next → IsHalf next → Checked bytes (i + 1) next check
 checked_more bytes i lexer next check checked within step half = record {
   codes = checked.codes;
@@ -133,8 +133,8 @@ checked_more bytes i lexer next check checked within step half = record {
   half = half;
 }
 
-pub checked_code : (bytes : List ℕ) (i : ℕ) (lexer next : LexerState) (check after : Check) (code : Code) → Checked bytes i lexer check → i < length bytes →
-    Steps lexer (get_or bytes i 0) (steps.Code code) next → IsHalf next → check_with check code ≡ Some after → Checked bytes (i + 1) next after
+pub checked_code : (bytes : List ℕ) (i : ℕ) (lexer next : LexerState) (check after : PlainCheck) (code : Code) → Checked bytes i lexer check → i < length bytes →
+    Steps lexer (get_or bytes i 0) (steps.Code code) next → IsHalf next → check_after check code ≡ Some after → Checked bytes (i + 1) next after
 checked_code bytes i lexer next check after code checked within step half turned =
     let turns : Turns Asks check code (Some after) = subst (Turns Asks check code) turned (check_turns check code) in
     let behind : (more : List Code) → (checked.codes ++ code ∷ []) ++ more ≡ checked.codes ++ code ∷ more = λ more. append_assoc checked.codes (code ∷ []) more in
@@ -153,39 +153,39 @@ checked_code bytes i lexer next check after code checked within step half turned
 
 -- the whole stream, once it is lexed to its end
 lexed_so : (bytes : List ℕ) (list : List Code) (fault : Option CodeFault) (end : LexerState) → StepsThrough (record { sets = start_sets; half = [] }) bytes list fault end →
-    lexed start_sets bytes ≡ record { codes = list; fault = fault; state = end }
+    lex_result start_sets bytes ≡ record { codes = list; fault = fault; state = end }
 lexed_so bytes list fault end run = sym (steps_are_lexed start_sets bytes list fault end run)
 
-pub refused_byte : (bytes : List ℕ) (i : ℕ) (lexer next : LexerState) (check : Check) (fault : CodeFault) → Checked bytes i lexer check → i < length bytes →
+pub refused_byte : (bytes : List ℕ) (i : ℕ) (lexer next : LexerState) (check : PlainCheck) (fault : CodeFault) → Checked bytes i lexer check → i < length bytes →
     Steps lexer (get_or bytes i 0) (steps.Fault fault) next → IsPlain bytes → ⊥
 refused_byte bytes i lexer next check fault checked within step plain =
     let run = checked.goes [] (Some fault) next (subst (λ (bs : List ℕ). StepsThrough lexer bs [] (Some fault) next) (sym (next_byte bytes i within)) (at_fault step)) in
-    let bad : ◌≡◌ {A = Option CodeFault} (Some fault) None = ap (λ (l : Lexed). l.fault) (sym (lexed_so bytes (checked.codes ++ []) (Some fault) next run)) ∙ plain.unrefused in
+    let bad : ◌≡◌ {A = Option CodeFault} (Some fault) None = ap (λ (l : LexResult). l.fault) (sym (lexed_so bytes (checked.codes ++ []) (Some fault) next run)) ∙ plain.unrefused in
     cc
 
-pub refused_code : (bytes : List ℕ) (i : ℕ) (lexer next : LexerState) (check : Check) (code : Code) → Checked bytes i lexer check → i < length bytes →
-    Steps lexer (get_or bytes i 0) (steps.Code code) next → IsHalf next → check_with check code ≡ None → IsPlain bytes → ⊥
+pub refused_code : (bytes : List ℕ) (i : ℕ) (lexer next : LexerState) (check : PlainCheck) (code : Code) → Checked bytes i lexer check → i < length bytes →
+    Steps lexer (get_or bytes i 0) (steps.Code code) next → IsHalf next → check_after check code ≡ None → IsPlain bytes → ⊥
 refused_code bytes i lexer next check code checked within step half turned plain =
     let turns : Turns Asks check code None = subst (Turns Asks check code) turned (check_turns check code) in
     let rest = run_from (drop (i + 1) bytes) next half in
     let run = checked.goes (code ∷ rest.codes) rest.fault rest.end
     (subst (λ (bs : List ℕ). StepsThrough lexer bs (code ∷ rest.codes) rest.fault rest.end) (sym (next_byte bytes i within)) (at_code step rest.steps)) in
     let list : ArePlain (checked.codes ++ code ∷ rest.codes) =
-    subst ArePlain (ap (λ (l : Lexed). l.codes) (lexed_so bytes (checked.codes ++ code ∷ rest.codes) rest.fault rest.end run)) plain.plain in
+    subst ArePlain (ap (λ (l : LexResult). l.codes) (lexed_so bytes (checked.codes ++ code ∷ rest.codes) rest.fault rest.end run)) plain.plain in
     turns rest.codes ((checked.asks (code ∷ rest.codes)).0 list)
 
-pub checked_end : (bytes : List ℕ) (i : ℕ) (lexer : LexerState) (check : Check) → Checked bytes i lexer check → length bytes ≤ i →
+pub checked_end : (bytes : List ℕ) (i : ℕ) (lexer : LexerState) (check : PlainCheck) → Checked bytes i lexer check → length bytes ≤ i →
     ((lexer.half ≡ []) × (may_end check ≡ true)) ↔ IsPlain bytes
 checked_end bytes i lexer check checked all =
     let run = checked.goes [] None lexer (subst (λ (bs : List ℕ). StepsThrough lexer bs [] None lexer) (sym (drop_of_length-le bytes {i = i} all)) at_end) in
     let so = lexed_so bytes (checked.codes ++ []) None lexer run in (
       λ ends. record {
-        unrefused = ap (λ (l : Lexed). l.fault) so;
-        whole = ap (λ (l : Lexed). l.state.half) so ∙ ends.0;
-        plain = subst ArePlain (sym (ap (λ (l : Lexed). l.codes) so)) ((checked.asks []).1 ((nothing_asked check).0 ends.1));
+        unrefused = ap (λ (l : LexResult). l.fault) so;
+        whole = ap (λ (l : LexResult). l.state.half) so ∙ ends.0;
+        plain = subst ArePlain (sym (ap (λ (l : LexResult). l.codes) so)) ((checked.asks []).1 ((nothing_asked check).0 ends.1));
       },
       λ plain. (
-        ap (λ (l : Lexed). l.state.half) (sym so) ∙ plain.whole,
-        (nothing_asked check).1 ((checked.asks []).0 (subst ArePlain (ap (λ (l : Lexed). l.codes) so) plain.plain)),
+        ap (λ (l : LexResult). l.state.half) (sym so) ∙ plain.whole,
+        (nothing_asked check).1 ((checked.asks []).0 (subst ArePlain (ap (λ (l : LexResult). l.codes) so) plain.plain)),
       ),
     )

@@ -12,17 +12,17 @@ use Rattle.nap_codes.specs.declared.code_set.GSet.TheVariants.{G0, G1, G2, G3}
 use Rattle.nap_codes.specs.declared.opcode.Opcode.{Opcode}
 use Rattle.nap_codes.specs.declared.opcode.Opcode.TheVariants as opcodes
 use Rattle.nap_codes.specs.CodeSets.{with_set}
-use Rattle.nap_codes.specs.Front.{plain_code}
+use Rattle.nap_codes.specs.Front.{non_pdi_code}
 use Rattle.nap_codes.specs.Laws.{IsGraphic}
 use Rattle.nap_codes.specs.Spelling.{Spells}
 use Rattle.nap_codes.specs.Spelling as spells
 use Rattle.nap_codes.specs.Tables.{row_of, number_rows, opcode_rows, set_rows, left_out_opcode}
-use Rattle.nap_canon.specs.declared.tail.Tail.{Tail}
-use Rattle.nap_canon.specs.declared.tail.Tail.TheVariants.{Apart, InRun}
-use Rattle.nap_canon.specs.Plain.{IsPlainCode, IsAbsolute, DomainNext, ComesBehind, AllComeBehind}
+use Rattle.nap_canon.specs.declared.text_end.TextEnd.{TextEnd}
+use Rattle.nap_canon.specs.declared.text_end.TextEnd.TheVariants.{NoRun, InRun}
+use Rattle.nap_canon.specs.Plain.{IsPlainCode, IsAbsolute, DomainNext, MayFollowCode, AllMayFollow}
 use Rattle.nap_canon.specs.Spelling.{Piece, opcode, group, primary, control, char_piece, domain, word_byte}
-use Rattle.nap_canon.specs.Text.{gl_of, is_joined, to_opcodes, to_primary, piece_bytes, written, tail_after}
-use Rattle.nap_canon.specs.TextParts.{written-append, tail_after-append}
+use Rattle.nap_canon.specs.Text.{gl_of, joins_open_run, shift_to_opcodes, shift_to_primary, piece_bytes, pieces_bytes, text_end_after}
+use Rattle.nap_canon.specs.TextParts.{pieces_bytes-append, text_end_after-append}
 use Rattle.nap_canon.proofs.reading.PieceLemmas.{sets_with}
 use Rattle.nap_canon.proofs.plain_codes.SpellingLemmas.{AllSpelled, no_code, one_code, spelled_alone, spelled_behind}
 
@@ -31,17 +31,17 @@ pub record PlainBytes (gl : GSet) (bytes : List ℕ) (end : GSet) : Type 0 where
   pub list : List Code
   pub by : AllSpelled (sets_with gl) bytes list (sets_with end)
   pub each : All IsPlainCode list
-  pub joins : (rest : List Code) → AllComeBehind rest → AllComeBehind (list ++ rest)
+  pub joins : (rest : List Code) → AllMayFollow rest → AllMayFollow (list ++ rest)
 
-abbrev pub PlainlySpelled : Tail → List Piece → Type 0
-PlainlySpelled t ps = PlainBytes (gl_of t) (written t ps) (gl_of (tail_after t ps))
+abbrev pub PlainlySpelled : TextEnd → List Piece → Type 0
+PlainlySpelled t ps = PlainBytes (gl_of t) (pieces_bytes t ps) (gl_of (text_end_after t ps))
 
 no_bytes : (gl : GSet) → PlainBytes gl [] gl
 no_bytes gl = record { list = []; by = no_code; each = All-nil IsPlainCode; joins = λ rest h. h }
 
 -- the bytes of one code
-code_bytes : (gl end : GSet) (bytes : List ℕ) (c : Code) → Spells (sets_with gl) bytes c (sets_with end) → IsPlainCode c → ((rest : List Code) → ComesBehind c rest) → PlainBytes gl bytes end
-unfolding AllComeBehind
+code_bytes : (gl end : GSet) (bytes : List ℕ) (c : Code) → Spells (sets_with gl) bytes c (sets_with end) → IsPlainCode c → ((rest : List Code) → MayFollowCode c rest) → PlainBytes gl bytes end
+unfolding AllMayFollow
 code_bytes gl end bytes c by plain comes = record {
   list = c ∷ [];
   by = spelled_alone by;
@@ -54,34 +54,34 @@ both_bytes gl mid end xs ys first second = record {
   list = first.list ++ second.list;
   by = spelled_behind first.by second.by;
   each = All-append IsPlainCode first.list second.list first.each second.each;
-  joins = λ rest h. subst AllComeBehind (sym (append_assoc first.list second.list rest)) (first.joins (second.list ++ rest) (second.joins rest h));
+  joins = λ rest h. subst AllMayFollow (sym (append_assoc first.list second.list rest)) (first.joins (second.list ++ rest) (second.joins rest h));
 }
 
 -- a piece alone
-piece_plain : (t : Tail) (p : Piece) → PlainBytes (gl_of t) (piece_bytes t p) (gl_of (tail_after t (p ∷ []))) → PlainlySpelled t (p ∷ [])
-unfolding written
-piece_plain t p plain = subst (λ (bs : List ℕ). PlainBytes (gl_of t) bs (gl_of (tail_after t (p ∷ [])))) (sym (append-nil (piece_bytes t p))) plain
+piece_plain : (t : TextEnd) (p : Piece) → PlainBytes (gl_of t) (piece_bytes t p) (gl_of (text_end_after t (p ∷ []))) → PlainlySpelled t (p ∷ [])
+unfolding pieces_bytes
+piece_plain t p plain = subst (λ (bs : List ℕ). PlainBytes (gl_of t) bs (gl_of (text_end_after t (p ∷ [])))) (sym (append-nil (piece_bytes t p))) plain
 
-pub nothing_plain : (t : Tail) → PlainlySpelled t []
-unfolding written tail_after
+pub nothing_plain : (t : TextEnd) → PlainlySpelled t []
+unfolding pieces_bytes text_end_after
 nothing_plain t = no_bytes (gl_of t)
 
-pub behind_plain : (t : Tail) (ps qs : List Piece) → PlainlySpelled t ps → PlainlySpelled (tail_after t ps) qs → PlainlySpelled t (ps ++ qs)
+pub behind_plain : (t : TextEnd) (ps qs : List Piece) → PlainlySpelled t ps → PlainlySpelled (text_end_after t ps) qs → PlainlySpelled t (ps ++ qs)
 behind_plain t ps qs first second =
-    let mid : Tail = tail_after t ps in
-    subst (λ (bs : List ℕ). PlainBytes (gl_of t) bs (gl_of (tail_after t (ps ++ qs)))) (sym (written-append t ps qs))
-    (subst (λ (u : Tail). PlainBytes (gl_of t) (written t ps ++ written mid qs) (gl_of u)) (sym (tail_after-append t ps qs))
-    (both_bytes (gl_of t) (gl_of mid) (gl_of (tail_after mid qs)) (written t ps) (written mid qs) first second))
+    let mid : TextEnd = text_end_after t ps in
+    subst (λ (bs : List ℕ). PlainBytes (gl_of t) bs (gl_of (text_end_after t (ps ++ qs)))) (sym (pieces_bytes-append t ps qs))
+    (subst (λ (u : TextEnd). PlainBytes (gl_of t) (pieces_bytes t ps ++ pieces_bytes mid qs) (gl_of u)) (sym (text_end_after-append t ps qs))
+    (both_bytes (gl_of t) (gl_of mid) (gl_of (text_end_after mid qs)) (pieces_bytes t ps) (pieces_bytes mid qs) first second))
 
 -- shifts
 
-shifts_out : (gl : GSet) → PlainBytes gl (to_opcodes gl) G1
+shifts_out : (gl : GSet) → PlainBytes gl (shift_to_opcodes gl) G1
 shifts_out G1 = no_bytes G1
 shifts_out G0 = code_bytes G0 G1 (0x0E ∷ []) codes.Shifted spells.shift_out tt (λ rest. tt)
 shifts_out G2 = code_bytes G2 G1 (0x0E ∷ []) codes.Shifted spells.shift_out tt (λ rest. tt)
 shifts_out G3 = code_bytes G3 G1 (0x0E ∷ []) codes.Shifted spells.shift_out tt (λ rest. tt)
 
-shifts_in : (gl : GSet) → PlainBytes gl (to_primary gl) G0
+shifts_in : (gl : GSet) → PlainBytes gl (shift_to_primary gl) G0
 shifts_in G0 = no_bytes G0
 shifts_in G1 = code_bytes G1 G0 (0x0F ∷ []) codes.Shifted spells.shift_in tt (λ rest. tt)
 shifts_in G2 = code_bytes G2 G0 (0x0F ∷ []) codes.Shifted spells.shift_in tt (λ rest. tt)
@@ -96,14 +96,14 @@ operands_spelled : (bytes : List ℕ) → All IsOperandByte bytes → AllSpelled
 operands_spelled [] all = no_code
 operands_spelled (b ∷ bytes) all =
     let first = All-head IsOperandByte b bytes all in
-    one_code (spells.operand refl first.0 first.1) (operands_spelled bytes (All-tail IsOperandByte b bytes all))
+    one_code (spells.operand refl first.0 first.1) (operands_spelled bytes (All-text_end IsOperandByte b bytes all))
 
 operands_each : (bytes : List ℕ) → All IsPlainCode (operand_codes bytes)
 operands_each [] = All-nil IsPlainCode
 operands_each (b ∷ bytes) = All-cons IsPlainCode (codes.Operand (b - 64)) (operand_codes bytes) tt (operands_each bytes)
 
-operands_join : (bytes : List ℕ) (rest : List Code) → AllComeBehind rest → AllComeBehind (operand_codes bytes ++ rest)
-unfolding AllComeBehind
+operands_join : (bytes : List ℕ) (rest : List Code) → AllMayFollow rest → AllMayFollow (operand_codes bytes ++ rest)
+unfolding AllMayFollow
 operands_join [] rest h = h
 operands_join (b ∷ bytes) rest h = (tt, operands_join bytes rest h)
 
@@ -114,9 +114,9 @@ operands_plain bytes all = record { list = operand_codes bytes; by = operands_sp
 abbrev pub IsOpcode : ℕ → Opcode → Type 0
 IsOpcode byte op = (row_of opcode_rows byte ≡ Some op) × (left_out_opcode op ≡ None) × IsAbsolute op × (byte < 64)
 
-run_plain : (byte : ℕ) (op : Opcode) (bytes : List ℕ) → IsOpcode byte op → All IsOperandByte bytes → ((rest : List Code) → ComesBehind (codes.Op op) (operand_codes bytes ++ rest)) →
+run_plain : (byte : ℕ) (op : Opcode) (bytes : List ℕ) → IsOpcode byte op → All IsOperandByte bytes → ((rest : List Code) → MayFollowCode (codes.Op op) (operand_codes bytes ++ rest)) →
     PlainBytes G1 (byte ∷ bytes) G1
-unfolding AllComeBehind
+unfolding AllMayFollow
 run_plain byte op bytes is all comes = record {
   list = codes.Op op ∷ operand_codes bytes;
   by = one_code (spells.opcode refl is.0 is.1) (operands_spelled bytes all);
@@ -124,26 +124,26 @@ run_plain byte op bytes is all comes = record {
   joins = λ rest h. (comes rest, operands_join bytes rest h);
 }
 
-pub opcode_plain : (t : Tail) (byte : ℕ) (op : Opcode) (bytes : List ℕ) → IsOpcode byte op → All IsOperandByte bytes →
-    ((rest : List Code) → ComesBehind (codes.Op op) (operand_codes bytes ++ rest)) → PlainlySpelled t (opcode byte bytes ∷ [])
-unfolding tail_after
+pub opcode_plain : (t : TextEnd) (byte : ℕ) (op : Opcode) (bytes : List ℕ) → IsOpcode byte op → All IsOperandByte bytes →
+    ((rest : List Code) → MayFollowCode (codes.Op op) (operand_codes bytes ++ rest)) → PlainlySpelled t (opcode byte bytes ∷ [])
+unfolding text_end_after
 opcode_plain t byte op bytes is all comes =
-    piece_plain t (opcode byte bytes) (both_bytes (gl_of t) G1 G1 (to_opcodes (gl_of t)) (byte ∷ bytes) (shifts_out (gl_of t)) (run_plain byte op bytes is all comes))
+    piece_plain t (opcode byte bytes) (both_bytes (gl_of t) G1 G1 (shift_to_opcodes (gl_of t)) (byte ∷ bytes) (shifts_out (gl_of t)) (run_plain byte op bytes is all comes))
 
 -- a group of operands: behind its opcode, or in a run
-pub group_plain : (t : Tail) (byte : ℕ) (op : Opcode) (bytes : List ℕ) → IsOpcode byte op → All IsOperandByte bytes →
-    ((rest : List Code) → ComesBehind (codes.Op op) (operand_codes bytes ++ rest)) → PlainlySpelled t (group byte bytes ∷ [])
-unfolding written tail_after
-group_plain (Apart gl) byte op bytes is all comes = opcode_plain (Apart gl) byte op bytes is all comes
-group_plain (InRun run) byte op bytes is all comes = at (is_joined (InRun run) byte (length bytes)) refl
+pub group_plain : (t : TextEnd) (byte : ℕ) (op : Opcode) (bytes : List ℕ) → IsOpcode byte op → All IsOperandByte bytes →
+    ((rest : List Code) → MayFollowCode (codes.Op op) (operand_codes bytes ++ rest)) → PlainlySpelled t (group byte bytes ∷ [])
+unfolding pieces_bytes text_end_after
+group_plain (NoRun gl) byte op bytes is all comes = opcode_plain (NoRun gl) byte op bytes is all comes
+group_plain (InRun run) byte op bytes is all comes = at (joins_open_run (InRun run) byte (length bytes)) refl
   where
-    at : (joined : Bool) → is_joined (InRun run) byte (length bytes) ≡ joined → PlainlySpelled (InRun run) (group byte bytes ∷ [])
+    at : (joined : Bool) → joins_open_run (InRun run) byte (length bytes) ≡ joined → PlainlySpelled (InRun run) (group byte bytes ∷ [])
     at true e = piece_plain (InRun run) (group byte bytes) (rw e (operands_plain bytes all))
     at false e = piece_plain (InRun run) (group byte bytes) (rw e (run_plain byte op bytes is all comes))
 
 -- RESET, with DOMAIN behind it
-pub reset_plain : (t : Tail) (first second : ℕ) → IsWord first → IsWord second → PlainlySpelled t (opcode 0x20 (word_byte first ∷ word_byte second ∷ []) ∷ domain [] ∷ [])
-unfolding written tail_after row_of opcode_rows left_out_opcode DomainNext AllComeBehind
+pub reset_plain : (t : TextEnd) (first second : ℕ) → IsWord first → IsWord second → PlainlySpelled t (opcode 0x20 (word_byte first ∷ word_byte second ∷ []) ∷ domain [] ∷ [])
+unfolding pieces_bytes text_end_after row_of opcode_rows left_out_opcode DomainNext AllMayFollow
 reset_plain t first second one two =
     let bytes : List ℕ = 0x20 ∷ word_byte first ∷ word_byte second ∷ 0x21 ∷ 0x5F ∷ [] in
     let words : List Code = codes.Operand (word_byte first - 64) ∷ codes.Operand (word_byte second - 64) ∷ [] in
@@ -159,25 +159,25 @@ reset_plain t first second one two =
           (All-cons IsPlainCode (codes.Op opcodes.Domain) (codes.Operand 31 ∷ []) tt (operands_each (0x5F ∷ []))));
       joins = λ rest h. (λ odd. tt, (tt, (tt, (refl, (tt, h)))));
     } in
-    subst (λ (bs : List ℕ). PlainBytes (gl_of t) bs G1) (sym (append_assoc (to_opcodes (gl_of t)) (0x20 ∷ word_byte first ∷ word_byte second ∷ []) (0x21 ∷ 0x5F ∷ [])))
-    (both_bytes (gl_of t) G1 G1 (to_opcodes (gl_of t)) bytes (shifts_out (gl_of t)) all)
+    subst (λ (bs : List ℕ). PlainBytes (gl_of t) bs G1) (sym (append_assoc (shift_to_opcodes (gl_of t)) (0x20 ∷ word_byte first ∷ word_byte second ∷ []) (0x21 ∷ 0x5F ∷ [])))
+    (both_bytes (gl_of t) G1 G1 (shift_to_opcodes (gl_of t)) bytes (shifts_out (gl_of t)) all)
 
 -- controls, and characters
 
-pub control_plain : (t : Tail) (bytes : List ℕ) (c : Code) → Spells (sets_with (gl_of t)) bytes c (sets_with (gl_of t)) → IsPlainCode c → ((rest : List Code) → ComesBehind c rest) →
+pub control_plain : (t : TextEnd) (bytes : List ℕ) (c : Code) → Spells (sets_with (gl_of t)) bytes c (sets_with (gl_of t)) → IsPlainCode c → ((rest : List Code) → MayFollowCode c rest) →
     PlainlySpelled t (control bytes ∷ [])
-unfolding tail_after
+unfolding text_end_after
 control_plain t bytes c by plain comes = piece_plain t (control bytes) (code_bytes (gl_of t) (gl_of t) bytes c by plain comes)
 
-pub primary_plain : (t : Tail) (code : ℕ) → IsGraphic code → PlainlySpelled t (primary code ∷ [])
-unfolding tail_after plain_code
+pub primary_plain : (t : TextEnd) (code : ℕ) → IsGraphic code → PlainlySpelled t (primary code ∷ [])
+unfolding text_end_after non_pdi_code
 primary_plain t code graphic =
-    piece_plain t (primary code) (both_bytes (gl_of t) G0 G0 (to_primary (gl_of t)) (code ∷ []) (shifts_in (gl_of t))
+    piece_plain t (primary code) (both_bytes (gl_of t) G0 G0 (shift_to_primary (gl_of t)) (code ∷ []) (shifts_in (gl_of t))
     (code_bytes G0 G0 (code ∷ []) (codes.Char chars.Primary code) (spells.in_gl graphic refl) tt (λ rest. tt)))
 
 -- a character of the DRCS, which is G3 for that time alone
-pub drcs_plain : (t : Tail) (code : ℕ) → IsGraphic code → PlainlySpelled t (char_piece chars.Drcs code ∷ [])
-unfolding tail_after AllComeBehind plain_code with_set row_of number_rows set_rows
+pub drcs_plain : (t : TextEnd) (code : ℕ) → IsGraphic code → PlainlySpelled t (char_piece chars.Drcs code ∷ [])
+unfolding text_end_after AllMayFollow non_pdi_code with_set row_of number_rows set_rows
 drcs_plain t code graphic =
     let first : Code = codes.Designated 3 code_sets.Drcs in
     let last : Code = codes.Designated 3 code_sets.Mosaic in

@@ -8,27 +8,27 @@ use Rattle.nap_codes.specs.declared.code.Code.TheVariants as codes
 use Rattle.nap_codes.specs.declared.code_set.GSet.TheVariants.{G1}
 use Rattle.nap_codes.specs.declared.opcode.Opcode.TheVariants as opcodes
 use Rattle.nap_codes.specs.CodeSets.{start_sets}
-use Rattle.nap_codes.specs.Lexed.{Lexed}
+use Rattle.nap_codes.specs.LexResults.{LexResult}
 use Rattle.nap_codes.specs.Spelling as spells
 use Rattle.nap_codes.specs.Tables.{row_of, opcode_rows, left_out_opcode}
 use Rattle.nap_list.specs.declared.entry.Entry.{Entry}
 use Rattle.nap_list.specs.declared.state.State.{State}
-use Rattle.nap_list.specs.Entry.{held}
-use Rattle.nap_list.specs.State.{start, taking, after}
+use Rattle.nap_list.specs.Entry.{attributes}
+use Rattle.nap_list.specs.State.{start, with_attributes, after}
 use Rattle.nap_draw.specs.Rule.{start_domain}
 use Rattle.nap_canon.specs.declared.form.Form.{Form}
-use Rattle.nap_canon.specs.declared.tail.Tail.{Tail}
-use Rattle.nap_canon.specs.Bring.{bring}
+use Rattle.nap_canon.specs.declared.text_end.TextEnd.{TextEnd}
+use Rattle.nap_canon.specs.Preludes.{prelude}
 use Rattle.nap_canon.specs.Laws.{TextIsPlain}
-use Rattle.nap_canon.specs.Plain.{IsPlainCode, DomainFirst, AllComeBehind, ArePlain}
-use Rattle.nap_canon.specs.Spelling.{Piece, group, command_piece, spelled}
-use Rattle.nap_canon.specs.Text.{gl_of, begun_tail, written, tail_after, entry_pieces, pieces, text_in}
+use Rattle.nap_canon.specs.Plain.{IsPlainCode, DomainFirst, AllMayFollow, ArePlain}
+use Rattle.nap_canon.specs.Spelling.{Piece, group, command_piece, spelling_pieces}
+use Rattle.nap_canon.specs.Text.{gl_of, text_end_after_header, pieces_bytes, text_end_after, entry_pieces, pieces, text_in}
 use Rattle.nap_canon.proofs.spelling.CommandLemmas.{work_at}
 use Rattle.nap_canon.proofs.reading.ConveyLemmas.{convey_plain}
 use Rattle.nap_canon.proofs.spelling.EntryLemmas.{MayCome, next_may, first_kind, bring_behind, bring_conveys}
 use Rattle.nap_canon.proofs.spelling.HoldingLemmas.{held_work}
 use Rattle.nap_canon.proofs.spelling.KindLemmas.{Kind}
-use Rattle.nap_canon.proofs.bring.ModeLemmas.{start_in_mode}
+use Rattle.nap_canon.proofs.prelude.ModeLemmas.{start_in_mode}
 use Rattle.nap_canon.proofs.reading.PieceLemmas.{sets_with}
 use Rattle.nap_canon.proofs.plain_codes.PlainPieces.{PlainlySpelled, operand_codes, nothing_plain, behind_plain, group_plain}
 use Rattle.nap_canon.proofs.spelling.SavedLemmas.{saved_after}
@@ -40,13 +40,13 @@ abbrev behind_header : List Code → List Code
 behind_header list = codes.Shifted ∷ codes.Op opcodes.Domain ∷ codes.Operand 31 ∷ list
 
 header_spelled : (form : Form) (es : List Entry) (list : List Code) →
-    AllSpelled (sets_with G1) (written begun_tail (pieces form start es)) list (sets_with (gl_of (tail_after begun_tail (pieces form start es)))) →
-    AllSpelled start_sets (text_in form es) (behind_header list) (sets_with (gl_of (tail_after begun_tail (pieces form start es))))
+    AllSpelled (sets_with G1) (pieces_bytes text_end_after_header (pieces form start es)) list (sets_with (gl_of (text_end_after text_end_after_header (pieces form start es)))) →
+    AllSpelled start_sets (text_in form es) (behind_header list) (sets_with (gl_of (text_end_after text_end_after_header (pieces form start es))))
 unfolding row_of opcode_rows left_out_opcode
 header_spelled form es list by = one_code spells.shift_out (one_code (spells.opcode refl refl refl) (one_code (spells.operand refl (omega arith) (omega arith)) by))
 
-header_plain : (list : List Code) → All IsPlainCode list → AllComeBehind list → ArePlain (behind_header list)
-unfolding DomainFirst AllComeBehind
+header_plain : (list : List Code) → All IsPlainCode list → AllMayFollow list → ArePlain (behind_header list)
+unfolding DomainFirst AllMayFollow
 header_plain list each behind = record {
   each = All-cons IsPlainCode codes.Shifted (codes.Op opcodes.Domain ∷ codes.Operand 31 ∷ list) tt
       (All-cons IsPlainCode (codes.Op opcodes.Domain) (codes.Operand 31 ∷ list) tt (All-cons IsPlainCode (codes.Operand 31) list tt each));
@@ -54,35 +54,35 @@ header_plain list each behind = record {
   behind = (tt, (refl, (tt, behind)));
 }
 
-nothing_comes : AllComeBehind []
-unfolding AllComeBehind
+nothing_comes : AllMayFollow []
+unfolding AllMayFollow
 nothing_comes = tt
 
-entry_plain : (form : Form) (t : Tail) (saved : OperandLengths) (s : State) (e : Entry) (es : List Entry) (may : MayCome saved s (e ∷ es)) → Kind form saved s e → PlainlySpelled t (entry_pieces form s e)
+entry_plain : (form : Form) (t : TextEnd) (saved : OperandLengths) (s : State) (e : Entry) (es : List Entry) (may : MayCome saved s (e ∷ es)) → Kind form saved s e → PlainlySpelled t (entry_pieces form s e)
 entry_plain form t saved s e es may (inr draws) =
     let left = work_at (saved_after saved e) (after s e) in
-    convey_plain t (work_at saved s) (entry_pieces form s e) (e ∷ []) left (bring_behind saved s e es may (spelled form (taking s.drawing (held e)) e) (e ∷ []) left draws)
+    convey_plain t (work_at saved s) (entry_pieces form s e) (e ∷ []) left (bring_behind saved s e es may (spelling_pieces form (with_attributes s.drawing (attributes e)) e) (e ∷ []) left draws)
 entry_plain form t saved s e es may (inl by) =
-    let ps : List Piece = map command_piece (bring s.drawing (held e)) in
+    let ps : List Piece = map command_piece (prelude s.drawing (attributes e)) in
     let k = by.strokes in
     subst (λ (qs : List Piece). PlainlySpelled t (ps ++ qs)) (sym by.spelled_as)
     (behind_plain t ps (group by.byte by.operands ∷ []) (convey_plain t (work_at saved s) ps [] (held_work saved s e) (bring_conveys saved s e es may))
-    (group_plain (tail_after t ps) by.byte k.op by.operands k.is k.are.carriers (λ rest. joining_comes k.op k.joins (operand_codes by.operands ++ rest))))
+    (group_plain (text_end_after t ps) by.byte k.op by.operands k.is k.are.carriers (λ rest. joining_comes k.op k.joins (operand_codes by.operands ++ rest))))
 
-list_plain : (form : Form) (t : Tail) (saved : OperandLengths) (s : State) (es : List Entry) → MayCome saved s es → PlainlySpelled t (pieces form s es)
+list_plain : (form : Form) (t : TextEnd) (saved : OperandLengths) (s : State) (es : List Entry) → MayCome saved s es → PlainlySpelled t (pieces form s es)
 unfolding pieces
 list_plain form t saved s [] may = nothing_plain t
 list_plain form t saved s (e ∷ es) may =
     behind_plain t (entry_pieces form s e) (pieces form (after s e) es) (entry_plain form t saved s e es may (first_kind saved s e es may form))
-    (list_plain form (tail_after t (entry_pieces form s e)) (saved_after saved e) (after s e) es (next_may saved s e es may))
+    (list_plain form (text_end_after t (entry_pieces form s e)) (saved_after saved e) (after s e) es (next_may saved s e es may))
 
 pub text_is_plain : (form : Form) → TextIsPlain form
 text_is_plain form es fits inside =
-    let spelled = list_plain form begun_tail start_domain start es (record { inside = inside; fits = fits; mode = start_in_mode; saves = tt }) in
-    let is = lexed_spelled start_sets (text_in form es) (behind_header spelled.list) (sets_with (gl_of (tail_after begun_tail (pieces form start es)))) (header_spelled form es spelled.list spelled.by) in
-    let behind = subst AllComeBehind (append-nil spelled.list) (spelled.joins [] nothing_comes) in
+    let spelling_pieces = list_plain form text_end_after_header start_domain start es (record { inside = inside; fits = fits; mode = start_in_mode; saves = tt }) in
+    let is = lexed_spelled start_sets (text_in form es) (behind_header spelling_pieces.list) (sets_with (gl_of (text_end_after text_end_after_header (pieces form start es)))) (header_spelled form es spelling_pieces.list spelling_pieces.by) in
+    let behind = subst AllMayFollow (append-nil spelling_pieces.list) (spelling_pieces.joins [] nothing_comes) in
     record {
-      unrefused = ap (λ (l : Lexed). l.fault) is;
-      whole = ap (λ (l : Lexed). l.state.half) is;
-      plain = subst ArePlain (sym (ap (λ (l : Lexed). l.codes) is)) (header_plain spelled.list spelled.each behind);
+      unrefused = ap (λ (l : LexResult). l.fault) is;
+      whole = ap (λ (l : LexResult). l.state.half) is;
+      plain = subst ArePlain (sym (ap (λ (l : LexResult). l.codes) is)) (header_plain spelling_pieces.list spelling_pieces.each behind);
     }

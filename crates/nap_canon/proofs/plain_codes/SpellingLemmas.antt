@@ -6,7 +6,7 @@ use Rattle.nap_codes.specs.declared.code.Code.{Code}
 use Rattle.nap_codes.specs.declared.code_set.CodeSets.{CodeSets}
 use Rattle.nap_codes.specs.Front as fronts
 use Rattle.nap_codes.specs.Front.{front}
-use Rattle.nap_codes.specs.Lexed.{lexed, lexed_by}
+use Rattle.nap_codes.specs.LexResults.{lex_result, lex_result_by}
 use Rattle.nap_codes.specs.Spelling.{Spells}
 use Rattle.nap_codes.proofs.PublicLaws.{whole_is_spelled}
 use Rattle.nap_canon.proofs.operand_lengths.FrontCodes.{no_front, with_code, lexed_front}
@@ -36,10 +36,10 @@ whole_code sets bytes rest code after by =
     (whole_is_spelled sets (bytes ++ rest) code (length bytes) after).1 (few, subst (λ (bs : List ℕ). Spells sets bs code after) (sym (take-append_seam bytes rest)) by)
 
 pub lexed_spelled : (sets : CodeSets) (bytes : List ℕ) (list : List Code) (end : CodeSets) → AllSpelled sets bytes list end →
-    lexed sets bytes ≡ record { codes = list; fault = None; state = record { sets = end; half = [] } }
-lexed_spelled sets bytes list end no_code = lexed_front sets [] ∙ ap (lexed_by lexed sets []) (no_front sets)
+    lex_result sets bytes ≡ record { codes = list; fault = None; state = record { sets = end; half = [] } }
+lexed_spelled sets bytes list end no_code = lexed_front sets [] ∙ ap (lex_result_by lex_result sets []) (no_front sets)
 lexed_spelled sets bytes list end (one_code {after = after} {bytes = xs} {rest = rest} {code = code} {more = more} by others) =
     lexed_front sets (xs ++ rest)
-    ∙ ap (lexed_by lexed sets (xs ++ rest)) (whole_code sets xs rest code after by)
-    ∙ ap (λ (bs : List ℕ). with_code code (lexed after bs)) (drop-append_seam xs rest)
+    ∙ ap (lex_result_by lex_result sets (xs ++ rest)) (whole_code sets xs rest code after by)
+    ∙ ap (λ (bs : List ℕ). with_code code (lex_result after bs)) (drop-append_seam xs rest)
     ∙ ap (with_code code) (lexed_spelled after rest more end others)

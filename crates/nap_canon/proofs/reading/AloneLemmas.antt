@@ -9,7 +9,7 @@ use Rattle.nap_codes.specs.declared.code_set.CodeSets.{CodeSets}
 use Rattle.nap_codes.specs.declared.code_set.GSet.{GSet}
 use Rattle.nap_codes.specs.declared.code_set.GSet.TheVariants.{G0, G1, G2, G3}
 use Rattle.nap_codes.specs.CodeSets.{with_set}
-use Rattle.nap_codes.specs.Front.{plain_code}
+use Rattle.nap_codes.specs.Front.{non_pdi_code}
 use Rattle.nap_codes.specs.Laws.{IsGraphic}
 use Rattle.nap_codes.specs.Spelling.{Spells, shift_in, designation, in_gl, single_shift3}
 use Rattle.nap_codes.specs.Tables.{row_of, number_rows, set_rows}
@@ -17,12 +17,12 @@ use Rattle.nap_list.specs.declared.entry.Entry.{Entry}
 use Rattle.nap_list.specs.State.{walk}
 use Rattle.nap_draw.specs.declared.work.Work.{Work}
 use Rattle.nap_draw.specs.Codes.{code_rule}
-use Rattle.nap_draw.specs.Rule.{Drawn, drawn}
+use Rattle.nap_draw.specs.Rule.{RuleResult, rule_result}
 use Rattle.nap_reader.specs.Laws.{IsAlone}
 use Rattle.nap_reader.specs.Stream.{Placed, Machine, placed_from}
 use Rattle.nap_canon.specs.Spelling.{primary, control, char_piece}
-use Rattle.nap_canon.specs.declared.tail.Tail.TheVariants.{Apart}
-use Rattle.nap_canon.specs.Text.{piece_bytes, written, tail_after}
+use Rattle.nap_canon.specs.declared.text_end.TextEnd.TheVariants.{NoRun}
+use Rattle.nap_canon.specs.Text.{piece_bytes, pieces_bytes, text_end_after}
 use Rattle.nap_canon.proofs.reading.CodeLemmas.{code_reads}
 use Rattle.nap_canon.proofs.reading.PieceLemmas.{Acts, at, sets_with}
 use Rattle.nap_canon.proofs.reading.ReadLemmas.{Reads}
@@ -34,9 +34,9 @@ last_apart b (c ∷ bs) =
     (b ∷ before, last, ap (λ (xs : List ℕ). b ∷ xs) is)
 
 -- a code that stays what it is whatever is in GL, and leaves that
-pub alone_acts : (budget : ℕ) (gl : GSet) (work : Work) (byte : ℕ) (bytes : List ℕ) (c : Code) (d : Drawn) → IsAlone c → Spells (sets_with gl) (byte ∷ bytes) c (sets_with gl) →
+pub alone_acts : (budget : ℕ) (gl : GSet) (work : Work) (byte : ℕ) (bytes : List ℕ) (c : Code) (d : RuleResult) → IsAlone c → Spells (sets_with gl) (byte ∷ bytes) c (sets_with gl) →
     code_rule work c ≡ Ok d → Acts budget gl work (control (byte ∷ bytes) ∷ []) d.entries d.work
-unfolding written tail_after
+unfolding pieces_bytes text_end_after
 alone_acts budget gl work byte bytes c d alone spells by n xs more end anew behind =
     let (before, last, is) = last_apart byte bytes in
     subst (λ (bs : List ℕ). Reads (at budget gl work) (placed_from n bs ++ xs) (d.entries ++ more) end) (sym is ∙ sym (append-nil (byte ∷ bytes)))
@@ -47,31 +47,31 @@ shifts_in : (budget : ℕ) (gl : GSet) (work : Work) (n : ℕ) (xs : List Placed
     Reads (at budget G0 work) xs es end → Reads (at budget gl work) (placed_from n (0x0F ∷ []) ++ xs) es end
 unfolding walk
 shifts_in budget gl work n xs es end behind =
-    code_reads budget (sets_with gl) work n [] 0x0F code.Shifted (sets_with G0) (drawn work []) xs es end tt shift_in refl behind
+    code_reads budget (sets_with gl) work n [] 0x0F code.Shifted (sets_with G0) (rule_result work []) xs es end tt shift_in refl behind
 
 -- a primary character where its set may have to be shifted in
 
-primary_in_gl : (budget : ℕ) (work : Work) (byte : ℕ) (d : Drawn) → IsGraphic byte → code_rule work (code.Char chars.Primary byte) ≡ Ok d →
+primary_in_gl : (budget : ℕ) (work : Work) (byte : ℕ) (d : RuleResult) → IsGraphic byte → code_rule work (code.Char chars.Primary byte) ≡ Ok d →
     (n : ℕ) (xs : List Placed) (more : List Entry) (end : Machine) → Reads (at budget G0 d.work) xs more end →
     Reads (at budget G0 work) (placed_from n (byte ∷ []) ++ xs) (d.entries ++ more) end
-unfolding plain_code
+unfolding non_pdi_code
 primary_in_gl budget work byte d graphic by n xs more end behind =
     code_reads budget (sets_with G0) work n [] byte (code.Char chars.Primary byte) (sets_with G0) d xs more end tt (in_gl graphic refl) by behind
 
 primary_shifted : (budget : ℕ) (gl : GSet) (work : Work) (byte : ℕ) (n : ℕ) (xs : List Placed) (es : List Entry) (end : Machine) →
     ((k : ℕ) → Reads (at budget G0 work) (placed_from k (byte ∷ []) ++ xs) es end) →
-    Reads (at budget gl work) (placed_from n (piece_bytes (Apart gl) (primary byte)) ++ xs) es end
+    Reads (at budget gl work) (placed_from n (piece_bytes (NoRun gl) (primary byte)) ++ xs) es end
 unfolding placed_from
 primary_shifted budget G0 work byte n xs es end read = read n
 primary_shifted budget G1 work byte n xs es end read = shifts_in budget G1 work n (placed_from (suc n) (byte ∷ []) ++ xs) es end (read (suc n))
 primary_shifted budget G2 work byte n xs es end read = shifts_in budget G2 work n (placed_from (suc n) (byte ∷ []) ++ xs) es end (read (suc n))
 primary_shifted budget G3 work byte n xs es end read = shifts_in budget G3 work n (placed_from (suc n) (byte ∷ []) ++ xs) es end (read (suc n))
 
-pub primary_acts : (budget : ℕ) (gl : GSet) (work : Work) (byte : ℕ) (d : Drawn) → IsGraphic byte → code_rule work (code.Char chars.Primary byte) ≡ Ok d →
+pub primary_acts : (budget : ℕ) (gl : GSet) (work : Work) (byte : ℕ) (d : RuleResult) → IsGraphic byte → code_rule work (code.Char chars.Primary byte) ≡ Ok d →
     Acts budget gl work (primary byte ∷ []) d.entries d.work
-unfolding written tail_after
+unfolding pieces_bytes text_end_after
 primary_acts budget gl work byte d graphic by n xs more end anew behind =
-    subst (λ (bs : List ℕ). Reads (at budget gl work) (placed_from n bs ++ xs) (d.entries ++ more) end) (sym (append-nil (piece_bytes (Apart gl) (primary byte))))
+    subst (λ (bs : List ℕ). Reads (at budget gl work) (placed_from n bs ++ xs) (d.entries ++ more) end) (sym (append-nil (piece_bytes (NoRun gl) (primary byte))))
     (primary_shifted budget gl work byte n xs (d.entries ++ more) end (λ k. primary_in_gl budget work byte d graphic by k xs more end behind))
 
 -- a character of the DRCS, which is in G3 for that time alone
@@ -89,19 +89,19 @@ unfolding row_of number_rows set_rows with_set
 designates_mosaic gl = designation refl refl
 
 drcs_spelled : (gl : GSet) (byte : ℕ) → IsGraphic byte → Spells (third gl) (0x1D ∷ byte ∷ []) (code.Char chars.Drcs byte) (third gl)
-unfolding plain_code
+unfolding non_pdi_code
 drcs_spelled gl byte graphic = single_shift3 graphic refl
 
-pub drcs_acts : (budget : ℕ) (gl : GSet) (work : Work) (byte : ℕ) (d : Drawn) → IsGraphic byte → code_rule work (code.Char chars.Drcs byte) ≡ Ok d →
+pub drcs_acts : (budget : ℕ) (gl : GSet) (work : Work) (byte : ℕ) (d : RuleResult) → IsGraphic byte → code_rule work (code.Char chars.Drcs byte) ≡ Ok d →
     Acts budget gl work (char_piece chars.Drcs byte ∷ []) d.entries d.work
-unfolding written tail_after placed_from walk
+unfolding pieces_bytes text_end_after placed_from walk
 drcs_acts budget gl work byte d graphic by n xs more end anew behind =
     let fourth : ℕ = suc (suc (suc n)) in
     let sixth : ℕ = suc (suc fourth) in
     let closing : List Placed = placed_from sixth (0x1B ∷ 0x2B ∷ 0x7D ∷ []) ++ xs in
     let shown : List Placed = placed_from fourth (0x1D ∷ byte ∷ []) ++ closing in
-    let closed = code_reads budget (third gl) d.work sixth (0x1B ∷ 0x2B ∷ []) 0x7D (code.Designated 3 code_sets.Mosaic) (sets_with gl) (drawn d.work []) xs more end
+    let closed = code_reads budget (third gl) d.work sixth (0x1B ∷ 0x2B ∷ []) 0x7D (code.Designated 3 code_sets.Mosaic) (sets_with gl) (rule_result d.work []) xs more end
     tt (designates_mosaic gl) refl behind in
     let drew = code_reads budget (third gl) work fourth (0x1D ∷ []) byte (code.Char chars.Drcs byte) (third gl) d closing more end tt (drcs_spelled gl byte graphic) by closed in
-    code_reads budget (sets_with gl) work n (0x1B ∷ 0x2B ∷ []) 0x7B (code.Designated 3 code_sets.Drcs) (third gl) (drawn work []) shown (d.entries ++ more) end
+    code_reads budget (sets_with gl) work n (0x1B ∷ 0x2B ∷ []) 0x7B (code.Designated 3 code_sets.Drcs) (third gl) (rule_result work []) shown (d.entries ++ more) end
     tt (designates_drcs gl) refl drew

@@ -9,7 +9,7 @@ use Rattle.nap_codes.specs.Spelling.{Spells}
 use Rattle.nap_codes.proofs.PublicLaws.{whole_is_spelled}
 use Rattle.nap_list.specs.declared.entry.Entry.{Entry}
 use Rattle.nap_draw.specs.Codes.{code_rule}
-use Rattle.nap_draw.specs.Rule.{Drawn}
+use Rattle.nap_draw.specs.Rule.{RuleResult}
 use Rattle.nap_draw.specs.declared.work.Work.{Work}
 use Rattle.nap_reader.specs.Laws.{IsAlone}
 use Rattle.nap_reader.specs.Stream.{Placed, Machine, bytes_of, after_drawing, drawn_front, front, placed_from}
@@ -26,7 +26,7 @@ spelled_front sets before last c after spells =
     (whole_is_spelled sets bytes c (length before + 1) after).1 (omega (arith, size), subst (λ (bs : List ℕ). Spells sets bs c after) all spells)
 
 -- a code, and what is behind it
-pub code_reads : (budget : ℕ) (sets : CodeSets) (work : Work) (n : ℕ) (before : List ℕ) (last : ℕ) (c : Code) (after : CodeSets) (d : Drawn) (xs : List Placed) (more : List Entry) (end : Machine) →
+pub code_reads : (budget : ℕ) (sets : CodeSets) (work : Work) (n : ℕ) (before : List ℕ) (last : ℕ) (c : Code) (after : CodeSets) (d : RuleResult) (xs : List Placed) (more : List Entry) (end : Machine) →
     IsAlone c → Spells sets (before ++ last ∷ []) c after → code_rule work c ≡ Ok d →
     Reads (standing budget after d.work) xs more end → Reads (standing budget sets work) (placed_from n (before ++ last ∷ []) ++ xs) (d.entries ++ more) end
 unfolding placed_from

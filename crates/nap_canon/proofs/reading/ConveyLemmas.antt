@@ -20,14 +20,14 @@ use Rattle.nap_list.specs.State.{walk}
 use Rattle.nap_draw.specs.declared.work.Work.{Work}
 use Rattle.nap_draw.specs.Codes.{code_rule}
 use Rattle.nap_draw.specs.Limits.{run_limit}
-use Rattle.nap_draw.specs.Rule.{Drawn, drawn, rule}
+use Rattle.nap_draw.specs.Rule.{RuleResult, rule_result, rule}
 use Rattle.nap_reader.specs.Laws.{IsAlone}
-use Rattle.nap_canon.specs.declared.tail.Tail.{Tail}
-use Rattle.nap_canon.specs.declared.tail.Tail.TheVariants.{Apart}
+use Rattle.nap_canon.specs.declared.text_end.TextEnd.{TextEnd}
+use Rattle.nap_canon.specs.declared.text_end.TextEnd.TheVariants.{NoRun}
 use Rattle.nap_canon.specs.Laws.{text_lengths}
-use Rattle.nap_canon.specs.Plain.{IsPlainCode, ComesBehind}
+use Rattle.nap_canon.specs.Plain.{IsPlainCode, MayFollowCode}
 use Rattle.nap_canon.specs.Spelling.{Piece, opcode, primary, control, char_piece, domain, word_byte}
-use Rattle.nap_canon.specs.Text.{gl_of, tail_after}
+use Rattle.nap_canon.specs.Text.{gl_of, text_end_after}
 use Rattle.nap_canon.proofs.reading.AloneLemmas.{alone_acts, primary_acts, drcs_acts}
 use Rattle.nap_canon.proofs.spelling.OperandLemmas.{AreOperands, no_bytes, no_moves, word_bytes}
 use Rattle.nap_canon.proofs.reading.PieceLemmas.{Acts, Begins, Names, sets_with, gl_after, acts_nothing, acts_behind, opcode_acts}
@@ -39,13 +39,13 @@ names byte op is = (whole_is_spelled (sets_with G1) (byte ∷ []) (code.Op op) 1
 -- one piece
 pub data Conveys (work : Work) : Piece → List Entry → Work → Type 0 where
   -- an opcode with so many bytes of operands
-  by_opcode : (byte : ℕ) (op : Opcode) (bytes : List ℕ) (size : ℕ) (d : Drawn) → IsOpcode byte op → AreOperands bytes size → size ≤ run_limit →
-      ((rest : List Code) → ComesBehind (code.Op op) (operand_codes bytes ++ rest)) → rule work op (words_of bytes) ≡ Ok d → Conveys work (opcode byte bytes) d.entries d.work
+  by_opcode : (byte : ℕ) (op : Opcode) (bytes : List ℕ) (size : ℕ) (d : RuleResult) → IsOpcode byte op → AreOperands bytes size → size ≤ run_limit →
+      ((rest : List Code) → MayFollowCode (code.Op op) (operand_codes bytes ++ rest)) → rule work op (words_of bytes) ≡ Ok d → Conveys work (opcode byte bytes) d.entries d.work
   -- a control, which is the same whatever is in GL
-  by_control : (byte : ℕ) (bytes : List ℕ) (c : Code) (d : Drawn) → byte < 32 → IsAlone c → IsPlainCode c →
+  by_control : (byte : ℕ) (bytes : List ℕ) (c : Code) (d : RuleResult) → byte < 32 → IsAlone c → IsPlainCode c →
       ((gl : GSet) → Spells (sets_with gl) (byte ∷ bytes) c (sets_with gl)) → code_rule work c ≡ Ok d → Conveys work (control (byte ∷ bytes)) d.entries d.work
-  by_primary : (byte : ℕ) (d : Drawn) → IsGraphic byte → code_rule work (code.Char chars.Primary byte) ≡ Ok d → Conveys work (primary byte) d.entries d.work
-  by_drcs : (byte : ℕ) (d : Drawn) → IsGraphic byte → code_rule work (code.Char chars.Drcs byte) ≡ Ok d → Conveys work (char_piece chars.Drcs byte) d.entries d.work
+  by_primary : (byte : ℕ) (d : RuleResult) → IsGraphic byte → code_rule work (code.Char chars.Primary byte) ≡ Ok d → Conveys work (primary byte) d.entries d.work
+  by_drcs : (byte : ℕ) (d : RuleResult) → IsGraphic byte → code_rule work (code.Char chars.Drcs byte) ≡ Ok d → Conveys work (char_piece chars.Drcs byte) d.entries d.work
 
 piece_acts : (budget : ℕ) (gl : GSet) (work : Work) (p : Piece) (es : List Entry) (left : Work) → Conveys work p es left → Acts budget gl work (p ∷ []) es left
 piece_acts budget gl work p es left (by_opcode byte op bytes size d is are few comes by) =
@@ -54,17 +54,17 @@ piece_acts budget gl work p es left (by_control byte bytes c d below alone plain
 piece_acts budget gl work p es left (by_primary byte d graphic by) = primary_acts budget gl work byte d graphic by
 piece_acts budget gl work p es left (by_drcs byte d graphic by) = drcs_acts budget gl work byte d graphic by
 
-alone_comes : (c : Code) → IsAlone c → (rest : List Code) → ComesBehind c rest
+alone_comes : (c : Code) → IsAlone c → (rest : List Code) → MayFollowCode c rest
 alone_comes (code.Op op) alone rest = absurd alone
 alone_comes _ alone rest = tt
 
-piece_plain : (t : Tail) (work : Work) (p : Piece) (es : List Entry) (left : Work) → Conveys work p es left → PlainlySpelled t (p ∷ [])
+piece_plain : (t : TextEnd) (work : Work) (p : Piece) (es : List Entry) (left : Work) → Conveys work p es left → PlainlySpelled t (p ∷ [])
 piece_plain t work p es left (by_opcode byte op bytes size d is are few comes by) = opcode_plain t byte op bytes is are.carriers comes
 piece_plain t work p es left (by_control byte bytes c d below alone plain spells by) = control_plain t (byte ∷ bytes) c (spells (gl_of t)) plain (alone_comes c alone)
 piece_plain t work p es left (by_primary byte d graphic by) = primary_plain t byte graphic
 piece_plain t work p es left (by_drcs byte d graphic by) = drcs_plain t byte graphic
 
-piece_begins : (t : Tail) (work : Work) (p : Piece) (ps : List Piece) (es : List Entry) (left : Work) → Conveys work p es left → Begins t (p ∷ ps)
+piece_begins : (t : TextEnd) (work : Work) (p : Piece) (ps : List Piece) (es : List Entry) (left : Work) → Conveys work p es left → Begins t (p ∷ ps)
 piece_begins t work p ps es left (by_opcode byte op bytes size d is are few comes by) = is.3
 piece_begins t work p ps es left (by_control byte bytes c d below alone plain spells by) = below
 piece_begins t work p ps es left (by_primary byte d graphic by) = tt
@@ -74,7 +74,7 @@ piece_begins t work p ps es left (by_drcs byte d graphic by) = omega arith
 pub data ConveyAll : Work → List Piece → List Entry → Work → Type 0 where
   nothing : {work : Work} → ConveyAll work [] [] work
   next : {work between left : Work} {p : Piece} {ps : List Piece} {es fs : List Entry} → Conveys work p es between → ConveyAll between ps fs left → ConveyAll work (p ∷ ps) (es ++ fs) left
-  resets : {work : Work} (first second : ℕ) (d : Drawn) → IsWord first → IsWord second → rule work opcodes.Reset (words_of (word_byte first ∷ word_byte second ∷ [])) ≡ Ok d →
+  resets : {work : Work} (first second : ℕ) (d : RuleResult) → IsWord first → IsWord second → rule work opcodes.Reset (words_of (word_byte first ∷ word_byte second ∷ [])) ≡ Ok d →
       ConveyAll work (opcode 0x20 (word_byte first ∷ word_byte second ∷ []) ∷ domain [] ∷ []) (d.entries ++ []) (record d.work { domain = text_lengths })
 
 is_reset : IsOpcode 0x20 opcodes.Reset
@@ -85,7 +85,7 @@ is_reset = (refl, refl, tt, omega arith)
 pub lengths_convey : (work : Work) → Conveys work (domain []) [] (record work { domain = text_lengths })
 unfolding row_of opcode_rows left_out_opcode walk
 lengths_convey work =
-    by_opcode 0x21 opcodes.Domain (0x5F ∷ []) 1 (drawn (record work { domain = text_lengths }) []) (refl, refl, tt, omega arith)
+    by_opcode 0x21 opcodes.Domain (0x5F ∷ []) 1 (rule_result (record work { domain = text_lengths }) []) (refl, refl, tt, omega arith)
     (word_bytes 31 [] 0 (omega arith) no_bytes) (omega arith) (λ rest. refl) (rw no_moves refl)
 
 -- They begin so behind any tail, unless there are none, which convey nothing.
@@ -95,15 +95,15 @@ nothing_conveyed work ps es left nothing none = refl
 nothing_conveyed work ps es left (next c more) none = let bad : ⊥ = cc in absurd bad
 nothing_conveyed work ps es left (resets first second d one two by) none = let bad : ⊥ = cc in absurd bad
 
-pub convey_begin : (t : Tail) (rest : List Piece) (work : Work) (ps : List Piece) (es : List Entry) (left : Work) → ConveyAll work ps es left → (ps ≡ [] → Begins t rest) →
+pub convey_begin : (t : TextEnd) (rest : List Piece) (work : Work) (ps : List Piece) (es : List Entry) (left : Work) → ConveyAll work ps es left → (ps ≡ [] → Begins t rest) →
     Begins t (ps ++ rest)
 convey_begin t rest work ps es left nothing begins = begins refl
 convey_begin t rest work ps es left (next {between = between} {p = p} {ps = qs} {es = ds} c more) begins = piece_begins t work p (qs ++ rest) ds between c
 convey_begin t rest work ps es left (resets first second d one two by) begins = is_reset.3
 
 -- they leave no run
-pub convey_end : (gl : GSet) (work : Work) (ps : List Piece) (es : List Entry) (left : Work) → ConveyAll work ps es left → tail_after (Apart gl) ps ≡ Apart (gl_after gl ps)
-unfolding tail_after
+pub convey_end : (gl : GSet) (work : Work) (ps : List Piece) (es : List Entry) (left : Work) → ConveyAll work ps es left → text_end_after (NoRun gl) ps ≡ NoRun (gl_after gl ps)
+unfolding text_end_after
 convey_end gl work ps es left nothing = refl
 convey_end gl work ps es left (next {between = between} {ps = qs} {fs = fs} (by_opcode byte op bytes size d is are few comes by) more) = convey_end G1 between qs fs left more
 convey_end gl work ps es left (next {between = between} {ps = qs} {fs = fs} (by_control byte bytes c d below alone plain spells by) more) = convey_end gl between qs fs left more
@@ -112,10 +112,10 @@ convey_end gl work ps es left (next {between = between} {ps = qs} {fs = fs} (by_
 convey_end gl work ps es left (resets first second d one two by) = refl
 
 pub convey_act : (budget : ℕ) (gl : GSet) (work : Work) (ps : List Piece) (es : List Entry) (left : Work) → ConveyAll work ps es left → Acts budget gl work ps es left
-unfolding tail_after
+unfolding text_end_after
 convey_act budget gl work ps es left nothing = acts_nothing budget gl work
 convey_act budget gl work ps es left (next {between = between} {p = p} {ps = qs} {es = ds} {fs = fs} c more) =
-    let t : Tail = tail_after (Apart gl) (p ∷ []) in
+    let t : TextEnd = text_end_after (NoRun gl) (p ∷ []) in
     acts_behind budget gl (p ∷ []) qs work between left ds fs (subst (Begins t) (append-nil qs) (convey_begin t [] between qs fs left more (λ none. tt)))
     (piece_acts budget gl work p ds between c) (convey_act budget (gl_after gl (p ∷ [])) between qs fs left more)
 convey_act budget gl work ps es left (resets first second d one two by) =
@@ -125,8 +125,8 @@ convey_act budget gl work ps es left (resets first second d one two by) =
     (opcode_acts budget gl work 0x20 bytes opcodes.Reset d (names 0x20 opcodes.Reset is_reset) are.carriers (omega (arith, are.size_is)) by)
     (piece_acts budget G1 d.work (domain []) [] left (lengths_convey d.work))
 
-pub convey_plain : (t : Tail) (work : Work) (ps : List Piece) (es : List Entry) (left : Work) → ConveyAll work ps es left → PlainlySpelled t ps
+pub convey_plain : (t : TextEnd) (work : Work) (ps : List Piece) (es : List Entry) (left : Work) → ConveyAll work ps es left → PlainlySpelled t ps
 convey_plain t work ps es left nothing = nothing_plain t
 convey_plain t work ps es left (next {between = between} {p = p} {ps = qs} {es = ds} {fs = fs} c more) =
-    behind_plain t (p ∷ []) qs (piece_plain t work p ds between c) (convey_plain (tail_after t (p ∷ [])) between qs fs left more)
+    behind_plain t (p ∷ []) qs (piece_plain t work p ds between c) (convey_plain (text_end_after t (p ∷ [])) between qs fs left more)
 convey_plain t work ps es left (resets first second d one two by) = reset_plain t first second one two

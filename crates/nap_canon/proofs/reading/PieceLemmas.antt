@@ -16,14 +16,14 @@ use Rattle.nap_codes.specs.Front as codes
 use Rattle.nap_list.specs.declared.entry.Entry.{Entry}
 use Rattle.nap_list.specs.State.{walk}
 use Rattle.nap_draw.specs.declared.work.Work.{Work}
-use Rattle.nap_draw.specs.Rule.{Drawn, rule, drawn}
+use Rattle.nap_draw.specs.Rule.{RuleResult, rule, rule_result}
 use Rattle.nap_draw.specs.Limits.{run_limit}
 use Rattle.nap_reader.specs.Stream.{Placed, Machine, is_operand_byte, placed_from}
 use Rattle.nap_canon.specs.Spelling.{Piece, opcode, group, primary, control}
-use Rattle.nap_canon.specs.declared.tail.Tail.{Tail}
-use Rattle.nap_canon.specs.declared.tail.Tail.TheVariants.{Apart}
-use Rattle.nap_canon.specs.Text.{gl_of, is_joined, piece_bytes, written, tail_after}
-use Rattle.nap_canon.specs.TextParts.{written-append, tail_after-append}
+use Rattle.nap_canon.specs.declared.text_end.TextEnd.{TextEnd}
+use Rattle.nap_canon.specs.declared.text_end.TextEnd.TheVariants.{NoRun}
+use Rattle.nap_canon.specs.Text.{gl_of, joins_open_run, piece_bytes, pieces_bytes, text_end_after}
+use Rattle.nap_canon.specs.TextParts.{pieces_bytes-append, text_end_after-append}
 use Rattle.nap_canon.proofs.reading.PlacedLemmas.{words_of-placed, placed_from-append, spelled_run}
 use Rattle.nap_canon.proofs.reading.CodeLemmas.{code_reads}
 use Rattle.nap_canon.proofs.reading.ReadLemmas.{standing, Reads, BeginsAnew, reads_run}
@@ -38,19 +38,19 @@ at budget gl work = standing budget (sets_with gl) work
 
 -- the set in GL behind pieces that stand behind no run, where this one was in GL
 abbrev pub gl_after : GSet → List Piece → GSet
-gl_after gl ps = gl_of (tail_after (Apart gl) ps)
+gl_after gl ps = gl_of (text_end_after (NoRun gl) ps)
 
 -- Pieces that stand behind no run are read as these entries, and leave this work. Where G1 is in GL behind them, no operand byte may come first there.
 abbrev pub Acts : ℕ → GSet → Work → List Piece → List Entry → Work → Type 0
 Acts budget gl work ps es left = (n : ℕ) (xs : List Placed) (more : List Entry) (end : Machine) →
     (gl_after gl ps ≡ G1 → BeginsAnew xs) → Reads (at budget (gl_after gl ps) left) xs more end →
-    Reads (at budget gl work) (placed_from n (written (Apart gl) ps) ++ xs) (es ++ more) end
+    Reads (at budget gl work) (placed_from n (pieces_bytes (NoRun gl) ps) ++ xs) (es ++ more) end
 
 -- behind this tail the pieces join no run, and no operand byte comes first in their bytes where G1 is in GL
-abbrev pub Begins : Tail → List Piece → Type 0
+abbrev pub Begins : TextEnd → List Piece → Type 0
 Begins t [] = ⊤
 Begins t (opcode byte operands ∷ ps) = byte < 64
-Begins t (group byte operands ∷ ps) = (is_joined t byte (length operands) ≡ false) × (byte < 64)
+Begins t (group byte operands ∷ ps) = (joins_open_run t byte (length operands) ≡ false) × (byte < 64)
 Begins t (primary code ∷ ps) = ⊤
 Begins t (control [] ∷ ps) = ⊥
 Begins t (control (byte ∷ bytes) ∷ ps) = byte < 32
@@ -58,9 +58,9 @@ Begins t (control (byte ∷ bytes) ∷ ps) = byte < 32
 no_operand : (byte : ℕ) → byte < 64 → is_operand_byte byte ≡ false
 no_operand byte below = grind (arith, nat_tests)
 
-begins_anew : (n : ℕ) (t : Tail) (ps : List Piece) (xs : List Placed) → Begins t ps → (gl_after G1 ps ≡ G1 → BeginsAnew xs) →
-    BeginsAnew (placed_from n (written (Apart G1) ps) ++ xs)
-unfolding written tail_after placed_from
+begins_anew : (n : ℕ) (t : TextEnd) (ps : List Piece) (xs : List Placed) → Begins t ps → (gl_after G1 ps ≡ G1 → BeginsAnew xs) →
+    BeginsAnew (placed_from n (pieces_bytes (NoRun G1) ps) ++ xs)
+unfolding pieces_bytes text_end_after placed_from
 begins_anew n t [] xs begins behind = behind refl
 begins_anew n t (opcode byte operands ∷ ps) xs begins behind = no_operand byte begins
 begins_anew n t (group byte operands ∷ ps) xs begins behind = no_operand byte begins.1
@@ -70,16 +70,16 @@ begins_anew n t (control (byte ∷ bytes) ∷ ps) xs begins behind = no_operand 
 
 -- Pieces that join no run are written as they are behind none.
 
-pub written_apart : (t : Tail) (ps : List Piece) → Begins t ps → written t ps ≡ written (Apart (gl_of t)) ps
-unfolding written
+pub written_apart : (t : TextEnd) (ps : List Piece) → Begins t ps → pieces_bytes t ps ≡ pieces_bytes (NoRun (gl_of t)) ps
+unfolding pieces_bytes
 written_apart t [] begins = refl
 written_apart t (opcode byte operands ∷ ps) begins = refl
 written_apart t (group byte operands ∷ ps) begins = rw begins.0 refl
 written_apart t (primary code ∷ ps) begins = refl
 written_apart t (control bytes ∷ ps) begins = refl
 
-pub gl_apart : (t : Tail) (ps : List Piece) → Begins t ps → gl_of (tail_after t ps) ≡ gl_after (gl_of t) ps
-unfolding tail_after
+pub gl_apart : (t : TextEnd) (ps : List Piece) → Begins t ps → gl_of (text_end_after t ps) ≡ gl_after (gl_of t) ps
+unfolding text_end_after
 gl_apart t [] begins = refl
 gl_apart t (opcode byte operands ∷ ps) begins = refl
 gl_apart t (group byte operands ∷ ps) begins = rw begins.0 refl
@@ -88,32 +88,32 @@ gl_apart t (control bytes ∷ ps) begins = refl
 
 -- no pieces
 pub acts_nothing : (budget : ℕ) (gl : GSet) (work : Work) → Acts budget gl work [] [] work
-unfolding written tail_after placed_from
+unfolding pieces_bytes text_end_after placed_from
 acts_nothing budget gl work n xs more end anew behind = behind
 
 -- pieces behind others
-pub acts_behind : (budget : ℕ) (gl : GSet) (ps qs : List Piece) (work between left : Work) (es fs : List Entry) → Begins (tail_after (Apart gl) ps) qs →
+pub acts_behind : (budget : ℕ) (gl : GSet) (ps qs : List Piece) (work between left : Work) (es fs : List Entry) → Begins (text_end_after (NoRun gl) ps) qs →
     Acts budget gl work ps es between → Acts budget (gl_after gl ps) between qs fs left → Acts budget gl work (ps ++ qs) (es ++ fs) left
 acts_behind budget gl ps qs work between left es fs begins first second n xs more end anew behind =
-    let t : Tail = tail_after (Apart gl) ps in
+    let t : TextEnd = text_end_after (NoRun gl) ps in
     let mid : GSet = gl_after gl ps in
-    let next : ℕ = n + length (written (Apart gl) ps) in
-    let rest : List Placed = placed_from next (written (Apart mid) qs) ++ xs in
+    let next : ℕ = n + length (pieces_bytes (NoRun gl) ps) in
+    let rest : List Placed = placed_from next (pieces_bytes (NoRun mid) qs) ++ xs in
     let whole : GSet = gl_after gl (ps ++ qs) in
-    let sets : whole ≡ gl_after mid qs = ap gl_of (tail_after-append (Apart gl) ps qs) ∙ gl_apart t qs begins in
+    let sets : whole ≡ gl_after mid qs = ap gl_of (text_end_after-append (NoRun gl) ps qs) ∙ gl_apart t qs begins in
     let last : gl_after mid qs ≡ G1 → BeginsAnew xs = λ is. anew (sets ∙ is) in
-    let tail : Reads (at budget mid between) rest (fs ++ more) end =
+    let text_end : Reads (at budget mid between) rest (fs ++ more) end =
     second next xs more end last (subst (λ (s : GSet). Reads (at budget s left) xs more end) sets behind) in
     let opens : mid ≡ G1 → BeginsAnew rest =
-    λ is. subst (λ (s : GSet). BeginsAnew (placed_from next (written (Apart s) qs) ++ xs)) (sym is)
+    λ is. subst (λ (s : GSet). BeginsAnew (placed_from next (pieces_bytes (NoRun s) qs) ++ xs)) (sym is)
     (begins_anew next t qs xs begins (λ e. last (ap (λ (s : GSet). gl_after s qs) is ∙ e))) in
-    let parts : placed_from n (written (Apart gl) (ps ++ qs)) ++ xs ≡ placed_from n (written (Apart gl) ps) ++ rest =
-    ap (λ (bs : List ℕ). placed_from n bs ++ xs) (written-append (Apart gl) ps qs ∙ ap (λ (bs : List ℕ). written (Apart gl) ps ++ bs) (written_apart t qs begins))
-    ∙ ap (λ (ys : List Placed). ys ++ xs) (placed_from-append n (written (Apart gl) ps) (written (Apart mid) qs))
-    ∙ append_assoc (placed_from n (written (Apart gl) ps)) (placed_from next (written (Apart mid) qs)) xs in
+    let parts : placed_from n (pieces_bytes (NoRun gl) (ps ++ qs)) ++ xs ≡ placed_from n (pieces_bytes (NoRun gl) ps) ++ rest =
+    ap (λ (bs : List ℕ). placed_from n bs ++ xs) (pieces_bytes-append (NoRun gl) ps qs ∙ ap (λ (bs : List ℕ). pieces_bytes (NoRun gl) ps ++ bs) (written_apart t qs begins))
+    ∙ ap (λ (ys : List Placed). ys ++ xs) (placed_from-append n (pieces_bytes (NoRun gl) ps) (pieces_bytes (NoRun mid) qs))
+    ∙ append_assoc (placed_from n (pieces_bytes (NoRun gl) ps)) (placed_from next (pieces_bytes (NoRun mid) qs)) xs in
     subst (λ (ys : List Placed). Reads (at budget gl work) ys ((es ++ fs) ++ more) end) (sym parts)
-    (subst (λ (ds : List Entry). Reads (at budget gl work) (placed_from n (written (Apart gl) ps) ++ rest) ds end) (sym (append_assoc es fs more))
-    (first n rest (fs ++ more) end opens tail))
+    (subst (λ (ds : List Entry). Reads (at budget gl work) (placed_from n (pieces_bytes (NoRun gl) ps) ++ rest) ds end) (sym (append_assoc es fs more))
+    (first n rest (fs ++ more) end opens text_end))
 
 -- an opcode with its operands
 
@@ -121,7 +121,7 @@ acts_behind budget gl ps qs work between left es fs begins first second n xs mor
 abbrev pub Names : ℕ → Opcode → Type 0
 Names byte op = codes.front (sets_with G1) (byte ∷ []) ≡ codes.whole (code.Op op) 1 (sets_with G1)
 
-opcode_in_gl : (budget : ℕ) (work : Work) (byte : ℕ) (operands : List ℕ) (op : Opcode) (d : Drawn) → Names byte op → All IsOperandByte operands →
+opcode_in_gl : (budget : ℕ) (work : Work) (byte : ℕ) (operands : List ℕ) (op : Opcode) (d : RuleResult) → Names byte op → All IsOperandByte operands →
     length operands ≤ run_limit → rule work op (spellings.words_of operands) ≡ Ok d →
     (n : ℕ) (xs : List Placed) (more : List Entry) (end : Machine) → BeginsAnew xs → Reads (at budget G1 d.work) xs more end →
     Reads (at budget G1 work) (placed_from n (byte ∷ operands) ++ xs) (d.entries ++ more) end
@@ -136,28 +136,28 @@ shifts_out : (budget : ℕ) (gl : GSet) (work : Work) (n : ℕ) (xs : List Place
     Reads (at budget G1 work) xs es end → Reads (at budget gl work) (placed_from n (0x0E ∷ []) ++ xs) es end
 unfolding walk
 shifts_out budget gl work n xs es end behind =
-    code_reads budget (sets_with gl) work n [] 0x0E code.Shifted (sets_with G1) (drawn work []) xs es end tt shift_out refl behind
+    code_reads budget (sets_with gl) work n [] 0x0E code.Shifted (sets_with G1) (rule_result work []) xs es end tt shift_out refl behind
 
 -- the opcode where its set may have to be shifted in
 shifted_in : (budget : ℕ) (gl : GSet) (work : Work) (byte : ℕ) (operands : List ℕ) (n : ℕ) (xs : List Placed) (es : List Entry) (end : Machine) →
     ((k : ℕ) → Reads (at budget G1 work) (placed_from k (byte ∷ operands) ++ xs) es end) →
-    Reads (at budget gl work) (placed_from n (piece_bytes (Apart gl) (opcode byte operands)) ++ xs) es end
+    Reads (at budget gl work) (placed_from n (piece_bytes (NoRun gl) (opcode byte operands)) ++ xs) es end
 unfolding placed_from
 shifted_in budget G1 work byte operands n xs es end read = read n
 shifted_in budget G0 work byte operands n xs es end read = shifts_out budget G0 work n (placed_from (suc n) (byte ∷ operands) ++ xs) es end (read (suc n))
 shifted_in budget G2 work byte operands n xs es end read = shifts_out budget G2 work n (placed_from (suc n) (byte ∷ operands) ++ xs) es end (read (suc n))
 shifted_in budget G3 work byte operands n xs es end read = shifts_out budget G3 work n (placed_from (suc n) (byte ∷ operands) ++ xs) es end (read (suc n))
 
-pub opcode_acts : (budget : ℕ) (gl : GSet) (work : Work) (byte : ℕ) (operands : List ℕ) (op : Opcode) (d : Drawn) → Names byte op → All IsOperandByte operands →
+pub opcode_acts : (budget : ℕ) (gl : GSet) (work : Work) (byte : ℕ) (operands : List ℕ) (op : Opcode) (d : RuleResult) → Names byte op → All IsOperandByte operands →
     length operands ≤ run_limit → rule work op (spellings.words_of operands) ≡ Ok d → Acts budget gl work (opcode byte operands ∷ []) d.entries d.work
-unfolding written tail_after
+unfolding pieces_bytes text_end_after
 opcode_acts budget gl work byte operands op d names all few by n xs more end anew behind =
-    subst (λ (bs : List ℕ). Reads (at budget gl work) (placed_from n bs ++ xs) (d.entries ++ more) end) (sym (append-nil (piece_bytes (Apart gl) (opcode byte operands))))
+    subst (λ (bs : List ℕ). Reads (at budget gl work) (placed_from n bs ++ xs) (d.entries ++ more) end) (sym (append-nil (piece_bytes (NoRun gl) (opcode byte operands))))
     (shifted_in budget gl work byte operands n xs (d.entries ++ more) end
     (λ k. opcode_in_gl budget work byte operands op d names all few by k xs more end (anew refl) behind))
 
 -- a group of operands is written behind its opcode, where it stands behind no run
-pub group_acts : (budget : ℕ) (gl : GSet) (work : Work) (byte : ℕ) (operands : List ℕ) (op : Opcode) (d : Drawn) → Names byte op → All IsOperandByte operands →
+pub group_acts : (budget : ℕ) (gl : GSet) (work : Work) (byte : ℕ) (operands : List ℕ) (op : Opcode) (d : RuleResult) → Names byte op → All IsOperandByte operands →
     length operands ≤ run_limit → rule work op (spellings.words_of operands) ≡ Ok d → Acts budget gl work (group byte operands ∷ []) d.entries d.work
-unfolding written tail_after
+unfolding pieces_bytes text_end_after
 group_acts budget gl work byte operands op d names all few by = opcode_acts budget gl work byte operands op d names all few by

@@ -5,12 +5,12 @@ use Rattle.std.specs.Prelude.{⊤}
 use Rattle.nap_codes.specs.declared.code_set.CodeSets.{CodeSets}
 use Rattle.nap_codes.specs.declared.opcode.Opcode.{Opcode}
 use Rattle.nap_list.specs.declared.entry.Entry.{Entry}
-use Rattle.nap_draw.specs.Rule.{Drawn, rule}
+use Rattle.nap_draw.specs.Rule.{RuleResult, rule}
 use Rattle.nap_draw.specs.declared.fault.DrawFault.{DrawFault}
 use Rattle.nap_draw.specs.declared.work.Work.{Work}
 use Rattle.nap_reader.specs.Bodies.{no_names}
 use Rattle.nap_reader.specs.Course as course
-use Rattle.nap_reader.specs.Course.{prepend, paused, onward}
+use Rattle.nap_reader.specs.Course.{prepend, paused, outcome_by_front}
 use Rattle.nap_reader.specs.Laws.{IsRun}
 use Rattle.nap_reader.specs.Stream.{Placed, Machine, Outcome, Unfinished, nothing, open_run, words_of, is_operand, front, after_drawing, drawn_front, outcome_from, with_run, with_run_by, with_drawn, with_definition, with_end, placed_from, start_machine, means, ended, ended_by}
 use Rattle.nap_reader.proofs.PublicLaws.{front_after_front, run_acts, run_waits}
@@ -21,7 +21,7 @@ abbrev pub standing : ℕ → CodeSets → Work → Machine
 standing budget sets work = record (start_machine budget) { work = work; sets = sets }
 
 -- Where no macro is bound, clearing them changes nothing.
-pub stands_after : (budget : ℕ) (sets : CodeSets) (work : Work) (d : Drawn) → after_drawing (standing budget sets work) d ≡ standing budget sets d.work
+pub stands_after : (budget : ℕ) (sets : CodeSets) (work : Work) (d : RuleResult) → after_drawing (standing budget sets work) d ≡ standing budget sets d.work
 stands_after budget sets work d = by d.clears
   where
     by : (clears : Bool) → record (standing budget sets d.work) { names = cond clears no_names no_names } ≡ standing budget sets d.work
@@ -40,7 +40,7 @@ pub record Reads (m : Machine) (xs : List Placed) (es : List Entry) (after : Mac
 
 -- an open run acts behind whatever came before it
 
-with_drawn-prepend : (es : List Entry) (o : Outcome) (place : ℕ) (by : Result Drawn DrawFault) →
+with_drawn-prepend : (es : List Entry) (o : Outcome) (place : ℕ) (by : Result RuleResult DrawFault) →
     with_drawn (prepend es o) place by ≡ prepend es (with_drawn o place by)
 with_drawn-prepend es o place (Ok drawn) = rw append_assoc refl
 with_drawn-prepend es o place (Err fault) = refl
@@ -59,7 +59,7 @@ unfolding front
 nothing_read budget sets work =
     let m : Machine = standing budget sets work in
     let none : front m [] ≡ course.pause nothing = rw (no_front sets) refl in
-    front_after_front m [] ∙ ap (onward outcome_from m []) none
+    front_after_front m [] ∙ ap (outcome_by_front outcome_from m []) none
 
 pub reads_nothing : (budget : ℕ) (sets : CodeSets) (work : Work) → Reads (standing budget sets work) [] [] (standing budget sets work)
 reads_nothing budget sets work =
@@ -70,7 +70,7 @@ reads_nothing budget sets work =
 pub reads_act : (m : Machine) (xs : List Placed) (ds : List Entry) (next : Machine) (ys : List Placed) (es : List Entry) (after : Machine) →
     front m xs ≡ course.act ds next ys → Reads next ys es after → Reads m xs (ds ++ es) after
 reads_act m xs ds next ys es after e rest =
-    let is : outcome_from m xs ≡ prepend ds (outcome_from next ys) = front_after_front m xs ∙ ap (onward outcome_from m xs) e in
+    let is : outcome_from m xs ≡ prepend ds (outcome_from next ys) = front_after_front m xs ∙ ap (outcome_by_front outcome_from m xs) e in
     record {
       going = ap (λ (o : Outcome). o.refusal) is ∙ rest.going;
       acts = ap with_run is ∙ (with_run-prepend ds (outcome_from next ys) ∙ ap (prepend ds) rest.acts);
@@ -78,12 +78,12 @@ reads_act m xs ds next ys es after e rest =
 
 -- an opcode whose run reaches the end
 
-reads_last : (m : Machine) (x : Placed) (operands : List Placed) (op : Opcode) (drawn : Drawn) → IsRun m op x operands →
+reads_last : (m : Machine) (x : Placed) (operands : List Placed) (op : Opcode) (drawn : RuleResult) → IsRun m op x operands →
     rule m.work op (words_of operands) ≡ Ok drawn → Reads m (x ∷ operands) drawn.entries (after_drawing m drawn)
 reads_last m x operands op drawn run by =
     let waiting : Outcome = paused m (x ∷ operands) (Some (open_run op x.place (words_of operands))) in
     let is : outcome_from m (x ∷ operands) ≡ waiting =
-    front_after_front m (x ∷ operands) ∙ ap (onward outcome_from m (x ∷ operands)) (run_waits m op x operands run) in
+    front_after_front m (x ∷ operands) ∙ ap (outcome_by_front outcome_from m (x ∷ operands)) (run_waits m op x operands run) in
     record {
       going = ap (λ (o : Outcome). o.refusal) is;
       acts = ap with_run is ∙ ap (with_drawn waiting x.place) by;
@@ -95,7 +95,7 @@ BeginsAnew [] = ⊤
 BeginsAnew (x ∷ xs) = is_operand x ≡ false
 
 -- an opcode with its run, and what is behind it
-module _ (budget : ℕ) (sets : CodeSets) (work : Work) (x : Placed) (operands : List Placed) (op : Opcode) (drawn : Drawn) where
+module _ (budget : ℕ) (sets : CodeSets) (work : Work) (x : Placed) (operands : List Placed) (op : Opcode) (drawn : RuleResult) where
   abbrev here : Machine
   here = standing budget sets work
 

@@ -14,14 +14,14 @@ use Rattle.nap_list.specs.declared.state.State.{State}
 use Rattle.nap_list.specs.State.{after}
 use Rattle.nap_draw.specs.declared.work.Work.{Work}
 use Rattle.nap_draw.specs.Joining.{CanJoin, IsWhole}
-use Rattle.nap_draw.specs.Rule.{Drawn, rule}
+use Rattle.nap_draw.specs.Rule.{RuleResult, rule}
 use Rattle.nap_draw.proofs.PublicLaws.{runs_join}
 use Rattle.nap_draw.specs.Limits.{run_limit}
 use Rattle.nap_reader.specs.Stream.{placed_from}
-use Rattle.nap_canon.specs.declared.tail.Tail.{Tail}
-use Rattle.nap_canon.specs.declared.tail.Tail.TheVariants.{Apart, InRun}
+use Rattle.nap_canon.specs.declared.text_end.TextEnd.{TextEnd}
+use Rattle.nap_canon.specs.declared.text_end.TextEnd.TheVariants.{NoRun, InRun}
 use Rattle.nap_canon.specs.Spelling.{Piece, group}
-use Rattle.nap_canon.specs.Text.{gl_of, to_opcodes, is_joined, run_behind, written, tail_after}
+use Rattle.nap_canon.specs.Text.{gl_of, shift_to_opcodes, joins_open_run, run_after, pieces_bytes, text_end_after}
 use Rattle.nap_canon.proofs.spelling.CommandLemmas.{work_at}
 use Rattle.nap_canon.proofs.reading.ConveyLemmas.{names}
 use Rattle.nap_canon.proofs.spelling.HoldingLemmas.{holding, held_work}
@@ -32,25 +32,25 @@ use Rattle.nap_canon.proofs.spelling.StrokeLemmas.{Strokes}
 
 -- Two groups of which the second joins the first are written as one.
 
-module _ (gl : GSet) (byte : ℕ) (a b : List ℕ) (ps : List Piece) (joins : is_joined (InRun (run_behind (Apart gl) byte (length a))) byte (length b) ≡ true) where
-  tails_agree : InRun (run_behind (InRun (run_behind (Apart gl) byte (length a))) byte (length b)) ≡ InRun (run_behind (Apart gl) byte (length (a ++ b)))
+module _ (gl : GSet) (byte : ℕ) (a b : List ℕ) (ps : List Piece) (joins : joins_open_run (InRun (run_after (NoRun gl) byte (length a))) byte (length b) ≡ true) where
+  tails_agree : InRun (run_after (InRun (run_after (NoRun gl) byte (length a))) byte (length b)) ≡ InRun (run_after (NoRun gl) byte (length (a ++ b)))
   tails_agree =
-      let to : ℕ → Tail = λ n. InRun (record { opcode = byte; length = n }) in
+      let to : ℕ → TextEnd = λ n. InRun (record { opcode = byte; length = n }) in
       rw joins (ap to (sym (length-append a b)))
 
-  pub joined_bytes : written (Apart gl) (group byte a ∷ group byte b ∷ ps) ≡ written (Apart gl) (group byte (a ++ b) ∷ ps)
-  unfolding written
+  pub joined_bytes : pieces_bytes (NoRun gl) (group byte a ∷ group byte b ∷ ps) ≡ pieces_bytes (NoRun gl) (group byte (a ++ b) ∷ ps)
+  unfolding pieces_bytes
   joined_bytes =
-      let first : List ℕ = to_opcodes gl ++ byte ∷ a in
-      let t : Tail = InRun (run_behind (InRun (run_behind (Apart gl) byte (length a))) byte (length b)) in
-      let second : written (InRun (run_behind (Apart gl) byte (length a))) (group byte b ∷ ps) ≡ b ++ written t ps = rw joins refl in
-      ap (λ (bs : List ℕ). first ++ bs) (second ∙ ap (λ (u : Tail). b ++ written u ps) tails_agree)
-      ∙ sym (append_assoc first b (written (InRun (run_behind (Apart gl) byte (length (a ++ b)))) ps))
-      ∙ ap (λ (bs : List ℕ). bs ++ written (InRun (run_behind (Apart gl) byte (length (a ++ b)))) ps) (append_assoc (to_opcodes gl) (byte ∷ a) b)
+      let first : List ℕ = shift_to_opcodes gl ++ byte ∷ a in
+      let t : TextEnd = InRun (run_after (InRun (run_after (NoRun gl) byte (length a))) byte (length b)) in
+      let second : pieces_bytes (InRun (run_after (NoRun gl) byte (length a))) (group byte b ∷ ps) ≡ b ++ pieces_bytes t ps = rw joins refl in
+      ap (λ (bs : List ℕ). first ++ bs) (second ∙ ap (λ (u : TextEnd). b ++ pieces_bytes u ps) tails_agree)
+      ∙ sym (append_assoc first b (pieces_bytes (InRun (run_after (NoRun gl) byte (length (a ++ b)))) ps))
+      ∙ ap (λ (bs : List ℕ). bs ++ pieces_bytes (InRun (run_after (NoRun gl) byte (length (a ++ b)))) ps) (append_assoc (shift_to_opcodes gl) (byte ∷ a) b)
 
   pub joined_gl : gl_after gl (group byte a ∷ group byte b ∷ ps) ≡ gl_after gl (group byte (a ++ b) ∷ ps)
-  unfolding tail_after
-  joined_gl = ap (λ (u : Tail). gl_of (tail_after u ps)) tails_agree
+  unfolding text_end_after
+  joined_gl = ap (λ (u : TextEnd). gl_of (text_end_after u ps)) tails_agree
 
   pub joined_acts : (budget : ℕ) (work left : Work) (es : List Entry) → Acts budget gl work (group byte (a ++ b) ∷ ps) es left →
       Acts budget gl work (group byte a ∷ group byte b ∷ ps) es left
@@ -60,10 +60,10 @@ module _ (gl : GSet) (byte : ℕ) (a b : List ℕ) (ps : List Piece) (joins : is
 
 -- what joins a run is of its opcode, and has room in it
 
-pub same_opcode : (byte other n m : ℕ) → is_joined (InRun (record { opcode = byte; length = n })) other m ≡ true → other ≡ byte
+pub same_opcode : (byte other n m : ℕ) → joins_open_run (InRun (record { opcode = byte; length = n })) other m ≡ true → other ≡ byte
 same_opcode byte other n m joins = grind (arith, nat_tests)
 
-pub room_for : (byte n m : ℕ) → is_joined (InRun (record { opcode = byte; length = n })) byte m ≡ true → n + m ≤ run_limit
+pub room_for : (byte n m : ℕ) → joins_open_run (InRun (record { opcode = byte; length = n })) byte m ≡ true → n + m ≤ run_limit
 room_for byte n m joins = grind (arith, nat_tests)
 
 -- A run stands open, whose opcode has drawn these entries and leaves this work.
@@ -118,8 +118,8 @@ module _ (saved : OperandLengths) (s : State) (e : Entry) (o : Open (work_at sav
   pub more_draws : rule o.before o.op (words_of (o.operands ++ more))
       ≡ Ok (record { entries = o.entries ++ e ∷ []; work = work_at (saved_after saved e) (after s e); clears = false })
   more_draws =
-      let first : Drawn = record { entries = o.entries; work = work_at saved s; clears = false } in
-      let second : Drawn = record { entries = e ∷ []; work = work_at (saved_after saved e) (after s e); clears = false } in
+      let first : RuleResult = record { entries = o.entries; work = work_at saved s; clears = false } in
+      let second : RuleResult = record { entries = e ∷ []; work = work_at (saved_after saved e) (after s e); clears = false } in
       let next : rule (work_at saved s) o.op (words_of more) ≡ Ok second =
       ap (λ (t : State). rule (work_at saved t) o.op (words_of more)) (sym stands)
       ∙ ap (λ (op : Opcode). rule (held_work saved s e) op (words_of more)) (sym (named_once o.byte o.op k.op o.named (names o.byte k.op k.is)))

@@ -4,7 +4,7 @@ use Rattle.std.proofs.Common.{ℕ, ◌≡◌, ◌↔◌, List, Option, Some, Non
 use Rattle.std.specs.Prelude.{IsSome}
 use Rattle.nap_values.specs.Domains.{OperandLengths}
 use Rattle.nap_list.specs.declared.entry.Entry.{Entry}
-use Rattle.nap_list.specs.declared.state.Opened.{Opened}
+use Rattle.nap_list.specs.declared.state.OpenDefinition.{OpenDefinition}
 use Rattle.nap_list.specs.State.{start, walk}
 use Rattle.nap_draw.specs.Rule.{start_domain}
 use Rattle.nap_reader.specs.Stream.{Outcome}
@@ -28,7 +28,7 @@ text_is_read form budget es legal inside =
       uncharged = ap (λ (o : Outcome). o.machine.left) is;
     }
 
-saved_lengths : (saved : OperandLengths) (o : Option Opened) → SavesLengths saved o → IsSome o → saved ≡ text_lengths
+saved_lengths : (saved : OperandLengths) (o : Option OpenDefinition) → SavesLengths saved o → IsSome o → saved ≡ text_lengths
 saved_lengths saved (Some opened) h some = h
 saved_lengths saved None h never = let bad : ⊥ = cc in absurd bad
 

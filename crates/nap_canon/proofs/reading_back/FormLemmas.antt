@@ -14,37 +14,37 @@ use Rattle.nap_list.specs.declared.entry.Entry.{Entry}
 use Rattle.nap_list.specs.declared.entry.Entry.TheVariants as entries
 use Rattle.nap_list.specs.declared.state.Drawing.{Drawing}
 use Rattle.nap_list.specs.declared.state.State.{State}
-use Rattle.nap_list.specs.Entry.{held}
-use Rattle.nap_list.specs.State.{start, taking, after}
+use Rattle.nap_list.specs.Entry.{attributes}
+use Rattle.nap_list.specs.State.{start, with_attributes, after}
 use Rattle.nap_canon.specs.declared.command.Command.{Command}
 use Rattle.nap_canon.specs.declared.command.Command.TheVariants as commands
 use Rattle.nap_canon.specs.declared.form.Form.TheVariants.{One, Two}
-use Rattle.nap_canon.specs.declared.tail.Tail.{Tail}
-use Rattle.nap_canon.specs.Bring.{bring, bring_colour}
+use Rattle.nap_canon.specs.declared.text_end.TextEnd.{TextEnd}
+use Rattle.nap_canon.specs.Preludes.{prelude, colour_prelude}
 use Rattle.nap_canon.specs.Equality.{same_pen}
 use Rattle.nap_canon.specs.Laws.{FormsAgree}
-use Rattle.nap_canon.specs.Spelling.{Piece, opcode, group, primary, control, domain, char_piece, command_piece, line_piece, spelled}
-use Rattle.nap_canon.specs.Text.{gl_of, to_opcodes, is_joined, begun_tail, written, tail_behind, tail_after, entry_pieces, pieces, text}
-use Rattle.nap_canon.specs.TextParts.{written-append, tail_after-append}
+use Rattle.nap_canon.specs.Spelling.{Piece, opcode, group, primary, control, domain, char_piece, command_piece, line_piece, spelling_pieces}
+use Rattle.nap_canon.specs.Text.{gl_of, shift_to_opcodes, joins_open_run, text_end_after_header, pieces_bytes, text_end_after_piece, text_end_after, entry_pieces, pieces, text}
+use Rattle.nap_canon.specs.TextParts.{pieces_bytes-append, text_end_after-append}
 use Rattle.nap_canon.proofs.reading_back.CanonicalLaws.{text_is_read}
 
 -- written where the same set is in GL, the first pieces have no more bytes than the others, and leave the same set
 abbrev NoLonger : List Piece → List Piece → Type 0
-NoLonger ps qs = (t u : Tail) → gl_of t ≡ gl_of u → (length (written t ps) ≤ length (written u qs)) × (gl_of (tail_after t ps) ≡ gl_of (tail_after u qs))
+NoLonger ps qs = (t u : TextEnd) → gl_of t ≡ gl_of u → (length (pieces_bytes t ps) ≤ length (pieces_bytes u qs)) × (gl_of (text_end_after t ps) ≡ gl_of (text_end_after u qs))
 
 nothing_no_longer : NoLonger [] []
-unfolding written tail_after
+unfolding pieces_bytes text_end_after
 nothing_no_longer t u same = (omega arith, same)
 
 behind_no_longer : (ps qs more others : List Piece) → NoLonger ps qs → NoLonger more others → NoLonger (ps ++ more) (qs ++ others)
 behind_no_longer ps qs more others first second t u same =
     let one = first t u same in
-    let two = second (tail_after t ps) (tail_after u qs) one.1 in
-    let few : length (written t (ps ++ more)) ≡ length (written t ps) + length (written (tail_after t ps) more) =
-    ap length (written-append t ps more) ∙ length-append (written t ps) (written (tail_after t ps) more) in
-    let many : length (written u (qs ++ others)) ≡ length (written u qs) + length (written (tail_after u qs) others) =
-    ap length (written-append u qs others) ∙ length-append (written u qs) (written (tail_after u qs) others) in
-    (omega (arith, few, many, one.0, two.0), ap gl_of (tail_after-append t ps more) ∙ two.1 ∙ ap gl_of (sym (tail_after-append u qs others)))
+    let two = second (text_end_after t ps) (text_end_after u qs) one.1 in
+    let few : length (pieces_bytes t (ps ++ more)) ≡ length (pieces_bytes t ps) + length (pieces_bytes (text_end_after t ps) more) =
+    ap length (pieces_bytes-append t ps more) ∙ length-append (pieces_bytes t ps) (pieces_bytes (text_end_after t ps) more) in
+    let many : length (pieces_bytes u (qs ++ others)) ≡ length (pieces_bytes u qs) + length (pieces_bytes (text_end_after u qs) others) =
+    ap length (pieces_bytes-append u qs others) ∙ length-append (pieces_bytes u qs) (pieces_bytes (text_end_after u qs) others) in
+    (omega (arith, few, many, one.0, two.0), ap gl_of (text_end_after-append t ps more) ∙ two.1 ∙ ap gl_of (sym (text_end_after-append u qs others)))
 
 -- pieces of which none is a group
 abbrev NoGroup : List Piece → Type 0
@@ -60,11 +60,11 @@ no_group_behind (primary code ∷ ps) qs first second = no_group_behind ps qs fi
 no_group_behind (control bytes ∷ ps) qs first second = no_group_behind ps qs first second
 
 -- where the same set is in GL they are written alike
-same_bytes : (ps : List Piece) → NoGroup ps → (t u : Tail) → gl_of t ≡ gl_of u → (written t ps ≡ written u ps) × (gl_of (tail_after t ps) ≡ gl_of (tail_after u ps))
-unfolding written tail_after
+same_bytes : (ps : List Piece) → NoGroup ps → (t u : TextEnd) → gl_of t ≡ gl_of u → (pieces_bytes t ps ≡ pieces_bytes u ps) × (gl_of (text_end_after t ps) ≡ gl_of (text_end_after u ps))
+unfolding pieces_bytes text_end_after
 same_bytes [] none t u same = (refl, same)
 same_bytes (opcode byte operands ∷ ps) none t u same =
-    (ap (λ (gl : GSet). (to_opcodes gl ++ byte ∷ operands) ++ written (tail_behind t (opcode byte operands)) ps) same, refl)
+    (ap (λ (gl : GSet). (shift_to_opcodes gl ++ byte ∷ operands) ++ pieces_bytes (text_end_after_piece t (opcode byte operands)) ps) same, refl)
 same_bytes (group byte operands ∷ ps) none t u same = absurd none
 same_bytes (primary code ∷ ps) none t u same = rw same (refl, refl)
 same_bytes (control bytes ∷ ps) none t u same = rw same (refl, refl)
@@ -100,29 +100,29 @@ again_no_group true = tt
 again_no_group false = tt
 
 -- the first form has no groups
-spelled_no_group : (d : Drawing) (e : Entry) → NoGroup (spelled One d e)
+spelled_no_group : (d : Drawing) (e : Entry) → NoGroup (spelling_pieces One d e)
 spelled_no_group d (entries.Char set code hand) = char_no_group set code
 spelled_no_group d (entries.Map a grb) =
-    let cs : List Command = bring_colour d.base d.colour (Some (colours.Front a)) in
+    let cs : List Command = colour_prelude d.base d.colour (Some (colours.Front a)) in
     no_group_behind (map command_piece cs) (opcode 0x3C (grb_bytes grb) ∷ []) (commands_no_group cs) tt
 spelled_no_group d (entries.Reset first second pen) = again_no_group (first % 2 == 1)
 spelled_no_group d _ = tt
 
 -- a group has no more bytes than an opcode with as many operands or more
 group_no_longer : (byte other : ℕ) (operands more : List ℕ) → length operands ≤ length more → NoLonger (group byte operands ∷ []) (opcode other more ∷ [])
-unfolding written tail_after
-group_no_longer byte other operands more few t u same = (at (is_joined t byte (length operands)) refl, refl)
+unfolding pieces_bytes text_end_after
+group_no_longer byte other operands more few t u same = (at (joins_open_run t byte (length operands)) refl, refl)
   where
-    at : (joined : Bool) → is_joined t byte (length operands) ≡ joined → length (written t (group byte operands ∷ [])) ≤ length (written u (opcode other more ∷ []))
+    at : (joined : Bool) → joins_open_run t byte (length operands) ≡ joined → length (pieces_bytes t (group byte operands ∷ [])) ≤ length (pieces_bytes u (opcode other more ∷ []))
     at true is =
-        let mine : written t (group byte operands ∷ []) ≡ operands = rw is (append-nil operands) in
-        let theirs : written u (opcode other more ∷ []) ≡ to_opcodes (gl_of u) ++ other ∷ more = append-nil (to_opcodes (gl_of u) ++ other ∷ more) in
-        omega (arith, ap length mine, ap length theirs, length-append (to_opcodes (gl_of u)) (other ∷ more), few)
+        let mine : pieces_bytes t (group byte operands ∷ []) ≡ operands = rw is (append-nil operands) in
+        let theirs : pieces_bytes u (opcode other more ∷ []) ≡ shift_to_opcodes (gl_of u) ++ other ∷ more = append-nil (shift_to_opcodes (gl_of u) ++ other ∷ more) in
+        omega (arith, ap length mine, ap length theirs, length-append (shift_to_opcodes (gl_of u)) (other ∷ more), few)
     at false is =
-        let mine : written t (group byte operands ∷ []) ≡ to_opcodes (gl_of u) ++ byte ∷ operands =
-        rw is (append-nil (to_opcodes (gl_of t) ++ byte ∷ operands) ∙ ap (λ (gl : GSet). to_opcodes gl ++ byte ∷ operands) same) in
-        let theirs : written u (opcode other more ∷ []) ≡ to_opcodes (gl_of u) ++ other ∷ more = append-nil (to_opcodes (gl_of u) ++ other ∷ more) in
-        omega (arith, ap length mine, ap length theirs, length-append (to_opcodes (gl_of u)) (other ∷ more), length-append (to_opcodes (gl_of u)) (byte ∷ operands), few)
+        let mine : pieces_bytes t (group byte operands ∷ []) ≡ shift_to_opcodes (gl_of u) ++ byte ∷ operands =
+        rw is (append-nil (shift_to_opcodes (gl_of t) ++ byte ∷ operands) ∙ ap (λ (gl : GSet). shift_to_opcodes gl ++ byte ∷ operands) same) in
+        let theirs : pieces_bytes u (opcode other more ∷ []) ≡ shift_to_opcodes (gl_of u) ++ other ∷ more = append-nil (shift_to_opcodes (gl_of u) ++ other ∷ more) in
+        omega (arith, ap length mine, ap length theirs, length-append (shift_to_opcodes (gl_of u)) (other ∷ more), length-append (shift_to_opcodes (gl_of u)) (byte ∷ operands), few)
 
 line_no_longer : (pen : Pen) (from to : Coordinates) → NoLonger (line_piece Two pen from to ∷ []) (line_piece One pen from to ∷ [])
 line_no_longer pen from to = at (same_pen pen (pens.At from)) refl
@@ -131,17 +131,17 @@ line_no_longer pen from to = at (same_pen pen (pens.At from)) refl
     at true is = rw is (group_no_longer 0x28 0x2A (point_bytes to) (point_bytes from ++ point_bytes to) (omega (arith, length-append (point_bytes from) (point_bytes to))))
     at false is = rw is (group_no_longer 0x2A 0x2A (point_bytes from ++ point_bytes to) (point_bytes from ++ point_bytes to) (omega arith))
 
-spelled_no_longer : (d : Drawing) (e : Entry) → NoLonger (spelled Two d e) (spelled One d e)
+spelled_no_longer : (d : Drawing) (e : Entry) → NoLonger (spelling_pieces Two d e) (spelling_pieces One d e)
 spelled_no_longer d (entries.Point at pel colour) = group_no_longer 0x26 0x26 (point_bytes at) (point_bytes at) (omega arith)
 spelled_no_longer d (entries.Line from to ink) = line_no_longer d.pen from to
 spelled_no_longer d (entries.Rect filled from to ink) = group_no_longer _ _ _ _ (omega arith)
-spelled_no_longer d e = same_no_longer (spelled One d e) (spelled_no_group d e)
+spelled_no_longer d e = same_no_longer (spelling_pieces One d e) (spelled_no_group d e)
 
 entry_no_longer : (s : State) (e : Entry) → NoLonger (entry_pieces Two s e) (entry_pieces One s e)
 entry_no_longer s e =
-    let told : List Piece = map command_piece (bring s.drawing (held e)) in
-    let d : Drawing = taking s.drawing (held e) in
-    behind_no_longer told told (spelled Two d e) (spelled One d e) (same_no_longer told (commands_no_group (bring s.drawing (held e)))) (spelled_no_longer d e)
+    let told : List Piece = map command_piece (prelude s.drawing (attributes e)) in
+    let d : Drawing = with_attributes s.drawing (attributes e) in
+    behind_no_longer told told (spelling_pieces Two d e) (spelling_pieces One d e) (same_no_longer told (commands_no_group (prelude s.drawing (attributes e)))) (spelled_no_longer d e)
 
 list_no_longer : (s : State) (es : List Entry) → NoLonger (pieces Two s es) (pieces One s es)
 unfolding pieces
@@ -152,8 +152,8 @@ list_no_longer s (e ∷ es) =
 pub forms_agree : FormsAgree
 forms_agree budget es legal inside =
     let read = text_is_read One budget es legal inside in
-    let few = (list_no_longer start es begun_tail begun_tail refl).0 in
+    let few = (list_no_longer start es text_end_after_header text_end_after_header refl).0 in
     record {
       canonical = record { accepted = read.accepted; text_is = ap text (sym read.list) };
-      no_longer = omega (arith, few, length-append (0x0E ∷ 0x21 ∷ 0x5F ∷ []) (written begun_tail (pieces Two start es)), length-append (0x0E ∷ 0x21 ∷ 0x5F ∷ []) (written begun_tail (pieces One start es)));
+      no_longer = omega (arith, few, length-append (0x0E ∷ 0x21 ∷ 0x5F ∷ []) (pieces_bytes text_end_after_header (pieces Two start es)), length-append (0x0E ∷ 0x21 ∷ 0x5F ∷ []) (pieces_bytes text_end_after_header (pieces One start es)));
     }

@@ -7,26 +7,26 @@ use Rattle.nap_codes.specs.declared.code_set.GSet.TheVariants.{G0, G1}
 use Rattle.nap_list.specs.declared.entry.Entry.{Entry}
 use Rattle.nap_list.specs.declared.state.Drawing.{Drawing}
 use Rattle.nap_list.specs.declared.state.State.{State}
-use Rattle.nap_list.specs.Entry.{held}
+use Rattle.nap_list.specs.Entry.{attributes}
 use Rattle.nap_list.specs.Range.{AllInRange}
-use Rattle.nap_list.specs.State.{start, taking, after, walk, AllFit, Legal}
+use Rattle.nap_list.specs.State.{start, with_attributes, after, walk, AllFit, Legal}
 use Rattle.nap_draw.specs.Limits.{run_limit}
 use Rattle.nap_draw.specs.Rule.{start_domain, start_work}
 use Rattle.nap_reader.specs.Stream.{Placed, Machine, start_machine, placed_from, means}
 use Rattle.nap_canon.specs.declared.command.Command.{Command}
 use Rattle.nap_canon.specs.declared.form.Form.{Form}
-use Rattle.nap_canon.specs.declared.tail.Tail.{Tail}
-use Rattle.nap_canon.specs.declared.tail.Tail.TheVariants.{Apart, InRun}
-use Rattle.nap_canon.specs.Bring.{bring}
+use Rattle.nap_canon.specs.declared.text_end.TextEnd.{TextEnd}
+use Rattle.nap_canon.specs.declared.text_end.TextEnd.TheVariants.{NoRun, InRun}
+use Rattle.nap_canon.specs.Preludes.{prelude}
 use Rattle.nap_canon.specs.Commands.{effects}
-use Rattle.nap_canon.specs.Spelling.{Piece, group, domain, command_piece, spelled}
-use Rattle.nap_canon.specs.Text.{is_joined, run_behind, written, tail_after, entry_pieces, pieces, text_in}
+use Rattle.nap_canon.specs.Spelling.{Piece, group, domain, command_piece, spelling_pieces}
+use Rattle.nap_canon.specs.Text.{joins_open_run, run_after, pieces_bytes, text_end_after, entry_pieces, pieces, text_in}
 use Rattle.nap_canon.proofs.spelling.CommandLemmas.{work_at}
 use Rattle.nap_canon.proofs.reading.ConveyLemmas.{nothing, next, lengths_convey, convey_act, convey_end}
 use Rattle.nap_canon.proofs.spelling.EntryLemmas.{MayCome, next_may, first_kind, led, bring_behind, bring_conveys, group_parts, entry_begins, JoinsNone, spelled_begins}
 use Rattle.nap_canon.proofs.spelling.HoldingLemmas.{holding, held_work}
 use Rattle.nap_canon.proofs.spelling.KindLemmas.{Kind}
-use Rattle.nap_canon.proofs.bring.ModeLemmas.{start_in_mode}
+use Rattle.nap_canon.proofs.prelude.ModeLemmas.{start_in_mode}
 use Rattle.nap_canon.proofs.reading.PieceLemmas.{Acts, Begins, at, gl_after, acts_nothing, acts_behind}
 use Rattle.nap_canon.proofs.reading.ReadLemmas.{Reads, settled, reads_nothing, means_settled}
 use Rattle.nap_canon.proofs.reading.RunLemmas.{Open, open_acts, opened, opened_more, joined_acts, same_opcode, room_for}
@@ -34,17 +34,17 @@ use Rattle.nap_canon.proofs.spelling.SavedLemmas.{saved_after, saved_along}
 use Rattle.nap_canon.proofs.spelling.StrokeLemmas.{Strokes}
 
 none_joined : (form : Form) (gl : GSet) (saved : OperandLengths) (s : State) (e : Entry) (es : List Entry) (may : MayCome saved s (e ∷ es)) (rest : List Piece) (k : Kind form saved s e) →
-    JoinsNone saved s e es may form (Apart gl) rest k
+    JoinsNone saved s e es may form (NoRun gl) rest k
 none_joined form gl saved s e es may rest (inl by) = refl
 none_joined form gl saved s e es may rest (inr draws) = tt
 
-list_begins : (form : Form) (gl : GSet) (saved : OperandLengths) (s : State) (es : List Entry) → MayCome saved s es → Begins (Apart gl) (pieces form s es)
+list_begins : (form : Form) (gl : GSet) (saved : OperandLengths) (s : State) (es : List Entry) → MayCome saved s es → Begins (NoRun gl) (pieces form s es)
 unfolding pieces
 list_begins form gl saved s [] may = tt
 list_begins form gl saved s (e ∷ es) may =
     let k = first_kind saved s e es may form in
     let rest : List Piece = pieces form (after s e) es in
-    entry_begins saved s e es may form (Apart gl) rest (λ none. spelled_begins saved s e es may form (Apart gl) rest k (none_joined form gl saved s e es may rest k))
+    entry_begins saved s e es may form (NoRun gl) rest (λ none. spelled_begins saved s e es may form (NoRun gl) rest k (none_joined form gl saved s e es may rest k))
 
 -- What holds of a list from any state on: alone, and behind a run that stands open.
 
@@ -71,7 +71,7 @@ module _ (form : Form) (budget : ℕ) where
       one_more : Kind form saved s e → Acts budget gl (work_at saved s) (pieces form s (e ∷ es)) (e ∷ es) (work_at (saved_along saved (e ∷ es)) (walk s (e ∷ es)))
       unfolding pieces walk saved_along
       one_more (inl by) =
-          let ps : List Piece = map command_piece (bring s.drawing (held e)) in
+          let ps : List Piece = map command_piece (prelude s.drawing (attributes e)) in
           let next : State = after s e in
           let kept : OperandLengths = saved_after saved e in
           let more : List Piece = pieces form next es in
@@ -79,7 +79,7 @@ module _ (form : Form) (budget : ℕ) where
           let told = bring_conveys saved s e es may in
           subst (λ (qs : List Piece). Acts budget gl (work_at saved s) qs (e ∷ es) left) (group_parts saved s e es may form by.byte by.operands more by.spelled_as)
           (acts_behind budget gl ps (group by.byte by.operands ∷ more) (work_at saved s) (held_work saved s e) left [] (e ∷ es)
-          (ap (λ (t : Tail). is_joined t by.byte (length by.operands)) (convey_end gl (work_at saved s) ps [] (held_work saved s e) told), by.strokes.is.3)
+          (ap (λ (t : TextEnd). joins_open_run t by.byte (length by.operands)) (convey_end gl (work_at saved s) ps [] (held_work saved s e) told), by.strokes.is.3)
           (convey_act budget gl (work_at saved s) ps [] (held_work saved s e) told)
           (rest.behind (gl_after gl ps) kept next (opened saved s e by.byte by.operands by.strokes) (next_may saved s e es may)))
       one_more (inr draws) =
@@ -87,29 +87,29 @@ module _ (form : Form) (budget : ℕ) where
           let next : State = after s e in
           let kept : OperandLengths = saved_after saved e in
           let mid = work_at kept next in
-          let all = bring_behind saved s e es may (spelled form (taking s.drawing (held e)) e) (e ∷ []) mid draws in
+          let all = bring_behind saved s e es may (spelling_pieces form (with_attributes s.drawing (attributes e)) e) (e ∷ []) mid draws in
           acts_behind budget gl qs (pieces form next es) (work_at saved s) mid (work_at (saved_along kept es) (walk next es)) (e ∷ []) es
-          (subst (λ (u : Tail). Begins u (pieces form next es)) (sym (convey_end gl (work_at saved s) qs (e ∷ []) mid all)) (list_begins form (gl_after gl qs) kept next es (next_may saved s e es may)))
+          (subst (λ (u : TextEnd). Begins u (pieces form next es)) (sym (convey_end gl (work_at saved s) qs (e ∷ []) mid all)) (list_begins form (gl_after gl qs) kept next es (next_may saved s e es may)))
           (convey_act budget gl (work_at saved s) qs (e ∷ []) mid all) (rest.alone (gl_after gl qs) kept next (next_may saved s e es may))
 
     module _ (gl : GSet) (saved : OperandLengths) (s : State) (o : Open (work_at saved s)) (may : MayCome saved s (e ∷ es)) where
       -- the tail behind the run
-      abbrev run_tail : Tail
-      run_tail = InRun (run_behind (Apart gl) o.byte (length o.operands))
+      abbrev run_tail : TextEnd
+      run_tail = InRun (run_after (NoRun gl) o.byte (length o.operands))
 
       abbrev Goal : Type 0
       Goal = Acts budget gl o.before (group o.byte o.operands ∷ pieces form s (e ∷ es)) (o.entries ++ e ∷ es) (work_at (saved_along saved (e ∷ es)) (walk s (e ∷ es)))
 
       -- the run acts, and then the list
       run_ends : Begins run_tail (pieces form s (e ∷ es)) → Goal
-      unfolding tail_after
+      unfolding text_end_after
       run_ends begins =
           acts_behind budget gl (group o.byte o.operands ∷ []) (pieces form s (e ∷ es)) o.before (work_at saved s) (work_at (saved_along saved (e ∷ es)) (walk s (e ∷ es)))
           o.entries (e ∷ es) begins (open_acts budget gl (work_at saved s) o) (one_more G1 saved s may (first_kind saved s e es may form))
 
       -- the entry's group joins the run
-      run_goes_on : (more : List ℕ) → Strokes saved s e o.byte more → bring s.drawing (held e) ≡ [] → spelled form (taking s.drawing (held e)) e ≡ group o.byte more ∷ [] →
-          is_joined run_tail o.byte (length more) ≡ true → Goal
+      run_goes_on : (more : List ℕ) → Strokes saved s e o.byte more → prelude s.drawing (attributes e) ≡ [] → spelling_pieces form (with_attributes s.drawing (attributes e)) e ≡ group o.byte more ∷ [] →
+          joins_open_run run_tail o.byte (length more) ≡ true → Goal
       unfolding pieces walk saved_along
       run_goes_on more k none is joins =
           let next : State = after s e in
@@ -128,24 +128,24 @@ module _ (form : Form) (budget : ℕ) where
           (joined_acts gl o.byte o.operands more qs joins budget o.before left ((o.entries ++ e ∷ []) ++ es) all))
 
       -- it doesn't, since it isn't the first or has no room
-      run_stops : (bring s.drawing (held e) ≡ [] → Begins run_tail (spelled form (taking s.drawing (held e)) e ++ pieces form (after s e) es)) → Goal
+      run_stops : (prelude s.drawing (attributes e) ≡ [] → Begins run_tail (spelling_pieces form (with_attributes s.drawing (attributes e)) e ++ pieces form (after s e) es)) → Goal
       unfolding pieces
       run_stops begins = run_ends (entry_begins saved s e es may form run_tail (pieces form (after s e) es) begins)
 
-      by_bring : (cs : List Command) → bring s.drawing (held e) ≡ cs → Kind form saved s e → Goal
+      by_bring : (cs : List Command) → prelude s.drawing (attributes e) ≡ cs → Kind form saved s e → Goal
       by_bring (c ∷ cs) is k = run_stops (λ none. let bad : ⊥ = cc in absurd bad)
       by_bring [] is (inr draws) = run_stops (λ none. spelled_begins saved s e es may form run_tail (pieces form (after s e) es) (inr draws) tt)
-      by_bring [] is (inl by) = at (is_joined run_tail by.byte (length by.operands)) refl
+      by_bring [] is (inl by) = at (joins_open_run run_tail by.byte (length by.operands)) refl
         where
-          at : (joins : Bool) → is_joined run_tail by.byte (length by.operands) ≡ joins → Goal
+          at : (joins : Bool) → joins_open_run run_tail by.byte (length by.operands) ≡ joins → Goal
           at false apart = run_stops (λ none. spelled_begins saved s e es may form run_tail (pieces form (after s e) es) (inl by) apart)
           at true joins =
               let same : by.byte ≡ o.byte = same_opcode o.byte by.byte (length o.operands) (length by.operands) joins in
               run_goes_on by.operands (subst (λ (b : ℕ). Strokes saved s e b by.operands) same by.strokes) is
-              (by.spelled_as ∙ ap (λ (b : ℕ). group b by.operands ∷ []) same) (ap (λ (b : ℕ). is_joined run_tail b (length by.operands)) (sym same) ∙ joins)
+              (by.spelled_as ∙ ap (λ (b : ℕ). group b by.operands ∷ []) same) (ap (λ (b : ℕ). joins_open_run run_tail b (length by.operands)) (sym same) ∙ joins)
 
       run_more : Goal
-      run_more = by_bring (bring s.drawing (held e)) refl (first_kind saved s e es may form)
+      run_more = by_bring (prelude s.drawing (attributes e)) refl (first_kind saved s e es may form)
 
   list_acts : (es : List Entry) → ListActs es
   list_acts [] = nothing_acts
@@ -160,7 +160,7 @@ text_machine form budget es = at budget (gl_after G1 (pieces form start es)) (wo
 
 pub text_reads : (form : Form) (budget : ℕ) (es : List Entry) → AllInRange es → AllFit start es →
     Reads (start_machine budget) (placed_from 0 (text_in form es)) es (text_machine form budget es)
-unfolding written tail_after
+unfolding pieces_bytes text_end_after
 text_reads form budget es inside fits =
     let m : Machine = start_machine budget in
     let left = work_at (saved_along start_domain es) (walk start es) in

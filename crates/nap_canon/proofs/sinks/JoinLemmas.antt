@@ -24,154 +24,154 @@ use Rattle.nap_list.specs.declared.entry.Entry.{Entry}
 use Rattle.nap_list.specs.declared.entry.Entry.TheVariants as entries
 use Rattle.nap_list.specs.declared.state.Drawing.{Drawing}
 use Rattle.nap_list.specs.declared.state.State.{State}
-use Rattle.nap_list.specs.Agreement.{Stands}
-use Rattle.nap_list.specs.Batches.{EachStands, listed, point_on, line_on, lines_on, text_in, typed, typed_as, last_of}
+use Rattle.nap_list.specs.Agreement.{AreCurrent}
+use Rattle.nap_list.specs.Batches.{EachIsCurrent, batch_entries, point_entry, line_entry, polyline_entries, text_entries_in, text_entry, text_entry_as, last_point}
 use Rattle.nap_list.specs.BatchLaws.{points_front, lines_front, text_front, points_rest, lines_rest, lines_count, text_count}
-use Rattle.nap_list.specs.Entry.{held}
-use Rattle.nap_list.specs.State.{taking, after, walk, ink_of, hand_of}
+use Rattle.nap_list.specs.Entry.{attributes}
+use Rattle.nap_list.specs.State.{with_attributes, after, walk, ink_of, hand_of}
 use Rattle.nap_draw.specs.Limits.{run_limit}
 use Rattle.nap_canon.specs.declared.command.Command.{Command}
 use Rattle.nap_canon.specs.declared.form.Form.{Form}
 use Rattle.nap_canon.specs.declared.form.Form.TheVariants.{Two}
-use Rattle.nap_canon.specs.declared.tail.Tail.{Tail}
-use Rattle.nap_canon.specs.declared.tail.Tail.TheVariants.{Apart, InRun}
-use Rattle.nap_canon.specs.Batches.{Parted, PointsJoin, TextJoins, Joins, SentUpTo, SentWhole, points_bytes, run_opening, opening, entry_size, joined_bytes, joined_tail}
+use Rattle.nap_canon.specs.declared.text_end.TextEnd.{TextEnd}
+use Rattle.nap_canon.specs.declared.text_end.TextEnd.TheVariants.{NoRun, InRun}
+use Rattle.nap_canon.specs.Batches.{Parted, PointsJoin, TextJoins, Joins, SentUpTo, SentWhole, points_bytes, run_opening, opening, entry_size, joined_bytes, text_end_after_joined}
 use Rattle.nap_canon.specs.Equality.{same_pen}
-use Rattle.nap_canon.specs.Spelling.{Piece, command_piece, group, stroke, line_piece, step_bytes, typed_piece, typed_piece_as, spelled}
-use Rattle.nap_canon.specs.Text.{gl_of, to_opcodes, to_primary, is_joined, run_behind, piece_bytes, tail_behind, written, tail_after, entry_pieces, pieces}
-use Rattle.nap_canon.specs.TextParts.{written-append, tail_after-append}
+use Rattle.nap_canon.specs.Spelling.{Piece, command_piece, group, joinable_piece, line_piece, step_bytes, text_byte_piece, text_byte_piece_as, spelling_pieces}
+use Rattle.nap_canon.specs.Text.{gl_of, shift_to_opcodes, shift_to_primary, joins_open_run, run_after, piece_bytes, text_end_after_piece, pieces_bytes, text_end_after, entry_pieces, pieces}
+use Rattle.nap_canon.specs.TextParts.{pieces_bytes-append, text_end_after-append}
 use Rattle.nap_canon.proofs.texts.GatheredLemmas.{point_size, points_size}
 use Rattle.nap_canon.proofs.reading.RunLemmas.{same_opcode, room_for}
-use Rattle.nap_canon.proofs.bring.StandingLemmas.{nothing_to_bring}
+use Rattle.nap_canon.proofs.prelude.StandingLemmas.{nothing_to_bring}
 
 -- an entry whose values stand is written by its spelling alone
-pub alone : (form : Form) (s : State) (e : Entry) → Stands (held e) s.drawing → entry_pieces form s e ≡ spelled form (taking s.drawing (held e)) e
-alone form s e is = ap (λ (commands : List Command). map command_piece commands ++ spelled form (taking s.drawing (held e)) e) (nothing_to_bring (held e) s.drawing is)
+pub alone : (form : Form) (s : State) (e : Entry) → AreCurrent (attributes e) s.drawing → entry_pieces form s e ≡ spelling_pieces form (with_attributes s.drawing (attributes e)) e
+alone form s e is = ap (λ (commands : List Command). map command_piece commands ++ spelling_pieces form (with_attributes s.drawing (attributes e)) e) (nothing_to_bring (attributes e) s.drawing is)
 
 -- the bytes of an entry that is one piece, and the tail behind it
 
-one_written : (form : Form) (tail : Tail) (s : State) (e : Entry) (piece : Piece) → entry_pieces form s e ≡ piece ∷ [] → written tail (entry_pieces form s e) ≡ piece_bytes tail piece
-unfolding written
-one_written form tail s e piece is = ap (written tail) is ∙ append-nil (piece_bytes tail piece)
+one_written : (form : Form) (text_end : TextEnd) (s : State) (e : Entry) (piece : Piece) → entry_pieces form s e ≡ piece ∷ [] → pieces_bytes text_end (entry_pieces form s e) ≡ piece_bytes text_end piece
+unfolding pieces_bytes
+one_written form text_end s e piece is = ap (pieces_bytes text_end) is ∙ append-nil (piece_bytes text_end piece)
 
-one_behind : (form : Form) (tail : Tail) (s : State) (e : Entry) (piece : Piece) → entry_pieces form s e ≡ piece ∷ [] → tail_after tail (entry_pieces form s e) ≡ tail_behind tail piece
-unfolding tail_after
-one_behind form tail s e piece is = ap (tail_after tail) is
+one_behind : (form : Form) (text_end : TextEnd) (s : State) (e : Entry) (piece : Piece) → entry_pieces form s e ≡ piece ∷ [] → text_end_after text_end (entry_pieces form s e) ≡ text_end_after_piece text_end piece
+unfolding text_end_after
+one_behind form text_end s e piece is = ap (text_end_after text_end) is
 
 -- the piece of the entry at an index of a batch, whose values stand
 
 heads : (x y : Entry) (xs ys : List Entry) → x ∷ xs ≡ y ∷ ys → x ≡ y
 heads x y xs ys is = cc
 
-first_stand : (s : State) (list : List Entry) (e : Entry) (es : List Entry) → EachStands s list → list ≡ e ∷ es → Stands (held e) s.drawing
-unfolding EachStands
-first_stand s list e es stand is = (subst (EachStands s) is stand).0
+first_stand : (s : State) (list : List Entry) (e : Entry) (es : List Entry) → EachIsCurrent s list → list ≡ e ∷ es → AreCurrent (attributes e) s.drawing
+unfolding EachIsCurrent
+first_stand s list e es stand is = (subst (EachIsCurrent s) is stand).0
 
 -- that is the spelling of the entry that is there
-next_entry : (form : Form) (s : State) (list : List Entry) (x : Entry) (xs : List Entry) → x ∷ xs ≡ list → EachStands s list → (e : Entry) (es : List Entry) → list ≡ e ∷ es →
-    entry_pieces form s e ≡ spelled form (taking s.drawing (held x)) x
+next_entry : (form : Form) (s : State) (list : List Entry) (x : Entry) (xs : List Entry) → x ∷ xs ≡ list → EachIsCurrent s list → (e : Entry) (es : List Entry) → list ≡ e ∷ es →
+    entry_pieces form s e ≡ spelling_pieces form (with_attributes s.drawing (attributes x)) x
 next_entry form s list x xs there stand e es is =
-    subst (λ (e : Entry). Stands (held e) s.drawing → entry_pieces form s e ≡ spelled form (taking s.drawing (held x)) x) (heads x e xs es (there ∙ is)) (alone form s x)
+    subst (λ (e : Entry). AreCurrent (attributes e) s.drawing → entry_pieces form s e ≡ spelling_pieces form (with_attributes s.drawing (attributes x)) x) (heads x e xs es (there ∙ is)) (alone form s x)
     (first_stand s list e es stand is)
 
 pub next_point : (form : Form) (s : State) (batch : Batch) (points : _) (drawing : _) (index : ℕ) (p : Coordinates) (rest : List Coordinates) → batch ≡ batches.Points points drawing →
-    drop index points.now ≡ p ∷ rest → EachStands s (drop index (listed batch)) → (e : Entry) (es : List Entry) → drop index (listed batch) ≡ e ∷ es →
-    entry_pieces form s e ≡ stroke form 0x26 (point_bytes p) ∷ []
+    drop index points.now ≡ p ∷ rest → EachIsCurrent s (drop index (batch_entries batch)) → (e : Entry) (es : List Entry) → drop index (batch_entries batch) ≡ e ∷ es →
+    entry_pieces form s e ≡ joinable_piece form 0x26 (point_bytes p) ∷ []
 next_point form s batch points drawing index p rest is at =
     let d = drawing.now in
-    next_entry form s (drop index (listed batch)) (point_on d p) (map (point_on d) rest)
-    (ap (map (point_on d)) (sym at) ∙ points_rest d points.now index ∙ ap (λ (b : Batch). drop index (listed b)) (sym is))
+    next_entry form s (drop index (batch_entries batch)) (point_entry d p) (map (point_entry d) rest)
+    (ap (map (point_entry d)) (sym at) ∙ points_rest d points.now index ∙ ap (λ (b : Batch). drop index (batch_entries b)) (sym is))
 
 pub next_line : (form : Form) (s : State) (batch : Batch) (from start : Coordinates) (points : _) (drawing : _) (index : ℕ) (p : Coordinates) (rest : List Coordinates) →
-    batch ≡ batches.Lines from points drawing → drop index points.now ≡ p ∷ rest → start ≡ last_of from (take index points.now) → EachStands s (drop index (listed batch)) →
-    (e : Entry) (es : List Entry) → drop index (listed batch) ≡ e ∷ es → entry_pieces form s e ≡ line_piece form s.drawing.pen start p ∷ []
-unfolding lines_on
+    batch ≡ batches.Lines from points drawing → drop index points.now ≡ p ∷ rest → start ≡ last_point from (take index points.now) → EachIsCurrent s (drop index (batch_entries batch)) →
+    (e : Entry) (es : List Entry) → drop index (batch_entries batch) ≡ e ∷ es → entry_pieces form s e ≡ line_piece form s.drawing.pen start p ∷ []
+unfolding polyline_entries
 next_line form s batch from start points drawing index p rest is at begins stand e es list =
     let d = drawing.now in
-    let q = last_of from (take index points.now) in
-    next_entry form s (drop index (listed batch)) (line_on d q p) (lines_on d p rest)
-    (ap (lines_on d q) (sym at) ∙ lines_rest d from points.now index ∙ ap (λ (b : Batch). drop index (listed b)) (sym is)) stand e es list
+    let q = last_point from (take index points.now) in
+    next_entry form s (drop index (batch_entries batch)) (line_entry d q p) (polyline_entries d p rest)
+    (ap (polyline_entries d q) (sym at) ∙ lines_rest d from points.now index ∙ ap (λ (b : Batch). drop index (batch_entries b)) (sym is)) stand e es list
     ∙ ap (λ (start : Coordinates). line_piece form s.drawing.pen start p ∷ []) (sym begins)
 
 -- characters of a text from one on, in the hand that they have
-text_behind : (set : CharSet) (hand : Hand) (codes : List ℕ) (n : ℕ) → (h : Hand) × (drop n (text_in set hand codes) ≡ text_in set h (drop n codes))
-unfolding text_in
+text_behind : (set : CharSet) (hand : Hand) (codes : List ℕ) (n : ℕ) → (h : Hand) × (drop n (text_entries_in set hand codes) ≡ text_entries_in set h (drop n codes))
+unfolding text_entries_in
 text_behind set hand codes zero = (hand, refl)
 text_behind set hand [] (suc n) = (hand, refl)
 text_behind set hand (c ∷ cs) (suc n) = text_behind set (record hand { pen = After }) cs n
 
 -- how a byte of a text is spelled
-typed_spelled : (form : Form) (d : Drawing) (set : CharSet) (hand : Hand) (code : ℕ) → spelled form d (typed set hand code) ≡ typed_piece set code ∷ []
+typed_spelled : (form : Form) (d : Drawing) (set : CharSet) (hand : Hand) (code : ℕ) → spelling_pieces form d (text_entry set hand code) ≡ text_byte_piece set code ∷ []
 typed_spelled form d set hand code = by (format_effector code)
   where
-    by : (step : Option TextStep) → spelled form d (typed_as step set hand code) ≡ typed_piece_as step set code ∷ []
+    by : (step : Option TextStep) → spelling_pieces form d (text_entry_as step set hand code) ≡ text_byte_piece_as step set code ∷ []
     by (Some step) = refl
     by None = refl
 
 pub next_typed : (form : Form) (s : State) (batch : Batch) (set : CharSet) (codes : _) (pen : Pen) (drawing : _) (index code : ℕ) (rest : List ℕ) →
-    batch ≡ batches.Text set codes pen drawing → drop index codes.now ≡ code ∷ rest → EachStands s (drop index (listed batch)) →
-    (e : Entry) (es : List Entry) → drop index (listed batch) ≡ e ∷ es → entry_pieces form s e ≡ typed_piece set code ∷ []
-unfolding text_in
+    batch ≡ batches.Text set codes pen drawing → drop index codes.now ≡ code ∷ rest → EachIsCurrent s (drop index (batch_entries batch)) →
+    (e : Entry) (es : List Entry) → drop index (batch_entries batch) ≡ e ∷ es → entry_pieces form s e ≡ text_byte_piece set code ∷ []
+unfolding text_entries_in
 next_typed form s batch set codes pen drawing index code rest is at stand e es list =
     let behind = text_behind set (record (hand_of drawing.now) { pen = pen }) codes.now index in
-    let x = typed set behind.0 code in
-    next_entry form s (drop index (listed batch)) x (text_in set (record behind.0 { pen = After }) rest)
-    (ap (text_in set behind.0) (sym at) ∙ sym behind.1 ∙ ap (λ (b : Batch). drop index (listed b)) (sym is)) stand e es list
-    ∙ typed_spelled form (taking s.drawing (held x)) set behind.0 code
+    let x = text_entry set behind.0 code in
+    next_entry form s (drop index (batch_entries batch)) x (text_entries_in set (record behind.0 { pen = After }) rest)
+    (ap (text_entries_in set behind.0) (sym at) ∙ sym behind.1 ∙ ap (λ (b : Batch). drop index (batch_entries b)) (sym is)) stand e es list
+    ∙ typed_spelled form (with_attributes s.drawing (attributes x)) set behind.0 code
 
 -- what entries are written as that are one piece each
 
 -- the first entry is written as so many bytes, and each further one as so many
-unfoldable pub EachWrites : ℕ → ℕ → Form → Tail → State → List Entry → Type 0
-EachWrites lead size form tail s [] = ⊤
-EachWrites lead size form tail s (e ∷ es) = (length (written tail (entry_pieces form s e)) ≡ lead) × EachWrites size size form (tail_after tail (entry_pieces form s e)) (after s e) es
+unfoldable pub EachWrites : ℕ → ℕ → Form → TextEnd → State → List Entry → Type 0
+EachWrites lead size form text_end s [] = ⊤
+EachWrites lead size form text_end s (e ∷ es) = (length (pieces_bytes text_end (entry_pieces form s e)) ≡ lead) × EachWrites size size form (text_end_after text_end (entry_pieces form s e)) (after s e) es
 
-pub record Joined (lead size : ℕ) (form : Form) (tail : Tail) (s : State) (list : List Entry) (bytes : List ℕ) (end : Tail) : Type 0 where
-  pub each : EachWrites lead size form tail s list
-  pub writes : written tail (pieces form s list) ≡ bytes
-  pub ends : tail_after tail (pieces form s list) ≡ end
+pub record Joined (lead size : ℕ) (form : Form) (text_end : TextEnd) (s : State) (list : List Entry) (bytes : List ℕ) (end : TextEnd) : Type 0 where
+  pub each : EachWrites lead size form text_end s list
+  pub writes : pieces_bytes text_end (pieces form s list) ≡ bytes
+  pub ends : text_end_after text_end (pieces form s list) ≡ end
 
-joined_none : (lead size : ℕ) (form : Form) (tail : Tail) (s : State) → Joined lead size form tail s [] [] tail
-unfolding EachWrites pieces written tail_after
-joined_none lead size form tail s = record { each = tt; writes = refl; ends = refl }
+joined_none : (lead size : ℕ) (form : Form) (text_end : TextEnd) (s : State) → Joined lead size form text_end s [] [] text_end
+unfolding EachWrites pieces pieces_bytes text_end_after
+joined_none lead size form text_end s = record { each = tt; writes = refl; ends = refl }
 
 -- the same in other words
-joined_as : (lead lead' size : ℕ) (form : Form) (tail : Tail) (s : State) (list : List Entry) (bytes bytes' : List ℕ) (end end' : Tail) → lead ≡ lead' → bytes ≡ bytes' → end ≡ end' →
-    Joined lead size form tail s list bytes end → Joined lead' size form tail s list bytes' end'
-joined_as lead lead' size form tail s list bytes bytes' end end' same spelled ends joined = record {
-  each = subst (λ (n : ℕ). EachWrites n size form tail s list) same joined.each;
-  writes = joined.writes ∙ spelled;
+joined_as : (lead lead' size : ℕ) (form : Form) (text_end : TextEnd) (s : State) (list : List Entry) (bytes bytes' : List ℕ) (end end' : TextEnd) → lead ≡ lead' → bytes ≡ bytes' → end ≡ end' →
+    Joined lead size form text_end s list bytes end → Joined lead' size form text_end s list bytes' end'
+joined_as lead lead' size form text_end s list bytes bytes' end end' same spelling_pieces ends joined = record {
+  each = subst (λ (n : ℕ). EachWrites n size form text_end s list) same joined.each;
+  writes = joined.writes ∙ spelling_pieces;
   ends = joined.ends ∙ ends;
 }
 
-joined_more : (lead size : ℕ) (form : Form) (tail next : Tail) (s : State) (e : Entry) (list : List Entry) (piece : Piece) (first rest : List ℕ) (end : Tail) →
-    entry_pieces form s e ≡ piece ∷ [] → piece_bytes tail piece ≡ first → length first ≡ lead → tail_behind tail piece ≡ next →
-    Joined size size form next (after s e) list rest end → Joined lead size form tail s (e ∷ list) (first ++ rest) end
-unfolding EachWrites pieces written tail_after
-joined_more lead size form tail next s e list piece first rest end is bytes count behind more =
-    let alone : written tail (entry_pieces form s e) ≡ first = one_written form tail s e piece is ∙ bytes in
-    let moved : tail_after tail (entry_pieces form s e) ≡ next = one_behind form tail s e piece is ∙ behind in
+joined_more : (lead size : ℕ) (form : Form) (text_end next : TextEnd) (s : State) (e : Entry) (list : List Entry) (piece : Piece) (first rest : List ℕ) (end : TextEnd) →
+    entry_pieces form s e ≡ piece ∷ [] → piece_bytes text_end piece ≡ first → length first ≡ lead → text_end_after_piece text_end piece ≡ next →
+    Joined size size form next (after s e) list rest end → Joined lead size form text_end s (e ∷ list) (first ++ rest) end
+unfolding EachWrites pieces pieces_bytes text_end_after
+joined_more lead size form text_end next s e list piece first rest end is bytes count behind more =
+    let alone : pieces_bytes text_end (entry_pieces form s e) ≡ first = one_written form text_end s e piece is ∙ bytes in
+    let moved : text_end_after text_end (entry_pieces form s e) ≡ next = one_behind form text_end s e piece is ∙ behind in
     record {
-      each = (ap length alone ∙ count, subst (λ (t : Tail). EachWrites size size form t (after s e) list) (sym moved) more.each);
+      each = (ap length alone ∙ count, subst (λ (t : TextEnd). EachWrites size size form t (after s e) list) (sym moved) more.each);
       writes =
-          written-append tail (entry_pieces form s e) (pieces form (after s e) list)
-          ∙ ap (λ (bs : List ℕ). bs ++ written (tail_after tail (entry_pieces form s e)) (pieces form (after s e) list)) alone
-          ∙ ap (λ (t : Tail). first ++ written t (pieces form (after s e) list)) moved
+          pieces_bytes-append text_end (entry_pieces form s e) (pieces form (after s e) list)
+          ∙ ap (λ (bs : List ℕ). bs ++ pieces_bytes (text_end_after text_end (entry_pieces form s e)) (pieces form (after s e) list)) alone
+          ∙ ap (λ (t : TextEnd). first ++ pieces_bytes t (pieces form (after s e) list)) moved
           ∙ ap (λ (bs : List ℕ). first ++ bs) more.writes;
       ends =
-          tail_after-append tail (entry_pieces form s e) (pieces form (after s e) list)
-          ∙ ap (λ (t : Tail). tail_after t (pieces form (after s e) list)) moved
+          text_end_after-append text_end (entry_pieces form s e) (pieces form (after s e) list)
+          ∙ ap (λ (t : TextEnd). text_end_after t (pieces form (after s e) list)) moved
           ∙ more.ends;
     }
 
 -- points, behind their opcode
 
 -- a run of this opcode, of so many bytes
-abbrev run_of : ℕ → ℕ → Tail
+abbrev run_of : ℕ → ℕ → TextEnd
 run_of byte n = InRun (record { opcode = byte; length = n })
 
-joins_run : (byte n m : ℕ) → n + m ≤ run_limit → is_joined (run_of byte n) byte m ≡ true
-joins_run byte n m room = grind (arith, nat_tests)
+joins_run : (byte n m : ℕ) → n + m ≤ run_limit → joins_open_run (run_of byte n) byte m ≡ true
+joins_run byte n m pending = grind (arith, nat_tests)
 
 -- each entry is written by a point behind this opcode
 unfoldable EachPoint : ℕ → State → List Entry → List Coordinates → Type 0
@@ -184,42 +184,42 @@ EachPoint byte s (e ∷ es) (p ∷ ps) = (entry_pieces Two s e ≡ group byte (p
 run_joins : (byte n : ℕ) (s : State) (list : List Entry) (ps : List Coordinates) → EachPoint byte s list ps → n + 8 * length ps ≤ run_limit →
     Joined 8 8 Two (run_of byte n) s list (points_bytes ps) (run_of byte (n + 8 * length ps))
 unfolding EachPoint points_bytes
-run_joins byte n s [] [] each room = joined_as 8 8 8 Two (run_of byte n) s [] [] [] _ _ refl refl (ap (run_of byte) (omega arith)) (joined_none 8 8 Two (run_of byte n) s)
-run_joins byte n s [] (p ∷ ps) each room = absurd each
-run_joins byte n s (e ∷ es) [] each room = absurd each
-run_joins byte n s (e ∷ es) (p ∷ ps) each room =
-    let joins : is_joined (run_of byte n) byte (length (point_bytes p)) ≡ true = joins_run byte n (length (point_bytes p)) (omega (arith, room, point_size p)) in
+run_joins byte n s [] [] each pending = joined_as 8 8 8 Two (run_of byte n) s [] [] [] _ _ refl refl (ap (run_of byte) (omega arith)) (joined_none 8 8 Two (run_of byte n) s)
+run_joins byte n s [] (p ∷ ps) each pending = absurd each
+run_joins byte n s (e ∷ es) [] each pending = absurd each
+run_joins byte n s (e ∷ es) (p ∷ ps) each pending =
+    let joins : joins_open_run (run_of byte n) byte (length (point_bytes p)) ≡ true = joins_run byte n (length (point_bytes p)) (omega (arith, pending, point_size p)) in
     let bytes : piece_bytes (run_of byte n) (group byte (point_bytes p)) ≡ point_bytes p = rw joins refl in
-    let behind : tail_behind (run_of byte n) (group byte (point_bytes p)) ≡ run_of byte (n + 8) = rw joins (ap (λ (size : ℕ). run_of byte (n + size)) (point_size p)) in
+    let behind : text_end_after_piece (run_of byte n) (group byte (point_bytes p)) ≡ run_of byte (n + 8) = rw joins (ap (λ (size : ℕ). run_of byte (n + size)) (point_size p)) in
     joined_as 8 8 8 Two (run_of byte n) s (e ∷ es) _ _ _ _ refl refl (ap (run_of byte) (omega arith))
     (joined_more 8 8 Two (run_of byte n) (run_of byte (n + 8)) s e es (group byte (point_bytes p)) (point_bytes p) (points_bytes ps) _ each.0 bytes (point_size p) behind
-    (run_joins byte (n + 8) (after s e) es ps each.1 (omega (arith, room))))
+    (run_joins byte (n + 8) (after s e) es ps each.1 (omega (arith, pending))))
 
 -- points that open a run behind this tail
-run_opens : (tail : Tail) (byte : ℕ) (s : State) (list : List Entry) (ps : List Coordinates) → EachPoint byte s list ps → 0 < length ps → 8 * length ps ≤ run_limit →
-    is_joined tail byte 8 ≡ false → is_joined tail byte (8 * length ps) ≡ false →
-    Joined (length (run_opening tail byte (8 * length ps)) + 8) 8 Two tail s list (run_opening tail byte (8 * length ps) ++ points_bytes ps) (InRun (run_behind tail byte (8 * length ps)))
+run_opens : (text_end : TextEnd) (byte : ℕ) (s : State) (list : List Entry) (ps : List Coordinates) → EachPoint byte s list ps → 0 < length ps → 8 * length ps ≤ run_limit →
+    joins_open_run text_end byte 8 ≡ false → joins_open_run text_end byte (8 * length ps) ≡ false →
+    Joined (length (run_opening text_end byte (8 * length ps)) + 8) 8 Two text_end s list (run_opening text_end byte (8 * length ps) ++ points_bytes ps) (InRun (run_after text_end byte (8 * length ps)))
 unfolding EachPoint points_bytes
-run_opens tail byte s [] [] each some room first all = absurd (omega (arith, some))
-run_opens tail byte s [] (p ∷ ps) each some room first all = absurd each
-run_opens tail byte s (e ∷ es) [] each some room first all = absurd each
-run_opens tail byte s (e ∷ es) (p ∷ ps) each some room first all =
-    let head : List ℕ = to_opcodes (gl_of tail) ++ byte ∷ [] in
-    let apart : is_joined tail byte (length (point_bytes p)) ≡ false = ap (is_joined tail byte) (point_size p) ∙ first in
-    let opens : run_opening tail byte (8 * length (p ∷ ps)) ≡ head = rw all refl in
-    let bytes : piece_bytes tail (group byte (point_bytes p)) ≡ head ++ point_bytes p = rw apart (sym (append_assoc (to_opcodes (gl_of tail)) (byte ∷ []) (point_bytes p))) in
-    let behind : tail_behind tail (group byte (point_bytes p)) ≡ run_of byte 8 = rw apart (ap (run_of byte) (point_size p)) in
-    let ends : run_of byte (8 + 8 * length ps) ≡ InRun (run_behind tail byte (8 * length (p ∷ ps))) = rw all (ap (run_of byte) (omega arith)) in
-    joined_as _ _ 8 Two tail s (e ∷ es) _ _ _ _
+run_opens text_end byte s [] [] each some pending first all = absurd (omega (arith, some))
+run_opens text_end byte s [] (p ∷ ps) each some pending first all = absurd each
+run_opens text_end byte s (e ∷ es) [] each some pending first all = absurd each
+run_opens text_end byte s (e ∷ es) (p ∷ ps) each some pending first all =
+    let head : List ℕ = shift_to_opcodes (gl_of text_end) ++ byte ∷ [] in
+    let apart : joins_open_run text_end byte (length (point_bytes p)) ≡ false = ap (joins_open_run text_end byte) (point_size p) ∙ first in
+    let opens : run_opening text_end byte (8 * length (p ∷ ps)) ≡ head = rw all refl in
+    let bytes : piece_bytes text_end (group byte (point_bytes p)) ≡ head ++ point_bytes p = rw apart (sym (append_assoc (shift_to_opcodes (gl_of text_end)) (byte ∷ []) (point_bytes p))) in
+    let behind : text_end_after_piece text_end (group byte (point_bytes p)) ≡ run_of byte 8 = rw apart (ap (run_of byte) (point_size p)) in
+    let ends : run_of byte (8 + 8 * length ps) ≡ InRun (run_after text_end byte (8 * length (p ∷ ps))) = rw all (ap (run_of byte) (omega arith)) in
+    joined_as _ _ 8 Two text_end s (e ∷ es) _ _ _ _
     (length-append head (point_bytes p) ∙ ap (λ (n : ℕ). length head + n) (point_size p) ∙ ap (λ (bs : List ℕ). length bs + 8) (sym opens))
     (append_assoc head (point_bytes p) (points_bytes ps) ∙ ap (λ (bs : List ℕ). bs ++ points_bytes (p ∷ ps)) (sym opens)) ends
-    (joined_more (length (head ++ point_bytes p)) 8 Two tail (run_of byte 8) s e es (group byte (point_bytes p)) (head ++ point_bytes p) (points_bytes ps) _ each.0 bytes refl behind
-    (run_joins byte 8 (after s e) es ps each.1 (omega (arith, room))))
+    (joined_more (length (head ++ point_bytes p)) 8 Two text_end (run_of byte 8) s e es (group byte (point_bytes p)) (head ++ point_bytes p) (points_bytes ps) _ each.0 bytes refl behind
+    (run_joins byte 8 (after s e) es ps each.1 (omega (arith, pending))))
 
-points_each : (s : State) (d : Drawing) (ps : List Coordinates) → EachStands s (map (point_on d) ps) → EachPoint 0x26 s (map (point_on d) ps) ps
-unfolding EachPoint EachStands
+points_each : (s : State) (d : Drawing) (ps : List Coordinates) → EachIsCurrent s (map (point_entry d) ps) → EachPoint 0x26 s (map (point_entry d) ps) ps
+unfolding EachPoint EachIsCurrent
 points_each s d [] stand = tt
-points_each s d (p ∷ ps) stand = let e = point_on d p in (alone Two s e stand.0, points_each (after s e) d ps stand.1)
+points_each s d (p ∷ ps) stand = let e = point_entry d p in (alone Two s e stand.0, points_each (after s e) d ps stand.1)
 
 same_points : (p : Coordinates) → same_pen (At p) (At p) ≡ true
 same_points p = grind (arith, nat_tests)
@@ -230,8 +230,8 @@ line_from_pen pen from to is =
     let same : same_pen pen (At from) ≡ true = ap (λ (pen : Pen). same_pen pen (At from)) is ∙ same_points from in
     rw same refl
 
-lines_each : (s : State) (d : Drawing) (from : Coordinates) (ps : List Coordinates) → s.drawing.pen ≡ At from → EachStands s (lines_on d from ps) → EachPoint 0x28 s (lines_on d from ps) ps
-unfolding EachPoint EachStands lines_on
+lines_each : (s : State) (d : Drawing) (from : Coordinates) (ps : List Coordinates) → s.drawing.pen ≡ At from → EachIsCurrent s (polyline_entries d from ps) → EachPoint 0x28 s (polyline_entries d from ps) ps
+unfolding EachPoint EachIsCurrent polyline_entries
 lines_each s d from [] pen stand = tt
 lines_each s d from (p ∷ ps) pen stand =
     let e = entries.Line from p (ink_of d) in
@@ -248,143 +248,143 @@ effector_bytes return = refl
 effector_bytes home = refl
 
 -- each is its own byte, behind which the primary characters are in GL
-typed_alone : (code : ℕ) → (piece_bytes (Apart G0) (typed_piece Primary code) ≡ code ∷ []) × (tail_behind (Apart G0) (typed_piece Primary code) ≡ Apart G0)
+typed_alone : (code : ℕ) → (piece_bytes (NoRun G0) (text_byte_piece Primary code) ≡ code ∷ []) × (text_end_after_piece (NoRun G0) (text_byte_piece Primary code) ≡ NoRun G0)
 typed_alone code = by (format_effector code) refl
   where
     by : (step : Option TextStep) → format_effector code ≡ step →
-        (piece_bytes (Apart G0) (typed_piece_as step Primary code) ≡ code ∷ []) × (tail_behind (Apart G0) (typed_piece_as step Primary code) ≡ Apart G0)
+        (piece_bytes (NoRun G0) (text_byte_piece_as step Primary code) ≡ code ∷ []) × (text_end_after_piece (NoRun G0) (text_byte_piece_as step Primary code) ≡ NoRun G0)
     by (Some step) is = (effector_bytes (format_effector_known code step is), refl)
     by None is = (refl, refl)
 
-text_joins : (form : Form) (s : State) (hand : Hand) (codes : List ℕ) → EachStands s (text_in Primary hand codes) → Joined 1 1 form (Apart G0) s (text_in Primary hand codes) codes (Apart G0)
-unfolding EachStands text_in
-text_joins form s hand [] stand = joined_none 1 1 form (Apart G0) s
+text_joins : (form : Form) (s : State) (hand : Hand) (codes : List ℕ) → EachIsCurrent s (text_entries_in Primary hand codes) → Joined 1 1 form (NoRun G0) s (text_entries_in Primary hand codes) codes (NoRun G0)
+unfolding EachIsCurrent text_entries_in
+text_joins form s hand [] stand = joined_none 1 1 form (NoRun G0) s
 text_joins form s hand (c ∷ cs) stand =
-    let e = typed Primary hand c in
+    let e = text_entry Primary hand c in
     let bytes = typed_alone c in
-    joined_more 1 1 form (Apart G0) (Apart G0) s e (text_in Primary (record hand { pen = After }) cs) (typed_piece Primary c) (c ∷ []) cs (Apart G0)
-    (alone form s e stand.0 ∙ typed_spelled form (taking s.drawing (held e)) Primary hand c) bytes.0 refl bytes.1
+    joined_more 1 1 form (NoRun G0) (NoRun G0) s e (text_entries_in Primary (record hand { pen = After }) cs) (text_byte_piece Primary c) (c ∷ []) cs (NoRun G0)
+    (alone form s e stand.0 ∙ typed_spelled form (with_attributes s.drawing (attributes e)) Primary hand c) bytes.0 refl bytes.1
     (text_joins form (after s e) (record hand { pen = After }) cs stand.1)
 
 -- the first code brings them there, where it is a character
-text_opens : (form : Form) (tail : Tail) (s : State) (hand : Hand) (codes : List ℕ) (count : ℕ) → 0 < count → count ≤ length codes →
-    ((code : ℕ) (rest : List ℕ) → codes ≡ code ∷ rest → format_effector code ≡ None) → EachStands s (text_in Primary hand (take count codes)) →
-    Joined (length (to_primary (gl_of tail)) + 1) 1 form tail s (text_in Primary hand (take count codes)) (to_primary (gl_of tail) ++ take count codes) (Apart G0)
-unfolding EachStands text_in
-text_opens form tail s hand codes zero some few character stand = absurd (omega (arith, some))
-text_opens form tail s hand [] (suc n) some few character stand = absurd (omega (arith, few))
-text_opens form tail s hand (c ∷ cs) (suc n) some few character stand =
-    let e = typed Primary hand c in
-    let shift : List ℕ = to_primary (gl_of tail) in
+text_opens : (form : Form) (text_end : TextEnd) (s : State) (hand : Hand) (codes : List ℕ) (count : ℕ) → 0 < count → count ≤ length codes →
+    ((code : ℕ) (rest : List ℕ) → codes ≡ code ∷ rest → format_effector code ≡ None) → EachIsCurrent s (text_entries_in Primary hand (take count codes)) →
+    Joined (length (shift_to_primary (gl_of text_end)) + 1) 1 form text_end s (text_entries_in Primary hand (take count codes)) (shift_to_primary (gl_of text_end) ++ take count codes) (NoRun G0)
+unfolding EachIsCurrent text_entries_in
+text_opens form text_end s hand codes zero some few character stand = absurd (omega (arith, some))
+text_opens form text_end s hand [] (suc n) some few character stand = absurd (omega (arith, few))
+text_opens form text_end s hand (c ∷ cs) (suc n) some few character stand =
+    let e = text_entry Primary hand c in
+    let shift : List ℕ = shift_to_primary (gl_of text_end) in
     let is : format_effector c ≡ None = character c cs refl in
-    let bytes : piece_bytes tail (typed_piece Primary c) ≡ shift ++ c ∷ [] = rw is refl in
-    let behind : tail_behind tail (typed_piece Primary c) ≡ Apart G0 = rw is refl in
-    joined_as _ _ 1 form tail s (text_in Primary hand (c ∷ take n cs)) _ _ _ _ (length-append shift (c ∷ [])) (append_assoc shift (c ∷ []) (take n cs)) refl
-    (joined_more (length (shift ++ c ∷ [])) 1 form tail (Apart G0) s e (text_in Primary (record hand { pen = After }) (take n cs)) (typed_piece Primary c) (shift ++ c ∷ []) (take n cs) (Apart G0)
-    (alone form s e stand.0 ∙ typed_spelled form (taking s.drawing (held e)) Primary hand c) bytes refl behind
+    let bytes : piece_bytes text_end (text_byte_piece Primary c) ≡ shift ++ c ∷ [] = rw is refl in
+    let behind : text_end_after_piece text_end (text_byte_piece Primary c) ≡ NoRun G0 = rw is refl in
+    joined_as _ _ 1 form text_end s (text_entries_in Primary hand (c ∷ take n cs)) _ _ _ _ (length-append shift (c ∷ [])) (append_assoc shift (c ∷ []) (take n cs)) refl
+    (joined_more (length (shift ++ c ∷ [])) 1 form text_end (NoRun G0) s e (text_entries_in Primary (record hand { pen = After }) (take n cs)) (text_byte_piece Primary c) (shift ++ c ∷ []) (take n cs) (NoRun G0)
+    (alone form s e stand.0 ∙ typed_spelled form (with_attributes s.drawing (attributes e)) Primary hand c) bytes refl behind
     (text_joins form (after s e) (record hand { pen = After }) (take n cs) stand.1))
 
 -- the run that is joined
 
-record Run (tail : Tail) (byte m : ℕ) : Type 0 where
+record Run (text_end : TextEnd) (byte m : ℕ) : Type 0 where
   pub length : ℕ
-  pub is : tail ≡ run_of byte length
-  pub room : length + m ≤ run_limit
+  pub is : text_end ≡ run_of byte length
+  pub pending : length + m ≤ run_limit
 
-run_joined : (tail : Tail) (byte m : ℕ) → is_joined tail byte m ≡ true → Run tail byte m
-run_joined (Apart gl) byte m joins = absurd (false≢true joins)
+run_joined : (text_end : TextEnd) (byte m : ℕ) → joins_open_run text_end byte m ≡ true → Run text_end byte m
+run_joined (NoRun gl) byte m joins = absurd (false≢true joins)
 run_joined (InRun run) byte m joins =
     let same : byte ≡ run.opcode = same_opcode run.opcode byte run.length m joins in
     record {
       length = run.length;
       is = ap (λ (opcode : ℕ). InRun (record { opcode = opcode; length = run.length })) (sym same);
-      room = room_for byte run.length m (subst (λ (opcode : ℕ). is_joined (run_of opcode run.length) byte m ≡ true) (sym same) joins);
+      pending = room_for byte run.length m (subst (λ (opcode : ℕ). joins_open_run (run_of opcode run.length) byte m ≡ true) (sym same) joins);
     }
 
 -- entries of a batch from one on
 
-stands_front : (s : State) (list : List Entry) (n : ℕ) → EachStands s list → EachStands s (take n list)
-unfolding EachStands
+stands_front : (s : State) (list : List Entry) (n : ℕ) → EachIsCurrent s list → EachIsCurrent s (take n list)
+unfolding EachIsCurrent
 stands_front s list zero stand = tt
 stands_front s [] (suc n) stand = tt
 stands_front s (e ∷ es) (suc n) stand = (stand.0, stands_front (after s e) es n stand.1)
 
-pub stands_rest : (s : State) (list : List Entry) (n : ℕ) → EachStands s list → EachStands (walk s (take n list)) (drop n list)
-unfolding EachStands walk
+pub stands_rest : (s : State) (list : List Entry) (n : ℕ) → EachIsCurrent s list → EachIsCurrent (walk s (take n list)) (drop n list)
+unfolding EachIsCurrent walk
 stands_rest s list zero stand = stand
 stands_rest s [] (suc n) stand = tt
 stands_rest s (e ∷ es) (suc n) stand = stands_rest (after s e) es n stand.1
 
 -- points that join the run of this opcode, or open one
-behind_run : (form : Form) (tail : Tail) (s : State) (list : List Entry) (qs : List Coordinates) (byte count : ℕ) → PointsJoin form tail byte count → 0 < count → length qs ≡ count →
+behind_run : (form : Form) (text_end : TextEnd) (s : State) (list : List Entry) (qs : List Coordinates) (byte count : ℕ) → PointsJoin form text_end byte count → 0 < count → length qs ≡ count →
     EachPoint byte s list qs →
-    Joined (length (run_opening tail byte (8 * count)) + 8) 8 form tail s list (run_opening tail byte (8 * count) ++ points_bytes qs) (InRun (run_behind tail byte (8 * count)))
-behind_run form tail s list qs byte count joins some size each = by (is_joined tail byte 8) refl
+    Joined (length (run_opening text_end byte (8 * count)) + 8) 8 form text_end s list (run_opening text_end byte (8 * count) ++ points_bytes qs) (InRun (run_after text_end byte (8 * count)))
+behind_run form text_end s list qs byte count joins some size each = by (joins_open_run text_end byte 8) refl
   where
     goal : Form → ℕ → Type 0
-    goal form count = Joined (length (run_opening tail byte (8 * count)) + 8) 8 form tail s list (run_opening tail byte (8 * count) ++ points_bytes qs) (InRun (run_behind tail byte (8 * count)))
+    goal form count = Joined (length (run_opening text_end byte (8 * count)) + 8) 8 form text_end s list (run_opening text_end byte (8 * count) ++ points_bytes qs) (InRun (run_after text_end byte (8 * count)))
 
-    by : (b : Bool) → is_joined tail byte 8 ≡ b → goal form count
+    by : (b : Bool) → joins_open_run text_end byte 8 ≡ b → goal form count
     by true is =
-        let all : is_joined tail byte (8 * count) ≡ true = joins.2 ∙ is in
-        let run = run_joined tail byte (8 * count) all in
+        let all : joins_open_run text_end byte (8 * count) ≡ true = joins.2 ∙ is in
+        let run = run_joined text_end byte (8 * count) all in
         let n = run.length in
-        let ends : run_of byte (n + 8 * length qs) ≡ InRun (run_behind tail byte (8 * count)) =
-        ap (λ (m : ℕ). run_of byte (n + 8 * m)) size ∙ (let here : run_of byte (n + 8 * count) ≡ InRun (run_behind (run_of byte n) byte (8 * count)) = rw (joins_run byte n (8 * count) run.room) refl in here)
-        ∙ ap (λ (t : Tail). InRun (run_behind t byte (8 * count))) (sym run.is) in
-        let opens : [] ≡ run_opening tail byte (8 * count) = rw all refl in
-        let here : Joined 8 8 Two tail s list (points_bytes qs) (run_of byte (n + 8 * length qs)) =
-        subst (λ (t : Tail). Joined 8 8 Two t s list (points_bytes qs) (run_of byte (n + 8 * length qs))) (sym run.is)
-        (run_joins byte n s list qs each (omega (arith, run.room, size))) in
+        let ends : run_of byte (n + 8 * length qs) ≡ InRun (run_after text_end byte (8 * count)) =
+        ap (λ (m : ℕ). run_of byte (n + 8 * m)) size ∙ (let here : run_of byte (n + 8 * count) ≡ InRun (run_after (run_of byte n) byte (8 * count)) = rw (joins_run byte n (8 * count) run.pending) refl in here)
+        ∙ ap (λ (t : TextEnd). InRun (run_after t byte (8 * count))) (sym run.is) in
+        let opens : [] ≡ run_opening text_end byte (8 * count) = rw all refl in
+        let here : Joined 8 8 Two text_end s list (points_bytes qs) (run_of byte (n + 8 * length qs)) =
+        subst (λ (t : TextEnd). Joined 8 8 Two t s list (points_bytes qs) (run_of byte (n + 8 * length qs))) (sym run.is)
+        (run_joins byte n s list qs each (omega (arith, run.pending, size))) in
         subst (λ (f : Form). goal f count) (sym joins.1)
-        (joined_as 8 _ 8 Two tail s list _ _ _ _ (ap (λ (bs : List ℕ). length bs + 8) opens) (ap (λ (bs : List ℕ). bs ++ points_bytes qs) opens) ends here)
+        (joined_as 8 _ 8 Two text_end s list _ _ _ _ (ap (λ (bs : List ℕ). length bs + 8) opens) (ap (λ (bs : List ℕ). bs ++ points_bytes qs) opens) ends here)
     by false is =
         subst (λ (f : Form). goal f count) (sym joins.1)
         (subst (goal Two) size
-        (run_opens tail byte s list qs each (omega (arith, some, size)) (omega (arith, joins.0, size)) is (ap (λ (n : ℕ). is_joined tail byte (8 * n)) size ∙ joins.2 ∙ is)))
+        (run_opens text_end byte s list qs each (omega (arith, some, size)) (omega (arith, joins.0, size)) is (ap (λ (n : ℕ). joins_open_run text_end byte (8 * n)) size ∙ joins.2 ∙ is)))
 
 -- so many entries of a batch, from this one on, that join what stands last
-pub batch_joins : (form : Form) (tail : Tail) (s : State) (batch : Batch) (first count : ℕ) → 0 < count → count + first ≤ length (listed batch) → EachStands s (drop first (listed batch)) →
-    Joins form tail s batch first count →
-    Joined (length (opening tail batch count) + entry_size batch) (entry_size batch) form tail s (take count (drop first (listed batch))) (opening tail batch count ++ joined_bytes batch first count)
-    (joined_tail tail batch count)
-batch_joins form tail s (batches.Points points drawing) first count some few stand joins =
+pub batch_joins : (form : Form) (text_end : TextEnd) (s : State) (batch : Batch) (first count : ℕ) → 0 < count → count + first ≤ length (batch_entries batch) → EachIsCurrent s (drop first (batch_entries batch)) →
+    Joins form text_end s batch first count →
+    Joined (length (opening text_end batch count) + entry_size batch) (entry_size batch) form text_end s (take count (drop first (batch_entries batch))) (opening text_end batch count ++ joined_bytes batch first count)
+    (text_end_after_joined text_end batch count)
+batch_joins form text_end s (batches.Points points drawing) first count some few stand joins =
     let d = drawing.now in
     let ps = points.now in
     let qs = take count (drop first ps) in
-    let size : length qs ≡ count = length-take-le count (drop first ps) (omega (arith, few, length-map ps (point_on d), length-drop first ps)) in
-    let is : take count (drop first (map (point_on d) ps)) ≡ map (point_on d) qs = ap (take count) (sym (points_rest d ps first)) ∙ sym (points_front d (drop first ps) count) in
-    let stands = subst (EachStands s) is (stands_front s (drop first (map (point_on d) ps)) count stand) in
-    behind_run form tail s _ qs 0x26 count joins some size (subst (λ (list : List Entry). EachPoint 0x26 s list qs) (sym is) (points_each s d qs stands))
-batch_joins form tail s (batches.Lines from points drawing) first count some few stand joins =
+    let size : length qs ≡ count = length-take-le count (drop first ps) (omega (arith, few, length-map ps (point_entry d), length-drop first ps)) in
+    let is : take count (drop first (map (point_entry d) ps)) ≡ map (point_entry d) qs = ap (take count) (sym (points_rest d ps first)) ∙ sym (points_front d (drop first ps) count) in
+    let stands = subst (EachIsCurrent s) is (stands_front s (drop first (map (point_entry d) ps)) count stand) in
+    behind_run form text_end s _ qs 0x26 count joins some size (subst (λ (list : List Entry). EachPoint 0x26 s list qs) (sym is) (points_each s d qs stands))
+batch_joins form text_end s (batches.Lines from points drawing) first count some few stand joins =
     let d = drawing.now in
     let ps = points.now in
-    let p = last_of from (take first ps) in
+    let p = last_point from (take first ps) in
     let qs = take count (drop first ps) in
     let size : length qs ≡ count = length-take-le count (drop first ps) (omega (arith, few, lines_count d from ps, length-drop first ps)) in
-    let is : take count (drop first (lines_on d from ps)) ≡ lines_on d p qs = ap (take count) (sym (lines_rest d from ps first)) ∙ sym (lines_front d p (drop first ps) count) in
-    let stands = subst (EachStands s) is (stands_front s (drop first (lines_on d from ps)) count stand) in
-    behind_run form tail s _ qs 0x28 count joins.0 some size (subst (λ (list : List Entry). EachPoint 0x28 s list qs) (sym is) (lines_each s d p qs joins.1 stands))
-batch_joins form tail s (batches.Text set codes pen drawing) first count some few stand joins =
+    let is : take count (drop first (polyline_entries d from ps)) ≡ polyline_entries d p qs = ap (take count) (sym (lines_rest d from ps first)) ∙ sym (lines_front d p (drop first ps) count) in
+    let stands = subst (EachIsCurrent s) is (stands_front s (drop first (polyline_entries d from ps)) count stand) in
+    behind_run form text_end s _ qs 0x28 count joins.0 some size (subst (λ (list : List Entry). EachPoint 0x28 s list qs) (sym is) (lines_each s d p qs joins.1 stands))
+batch_joins form text_end s (batches.Text set codes pen drawing) first count some few stand joins =
     let hand = record (hand_of drawing.now) { pen = pen } in
     let cs = take count (drop first codes.now) in
     let behind = text_behind set hand codes.now first in
     let h = behind.0 in
-    let list = take count (drop first (text_in set hand codes.now)) in
-    let is : list ≡ text_in set h cs = ap (take count) behind.1 ∙ sym (text_front set h (drop first codes.now) count) in
-    let all : list ≡ text_in Primary h cs = is ∙ ap (λ (set : CharSet). text_in set h cs) joins.0 in
-    let stands = subst (EachStands s) all (stands_front s (drop first (text_in set hand codes.now)) count stand) in
-    subst (λ (list : List Entry). Joined (length (to_primary (gl_of tail)) + 1) 1 form tail s list (to_primary (gl_of tail) ++ cs) (Apart G0)) (sym all)
+    let list = take count (drop first (text_entries_in set hand codes.now)) in
+    let is : list ≡ text_entries_in set h cs = ap (take count) behind.1 ∙ sym (text_front set h (drop first codes.now) count) in
+    let all : list ≡ text_entries_in Primary h cs = is ∙ ap (λ (set : CharSet). text_entries_in set h cs) joins.0 in
+    let stands = subst (EachIsCurrent s) all (stands_front s (drop first (text_entries_in set hand codes.now)) count stand) in
+    subst (λ (list : List Entry). Joined (length (shift_to_primary (gl_of text_end)) + 1) 1 form text_end s list (shift_to_primary (gl_of text_end) ++ cs) (NoRun G0)) (sym all)
     (by h stands joins.1)
   where
-    by : (h : Hand) → EachStands s (text_in Primary h (take count (drop first codes.now))) → TextJoins tail (drop first codes.now) count →
-        Joined (length (to_primary (gl_of tail)) + 1) 1 form tail s (text_in Primary h (take count (drop first codes.now))) (to_primary (gl_of tail) ++ take count (drop first codes.now)) (Apart G0)
+    by : (h : Hand) → EachIsCurrent s (text_entries_in Primary h (take count (drop first codes.now))) → TextJoins text_end (drop first codes.now) count →
+        Joined (length (shift_to_primary (gl_of text_end)) + 1) 1 form text_end s (text_entries_in Primary h (take count (drop first codes.now))) (shift_to_primary (gl_of text_end) ++ take count (drop first codes.now)) (NoRun G0)
     by h stands (inl is) =
-        subst (λ (t : Tail). Joined (length (to_primary (gl_of t)) + 1) 1 form t s (text_in Primary h (take count (drop first codes.now))) (to_primary (gl_of t) ++ take count (drop first codes.now)) (Apart G0))
+        subst (λ (t : TextEnd). Joined (length (shift_to_primary (gl_of t)) + 1) 1 form t s (text_entries_in Primary h (take count (drop first codes.now))) (shift_to_primary (gl_of t) ++ take count (drop first codes.now)) (NoRun G0))
         (sym is) (text_joins form s h (take count (drop first codes.now)) stands)
     by h stands (inr opens) =
         let all = text_count set (record (hand_of drawing.now) { pen = pen }) codes.now in
-        text_opens form tail s h (drop first codes.now) count some (omega (arith, few, all, length-drop first codes.now)) opens.1 stands
+        text_opens form text_end s h (drop first codes.now) count some (omega (arith, few, all, length-drop first codes.now)) opens.1 stands
 
 -- where a written part of them ends
 
@@ -394,62 +394,62 @@ pub record Whole (lead size n k : ℕ) : Type 0 where
   pub to : n < lead + size * k
 
 -- a part of the first entry
-pub parted_first : (form : Form) (tail : Tail) (s : State) (e : Entry) (es : List Entry) (n : ℕ) → n < length (written tail (entry_pieces form s e)) → Parted form tail s (e ∷ es) 0 n
-unfolding pieces written tail_after walk
-parted_first form tail s e es n few = record {
+pub parted_first : (form : Form) (text_end : TextEnd) (s : State) (e : Entry) (es : List Entry) (n : ℕ) → n < length (pieces_bytes text_end (entry_pieces form s e)) → Parted form text_end s (e ∷ es) 0 n
+unfolding pieces pieces_bytes text_end_after walk
+parted_first form text_end s e es n few = record {
   next = e;
   rest = es;
   parts = refl;
   part = n;
   less = few;
   cut =
-      ap (take n) (written-append tail (entry_pieces form s e) (pieces form (after s e) es))
-      ∙ take-append-le n (written tail (entry_pieces form s e)) _ (omega (arith, few));
+      ap (take n) (pieces_bytes-append text_end (entry_pieces form s e) (pieces form (after s e) es))
+      ∙ take-append-le n (pieces_bytes text_end (entry_pieces form s e)) _ (omega (arith, few));
 }
 
 -- the first entry, and so many bytes of those behind it
-pub parted_behind : (form : Form) (tail : Tail) (s : State) (e : Entry) (es : List Entry) (k n m : ℕ) → n ≡ length (written tail (entry_pieces form s e)) + m →
-    Parted form (tail_after tail (entry_pieces form s e)) (after s e) es k m → Parted form tail s (e ∷ es) (suc k) n
-unfolding pieces written tail_after walk
-parted_behind form tail s e es k n m is more =
+pub parted_behind : (form : Form) (text_end : TextEnd) (s : State) (e : Entry) (es : List Entry) (k n m : ℕ) → n ≡ length (pieces_bytes text_end (entry_pieces form s e)) + m →
+    Parted form (text_end_after text_end (entry_pieces form s e)) (after s e) es k m → Parted form text_end s (e ∷ es) (suc k) n
+unfolding pieces pieces_bytes text_end_after walk
+parted_behind form text_end s e es k n m is more =
     let first = entry_pieces form s e in
-    let t = tail_after tail first in
+    let t = text_end_after text_end first in
     let front = pieces form (after s e) (take k es) in
     let next = entry_pieces form (walk (after s e) (take k es)) more.next in
-    let behind : tail_after tail (first ++ front) ≡ tail_after t front = tail_after-append tail first front in
+    let behind : text_end_after text_end (first ++ front) ≡ text_end_after t front = text_end_after-append text_end first front in
     record {
       next = more.next;
       rest = more.rest;
       parts = ap (λ (list : List Entry). e ∷ list) more.parts;
       part = more.part;
-      less = subst (λ (u : Tail). more.part < length (written u next)) (sym behind) more.less;
+      less = subst (λ (u : TextEnd). more.part < length (pieces_bytes u next)) (sym behind) more.less;
       cut =
-          ap (take n) (written-append tail first (pieces form (after s e) es))
-          ∙ ap (λ (n : ℕ). take n (written tail first ++ written t (pieces form (after s e) es))) is
-          ∙ take-append-add (written tail first) (written t (pieces form (after s e) es)) m
-          ∙ ap (λ (bs : List ℕ). written tail first ++ bs) more.cut
-          ∙ sym (append_assoc (written tail first) (written t front) (take more.part (written (tail_after t front) next)))
-          ∙ ap (λ (bs : List ℕ). bs ++ take more.part (written (tail_after t front) next)) (sym (written-append tail first front))
-          ∙ ap (λ (u : Tail). written tail (first ++ front) ++ take more.part (written u next)) (sym behind);
+          ap (take n) (pieces_bytes-append text_end first (pieces form (after s e) es))
+          ∙ ap (λ (n : ℕ). take n (pieces_bytes text_end first ++ pieces_bytes t (pieces form (after s e) es))) is
+          ∙ take-append-add (pieces_bytes text_end first) (pieces_bytes t (pieces form (after s e) es)) m
+          ∙ ap (λ (bs : List ℕ). pieces_bytes text_end first ++ bs) more.cut
+          ∙ sym (append_assoc (pieces_bytes text_end first) (pieces_bytes t front) (take more.part (pieces_bytes (text_end_after t front) next)))
+          ∙ ap (λ (bs : List ℕ). bs ++ take more.part (pieces_bytes (text_end_after t front) next)) (sym (pieces_bytes-append text_end first front))
+          ∙ ap (λ (u : TextEnd). pieces_bytes text_end (first ++ front) ++ take more.part (pieces_bytes u next)) (sym behind);
     }
 
-pub each_front : (lead size : ℕ) (form : Form) (tail : Tail) (s : State) (list : List Entry) (k n : ℕ) → EachWrites lead size form tail s list → k < length list → Whole lead size n k →
-    Parted form tail s list k n
+pub each_front : (lead size : ℕ) (form : Form) (text_end : TextEnd) (s : State) (list : List Entry) (k n : ℕ) → EachWrites lead size form text_end s list → k < length list → Whole lead size n k →
+    Parted form text_end s list k n
 unfolding EachWrites
-each_front lead size form tail s [] k n each less whole = absurd (omega (arith, less))
-each_front lead size form tail s (e ∷ es) zero n each less whole = parted_first form tail s e es n (omega (arith, whole.to, each.0))
-each_front lead size form tail s (e ∷ es) (suc k) n each less whole =
+each_front lead size form text_end s [] k n each less whole = absurd (omega (arith, less))
+each_front lead size form text_end s (e ∷ es) zero n each less whole = parted_first form text_end s e es n (omega (arith, whole.to, each.0))
+each_front lead size form text_end s (e ∷ es) (suc k) n each less whole =
     let low : lead + size * suc k ≤ n + size = whole.from (omega arith) in
-    parted_behind form tail s e es k n (n - lead) (omega (arith, each.0, low))
-    (each_front size size form (tail_after tail (entry_pieces form s e)) (after s e) es k (n - lead) each.1 (omega (arith, less))
+    parted_behind form text_end s e es k n (n - lead) (omega (arith, each.0, low))
+    (each_front size size form (text_end_after text_end (entry_pieces form s e)) (after s e) es k (n - lead) each.1 (omega (arith, less))
     (record { from = λ some. omega (arith, low); to = omega (arith, low, whole.to) }))
 
 -- the bytes of so many, and how many of them were written whole
 
-pub joined_length : (batch : Batch) (first count : ℕ) → count + first ≤ length (listed batch) → length (joined_bytes batch first count) ≡ entry_size batch * count
+pub joined_length : (batch : Batch) (first count : ℕ) → count + first ≤ length (batch_entries batch) → length (joined_bytes batch first count) ≡ entry_size batch * count
 joined_length (batches.Points points drawing) first count few =
     points_size (take count (drop first points.now))
-    ∙ ap (λ (n : ℕ). 8 * n) (length-take-le count (drop first points.now) (omega (arith, few, length-map points.now (point_on drawing.now), length-drop first points.now)))
+    ∙ ap (λ (n : ℕ). 8 * n) (length-take-le count (drop first points.now) (omega (arith, few, length-map points.now (point_entry drawing.now), length-drop first points.now)))
 joined_length (batches.Lines from points drawing) first count few =
     points_size (take count (drop first points.now))
     ∙ ap (λ (n : ℕ). 8 * n) (length-take-le count (drop first points.now) (omega (arith, few, lines_count drawing.now from points.now, length-drop first points.now)))
@@ -458,7 +458,7 @@ joined_length (batches.Text set codes pen drawing) first count few =
     omega (arith, length-take-le count (drop first codes.now) (omega (arith, few, all, length-drop first codes.now)))
 
 -- bytes of an opening and of entries that were cut
-module _ (begin : List ℕ) (batch : Batch) (first count n : ℕ) (few : count + first ≤ length (listed batch)) (some : 0 < count) (less : n < length (begin ++ joined_bytes batch first count)) where
+module _ (begin : List ℕ) (batch : Batch) (first count n : ℕ) (few : count + first ≤ length (batch_entries batch)) (some : 0 < count) (less : n < length (begin ++ joined_bytes batch first count)) where
   fewer : n < length begin + entry_size batch * count
   fewer = omega (arith, less, length-append begin (joined_bytes batch first count), joined_length batch first count few)
 
@@ -485,6 +485,6 @@ whole_bytes sent s t bytes (Err n) put = (n, omega arith, put)
 
 -- fewer of them were written whole
 pub whole_few : {S : Type 0} (sent : S → List ℕ → Bool → S → Type 0) (a b : S) (begin : List ℕ) (batch : Batch) (first count k : ℕ) → 0 < count →
-    count + first ≤ length (listed batch) → SentWhole sent a begin (entry_size batch) (joined_bytes batch first count) b (Err k) → k + first ≤ length (listed batch)
+    count + first ≤ length (batch_entries batch) → SentWhole sent a begin (entry_size batch) (joined_bytes batch first count) b (Err k) → k + first ≤ length (batch_entries batch)
 whole_few sent a b begin batch first count k some few put =
     omega (arith, few, put.1, whole_less begin batch first count put.0 few some put.2.less)

@@ -10,13 +10,13 @@ use Rattle.nap_reader.specs.declared.fault.Fault.TheVariants as fault
 use Rattle.nap_reader.specs.declared.fault.Refusal.{Refusal}
 use Rattle.nap_reader.specs.Collecting.{IsCounted, IsRead}
 use Rattle.nap_canon.specs.PageTexts.{RefusesPage, refusal_of_text}
-use Rattle.nap_canon.specs.Sinking.{Begun, Canonical, Took}
+use Rattle.nap_canon.specs.Sinking.{StartsText, Canonical, Took}
 use Rattle.nap_canon.specs.Streams.{LacksMemoryAt}
 use Rattle.nap_canon.specs.Text.{text}
 use Rattle.nap_canon.proofs.sinks.SinkingLemmas.{sink_writes_text}
 
 -- the text that a sink wrote, over an outlet that tells its bytes and had none
-pub text_written : {O : Type 0} (o : outlet.Ghosts O) (w : O) (s t : Canonical O) (begins : Begun o w s) (works : o.failed s.outlet ≡ false) (items : O → List ℕ) →
+pub text_written : {O : Type 0} (o : outlet.Ghosts O) (w : O) (s t : Canonical O) (begins : StartsText o w s) (works : o.failed s.outlet ≡ false) (items : O → List ℕ) →
     ((u : O) → o.taken u ≡ Some (items u)) → items w ≡ [] → (d : List Entry) → Took o s d t → items t.outlet ≡ text d
 text_written o w s t begins works items tells empty d took =
     let taken : Appends (o.taken w) (o.taken t.outlet) (text d) = (sink_writes_text o w s t d begins works took).grows.taken in

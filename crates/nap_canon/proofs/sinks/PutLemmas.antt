@@ -9,7 +9,7 @@ use Rattle.nap_codes.specs.declared.code_set.CharSet.{CharSet}
 use Rattle.nap_codes.specs.declared.control.TextStep.{TextStep}
 use Rattle.nap_codes.specs.Tables.{format_effector}
 use Rattle.nap_list.specs.declared.attribute.Hand.{Hand}
-use Rattle.nap_list.specs.declared.attribute.Held.{Held}
+use Rattle.nap_list.specs.declared.attribute.Attributes.{Attributes}
 use Rattle.nap_list.specs.declared.batch.Batch.{Batch}
 use Rattle.nap_list.specs.declared.batch.Batch.TheVariants as batches
 use Rattle.nap_list.specs.declared.device.outlet.Outlet as outlet
@@ -19,9 +19,9 @@ use Rattle.nap_list.specs.declared.sink.SinkFault.TheVariants.{Write}
 use Rattle.nap_list.specs.declared.sink.SinkFault.TheVariants as faults
 use Rattle.nap_list.specs.declared.state.Drawing.{Drawing}
 use Rattle.nap_list.specs.declared.state.State.{State}
-use Rattle.nap_list.specs.Agreement.{Stands}
-use Rattle.nap_list.specs.Batches.{EachStands, FirstStands, listed, point_on, line_on, typed, typed_as, typed_on, lines_on, text_in, text_on}
-use Rattle.nap_list.specs.Entry.{held, hand_values}
+use Rattle.nap_list.specs.Agreement.{AreCurrent}
+use Rattle.nap_list.specs.Batches.{EachIsCurrent, FirstIsCurrent, batch_entries, point_entry, line_entry, text_entry, text_entry_as, text_entry_on, polyline_entries, text_entries_in, text_entries}
+use Rattle.nap_list.specs.Entry.{attributes, hand_attributes}
 use Rattle.nap_list.specs.Putting.{HaltsAfter, NotTaken, Put, PutSome, Putting, TakesAll, WantsMore}
 use Rattle.nap_list.specs.PuttingLaws.{put_begins, put_goes, put_halts, put_ends, some_put, stops_at_first, takes_one}
 use Rattle.nap_list.specs.State.{after, walk, hand_of}
@@ -29,17 +29,17 @@ use Rattle.nap_list.proofs.PublicLaws.{batch_stands}
 use Rattle.nap_list.specs.Sending.{Sending, Grows, grows_more}
 use Rattle.nap_canon.specs.declared.writer.Writer.{Writer}
 use Rattle.nap_canon.specs.Writing.{PutsFront}
-use Rattle.nap_canon.specs.Batches.{canon_shows, CutAfter, Parted, PutsFirst, PutsSome, PutsBehind}
-use Rattle.nap_canon.specs.Sinking.{Sends, Canonical, shown, bytes_of, Took, Broke}
+use Rattle.nap_canon.specs.Batches.{canon_sink_model, CutAfter, Parted, PutsFirst, PutsSome, PutsAfter}
+use Rattle.nap_canon.specs.Sinking.{Sends, Canonical, sending_of, entry_bytes, Took, Broke}
 use Rattle.nap_canon.specs.Sinking as sinking
-use Rattle.nap_canon.specs.Text.{written, entry_pieces, pieces, tail_after}
+use Rattle.nap_canon.specs.Text.{pieces_bytes, entry_pieces, pieces, text_end_after}
 use Rattle.nap_canon.specs.SinkLaws.{took_none, took_more, took_broke}
 use Rattle.nap_canon.proofs.sinks.JoinLemmas.{stands_rest}
 use Rattle.nap_canon.proofs.sinks.SinkingLemmas.{broke_answered}
 
 module _ {O : Type 0} (o : outlet.Ghosts O) (s t : Canonical O) (works : o.failed s.outlet ≡ false) where
   -- all of a list
-  pub takes_all : (list : List Entry) → Took o s list t → TakesAll (canon_shows o) list s t
+  pub takes_all : (list : List Entry) → Took o s list t → TakesAll (canon_sink_model o) list s t
   takes_all list took = record {
     took = took;
     state = took.state;
@@ -49,7 +49,7 @@ module _ {O : Type 0} (o : outlet.Ghosts O) (s t : Canonical O) (works : o.faile
 
   -- a list up to an entry that broke
   pub breaks_at : (list front rest : List Entry) (next : Entry) (n : ℕ) → list ≡ front ++ next ∷ rest → length front ≡ n → Broke o s front next t →
-      Put (canon_shows o) list s t (Err (record { taken = n; fault = Write }))
+      Put (canon_sink_model o) list s t (Err (record { taken = n; fault = Write }))
   breaks_at list front rest next n parts count broke = (
     inr (record { front = front; next = next; rest = rest; parts = parts; count = count; broken = broke }),
     record {
@@ -60,13 +60,13 @@ module _ {O : Type 0} (o : outlet.Ghosts O) (s t : Canonical O) (works : o.faile
   )
 
   -- an entry that broke
-  pub one_breaks : {E : Type 0} (e : Entry) (r : Result (Unit {0}) E) → is_err r ≡ true → Sends (shown o s) (written s.tail (entry_pieces s.form s.state e)) (is_err r) (shown o t) →
-      OnErr r (t.state ≡ s.state) → PutSome {A = Unit {0}} (canon_shows o) (e ∷ []) s t (Err Write)
+  pub one_breaks : {E : Type 0} (e : Entry) (r : Result (Unit {0}) E) → is_err r ≡ true → Sends (sending_of o s) (pieces_bytes s.text_end (entry_pieces s.form s.state e)) (is_err r) (sending_of o t) →
+      OnErr r (t.state ≡ s.state) → PutSome {A = Unit {0}} (canon_sink_model o) (e ∷ []) s t (Err Write)
   one_breaks e r failed bytes still =
-      some_put (canon_shows o) (Unit {0}) s t (e ∷ []) 0 Write (breaks_at (e ∷ []) [] [] e 0 refl refl (broke_answered o s t e r failed bytes still))
+      some_put (canon_sink_model o) (Unit {0}) s t (e ∷ []) 0 Write (breaks_at (e ∷ []) [] [] e 0 refl refl (broke_answered o s t e r failed bytes still))
 
 -- a sink that has failed takes nothing
-pub still_put : {O : Type 0} (o : outlet.Ghosts O) (s : Canonical O) (list : List Entry) → o.failed s.outlet ≡ true → PutSome {A = Unit {0}} (canon_shows o) list s s (Err Write)
+pub still_put : {O : Type 0} (o : outlet.Ghosts O) (s : Canonical O) (list : List Entry) → o.failed s.outlet ≡ true → PutSome {A = Unit {0}} (canon_sink_model o) list s s (Err Write)
 still_put o s list failed = (
   0,
   inl (failed, refl, refl),
@@ -79,10 +79,10 @@ module _ {O : Type 0} (o : outlet.Ghosts O) (s t : Canonical O) (e : Entry) (es 
   pub first_put : (r : Result (Unit {0}) SinkFault) → OnOk r (Took o s (e ∷ []) t) → OnOk r (t.state ≡ after s.state e) → (IsErrOf r faults.Memory → ⊥) →
       (o.failed s.outlet ≡ true → IsErrOf r Write) → (IsErrOf r Write → o.failed t.outlet ≡ true) → (o.failed t.outlet ≡ true → IsErrOf r Write) →
       (IsErrOf r Write → o.failed s.outlet ≡ false → Broke o s [] e t) → (IsErrOf r Write → o.failed s.outlet ≡ true → t ≡ s) → PutsFirst o (e ∷ es) s t r
-  first_put (Ok x) took after memory refuses write only broke still = (omega arith, omega arith, takes_one (canon_shows o) s t e took after only refuses)
+  first_put (Ok x) took after memory refuses write only broke still = (omega arith, omega arith, takes_one (canon_sink_model o) s t e took after only refuses)
   first_put (Err faults.Memory) took after memory refuses write only broke still = absurd (memory refl)
   first_put (Err Write) took after memory refuses write only broke still =
-      let put : NotTaken (canon_shows o) s t e Write = record {
+      let put : NotTaken (canon_sink_model o) s t e Write = record {
         memory = λ is. absurd (memory is);
         wants = λ is. memory is;
         refuses = refuses;
@@ -91,7 +91,7 @@ module _ {O : Type 0} (o : outlet.Ghosts O) (s t : Canonical O) (e : Entry) (es 
         broke = broke;
         still = still;
       } in
-      stops_at_first (canon_shows o) s t e es Write (took_none o s) put
+      stops_at_first (canon_sink_model o) s t e es Write (took_none o s) put
 
 pub first_taken : {O E : Type 0} (o : outlet.Ghosts O) (s t : Canonical O) (list : List Entry) (r : Result (Unit {0}) E) → is_err r ≡ false → PutsFirst o list s t r → PutsSome o list s t (Ok 1)
 first_taken o s t list (Ok x) none put = put
@@ -99,9 +99,9 @@ first_taken o s t list (Err x) none put = absurd (true≢false none)
 
 -- entries that are one write
 
-module _ {O S : Type 0} (o : outlet.Ghosts O) (view : S → Sending) (a b : S) (s t : Canonical O) (from : view a ≡ shown o s) (to : view b ≡ shown o t) where
+module _ {O S : Type 0} (o : outlet.Ghosts O) (view : S → Sending) (a b : S) (s t : Canonical O) (from : view a ≡ sending_of o s) (to : view b ≡ sending_of o t) where
   -- what was taken up to the cut
-  cut_grows : (bytes : List ℕ) (n : ℕ) → CutAfter (λ x bytes broke y. Sends (view x) bytes broke (view y)) a bytes n b → Grows (shown o s) (take n bytes) (shown o t)
+  cut_grows : (bytes : List ℕ) (n : ℕ) → CutAfter (λ x bytes broke y. Sends (view x) bytes broke (view y)) a bytes n b → Grows (sending_of o s) (take n bytes) (sending_of o t)
   cut_grows bytes n cut =
       let front : List ℕ = take n bytes in
       let byte : List ℕ = slice_index bytes n ∷ [] in
@@ -109,21 +109,21 @@ module _ {O S : Type 0} (o : outlet.Ghosts O) (view : S → Sending) (a b : S) (
       let grows : Grows (view a) (front ++ take cut.next.part byte) (view b) = grows_more (view a) (view cut.mid) (view b) front (take cut.next.part byte) cut.front.grows cut.next.grows in
       let less : Grows (view a) front (view b) =
       subst (λ (bs : List ℕ). Grows (view a) bs (view b)) (ap (λ (n : ℕ). front ++ take n byte) none ∙ append-nil front) grows in
-      subst (λ (x : Sending). Grows (shown o s) front x) to (subst (λ (x : Sending). Grows x front (view b)) from less)
+      subst (λ (x : Sending). Grows (sending_of o s) front x) to (subst (λ (x : Sending). Grows x front (view b)) from less)
 
   module _ (works : o.failed s.outlet ≡ false) (list : List Entry) (count : ℕ) (few : count ≤ length list) where
     -- all of them
-    pub front_took : 0 < count → sinking.TakesAll (view a) (bytes_of s (take count list)) (view b) → t.form ≡ s.form → t.tail ≡ tail_after s.tail (pieces s.form s.state (take count list)) →
+    pub front_took : 0 < count → sinking.TakesAll (view a) (entry_bytes s (take count list)) (view b) → t.form ≡ s.form → t.text_end ≡ text_end_after s.text_end (pieces s.form s.state (take count list)) →
         t.state ≡ walk s.state (take count list) → PutsSome o list s t (Ok count)
-    front_took some sent form tail state =
-        let all : sinking.TakesAll (shown o s) (bytes_of s (take count list)) (shown o t) =
-        subst (λ (x : Sending). sinking.TakesAll (shown o s) (bytes_of s (take count list)) x) to
-        (subst (λ (x : Sending). sinking.TakesAll x (bytes_of s (take count list)) (view b)) from sent) in
-        (some, few, takes_all o s t works (take count list) (record { bytes = all; form = form; tail = tail; state = state }))
+    front_took some sent form text_end state =
+        let all : sinking.TakesAll (sending_of o s) (entry_bytes s (take count list)) (sending_of o t) =
+        subst (λ (x : Sending). sinking.TakesAll (sending_of o s) (entry_bytes s (take count list)) x) to
+        (subst (λ (x : Sending). sinking.TakesAll x (entry_bytes s (take count list)) (view b)) from sent) in
+        (some, few, takes_all o s t works (take count list) (record { bytes = all; form = form; text_end = text_end; state = state }))
 
     -- so many of them whole
-    pub front_cut : (k n : ℕ) → k < count → CutAfter (λ x bytes broke y. Sends (view x) bytes broke (view y)) a (bytes_of s (take count list)) n b →
-        Parted s.form s.tail s.state (take count list) k n → t.state ≡ walk s.state (take k list) → Put (canon_shows o) list s t (Err (record { taken = k; fault = Write }))
+    pub front_cut : (k n : ℕ) → k < count → CutAfter (λ x bytes broke y. Sends (view x) bytes broke (view y)) a (entry_bytes s (take count list)) n b →
+        Parted s.form s.text_end s.state (take count list) k n → t.state ≡ walk s.state (take k list) → Put (canon_sink_model o) list s t (Err (record { taken = k; fault = Write }))
     front_cut k n less cut parted state =
         let those = take count list in
         let front = take k those in
@@ -136,26 +136,26 @@ module _ {O S : Type 0} (o : outlet.Ghosts O) (view : S → Sending) (a b : S) (
         let broke : Broke o s front next t = record {
           part = parted.part;
           less = parted.less;
-          grows = subst (λ (bs : List ℕ). Grows (shown o s) bs (shown o t)) parted.cut (cut_grows (bytes_of s those) n cut);
+          grows = subst (λ (bs : List ℕ). Grows (sending_of o s) bs (sending_of o t)) parted.cut (cut_grows (entry_bytes s those) n cut);
           failed = ap (λ (x : Sending). x.failed) (sym to) ∙ cut.next.failed;
           state = state ∙ ap (walk s.state) (sym same);
         } in
         breaks_at o s t works list front (parted.rest ++ drop count list) next k is (length-take-le k those (omega (arith, less, length-take-le count list few))) broke
 
 -- what a writer put as one
-module _ {O T F : Type 0} (o : outlet.Ghosts O) (view : T → Sending) (w v : Writer T F) (s t : Canonical O) (from : view w.to ≡ shown o s) (to : view v.to ≡ shown o t)
+module _ {O T F : Type 0} (o : outlet.Ghosts O) (view : T → Sending) (w v : Writer T F) (s t : Canonical O) (from : view w.to ≡ sending_of o s) (to : view v.to ≡ sending_of o t)
     (works : o.failed s.outlet ≡ false) (list : List Entry) where
   abbrev before : Canonical O
-  before = record { outlet = s.outlet; written = s.written; form = w.form; tail = w.room.tail; state = w.state }
+  before = record { outlet = s.outlet; written = s.written; form = w.form; text_end = w.pending.text_end; state = w.state }
 
   abbrev behind : Canonical O
-  behind = record { outlet = t.outlet; written = t.written; form = v.form; tail = v.room.tail; state = v.state }
+  behind = record { outlet = t.outlet; written = t.written; form = v.form; text_end = v.pending.text_end; state = v.state }
 
   pub next_put : s ≡ before → t ≡ behind → (r : Result ℕ ℕ) → PutsFront (λ x bytes broke y. Sends (view x) bytes broke (view y)) list w v r → PutsSome o list s t r
   next_put is ends (Ok count) put =
       subst (λ (s : Canonical O). PutsSome o list s t (Ok count)) (sym is)
       (subst (λ (t : Canonical O). PutsSome o list before t (Ok count)) (sym ends)
-      (front_took o view w.to v.to before behind from to works list count put.few put.some put.sent put.form put.tail put.state))
+      (front_took o view w.to v.to before behind from to works list count put.few put.some put.sent put.form put.text_end put.state))
   next_put is ends (Err k) put =
       subst (λ (s : Canonical O). PutsSome o list s t (Err k)) (sym is)
       (subst (λ (t : Canonical O). PutsSome o list before t (Err k)) (sym ends)
@@ -164,54 +164,54 @@ module _ {O T F : Type 0} (o : outlet.Ghosts O) (view : T → Sending) (w v : Wr
 -- a list that is put part by part
 
 -- a byte of a text holds its hand
-typed_held : (set : CharSet) (hand : Hand) (code : ℕ) → held (typed set hand code) ≡ hand_values hand
+typed_held : (set : CharSet) (hand : Hand) (code : ℕ) → attributes (text_entry set hand code) ≡ hand_attributes hand
 typed_held set hand code = by (format_effector code)
   where
-    by : (step : Option TextStep) → held (typed_as step set hand code) ≡ hand_values hand
+    by : (step : Option TextStep) → attributes (text_entry_as step set hand code) ≡ hand_attributes hand
     by (Some step) = refl
     by None = refl
 
 -- the values of the first entry stand
-first_stands : (batch : Batch) (d : Drawing) (e : Entry) (es : List Entry) → listed batch ≡ e ∷ es → FirstStands batch d → Stands (held e) d
-unfolding lines_on text_in
+first_stands : (batch : Batch) (d : Drawing) (e : Entry) (es : List Entry) → batch_entries batch ≡ e ∷ es → FirstIsCurrent batch d → AreCurrent (attributes e) d
+unfolding polyline_entries text_entries_in
 first_stands (batches.Points points drawing) d e es all stands = by points.now all
   where
-    by : (ps : List Coordinates) → map (point_on drawing.now) ps ≡ e ∷ es → Stands (held e) d
+    by : (ps : List Coordinates) → map (point_entry drawing.now) ps ≡ e ∷ es → AreCurrent (attributes e) d
     by [] all = let bad : ⊥ = cc in absurd bad
-    by (p ∷ ps) all = let same : point_on drawing.now p ≡ e = cc in subst (λ (e : Entry). Stands (held e) d) same stands
+    by (p ∷ ps) all = let same : point_entry drawing.now p ≡ e = cc in subst (λ (e : Entry). AreCurrent (attributes e) d) same stands
 first_stands (batches.Lines from points drawing) d e es all stands = by points.now all
   where
-    by : (ps : List Coordinates) → lines_on drawing.now from ps ≡ e ∷ es → Stands (held e) d
+    by : (ps : List Coordinates) → polyline_entries drawing.now from ps ≡ e ∷ es → AreCurrent (attributes e) d
     by [] all = let bad : ⊥ = cc in absurd bad
-    by (p ∷ ps) all = let same : line_on drawing.now from p ≡ e = cc in subst (λ (e : Entry). Stands (held e) d) same stands
+    by (p ∷ ps) all = let same : line_entry drawing.now from p ≡ e = cc in subst (λ (e : Entry). AreCurrent (attributes e) d) same stands
 first_stands (batches.Text set codes pen drawing) d e es all stands = by codes.now all
   where
-    by : (cs : List ℕ) → text_on drawing.now pen set cs ≡ e ∷ es → Stands (held e) d
+    by : (cs : List ℕ) → text_entries drawing.now pen set cs ≡ e ∷ es → AreCurrent (attributes e) d
     by [] all = let bad : ⊥ = cc in absurd bad
     by (c ∷ cs) all =
-        let same : typed_on drawing.now pen set c ≡ e = cc in
-        subst (λ (e : Entry). Stands (held e) d) same (subst (λ (h : Held). Stands h d) (sym (typed_held set (record (hand_of drawing.now) { pen = pen }) c)) stands)
+        let same : text_entry_on drawing.now pen set c ≡ e = cc in
+        subst (λ (e : Entry). AreCurrent (attributes e) d) same (subst (λ (h : Attributes). AreCurrent h d) (sym (typed_held set (record (hand_of drawing.now) { pen = pen }) c)) stands)
 
 -- then those of each entry do when it comes
-pub each_stands : (batch : Batch) (s : State) → FirstStands batch s.drawing → EachStands s (listed batch)
-unfolding EachStands
-each_stands batch s stands = by (listed batch) refl
+pub each_stands : (batch : Batch) (s : State) → FirstIsCurrent batch s.drawing → EachIsCurrent s (batch_entries batch)
+unfolding EachIsCurrent
+each_stands batch s stands = by (batch_entries batch) refl
   where
-    by : (list : List Entry) → listed batch ≡ list → EachStands s list
+    by : (list : List Entry) → batch_entries batch ≡ list → EachIsCurrent s list
     by [] all = tt
     by (e ∷ es) all = (first_stands batch s.drawing e es all stands, batch_stands batch s e es all)
 
 -- and of those behind the first
-pub stands_behind : (batch : Batch) (s t : State) (n : ℕ) → 0 < n → t ≡ walk s (take n (listed batch)) → EachStands t (drop n (listed batch))
-unfolding walk EachStands
+pub stands_behind : (batch : Batch) (s t : State) (n : ℕ) → 0 < n → t ≡ walk s (take n (batch_entries batch)) → EachIsCurrent t (drop n (batch_entries batch))
+unfolding walk EachIsCurrent
 stands_behind batch s t zero some is = absurd (omega (arith, some))
-stands_behind batch s t (suc n) some is = subst (λ (t : State). EachStands t (drop (suc n) (listed batch))) (sym is) (by (listed batch) refl)
+stands_behind batch s t (suc n) some is = subst (λ (t : State). EachIsCurrent t (drop (suc n) (batch_entries batch))) (sym is) (by (batch_entries batch) refl)
   where
-    by : (list : List Entry) → listed batch ≡ list → EachStands (walk s (take (suc n) list)) (drop (suc n) list)
+    by : (list : List Entry) → batch_entries batch ≡ list → EachIsCurrent (walk s (take (suc n) list)) (drop (suc n) list)
     by [] all = tt
     by (e ∷ es) all = stands_rest (after s e) es n (batch_stands batch s e es all)
 
-wants_none : {O : Type 0} (o : outlet.Ghosts O) → WantsMore (canon_shows o)
+wants_none : {O : Type 0} (o : outlet.Ghosts O) → WantsMore (canon_sink_model o)
 wants_none o s t d e f took wants = absurd wants
 
 -- a sink works that took an entry
@@ -226,26 +226,26 @@ works_behind o s t list n some = by (o.failed s.outlet) refl
 pub halts_within : {O : Type 0} (o : outlet.Ghosts O) (s t : Canonical O) (list : List Entry) (n : ℕ) → PutsSome o list s t (Err n) → n ≤ length list
 halts_within o s t list n put = by put.0
   where
-    by : HaltsAfter (canon_shows o) list s t n Write → n ≤ length list
+    by : HaltsAfter (canon_sink_model o) list s t n Write → n ≤ length list
     by (inl still) = omega (arith, still.2)
     by (inr breaks) = omega (arith, breaks.count, ap length breaks.parts, length-append breaks.front (breaks.next ∷ breaks.rest))
 
-module _ {O : Type 0} (o : outlet.Ghosts O) (s t u : Canonical O) (whole list : List Entry) (taken : ℕ) (putting : Putting (canon_shows o) s t whole (drop taken list)) where
+module _ {O : Type 0} (o : outlet.Ghosts O) (s t u : Canonical O) (whole list : List Entry) (taken : ℕ) (putting : Putting (canon_sink_model o) s t whole (drop taken list)) where
   -- a part more
-  pub part_put : (more next : ℕ) → next ≡ taken + more → TakesAll (canon_shows o) (take more (drop taken list)) t u → Putting (canon_shows o) s u whole (drop next list)
+  pub part_put : (more next : ℕ) → next ≡ taken + more → TakesAll (canon_sink_model o) (take more (drop taken list)) t u → Putting (canon_sink_model o) s u whole (drop next list)
   part_put more next is takes =
-      put_goes (canon_shows o) s t whole (drop taken list) putting (took_more o) u (take more (drop taken list)) (drop next list)
+      put_goes (canon_sink_model o) s t whole (drop taken list) putting (took_more o) u (take more (drop taken list)) (drop next list)
       (sym (take-append-drop more (drop taken list))
       ∙ ap (λ (rest : List Entry). take more (drop taken list) ++ rest) (drop-drop more taken list ∙ ap (λ (n : ℕ). drop n list) (sym is))) takes
 
   -- an entry of the next part broke
-  pub part_broke : (n : ℕ) → Put (canon_shows o) (drop taken list) t u (Err (record { taken = n; fault = Write })) →
-      Put (canon_shows o) whole s u (Err (record { taken = length putting.done + n; fault = Write }))
-  part_broke n put = put_halts (canon_shows o) s t whole (drop taken list) putting (took_more o) (took_broke o) (wants_none o) u n Write put
+  pub part_broke : (n : ℕ) → Put (canon_sink_model o) (drop taken list) t u (Err (record { taken = n; fault = Write })) →
+      Put (canon_sink_model o) whole s u (Err (record { taken = length putting.done + n; fault = Write }))
+  part_broke n put = put_halts (canon_sink_model o) s t whole (drop taken list) putting (took_more o) (took_broke o) (wants_none o) u n Write put
 
 -- a list was put from one of its entries on, and then up to one that broke
 pub behind_broke : {O : Type 0} (o : outlet.Ghosts O) (s t u : Canonical O) (list : List Entry) (first taken more : ℕ) → first ≤ taken → taken ≤ length list →
-    Putting (canon_shows o) s t (drop first list) (drop taken list) → PutsSome o (drop taken list) t u (Err more) → PutsBehind o first list s u (Err (taken + more))
+    Putting (canon_sink_model o) s t (drop first list) (drop taken list) → PutsSome o (drop taken list) t u (Err more) → PutsAfter o first list s u (Err (taken + more))
 behind_broke o s t u list first taken more from few putting put = (
   length putting.done + more,
   omega (arith, from, few, ap length putting.parts, length-append putting.done (drop taken list), length-drop first list, length-drop taken list),
@@ -253,23 +253,23 @@ behind_broke o s t u list first taken more from few putting put = (
 )
 
 -- the values stand of the entries behind a part
-pub stands_on : {O : Type 0} (o : outlet.Ghosts O) (t u : Canonical O) (list : List Entry) (taken more next : ℕ) → next ≡ taken + more → EachStands t.state (drop taken list) →
-    PutsSome o (drop taken list) t u (Ok more) → EachStands u.state (drop next list)
+pub stands_on : {O : Type 0} (o : outlet.Ghosts O) (t u : Canonical O) (list : List Entry) (taken more next : ℕ) → next ≡ taken + more → EachIsCurrent t.state (drop taken list) →
+    PutsSome o (drop taken list) t u (Ok more) → EachIsCurrent u.state (drop next list)
 stands_on o t u list taken more next is stand some =
-    subst (λ (rest : List Entry). EachStands u.state rest) (drop-drop more taken list ∙ ap (λ (n : ℕ). drop n list) (sym is))
-    (subst (λ (s : State). EachStands s (drop more (drop taken list))) (sym some.2.state) (stands_rest t.state (drop taken list) more stand))
+    subst (λ (rest : List Entry). EachIsCurrent u.state rest) (drop-drop more taken list ∙ ap (λ (n : ℕ). drop n list) (sym is))
+    (subst (λ (s : State). EachIsCurrent s (drop more (drop taken list))) (sym some.2.state) (stands_rest t.state (drop taken list) more stand))
 
 -- the rest of a list behind its first entries
 pub rest_behind : {O : Type 0} (o : outlet.Ghosts O) (s t u : Canonical O) (list : List Entry) (first : ℕ) → PutsSome o list s t (Ok first) →
-    (r : Result (Unit {0}) ℕ) → PutsBehind o first list t u r → PutsBehind o 0 list s u r
+    (r : Result (Unit {0}) ℕ) → PutsAfter o first list t u r → PutsAfter o 0 list s u r
 rest_behind o s t u list first some r put = by r put
   where
     -- what is put of it behind them
-    putting : Putting (canon_shows o) s t list (drop first list)
-    putting = part_put o s s t list list 0 (put_begins (canon_shows o) s list (took_none o s)) first first (omega arith) some.2
+    putting : Putting (canon_sink_model o) s t list (drop first list)
+    putting = part_put o s s t list list 0 (put_begins (canon_sink_model o) s list (took_none o s)) first first (omega arith) some.2
 
-    by : (r : Result (Unit {0}) ℕ) → PutsBehind o first list t u r → PutsBehind o 0 list s u r
-    by (Ok x) takes = put_ends (canon_shows o) s u list [] (put_goes (canon_shows o) s t list (drop first list) putting (took_more o) u (drop first list) [] (sym (append-nil (drop first list))) takes) refl
+    by : (r : Result (Unit {0}) ℕ) → PutsAfter o first list t u r → PutsAfter o 0 list s u r
+    by (Ok x) takes = put_ends (canon_sink_model o) s u list [] (put_goes (canon_sink_model o) s t list (drop first list) putting (took_more o) u (drop first list) [] (sym (append-nil (drop first list))) takes) refl
     by (Err taken) put = (
       length putting.done + put.0,
       omega (arith, put.1, some.1, ap length putting.parts, length-append putting.done (drop first list), length-drop first list),

@@ -19,17 +19,17 @@ use Rattle.nap_list.specs.declared.entry.Entry.{Entry}
 use Rattle.nap_list.specs.declared.state.State.{State}
 use Rattle.nap_list.specs.State.{walk}
 use Rattle.nap_draw.specs.declared.work.Work.{Work}
-use Rattle.nap_draw.specs.Geometry.{points_at, end_of}
-use Rattle.nap_draw.specs.Rule.{Drawn, colours_as}
+use Rattle.nap_draw.specs.Geometry.{points_at, last_or}
+use Rattle.nap_draw.specs.Rule.{RuleResult, set_color_under}
 use Rattle.nap_canon.specs.declared.command.Command.{Command}
 use Rattle.nap_canon.specs.declared.command.Command.TheVariants as commands
 use Rattle.nap_canon.specs.declared.command.Flag.{Flag}
 use Rattle.nap_canon.specs.declared.command.Flag.TheVariants as flags
-use Rattle.nap_canon.specs.Commands.{coloured, effect, effects}
+use Rattle.nap_canon.specs.Commands.{drawing_with_set_color, effect, effects}
 use Rattle.nap_canon.specs.Laws.{text_lengths}
 use Rattle.nap_canon.specs.Spelling.{Piece, word_byte, size_byte, flag_byte, command_piece}
 use Rattle.nap_canon.proofs.reading.ConveyLemmas.{Conveys, by_opcode, by_control, ConveyAll, next}
-use Rattle.nap_canon.proofs.bring.LeadingLemmas.{CommandInRange, IsModeZero, Takes, AllTake}
+use Rattle.nap_canon.proofs.prelude.LeadingLemmas.{CommandInRange, IsModeZero, Takes, AllTake}
 use Rattle.nap_canon.proofs.spelling.OperandLemmas.{no_bytes, word_bytes, both_bytes, move_operand, point_operand, colour_operand, address_operand, word_of, no_moves, move_alone, point_alone, point_there, colour_alone, colour_there, no_addresses, address_alone, address_pair}
 
 -- the work under operands of eight words and of four
@@ -37,14 +37,14 @@ abbrev pub work_at : OperandLengths → State → Work
 work_at saved s = record { domain = text_lengths; state = s; saved = saved }
 
 -- nothing is drawn, and the command has its effect
-abbrev performed : OperandLengths → State → Command → Drawn
+abbrev performed : OperandLengths → State → Command → RuleResult
 performed saved s c = record { entries = []; work = work_at saved (record s { drawing = effect c s.drawing }); clears = false }
 
 abbrev IsPerformed : OperandLengths → State → Command → Type 0
 IsPerformed saved s c = Conveys (work_at saved s) (command_piece c) [] (performed saved s c).work
 
 set_base : (saved : OperandLengths) (s : State) (colour : Colour) (grb : Components) → IsModeZero colour →
-    colours_as (work_at saved s) colour grb ≡ Ok (record { entries = []; work = work_at saved (record s { drawing = coloured colour grb s.drawing }); clears = false })
+    set_color_under (work_at saved s) colour grb ≡ Ok (record { entries = []; work = work_at saved (record s { drawing = drawing_with_set_color colour grb s.drawing }); clears = false })
 unfolding walk
 set_base saved s (colours.Own origin) grb zero = refl
 set_base saved s (colours.Direct old) grb zero = refl
@@ -86,7 +86,7 @@ flag_conveys saved s flags.Wrap on = by_control 0x1B (flag_byte flags.Wrap on �
 flag_conveys saved s flags.Scroll on = by_control 0x1B (flag_byte flags.Scroll on ∷ []) (code.Scroll on) (performed saved s (commands.Flag flags.Scroll on)) (omega arith) tt tt (λ gl. spells.control1 (flag_row flags.Scroll on)) refl
 
 command_conveys : (saved : OperandLengths) (s : State) (c : Command) → CommandInRange c → Takes c s.drawing → IsPerformed saved s c
-unfolding walk points_at end_of row_of opcode_rows left_out_opcode
+unfolding walk points_at last_or row_of opcode_rows left_out_opcode
 command_conveys saved s (commands.PointSet p) inside takes =
     by_opcode 0x24 opcodes.PointSetAbs (point_bytes p) 8 (performed saved s (commands.PointSet p)) (refl, refl, tt, omega arith)
     (point_operand p inside) (omega arith) (λ rest. tt) (rw (point_alone p inside, point_there p inside) refl)
@@ -129,4 +129,4 @@ pub commands_behind : (saved : OperandLengths) (s : State) (cs : List Command) (
 commands_behind saved s [] qs es left inside all behind = behind
 commands_behind saved s (c ∷ cs) qs es left inside all behind =
     next (command_conveys saved s c (All-head CommandInRange c cs inside) all.0)
-    (commands_behind saved (record s { drawing = effect c s.drawing }) cs qs es left (All-tail CommandInRange c cs inside) all.1 behind)
+    (commands_behind saved (record s { drawing = effect c s.drawing }) cs qs es left (All-text_end CommandInRange c cs inside) all.1 behind)

@@ -12,42 +12,42 @@ use Rattle.nap_list.specs.declared.entry.Entry.{Entry}
 use Rattle.nap_list.specs.declared.entry.Entry.TheVariants as entries
 use Rattle.nap_list.specs.declared.state.Drawing.{Drawing}
 use Rattle.nap_list.specs.declared.state.State.{State}
-use Rattle.nap_list.specs.Entry.{held, ink_values, hand_values, colour_alone, pen_alone}
+use Rattle.nap_list.specs.Entry.{attributes, ink_attributes, hand_attributes, colour_only, pen_only}
 use Rattle.nap_list.specs.Range.{InRange, AllInRange, PenInRange, ColourInRange, InkInRange, HandInRange}
-use Rattle.nap_list.specs.State.{taking, after, Fits, AllFit}
+use Rattle.nap_list.specs.State.{with_attributes, after, Fits, AllFit}
 use Rattle.nap_draw.specs.declared.work.Work.{Work}
 use Rattle.nap_canon.specs.declared.command.Command.{Command}
 use Rattle.nap_canon.specs.declared.form.Form.{Form}
-use Rattle.nap_canon.specs.declared.tail.Tail.{Tail}
-use Rattle.nap_canon.specs.Bring.{bring}
-use Rattle.nap_canon.specs.Range.{HeldInRange}
-use Rattle.nap_canon.specs.Spelling.{Piece, group, command_piece, spelled}
-use Rattle.nap_canon.specs.Text.{is_joined, entry_pieces}
-use Rattle.nap_canon.proofs.bring.BringLemmas.{bring_leads}
+use Rattle.nap_canon.specs.declared.text_end.TextEnd.{TextEnd}
+use Rattle.nap_canon.specs.Preludes.{prelude}
+use Rattle.nap_canon.specs.Range.{AttributesInRange}
+use Rattle.nap_canon.specs.Spelling.{Piece, group, command_piece, spelling_pieces}
+use Rattle.nap_canon.specs.Text.{joins_open_run, entry_pieces}
+use Rattle.nap_canon.proofs.prelude.BringLemmas.{bring_leads}
 use Rattle.nap_canon.proofs.spelling.CommandLemmas.{work_at, commands_behind}
 use Rattle.nap_canon.proofs.reading.ConveyLemmas.{ConveyAll, nothing, nothing_conveyed, convey_begin}
 use Rattle.nap_canon.proofs.spelling.HoldingLemmas.{held_work}
 use Rattle.nap_canon.proofs.spelling.KindLemmas.{Kind, kind}
-use Rattle.nap_canon.proofs.bring.LeadingLemmas.{Leads}
-use Rattle.nap_canon.proofs.bring.ModeLemmas.{IsInMode, in_mode_after}
+use Rattle.nap_canon.proofs.prelude.LeadingLemmas.{Leads}
+use Rattle.nap_canon.proofs.prelude.ModeLemmas.{IsInMode, in_mode_after}
 use Rattle.nap_canon.proofs.reading.PieceLemmas.{Begins}
 use Rattle.nap_canon.proofs.spelling.SavedLemmas.{SavesLengths, saved_after, saves_after}
 
 -- the values that an entry holds are in range
 
-ink_in_range : (ink : Ink) → InkInRange ink → HeldInRange (ink_values ink)
+ink_in_range : (ink : Ink) → InkInRange ink → AttributesInRange (ink_attributes ink)
 ink_in_range ink inside = record { pen = tt; pel = inside.pel; colour = inside.colour; texture = inside.texture; text = tt }
 
-hand_in_range : (hand : Hand) → HandInRange hand → HeldInRange (hand_values hand)
+hand_in_range : (hand : Hand) → HandInRange hand → AttributesInRange (hand_attributes hand)
 hand_in_range hand inside = record { pen = inside.pen; pel = tt; colour = inside.colour; texture = tt; text = inside.text }
 
-colour_in_range : (colour : Colour) → ColourInRange colour → HeldInRange (colour_alone colour)
+colour_in_range : (colour : Colour) → ColourInRange colour → AttributesInRange (colour_only colour)
 colour_in_range colour inside = record { pen = tt; pel = tt; colour = inside; texture = tt; text = tt }
 
-pen_in_range : (pen : Pen) → PenInRange pen → HeldInRange (pen_alone pen)
+pen_in_range : (pen : Pen) → PenInRange pen → AttributesInRange (pen_only pen)
 pen_in_range pen inside = record { pen = inside; pel = tt; colour = tt; texture = tt; text = tt }
 
-held_in_range : (e : Entry) → InRange e → HeldInRange (held e)
+held_in_range : (e : Entry) → InRange e → AttributesInRange (attributes e)
 held_in_range (entries.Point at pel colour) inside = record { pen = tt; pel = inside.1; colour = inside.2; texture = tt; text = tt }
 held_in_range (entries.Line from to ink) inside = ink_in_range ink inside.2
 held_in_range (entries.Arc filled points ink) inside = ink_in_range ink inside.1
@@ -79,7 +79,7 @@ module _ (saved : OperandLengths) (s : State) (e : Entry) (es : List Entry) (may
   pub next_may : MayCome (saved_after saved e) (after s e) es
   unfolding AllFit
   next_may = record {
-    inside = All-tail InRange e es may.inside;
+    inside = All-text_end InRange e es may.inside;
     fits = may.fits.1;
     mode = in_mode_after s e may.mode may.fits.0;
     saves = saves_after saved s e may.saves;
@@ -88,37 +88,37 @@ module _ (saved : OperandLengths) (s : State) (e : Entry) (es : List Entry) (may
   pub first_kind : (form : Form) → Kind form saved s e
   first_kind form = kind form saved s e (All-head InRange e es may.inside) first_fits may.mode.drawing may.saves
 
-  abbrev told : List Command
-  told = bring s.drawing (held e)
+  abbrev option_commands : List Command
+  option_commands = prelude s.drawing (attributes e)
 
-  pub led : Leads (HeldInRange (held e)) told s.drawing (taking s.drawing (held e))
-  led = bring_leads s.drawing (held e) may.mode.drawing first_fits.values
+  pub led : Leads (AttributesInRange (attributes e)) option_commands s.drawing (with_attributes s.drawing (attributes e))
+  led = bring_leads s.drawing (attributes e) may.mode.drawing first_fits.values
 
   -- the bring, and what comes behind it
-  pub bring_behind : (qs : List Piece) (ds : List Entry) (left : Work) → ConveyAll (held_work saved s e) qs ds left → ConveyAll (work_at saved s) (map command_piece told ++ qs) ds left
+  pub bring_behind : (qs : List Piece) (ds : List Entry) (left : Work) → ConveyAll (held_work saved s e) qs ds left → ConveyAll (work_at saved s) (map command_piece option_commands ++ qs) ds left
   bring_behind qs ds left behind =
-      commands_behind saved s told qs ds left (led.inside (held_in_range e (All-head InRange e es may.inside))) led.takes
+      commands_behind saved s option_commands qs ds left (led.inside (held_in_range e (All-head InRange e es may.inside))) led.takes
       (subst (λ (d : Drawing). ConveyAll (work_at saved (record s { drawing = d })) qs ds left) (sym led.there) behind)
 
-  pub bring_conveys : ConveyAll (work_at saved s) (map command_piece told) [] (held_work saved s e)
+  pub bring_conveys : ConveyAll (work_at saved s) (map command_piece option_commands) [] (held_work saved s e)
   bring_conveys =
-      subst (λ (ps : List Piece). ConveyAll (work_at saved s) ps [] (held_work saved s e)) (append-nil (map command_piece told))
+      subst (λ (ps : List Piece). ConveyAll (work_at saved s) ps [] (held_work saved s e)) (append-nil (map command_piece option_commands))
       (bring_behind [] [] (held_work saved s e) nothing)
 
   -- a group behind the bring
-  pub group_parts : (form : Form) (byte : ℕ) (operands : List ℕ) (rest : List Piece) → spelled form (taking s.drawing (held e)) e ≡ group byte operands ∷ [] →
-      map command_piece told ++ (group byte operands ∷ rest) ≡ entry_pieces form s e ++ rest
+  pub group_parts : (form : Form) (byte : ℕ) (operands : List ℕ) (rest : List Piece) → spelling_pieces form (with_attributes s.drawing (attributes e)) e ≡ group byte operands ∷ [] →
+      map command_piece option_commands ++ (group byte operands ∷ rest) ≡ entry_pieces form s e ++ rest
   group_parts form byte operands rest is =
-      sym (append_assoc (map command_piece told) (group byte operands ∷ []) rest) ∙ ap (λ (qs : List Piece). (map command_piece told ++ qs) ++ rest) (sym is)
+      sym (append_assoc (map command_piece option_commands) (group byte operands ∷ []) rest) ∙ ap (λ (qs : List Piece). (map command_piece option_commands ++ qs) ++ rest) (sym is)
 
   -- what comes first in the bytes of the entry, with anything behind it
 
-  module _ (form : Form) (t : Tail) (rest : List Piece) where
-    pub entry_begins : (told ≡ [] → Begins t (spelled form (taking s.drawing (held e)) e ++ rest)) → Begins t (entry_pieces form s e ++ rest)
+  module _ (form : Form) (t : TextEnd) (rest : List Piece) where
+    pub entry_begins : (option_commands ≡ [] → Begins t (spelling_pieces form (with_attributes s.drawing (attributes e)) e ++ rest)) → Begins t (entry_pieces form s e ++ rest)
     entry_begins begins =
-        let qs : List Piece = spelled form (taking s.drawing (held e)) e in
-        subst (Begins t) (sym (append_assoc (map command_piece told) qs rest))
-        (convey_begin t (qs ++ rest) (work_at saved s) (map command_piece told) [] (held_work saved s e) bring_conveys (λ none. begins (unmapped told none)))
+        let qs : List Piece = spelling_pieces form (with_attributes s.drawing (attributes e)) e in
+        subst (Begins t) (sym (append_assoc (map command_piece option_commands) qs rest))
+        (convey_begin t (qs ++ rest) (work_at saved s) (map command_piece option_commands) [] (held_work saved s e) bring_conveys (λ none. begins (unmapped option_commands none)))
       where
         unmapped : (cs : List Command) → map command_piece cs ≡ [] → cs ≡ []
         unmapped [] none = refl
@@ -126,13 +126,13 @@ module _ (saved : OperandLengths) (s : State) (e : Entry) (es : List Entry) (may
 
     -- its group joins no run
     abbrev pub JoinsNone : Kind form saved s e → Type 0
-    JoinsNone (inl by) = is_joined t by.byte (length by.operands) ≡ false
+    JoinsNone (inl by) = joins_open_run t by.byte (length by.operands) ≡ false
     JoinsNone (inr draws) = ⊤
 
-    pub spelled_begins : (k : Kind form saved s e) → JoinsNone k → Begins t (spelled form (taking s.drawing (held e)) e ++ rest)
+    pub spelled_begins : (k : Kind form saved s e) → JoinsNone k → Begins t (spelling_pieces form (with_attributes s.drawing (attributes e)) e ++ rest)
     spelled_begins (inl by) none = subst (λ (qs : List Piece). Begins t (qs ++ rest)) (sym by.spelled_as) (none, by.strokes.is.3)
     spelled_begins (inr draws) none =
-        let qs : List Piece = spelled form (taking s.drawing (held e)) e in
+        let qs : List Piece = spelling_pieces form (with_attributes s.drawing (attributes e)) e in
         convey_begin t rest (held_work saved s e) qs (e ∷ []) (work_at (saved_after saved e) (after s e)) draws
         (λ empty. let bad : ⊥ = by_none (nothing_conveyed (held_work saved s e) qs (e ∷ []) (work_at (saved_after saved e) (after s e)) draws empty) in absurd bad)
       where

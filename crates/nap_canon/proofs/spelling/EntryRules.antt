@@ -17,10 +17,10 @@ use Rattle.nap_list.specs.declared.state.State.{State}
 use Rattle.nap_list.specs.Limits.{steps_limit}
 use Rattle.nap_list.specs.Range.{IsAddress}
 use Rattle.nap_draw.specs.Operands.{operands, moves}
-use Rattle.nap_draw.specs.Geometry.{reached, arc_points, poly_points}
-use Rattle.nap_draw.specs.Rule.{rule, drawn, shape_from_point}
+use Rattle.nap_draw.specs.Geometry.{points_reached, arc_points, poly_points}
+use Rattle.nap_draw.specs.Rule.{rule, rule_result, shape_from_point}
 use Rattle.nap_draw.proofs.PublicLaws.{whole_operand_first, no_operands}
-use Rattle.nap_canon.specs.Spelling.{word_byte, onward_bytes, shape_bytes}
+use Rattle.nap_canon.specs.Spelling.{word_byte, displacement_bytes, shape_bytes}
 use Rattle.nap_canon.proofs.spelling.CommandLemmas.{work_at}
 use Rattle.nap_canon.proofs.spelling.OperandLemmas.{word_of, no_moves, move_first, from_origin, point_first, point_alone, point_there}
 
@@ -36,25 +36,25 @@ steps_from : Coordinates → List Coordinates → List Displacement
 steps_from p [] = []
 steps_from p (q ∷ qs) = displacement_to p q ∷ steps_from q qs
 
-steps_read : (p : Coordinates) (qs : List Coordinates) → IsInSquare p → All IsInSquare qs → moves 8 (words_of (onward_bytes p qs)) ≡ steps_from p qs
-unfolding onward_bytes steps_from
+steps_read : (p : Coordinates) (qs : List Coordinates) → IsInSquare p → All IsInSquare qs → moves 8 (words_of (displacement_bytes p qs)) ≡ steps_from p qs
+unfolding displacement_bytes steps_from
 steps_read p [] inside all = no_moves
 steps_read p (q ∷ qs) inside all =
     let next : IsInSquare q = All-head IsInSquare q qs all in
-    move_first (displacement_to p q) (onward_bytes q qs) (displacements_lead_there p q inside next).0
-    ∙ ap (λ (ms : List Displacement). displacement_to p q ∷ ms) (steps_read q qs next (All-tail IsInSquare q qs all))
+    move_first (displacement_to p q) (displacement_bytes q qs) (displacements_lead_there p q inside next).0
+    ∙ ap (λ (ms : List Displacement). displacement_to p q ∷ ms) (steps_read q qs next (All-text_end IsInSquare q qs all))
 
 shape_read : (p : Coordinates) (qs : List Coordinates) → IsInSquare p → All IsInSquare qs →
     moves 8 (words_of (shape_bytes (p ∷ qs))) ≡ from_origin p ∷ steps_from p qs
 shape_read p qs inside all =
-    point_first p (onward_bytes p qs) inside ∙ ap (λ (ms : List Displacement). from_origin p ∷ ms) (steps_read p qs inside all)
+    point_first p (displacement_bytes p qs) inside ∙ ap (λ (ms : List Displacement). from_origin p ∷ ms) (steps_read p qs inside all)
 
-steps_lead : (p : Coordinates) (qs : List Coordinates) → IsInSquare p → All IsInSquare qs → reached p (steps_from p qs) ≡ Some qs
-unfolding reached steps_from
+steps_lead : (p : Coordinates) (qs : List Coordinates) → IsInSquare p → All IsInSquare qs → points_reached p (steps_from p qs) ≡ Some qs
+unfolding points_reached steps_from
 steps_lead p [] inside all = refl
 steps_lead p (q ∷ qs) inside all =
     let next : IsInSquare q = All-head IsInSquare q qs all in
-    rw ((displacements_lead_there p q inside next).1, steps_lead q qs next (All-tail IsInSquare q qs all)) refl
+    rw ((displacements_lead_there p q inside next).1, steps_lead q qs next (All-text_end IsInSquare q qs all)) refl
 
 length-steps : (p : Coordinates) (qs : List Coordinates) → length (steps_from p qs) ≡ length qs
 unfolding steps_from
@@ -67,8 +67,8 @@ few_steps n few = grind (arith, nat_tests)
 -- an arc or a polygon
 pub shape_rule : (saved : OperandLengths) (s : State) (entry : Drawing → List Coordinates → Entry) (points : Coordinates → List Displacement → Option (List Coordinates))
     (p q : Coordinates) (qs : List Coordinates) → IsInSquare p → All IsInSquare (q ∷ qs) → length (q ∷ qs) ≤ steps_limit →
-    ((ms : List Displacement) → reached p ms ≡ Some (q ∷ qs) → points p ms ≡ Some (p ∷ q ∷ qs)) →
-    shape_from_point (work_at saved s) (words_of (shape_bytes (p ∷ q ∷ qs))) entry points ≡ Ok (drawn (work_at saved s) (entry s.drawing (p ∷ q ∷ qs) ∷ []))
+    ((ms : List Displacement) → points_reached p ms ≡ Some (q ∷ qs) → points p ms ≡ Some (p ∷ q ∷ qs)) →
+    shape_from_point (work_at saved s) (words_of (shape_bytes (p ∷ q ∷ qs))) entry points ≡ Ok (rule_result (work_at saved s) (entry s.drawing (p ∷ q ∷ qs) ∷ []))
 unfolding steps_from
 shape_rule saved s entry points p q qs inside all few lead =
     let ms : List Displacement = steps_from p (q ∷ qs) in
@@ -76,10 +76,10 @@ shape_rule saved s entry points p q qs inside all few lead =
     let there : points p ms ≡ Some (p ∷ q ∷ qs) = lead ms (steps_lead p (q ∷ qs) inside all) in
     rw (shape_read p (q ∷ qs) inside all, some, point_there p inside, there) refl
 
-pub arc_leads : (p q r : Coordinates) (rs : List Coordinates) (ms : List Displacement) → reached p ms ≡ Some (q ∷ r ∷ rs) → arc_points p ms ≡ Some (p ∷ q ∷ r ∷ rs)
+pub arc_leads : (p q r : Coordinates) (rs : List Coordinates) (ms : List Displacement) → points_reached p ms ≡ Some (q ∷ r ∷ rs) → arc_points p ms ≡ Some (p ∷ q ∷ r ∷ rs)
 arc_leads p q r rs ms leads = rw leads refl
 
-pub poly_leads : (p : Coordinates) (qs : List Coordinates) (ms : List Displacement) → reached p ms ≡ Some qs → poly_points p ms ≡ Some (p ∷ qs)
+pub poly_leads : (p : Coordinates) (qs : List Coordinates) (ms : List Displacement) → points_reached p ms ≡ Some qs → poly_points p ms ≡ Some (p ∷ qs)
 poly_leads p qs ms leads = rw leads refl
 
 -- two corners
@@ -103,7 +103,7 @@ blink_size a on off delay = refl
 
 pub blink_rule : (saved : OperandLengths) (s : State) (a on off delay : ℕ) → IsAddress a →
     rule (work_at saved s) opcodes.Blink (words_of (addr_bytes a ++ word_byte on ∷ word_byte off ∷ word_byte delay ∷ []))
-    ≡ Ok (drawn (work_at saved s) (entries.Blink a on off delay s.drawing.colour ∷ []))
+    ≡ Ok (rule_result (work_at saved s) (entries.Blink a on off delay s.drawing.colour ∷ []))
 blink_rule saved s a on off delay inside =
     let times : List ℕ = word_byte on ∷ word_byte off ∷ word_byte delay ∷ [] in
     let group : List ℕ = words_of (addr_bytes a ++ times) in

@@ -6,15 +6,15 @@ use Rattle.nap_values.specs.Domains.{OperandLengths}
 use Rattle.nap_list.specs.declared.attribute.Base.{Base}
 use Rattle.nap_list.specs.declared.attribute.Colour.{Colour}
 use Rattle.nap_list.specs.declared.attribute.Colour.TheVariants as colours
-use Rattle.nap_list.specs.declared.attribute.Held.{Held}
+use Rattle.nap_list.specs.declared.attribute.Attributes.{Attributes}
 use Rattle.nap_list.specs.declared.entry.Entry.{Entry}
 use Rattle.nap_list.specs.declared.state.Drawing.{Drawing}
 use Rattle.nap_list.specs.declared.state.State.{State}
-use Rattle.nap_list.specs.Entry.{held}
-use Rattle.nap_list.specs.State.{base_shown, taking, drawn, definition_after, last_after, known_after, after, walk}
+use Rattle.nap_list.specs.Entry.{attributes}
+use Rattle.nap_list.specs.State.{base_after, with_attributes, effect_on_drawing, definition_after, last_after, known_after, after, walk}
 use Rattle.nap_draw.specs.declared.work.Work.{Work}
 use Rattle.nap_draw.specs.Rule as rule
-use Rattle.nap_draw.specs.Rule.{Drawn}
+use Rattle.nap_draw.specs.Rule.{RuleResult}
 use Rattle.nap_canon.specs.Spelling.{Piece}
 use Rattle.nap_canon.proofs.spelling.CommandLemmas.{work_at}
 use Rattle.nap_canon.proofs.reading.ConveyLemmas.{Conveys, ConveyAll, nothing, next}
@@ -26,7 +26,7 @@ unwrap_twice : {A : Type 0} (w : Option A) (a : A) → unwrap_or w (unwrap_or w 
 unwrap_twice None a = refl
 unwrap_twice (Some b) a = refl
 
-base_twice : (base : Base) (w : Option Colour) → base_shown (base_shown base w) w ≡ base_shown base w
+base_twice : (base : Base) (w : Option Colour) → base_after (base_after base w) w ≡ base_after base w
 base_twice base None = refl
 base_twice base (Some (colours.Own origin)) = refl
 base_twice base (Some (colours.Direct grb)) = refl
@@ -34,31 +34,31 @@ base_twice base (Some (colours.Front a)) = refl
 base_twice base (Some (colours.Pair a b)) = refl
 base_twice base (Some (colours.ByReset preset)) = refl
 
-taking_twice : (d : Drawing) (h : Held) → taking (taking d h) h ≡ taking d h
+taking_twice : (d : Drawing) (h : Attributes) → with_attributes (with_attributes d h) h ≡ with_attributes d h
 taking_twice d h =
     rw (unwrap_twice h.pen d.pen, unwrap_twice h.pel d.pel, base_twice d.base h.colour, unwrap_twice h.colour d.colour, unwrap_twice h.texture d.texture, unwrap_twice h.text d.text) refl
 
 -- the state in which the values that an entry holds stand
 abbrev pub holding : State → Entry → State
-holding s e = record s { drawing = taking s.drawing (held e) }
+holding s e = record s { drawing = with_attributes s.drawing (attributes e) }
 
 pub after_holding : (s : State) (e : Entry) → after (holding s e) e ≡ after s e
 after_holding s e =
     ap (λ (d : Drawing). record {
-      drawing = drawn s.definition d e;
+      drawing = effect_on_drawing s.definition d e;
       definition = definition_after s.definition d e;
       last = last_after e;
       known = known_after s.known e;
     })
-    (taking_twice s.drawing (held e))
+    (taking_twice s.drawing (attributes e))
 
 -- the work where the values that an entry holds stand
 abbrev pub held_work : OperandLengths → State → Entry → Work
 held_work saved s e = work_at saved (holding s e)
 
 -- the entry is drawn, with the values that stand
-abbrev pub entry_drawn : OperandLengths → State → Entry → Drawn
-entry_drawn saved s e = rule.drawn (held_work saved s e) (e ∷ [])
+abbrev pub entry_drawn : OperandLengths → State → Entry → RuleResult
+entry_drawn saved s e = rule.rule_result (held_work saved s e) (e ∷ [])
 
 -- these pieces draw the entry
 abbrev pub Draws : OperandLengths → State → Entry → List Piece → Type 0

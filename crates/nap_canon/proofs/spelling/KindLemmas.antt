@@ -24,7 +24,7 @@ use Rattle.nap_codes.specs.declared.control.TextStep.{TextStep}
 use Rattle.nap_codes.specs.declared.control.TextStep.TheVariants as steps
 use Rattle.nap_codes.specs.declared.opcode.Opcode.{Opcode}
 use Rattle.nap_codes.specs.declared.opcode.Opcode.TheVariants as opcodes
-use Rattle.nap_codes.specs.Front.{plain_code}
+use Rattle.nap_codes.specs.Front.{non_pdi_code}
 use Rattle.nap_codes.specs.Laws.{IsGraphic}
 use Rattle.nap_codes.specs.Spelling.{Spells}
 use Rattle.nap_codes.specs.Spelling as spells
@@ -40,34 +40,34 @@ use Rattle.nap_list.specs.declared.entry.Entry.{Entry}
 use Rattle.nap_list.specs.declared.entry.Entry.TheVariants as entries
 use Rattle.nap_list.specs.declared.state.Drawing.{Drawing}
 use Rattle.nap_list.specs.declared.state.LastChar.{LastChar}
-use Rattle.nap_list.specs.declared.state.Opened.{Opened}
+use Rattle.nap_list.specs.declared.state.OpenDefinition.{OpenDefinition}
 use Rattle.nap_list.specs.declared.state.State.{State}
-use Rattle.nap_list.specs.Agreement.{InMode}
-use Rattle.nap_list.specs.Entry.{held, IsCode, StepMade}
+use Rattle.nap_list.specs.Agreement.{ModeZeroIsBase}
+use Rattle.nap_list.specs.Entry.{attributes, IsCode, StepMade}
 use Rattle.nap_list.specs.Known.{is_known}
 use Rattle.nap_list.specs.Limits.{points_limit}
 use Rattle.nap_list.specs.Range.{IsAddress, InRange}
-use Rattle.nap_list.specs.State.{Fits, taking, after, walk, with_colour}
+use Rattle.nap_list.specs.State.{Fits, with_attributes, after, walk, with_colour}
 use Rattle.nap_draw.specs.declared.fault.DrawFault.{DrawFault}
-use Rattle.nap_draw.specs.Codes.{code_rule, ended_by, opened_by, with_last}
-use Rattle.nap_draw.specs.Geometry.{reached, arc_points, poly_points}
+use Rattle.nap_draw.specs.Codes.{code_rule, definition_ended_by, definition_opened, with_last}
+use Rattle.nap_draw.specs.Geometry.{points_reached, arc_points, poly_points}
 use Rattle.nap_draw.specs.Limits.{run_limit}
-use Rattle.nap_draw.specs.Rule.{Drawn, drawn, rule, start_domain, arc_on, poly_on, shape_from_point}
+use Rattle.nap_draw.specs.Rule.{RuleResult, rule_result, rule, start_domain, arc_on, poly_on, shape_from_point}
 use Rattle.nap_draw.proofs.PublicLaws.{no_operands}
 use Rattle.nap_reader.specs.Laws.{IsAlone}
 use Rattle.nap_canon.specs.declared.command.Command.{Command}
 use Rattle.nap_canon.specs.declared.form.Form.{Form}
 use Rattle.nap_canon.specs.declared.form.Form.TheVariants as forms
-use Rattle.nap_canon.specs.Bring.{bring_colour}
+use Rattle.nap_canon.specs.Preludes.{colour_prelude}
 use Rattle.nap_canon.specs.Equality.{same_pen}
 use Rattle.nap_canon.specs.Laws.{text_lengths}
-use Rattle.nap_canon.specs.Plain.{IsPlainCode, ComesBehind}
-use Rattle.nap_canon.specs.Spelling.{Piece, opcode, group, control, escape, domain, word_byte, shape_bytes, char_piece, step_bytes, mask_byte, cursor_byte, map_pieces, domain_again, stroke, spelled}
-use Rattle.nap_canon.proofs.bring.BringLemmas.{colour_leads}
+use Rattle.nap_canon.specs.Plain.{IsPlainCode, MayFollowCode}
+use Rattle.nap_canon.specs.Spelling.{Piece, opcode, group, control, escape, domain, word_byte, shape_bytes, char_piece, step_bytes, mask_byte, cursor_byte, map_pieces, domain_again, joinable_piece, spelling_pieces}
+use Rattle.nap_canon.proofs.prelude.BringLemmas.{colour_leads}
 use Rattle.nap_canon.proofs.spelling.CommandLemmas.{work_at, commands_behind}
 use Rattle.nap_canon.proofs.reading.ConveyLemmas.{by_opcode, by_control, by_primary, by_drcs, ConveyAll, nothing, next, resets}
 use Rattle.nap_canon.proofs.spelling.EntryRules as rules
-use Rattle.nap_canon.proofs.bring.EqualityLemmas.{pen_is}
+use Rattle.nap_canon.proofs.prelude.EqualityLemmas.{pen_is}
 use Rattle.nap_canon.proofs.spelling.HoldingLemmas.{holding, after_holding, held_work, entry_drawn, Draws, piece_draws}
 use Rattle.nap_canon.proofs.spelling.OperandLemmas.{AreOperands, no_bytes, word_bytes, word_of, both_bytes, colour_operand, address_operand, no_moves, point_there, colour_alone, colour_there}
 use Rattle.nap_canon.proofs.reading.PieceLemmas.{sets_with}
@@ -84,23 +84,23 @@ module _ (saved : OperandLengths) (s : State) (e : Entry) where
   OnePiece p = ConveyAll (held_work saved s e) (p ∷ []) (e ∷ []) (work_at saved (after s e))
 
   -- an opcode
-  opcode_draws : (byte : ℕ) (op : Opcode) (bytes : List ℕ) (size : ℕ) → IsOpcode byte op → AreOperands bytes size → size ≤ run_limit → ((rest : List Code) → ComesBehind (code.Op op) rest) →
+  opcode_draws : (byte : ℕ) (op : Opcode) (bytes : List ℕ) (size : ℕ) → IsOpcode byte op → AreOperands bytes size → size ≤ run_limit → ((rest : List Code) → MayFollowCode (code.Op op) rest) →
       rule (held_work saved s e) op (words_of bytes) ≡ Ok (entry_drawn saved s e) → OnePiece (opcode byte bytes)
   opcode_draws byte op bytes size is are few comes by =
       piece_draws saved s e (opcode byte bytes) (by_opcode byte op bytes size (entry_drawn saved s e) is are few (λ rest. comes (operand_codes bytes ++ rest)) by)
 
   -- an arc or a polygon
   shape_draws : (byte : ℕ) (op : Opcode) (entry : Drawing → List Coordinates → Entry) (points : Coordinates → List Displacement → Option (List Coordinates)) (p q : Coordinates) (qs : List Coordinates) →
-      IsOpcode byte op → ((rest : List Code) → ComesBehind (code.Op op) rest) → ((run : List ℕ) → rule (held_work saved s e) op run ≡ shape_from_point (held_work saved s e) run entry points) →
+      IsOpcode byte op → ((rest : List Code) → MayFollowCode (code.Op op) rest) → ((run : List ℕ) → rule (held_work saved s e) op run ≡ shape_from_point (held_work saved s e) run entry points) →
       entry (holding s e).drawing (p ∷ q ∷ qs) ≡ e → All IsInSquare (p ∷ q ∷ qs) → length (p ∷ q ∷ qs) ≤ points_limit →
-      ((ms : List Displacement) → reached p ms ≡ Some (q ∷ qs) → points p ms ≡ Some (p ∷ q ∷ qs)) → OnePiece (opcode byte (shape_bytes (p ∷ q ∷ qs)))
+      ((ms : List Displacement) → points_reached p ms ≡ Some (q ∷ qs) → points p ms ≡ Some (p ∷ q ∷ qs)) → OnePiece (opcode byte (shape_bytes (p ∷ q ∷ qs)))
   shape_draws byte op entry points p q qs is comes by same all few leads =
       let first : IsInSquare p = All-head IsInSquare p (q ∷ qs) all in
-      let others : All IsInSquare (q ∷ qs) = All-tail IsInSquare p (q ∷ qs) all in
+      let others : All IsInSquare (q ∷ qs) = All-text_end IsInSquare p (q ∷ qs) all in
       opcode_draws byte op (shape_bytes (p ∷ q ∷ qs)) (8 + 8 * length (q ∷ qs)) is (shape_operands p (q ∷ qs) first others) (omega (arith, few)) comes
       (by (words_of (shape_bytes (p ∷ q ∷ qs)))
       ∙ rules.shape_rule saved (holding s e) entry points p q qs first others (omega (arith, few)) leads
-      ∙ ap (λ (x : Entry). Ok (drawn (held_work saved s e) (x ∷ []))) same)
+      ∙ ap (λ (x : Entry). Ok (rule_result (held_work saved s e) (x ∷ []))) same)
 
   -- a control
   control_draws : (byte : ℕ) (bytes : List ℕ) (c : Code) → byte < 32 → IsAlone c → IsPlainCode c → ((gl : GSet) → Spells (sets_with gl) (byte ∷ bytes) c (sets_with gl)) →
@@ -110,7 +110,7 @@ module _ (saved : OperandLengths) (s : State) (e : Entry) where
 -- characters, and moves of the text
 module _ (saved : OperandLengths) (s : State) (hand : Hand) where
   char_draws : (set : CharSet) (byte : ℕ) → IsCode byte → Draws saved s (entries.Char set byte hand) (char_piece set byte ∷ [])
-  unfolding plain_code
+  unfolding non_pdi_code
   char_draws chars.Primary byte made =
       let e : Entry = entries.Char chars.Primary byte hand in
       piece_draws saved s e (char_piece chars.Primary byte) (by_primary byte (entry_drawn saved s e) (graphic byte made) refl)
@@ -138,7 +138,7 @@ module _ (saved : OperandLengths) (s : State) (hand : Hand) where
   step_draws steps.Apr made = effector_draws steps.Apr 0x0D (omega arith) refl
   step_draws steps.Aph made = effector_draws steps.Aph 0x1E (omega arith) refl
 
-with_some : (last : Option LastChar) (result : Result Drawn DrawFault) → IsSome last → with_last last (λ l. result) ≡ result
+with_some : (last : Option LastChar) (result : Result RuleResult DrawFault) → IsSome last → with_last last (λ l. result) ≡ result
 with_some (Some l) result some = refl
 with_some None result never = let bad : ⊥ = cc in absurd bad
 
@@ -161,16 +161,16 @@ mask_row masks.C = refl
 mask_row masks.D = refl
 
 -- a colour of the map, which is brought first
-map_draws : (saved : OperandLengths) (s : State) (a : ℕ) (grb : Components) → IsAddress a → HasSixteenBitParts grb → InMode s.drawing.base s.drawing.colour → is_known a grb s.known ≡ false →
+map_draws : (saved : OperandLengths) (s : State) (a : ℕ) (grb : Components) → IsAddress a → HasSixteenBitParts grb → ModeZeroIsBase s.drawing.base s.drawing.colour → is_known a grb s.known ≡ false →
     Draws saved s (entries.Map a grb) (map_pieces s.drawing a grb)
 unfolding row_of opcode_rows left_out_opcode
 map_draws saved s a grb address colour mode new =
     let e : Entry = entries.Map a grb in
     let front : Option Colour = Some (colours.Front a) in
-    let cs : List Command = bring_colour s.drawing.base s.drawing.colour front in
+    let cs : List Command = colour_prelude s.drawing.base s.drawing.colour front in
     let between : Drawing = with_colour (colours.Front a) s.drawing in
     let led = colour_leads (IsAddress a) s.drawing s.drawing.base s.drawing.colour mode front tt (λ inside. inside) in
-    let d : Drawn = record { entries = e ∷ []; work = work_at saved (after s e); clears = false } in
+    let d : RuleResult = record { entries = e ∷ []; work = work_at saved (after s e); clears = false } in
     commands_behind saved s cs (opcode 0x3C (grb_bytes grb) ∷ []) (e ∷ []) (work_at saved (after s e)) (led.inside address) led.takes
     (subst (λ (d : Drawing). ConveyAll (work_at saved (record s { drawing = d })) (opcode 0x3C (grb_bytes grb) ∷ []) (e ∷ []) (work_at saved (after s e))) (sym led.there)
     (next (by_opcode 0x3C opcodes.SetColor (grb_bytes grb) 8 d (refl, refl, tt, omega arith) (colour_operand grb colour) (omega arith) (λ rest. tt) (rw (colour_alone grb colour, colour_there grb colour, new) refl)) nothing))
@@ -193,7 +193,7 @@ reset_draws saved s first second pen one two = at (first % 2 == 1) refl
     bytes : List ℕ
     bytes = word_byte first ∷ word_byte second ∷ []
 
-    result : Bool → State → Drawn
+    result : Bool → State → RuleResult
     result back t = record { entries = e ∷ []; work = record (work_at saved t) { domain = if back then start_domain else text_lengths }; clears = second / 16 % 2 == 1 }
 
     by : rule (held_work saved s e) opcodes.Reset (words_of bytes) ≡ Ok (result (first % 2 == 1) (after s e))
@@ -208,14 +208,14 @@ reset_draws saved s first second pen one two = at (first % 2 == 1) refl
 -- definitions
 
 -- where no definition is open, the entry opens one
-abbrev opens : OperandLengths → State → Entry → Drawn
-opens saved s e = opened_by (drawn (held_work saved s e) []) e
+abbrev opens : OperandLengths → State → Entry → RuleResult
+opens saved s e = definition_opened (rule_result (held_work saved s e) []) e
 
-end_draws : (saved : OperandLengths) (s : State) (o : Option Opened) → s.definition ≡ o → IsSome o → SavesLengths saved o → Draws saved s entries.DefEnd (escape 0x45 ∷ [])
+end_draws : (saved : OperandLengths) (s : State) (o : Option OpenDefinition) → s.definition ≡ o → IsSome o → SavesLengths saved o → Draws saved s entries.DefEnd (escape 0x45 ∷ [])
 unfolding walk row_of control1_rows
 end_draws saved s None is never kept = let bad : ⊥ = cc in absurd bad
 end_draws saved s (Some opened) is some kept =
-    let d : Drawn = ended_by (held_work saved s entries.DefEnd) (Some opened) in
+    let d : RuleResult = definition_ended_by (held_work saved s entries.DefEnd) (Some opened) in
     subst (λ (lengths : OperandLengths). ConveyAll (held_work saved s entries.DefEnd) (escape 0x45 ∷ []) (entries.DefEnd ∷ []) (record (work_at saved (after s entries.DefEnd)) { domain = lengths })) kept
     (next (by_control 0x1B (0x45 ∷ []) code.End d (omega arith) tt tt (λ gl. spells.control1 refl) (rw is refl)) nothing)
 
@@ -223,15 +223,15 @@ end_draws saved s (Some opened) is some kept =
 pub record ByGroup (form : Form) (saved : OperandLengths) (s : State) (e : Entry) : Type 0 where
   pub byte : ℕ
   pub operands : List ℕ
-  pub spelled_as : spelled form (taking s.drawing (held e)) e ≡ group byte operands ∷ []
+  pub spelled_as : spelling_pieces form (with_attributes s.drawing (attributes e)) e ≡ group byte operands ∷ []
   pub strokes : Strokes saved s e byte operands
 
 -- An entry is spelled by a group of operands, or by pieces that join no run and leave none.
 abbrev pub Kind : Form → OperandLengths → State → Entry → Type 0
-Kind form saved s e = ByGroup form saved s e ⊎ Draws saved s e (spelled form (taking s.drawing (held e)) e)
+Kind form saved s e = ByGroup form saved s e ⊎ Draws saved s e (spelling_pieces form (with_attributes s.drawing (attributes e)) e)
 
 stroke_kind : (form : Form) (saved : OperandLengths) (s : State) (e : Entry) (byte : ℕ) (operands : List ℕ) → Strokes saved s e byte operands →
-    spelled form (taking s.drawing (held e)) e ≡ stroke form byte operands ∷ [] → Kind form saved s e
+    spelling_pieces form (with_attributes s.drawing (attributes e)) e ≡ joinable_piece form byte operands ∷ [] → Kind form saved s e
 stroke_kind forms.One saved s e byte operands k is = inr (subst (Draws saved s e) (sym is) (stroke_draws saved s e byte operands k))
 stroke_kind forms.Two saved s e byte operands k is = inl (record { byte = byte; operands = operands; spelled_as = is; strokes = k })
 
@@ -247,7 +247,7 @@ line_kind forms.Two saved s from to ink first second = by (same_pen s.drawing.pe
     by false is =
         stroke_kind forms.Two saved s (entries.Line from to ink) 0x2A (point_bytes from ++ point_bytes to) (line_strokes saved s from to ink first second) (rw is refl)
 
-pub kind : (form : Form) (saved : OperandLengths) (s : State) (e : Entry) → InRange e → Fits s e → InMode s.drawing.base s.drawing.colour → SavesLengths saved s.definition → Kind form saved s e
+pub kind : (form : Form) (saved : OperandLengths) (s : State) (e : Entry) → InRange e → Fits s e → ModeZeroIsBase s.drawing.base s.drawing.colour → SavesLengths saved s.definition → Kind form saved s e
 unfolding walk row_of control0_rows control1_rows opcode_rows left_out_opcode
 kind form saved s (entries.Point at pel colour) inside fits mode saves =
     stroke_kind form saved s (entries.Point at pel colour) 0x26 (point_bytes at) (point_strokes saved s at pel colour inside.0) refl
@@ -308,9 +308,9 @@ kind form saved s (entries.Reset first second pen) inside fits mode saves = inr 
 kind form saved s (entries.Clear pen) inside fits mode saves =
     inr (control_draws saved s (entries.Clear pen) 0x0C [] code.Clear (omega arith) tt tt (λ gl. spells.control0 refl (λ is. cc)) refl)
 kind form saved s (entries.GlyphStart byte) inside fits mode saves =
-    let d : Drawn = opens saved s (entries.GlyphStart byte) in
+    let d : RuleResult = opens saved s (entries.GlyphStart byte) in
     inr (next (by_control 0x1B (0x43 ∷ byte ∷ []) (code.DefGlyph byte) d (omega arith) tt tt (λ gl. spells.def_drcs (graphic byte fits.made)) (rw fits.comes refl)) nothing)
 kind form saved s (entries.MaskStart mask) inside fits mode saves =
-    let d : Drawn = opens saved s (entries.MaskStart mask) in
+    let d : RuleResult = opens saved s (entries.MaskStart mask) in
     inr (next (by_control 0x1B (0x44 ∷ mask_byte mask ∷ []) (code.DefMask mask) d (omega arith) tt tt (λ gl. spells.def_texture (mask_row mask)) (rw fits.comes refl)) nothing)
 kind form saved s entries.DefEnd inside fits mode saves = inr (end_draws saved s s.definition refl fits.comes saves)

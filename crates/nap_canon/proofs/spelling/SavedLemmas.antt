@@ -5,7 +5,7 @@ use Rattle.std.specs.Prelude.{⊤}
 use Rattle.nap_values.specs.Domains.{OperandLengths}
 use Rattle.nap_list.specs.declared.entry.Entry.{Entry}
 use Rattle.nap_list.specs.declared.entry.Entry.TheVariants as entries
-use Rattle.nap_list.specs.declared.state.Opened.{Opened}
+use Rattle.nap_list.specs.declared.state.OpenDefinition.{OpenDefinition}
 use Rattle.nap_list.specs.declared.state.State.{State}
 use Rattle.nap_list.specs.State.{after, walk}
 use Rattle.nap_canon.specs.Laws.{text_lengths}
@@ -22,7 +22,7 @@ saved_along saved [] = saved
 saved_along saved (e ∷ es) = saved_along (saved_after saved e) es
 
 -- a definition that is open saved eight words and four
-abbrev pub SavesLengths : OperandLengths → Option Opened → Type 0
+abbrev pub SavesLengths : OperandLengths → Option OpenDefinition → Type 0
 SavesLengths saved None = ⊤
 SavesLengths saved (Some opened) = saved ≡ text_lengths
 

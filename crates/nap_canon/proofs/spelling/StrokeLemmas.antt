@@ -19,10 +19,10 @@ use Rattle.nap_list.specs.declared.entry.Entry.{Entry}
 use Rattle.nap_list.specs.declared.entry.Entry.TheVariants as entries
 use Rattle.nap_list.specs.declared.state.State.{State}
 use Rattle.nap_list.specs.State.{after, walk}
-use Rattle.nap_draw.specs.Geometry.{points_at, joined, between, away}
+use Rattle.nap_draw.specs.Geometry.{points_at, polyline_spans, absolute_spans, relative_spans}
 use Rattle.nap_draw.specs.Joining.{CanJoin}
-use Rattle.nap_draw.specs.Rule.{Drawn, rule}
-use Rattle.nap_canon.specs.Plain.{ComesBehind}
+use Rattle.nap_draw.specs.Rule.{RuleResult, rule}
+use Rattle.nap_canon.specs.Plain.{MayFollowCode}
 use Rattle.nap_canon.specs.Spelling.{opcode, shape_bytes}
 use Rattle.nap_canon.proofs.spelling.CommandLemmas.{work_at}
 use Rattle.nap_canon.proofs.reading.ConveyLemmas.{by_opcode, nothing, next}
@@ -48,7 +48,7 @@ strokes : (saved : OperandLengths) (s : State) (e : Entry) (byte : ℕ) (operand
     groups ≤ 2 → AreOperands operands (groups * 8) → rule (held_work saved s e) op (words_of operands) ≡ Ok (entry_drawn saved s e) → Strokes saved s e byte operands
 unfolding walk
 strokes saved s e byte operands op groups same joins is few are by =
-    let to : OperandLengths → State → Drawn = λ kept t. record { entries = e ∷ []; work = work_at kept t; clears = false } in
+    let to : OperandLengths → State → RuleResult = λ kept t. record { entries = e ∷ []; work = work_at kept t; clears = false } in
     record {
       op = op;
       joins = joins;
@@ -68,7 +68,7 @@ point_strokes saved s at pel colour inside =
 
 pub line_strokes : (saved : OperandLengths) (s : State) (from to : Coordinates) (ink : Ink) → IsInSquare from → IsInSquare to →
     Strokes saved s (entries.Line from to ink) 0x2A (point_bytes from ++ point_bytes to)
-unfolding between row_of opcode_rows left_out_opcode
+unfolding absolute_spans row_of opcode_rows left_out_opcode
 line_strokes saved s from to ink first second =
     let e : Entry = entries.Line from to ink in
     strokes saved s e 0x2A (point_bytes from ++ point_bytes to) opcodes.SetLineAbs 2 refl tt (refl, refl, tt, omega arith) (omega arith)
@@ -77,14 +77,14 @@ line_strokes saved s from to ink first second =
 -- a line from the pen
 pub on_line_strokes : (saved : OperandLengths) (s : State) (from to : Coordinates) (ink : Ink) → s.drawing.pen ≡ pens.At from → IsInSquare to →
     Strokes saved s (entries.Line from to ink) 0x28 (point_bytes to)
-unfolding points_at joined row_of opcode_rows left_out_opcode
+unfolding points_at polyline_spans row_of opcode_rows left_out_opcode
 on_line_strokes saved s from to ink pen second =
     let e : Entry = entries.Line from to ink in
     strokes saved s e 0x28 (point_bytes to) opcodes.LineAbs 1 refl tt (refl, refl, tt, omega arith) (omega arith) (point_operand to second) (rw (point_alone to second, point_there to second, pen) refl)
 
 pub rect_strokes : (saved : OperandLengths) (s : State) (filled : Bool) (from to : Coordinates) (ink : Ink) → IsInSquare from → IsInSquare to →
     Strokes saved s (entries.Rect filled from to ink) (if filled then 0x33 else 0x32) (shape_bytes (from ∷ to ∷ []))
-unfolding away row_of opcode_rows left_out_opcode
+unfolding relative_spans row_of opcode_rows left_out_opcode
 rect_strokes saved s filled from to ink first second = by filled
   where
     all : All IsInSquare (to ∷ [])
@@ -101,7 +101,7 @@ rect_strokes saved s filled from to ink first second = by filled
         (shape_operands from (to ∷ []) first all) (rw (rules.corners_read from to first second, point_there from first, (displacements_lead_there from to first second).1) refl)
 
 -- nothing has to come behind such an opcode
-pub joining_comes : (op : Opcode) → CanJoin op → (rest : List Code) → ComesBehind (codes.Op op) rest
+pub joining_comes : (op : Opcode) → CanJoin op → (rest : List Code) → MayFollowCode (codes.Op op) rest
 joining_comes opcodes.Domain joins rest = absurd joins
 joining_comes opcodes.Reset joins rest = absurd joins
 joining_comes _ joins rest = tt
@@ -109,5 +109,5 @@ joining_comes _ joins rest = tt
 -- alone, as in the first form, it draws the entry
 pub stroke_draws : (saved : OperandLengths) (s : State) (e : Entry) (byte : ℕ) (operands : List ℕ) → Strokes saved s e byte operands → Draws saved s e (opcode byte operands ∷ [])
 stroke_draws saved s e byte operands k =
-    let d : Drawn = record { entries = e ∷ []; work = work_at (saved_after saved e) (after s e); clears = false } in
+    let d : RuleResult = record { entries = e ∷ []; work = work_at (saved_after saved e) (after s e); clears = false } in
     next (by_opcode byte k.op operands (k.groups * 8) d k.is k.are (omega (arith, k.few)) (λ rest. joining_comes k.op k.joins (operand_codes operands ++ rest)) k.draws) nothing

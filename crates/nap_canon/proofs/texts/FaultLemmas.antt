@@ -2,7 +2,7 @@
 
 use Rattle.std.proofs.Common.{ℕ, ◌≡◌, ◌↔◌, List, Result, Ok, Err, Vec, Global, IsErrOf, ap}
 use Rattle.nap_list.specs.declared.entry.Entry.{Entry}
-use Rattle.nap_list.specs.State.{BreaksAt}
+use Rattle.nap_list.specs.State.{IsIllegalAt}
 use Rattle.nap_canon.specs.declared.fault.CanonFault.{CanonFault}
 use Rattle.nap_canon.specs.declared.fault.CanonFault.TheVariants.{Illegal}
 
@@ -11,18 +11,18 @@ Answer = Result (Vec ℕ Global) CanonFault
 
 -- the list isn't legal, as was found
 
-pub illegal_there : (es : List Entry) (i : ℕ) → ((j : ℕ) → IsErrOf {T = Unit {0}} {E = ℕ} (Err i) j ↔ BreaksAt j es) →
-    (j : ℕ) → IsErrOf {T = Vec ℕ Global} {E = CanonFault} (Err (Illegal i)) (Illegal j) ↔ BreaksAt j es
+pub illegal_there : (es : List Entry) (i : ℕ) → ((j : ℕ) → IsErrOf {T = Unit {0}} {E = ℕ} (Err i) j ↔ IsIllegalAt j es) →
+    (j : ℕ) → IsErrOf {T = Vec ℕ Global} {E = CanonFault} (Err (Illegal i)) (Illegal j) ↔ IsIllegalAt j es
 illegal_there es i breaks j = (
   λ is. let same : i ≡ j = cc in (breaks j).0 (ap Err same),
   λ other. let same : ◌≡◌ {A = Result (Unit {0}) ℕ} (Err i) (Err j) = (breaks j).1 other in cc,
 )
 
 -- any other answer
-pub illegal_nowhere : (es : List Entry) (r : Answer) → ((j : ℕ) → r ≡ Err (Illegal j) → ⊥) → ((j : ℕ) → BreaksAt j es → ⊥) →
-    (j : ℕ) → IsErrOf r (Illegal j) ↔ BreaksAt j es
+pub illegal_nowhere : (es : List Entry) (r : Answer) → ((j : ℕ) → r ≡ Err (Illegal j) → ⊥) → ((j : ℕ) → IsIllegalAt j es → ⊥) →
+    (j : ℕ) → IsErrOf r (Illegal j) ↔ IsIllegalAt j es
 illegal_nowhere es r other never j = (λ is. absurd (other j is), λ breaks. absurd (never j breaks))
 
 -- the list is legal
-pub never_breaks : (es : List Entry) → ((j : ℕ) → IsErrOf {T = Unit {0}} {E = ℕ} (Ok tt) j ↔ BreaksAt j es) → (j : ℕ) → BreaksAt j es → ⊥
+pub never_breaks : (es : List Entry) → ((j : ℕ) → IsErrOf {T = Unit {0}} {E = ℕ} (Ok tt) j ↔ IsIllegalAt j es) → (j : ℕ) → IsIllegalAt j es → ⊥
 never_breaks es breaks j there = let is : ◌≡◌ {A = Result (Unit {0}) ℕ} (Ok tt) (Err j) = (breaks j).1 there in cc

@@ -8,8 +8,8 @@ use Rattle.nap_list.specs.declared.entry.Entry.{Entry}
 use Rattle.nap_list.specs.State.{start, after, walk, Fits, AllFit}
 use Rattle.nap_list.proofs.PublicLaws.{walks_join, fits_join}
 use Rattle.nap_canon.specs.Spelling.{Piece}
-use Rattle.nap_canon.specs.Text.{begun_tail, written, tail_after, entry_pieces, pieces, text_in}
-use Rattle.nap_canon.specs.TextParts.{pieces-append, tail_after-append}
+use Rattle.nap_canon.specs.Text.{text_end_after_header, pieces_bytes, text_end_after, entry_pieces, pieces, text_in}
+use Rattle.nap_canon.specs.TextParts.{pieces-append, text_end_after-append}
 use Rattle.nap_canon.proofs.texts.TextLemmas.{text_of_entries}
 
 one_more : (es : List Entry) (i : ℕ) (e : Entry) → i < length es → e ≡ get_or es i e → take (i + 1) es ≡ take i es ++ e ∷ []
@@ -20,21 +20,21 @@ unfolding pieces
 one_entry form es e = append-nil (entry_pieces form (walk start es) e)
 
 pub text_more : (form : Form) (es : List Entry) (i : ℕ) (e : Entry) → i < length es → e ≡ get_or es i e →
-    text_in form (take i es) ++ written (tail_after begun_tail (pieces form start (take i es))) (entry_pieces form (walk start (take i es)) e) ≡ text_in form (take (i + 1) es)
+    text_in form (take i es) ++ pieces_bytes (text_end_after text_end_after_header (pieces form start (take i es))) (entry_pieces form (walk start (take i es)) e) ≡ text_in form (take (i + 1) es)
 text_more form es i e within is =
     let so_far : List Entry = take i es in
-    ap (λ (ps : List Piece). text_in form so_far ++ written (tail_after begun_tail (pieces form start so_far)) ps) (sym (one_entry form so_far e))
+    ap (λ (ps : List Piece). text_in form so_far ++ pieces_bytes (text_end_after text_end_after_header (pieces form start so_far)) ps) (sym (one_entry form so_far e))
     ∙ sym (text_of_entries form so_far (e ∷ []))
     ∙ ap (text_in form) (sym (one_more es i e within is))
 
 pub tail_more : (form : Form) (es : List Entry) (i : ℕ) (e : Entry) → i < length es → e ≡ get_or es i e →
-    tail_after (tail_after begun_tail (pieces form start (take i es))) (entry_pieces form (walk start (take i es)) e) ≡ tail_after begun_tail (pieces form start (take (i + 1) es))
+    text_end_after (text_end_after text_end_after_header (pieces form start (take i es))) (entry_pieces form (walk start (take i es)) e) ≡ text_end_after text_end_after_header (pieces form start (take (i + 1) es))
 tail_more form es i e within is =
     let so_far : List Entry = take i es in
-    sym (tail_after-append begun_tail (pieces form start so_far) (entry_pieces form (walk start so_far) e))
-    ∙ ap (λ (ps : List Piece). tail_after begun_tail (pieces form start so_far ++ ps)) (sym (one_entry form so_far e))
-    ∙ ap (tail_after begun_tail) (sym (pieces-append form start so_far (e ∷ [])))
-    ∙ ap (λ (xs : List Entry). tail_after begun_tail (pieces form start xs)) (sym (one_more es i e within is))
+    sym (text_end_after-append text_end_after_header (pieces form start so_far) (entry_pieces form (walk start so_far) e))
+    ∙ ap (λ (ps : List Piece). text_end_after text_end_after_header (pieces form start so_far ++ ps)) (sym (one_entry form so_far e))
+    ∙ ap (text_end_after text_end_after_header) (sym (pieces-append form start so_far (e ∷ [])))
+    ∙ ap (λ (xs : List Entry). text_end_after text_end_after_header (pieces form start xs)) (sym (one_more es i e within is))
 
 pub walk_more : (es : List Entry) (i : ℕ) (e : Entry) → i < length es → e ≡ get_or es i e →
     after (walk start (take i es)) e ≡ walk start (take (i + 1) es)

@@ -2,108 +2,108 @@
 
 use Rattle.std.proofs.Common.{Option, Result, Ok, Err, is_err, Bool, true, false, List, [], ◌∷◌, ◌++◌, ℕ, ◌≡◌, append-nil, append_assoc, map, ap, sym, subst, ◌∙◌}
 use Rattle.std.proofs.lemmas.List.{map-append}
-use Rattle.nap_list.specs.declared.attribute.Held.{Held}
+use Rattle.nap_list.specs.declared.attribute.Attributes.{Attributes}
 use Rattle.nap_list.specs.declared.entry.Entry.{Entry}
 use Rattle.nap_list.specs.declared.shape.Shape.{Shape}
 use Rattle.nap_list.specs.declared.shape.ShapeKind.{ShapeKind}
 use Rattle.nap_list.specs.declared.shape.ShapeKind.TheVariants as kinds
 use Rattle.nap_list.specs.declared.state.Drawing.{Drawing}
 use Rattle.nap_list.specs.declared.state.State.{State}
-use Rattle.nap_list.specs.Entry.{held}
-use Rattle.nap_list.specs.Shapes.{drawn_shape, outline, round, shape_on}
-use Rattle.nap_list.specs.State.{taking, after}
+use Rattle.nap_list.specs.Entry.{attributes}
+use Rattle.nap_list.specs.Shapes.{entry_of_shape, outline, circle_closed, shape_on}
+use Rattle.nap_list.specs.State.{with_attributes, after}
 use Rattle.nap_canon.specs.declared.command.Command.{Command}
 use Rattle.nap_canon.specs.declared.form.Form.{Form}
-use Rattle.nap_canon.specs.declared.room.Room.{Room}
-use Rattle.nap_canon.specs.declared.tail.Tail.{Tail}
+use Rattle.nap_canon.specs.declared.pending.Pending.{Pending}
+use Rattle.nap_canon.specs.declared.text_end.TextEnd.{TextEnd}
 use Rattle.nap_canon.specs.declared.writer.Writer.{Writer}
-use Rattle.nap_canon.specs.Bring.{told, bring}
-use Rattle.nap_canon.specs.Spelling.{Piece, command_piece, shape, spelled}
-use Rattle.nap_canon.specs.Text.{piece_bytes, written, tail_after, entry_pieces}
-use Rattle.nap_canon.specs.TextParts.{written-append, tail_after-append}
-use Rattle.nap_canon.specs.Writing.{Lays, LaysPiece, LaysCommands, Puts, WritesLaid, WritesPieces}
+use Rattle.nap_canon.specs.Preludes.{option_commands, prelude}
+use Rattle.nap_canon.specs.Spelling.{Piece, command_piece, shape, spelling_pieces}
+use Rattle.nap_canon.specs.Text.{piece_bytes, pieces_bytes, text_end_after, entry_pieces}
+use Rattle.nap_canon.specs.TextParts.{pieces_bytes-append, text_end_after-append}
+use Rattle.nap_canon.specs.Writing.{AppendsPieces, AppendsPiece, AppendsCommands, Puts, WritesPendingAnd, WritesPieces}
 
 -- a piece alone
-pub one_piece : (p : Piece) (w t : Room) → LaysPiece p w t → Lays (p ∷ []) w t
-unfolding written tail_after
-one_piece p w t piece = record { laid = piece.laid ∙ ap (λ (bs : List ℕ). w.bytes ++ bs) (sym (append-nil (piece_bytes w.tail p))); tail = piece.tail }
+pub one_piece : (p : Piece) (w t : Pending) → AppendsPiece p w t → AppendsPieces (p ∷ []) w t
+unfolding pieces_bytes text_end_after
+one_piece p w t piece = record { laid = piece.laid ∙ ap (λ (bs : List ℕ). w.bytes ++ bs) (sym (append-nil (piece_bytes w.text_end p))); text_end = piece.text_end }
 
 -- pieces behind others
-pub both_laid : (front back whole : List Piece) (w m t : Room) → front ++ back ≡ whole → Lays front w m → Lays back m t → Lays whole w t
+pub both_laid : (front back whole : List Piece) (w m t : Pending) → front ++ back ≡ whole → AppendsPieces front w m → AppendsPieces back m t → AppendsPieces whole w t
 both_laid front back whole w m t is first second = record {
   laid =
       second.laid
-      ∙ ap (λ (bs : List ℕ). bs ++ written m.tail back) first.laid
-      ∙ append_assoc w.bytes (written w.tail front) (written m.tail back)
-      ∙ ap (λ (u : Tail). w.bytes ++ (written w.tail front ++ written u back)) first.tail
-      ∙ ap (λ (bs : List ℕ). w.bytes ++ bs) (sym (written-append w.tail front back) ∙ ap (written w.tail) is);
-  tail = second.tail ∙ ap (λ (u : Tail). tail_after u back) first.tail ∙ sym (tail_after-append w.tail front back) ∙ ap (tail_after w.tail) is;
+      ∙ ap (λ (bs : List ℕ). bs ++ pieces_bytes m.text_end back) first.laid
+      ∙ append_assoc w.bytes (pieces_bytes w.text_end front) (pieces_bytes m.text_end back)
+      ∙ ap (λ (u : TextEnd). w.bytes ++ (pieces_bytes w.text_end front ++ pieces_bytes u back)) first.text_end
+      ∙ ap (λ (bs : List ℕ). w.bytes ++ bs) (sym (pieces_bytes-append w.text_end front back) ∙ ap (pieces_bytes w.text_end) is);
+  text_end = second.text_end ∙ ap (λ (u : TextEnd). text_end_after u back) first.text_end ∙ sym (text_end_after-append w.text_end front back) ∙ ap (text_end_after w.text_end) is;
 }
 
 -- commands behind others
-pub both_told : (front back whole : List Command) (w m t : Room) → front ++ back ≡ whole → LaysCommands front w m → LaysCommands back m t → LaysCommands whole w t
+pub both_told : (front back whole : List Command) (w m t : Pending) → front ++ back ≡ whole → AppendsCommands front w m → AppendsCommands back m t → AppendsCommands whole w t
 both_told front back whole w m t is =
     both_laid (map command_piece front) (map command_piece back) (map command_piece whole) w m t (sym (map-append command_piece front back) ∙ ap (map command_piece) is)
 
 -- a command, where there is one
 
-pub told_as : (command : Option Command) (whole : List Command) (w t : Room) → told command ≡ whole → LaysCommands (told command) w t → LaysCommands whole w t
-told_as command whole w t is = subst (λ (cs : List Command). LaysCommands cs w t) is
+pub told_as : (command : Option Command) (whole : List Command) (w t : Pending) → option_commands command ≡ whole → AppendsCommands (option_commands command) w t → AppendsCommands whole w t
+told_as command whole w t is = subst (λ (cs : List Command). AppendsCommands cs w t) is
 
-pub told_before : (command : Option Command) (front back : List Command) (w m t : Room) → told command ≡ front → LaysCommands (told command) w m → LaysCommands back m t →
-    LaysCommands (front ++ back) w t
-told_before command front back w m t is = both_told (told command) back (front ++ back) w m t (ap (λ (cs : List Command). cs ++ back) is)
+pub told_before : (command : Option Command) (front back : List Command) (w m t : Pending) → option_commands command ≡ front → AppendsCommands (option_commands command) w m → AppendsCommands back m t →
+    AppendsCommands (front ++ back) w t
+told_before command front back w m t is = both_told (option_commands command) back (front ++ back) w m t (ap (λ (cs : List Command). cs ++ back) is)
 
 -- an entry that is one piece
-pub lays_one : (form : Form) (s : State) (e : Entry) (piece : Piece) (w t : Room) → entry_pieces form s e ≡ piece ∷ [] → LaysPiece piece w t → Lays (entry_pieces form s e) w t
-lays_one form s e piece w t is put = subst (λ (ps : List Piece). Lays ps w t) (sym is) (one_piece piece w t put)
+pub lays_one : (form : Form) (s : State) (e : Entry) (piece : Piece) (w t : Pending) → entry_pieces form s e ≡ piece ∷ [] → AppendsPiece piece w t → AppendsPieces (entry_pieces form s e) w t
+lays_one form s e piece w t is put = subst (λ (ps : List Piece). AppendsPieces ps w t) (sym is) (one_piece piece w t put)
 
 -- a piece that is written alone
-pub one_written : {T F E : Type 0} (sent : T → List ℕ → Bool → T → Type 0) (p : Piece) (w t : Writer T F) (r : Result (Unit {0}) E) → WritesLaid sent p w t r → WritesPieces sent (p ∷ []) w t r
-unfolding written tail_after
+pub one_written : {T F E : Type 0} (sent : T → List ℕ → Bool → T → Type 0) (p : Piece) (w t : Writer T F) (r : Result (Unit {0}) E) → WritesPendingAnd sent p w t r → WritesPieces sent (p ∷ []) w t r
+unfolding pieces_bytes text_end_after
 one_written sent p w t r piece = record {
-  sent = subst (λ (bs : List ℕ). sent w.to (w.room.bytes ++ bs) (is_err r) t.to) (sym (append-nil (piece_bytes w.room.tail p))) piece.sent;
-  tail = piece.tail;
+  sent = subst (λ (bs : List ℕ). sent w.to (w.pending.bytes ++ bs) (is_err r) t.to) (sym (append-nil (piece_bytes w.pending.text_end p))) piece.sent;
+  text_end = piece.text_end;
   kept = piece.kept;
 }
 
 -- how a shape that is lent is spelled
 
-pub arc_spelled : (form : Form) (d : Drawing) (s : Shape) → s.kind ≡ kinds.Arc → spelled form d (drawn_shape s) ≡ shape 0x2E s.filled (round (s.from ∷ s.others.now)) ∷ []
-arc_spelled form d s = ap (λ (kind : ShapeKind). spelled form d (shape_on kind s.filled s.drawing.now (outline kind (s.from ∷ s.others.now))))
+pub arc_spelled : (form : Form) (d : Drawing) (s : Shape) → s.kind ≡ kinds.Arc → spelling_pieces form d (entry_of_shape s) ≡ shape 0x2E s.filled (circle_closed (s.from ∷ s.others.now)) ∷ []
+arc_spelled form d s = ap (λ (kind : ShapeKind). spelling_pieces form d (shape_on kind s.filled s.drawing.now (outline kind (s.from ∷ s.others.now))))
 
-pub poly_spelled : (form : Form) (d : Drawing) (s : Shape) → s.kind ≡ kinds.Poly → spelled form d (drawn_shape s) ≡ shape 0x36 s.filled (s.from ∷ s.others.now) ∷ []
-poly_spelled form d s = ap (λ (kind : ShapeKind). spelled form d (shape_on kind s.filled s.drawing.now (outline kind (s.from ∷ s.others.now))))
+pub poly_spelled : (form : Form) (d : Drawing) (s : Shape) → s.kind ≡ kinds.Poly → spelling_pieces form d (entry_of_shape s) ≡ shape 0x36 s.filled (s.from ∷ s.others.now) ∷ []
+poly_spelled form d s = ap (λ (kind : ShapeKind). spelling_pieces form d (shape_on kind s.filled s.drawing.now (outline kind (s.from ∷ s.others.now))))
 
 -- an entry behind its bring
 
-module _ {T F : Type 0} (sent : T → List ℕ → Bool → T → Type 0) (w : Writer T F) (e : Entry) (h : Held) (holds : h ≡ held e) (clear : List ℕ) (none : clear ≡ []) (r : Room)
-    (brought : LaysCommands (bring w.state.drawing h) (record { tail = w.room.tail; bytes = clear }) r) (u : Writer T F) where
+module _ {T F : Type 0} (sent : T → List ℕ → Bool → T → Type 0) (w : Writer T F) (e : Entry) (h : Attributes) (holds : h ≡ attributes e) (clear : List ℕ) (none : clear ≡ []) (r : Pending)
+    (brought : AppendsCommands (prelude w.state.drawing h) (record { text_end = w.pending.text_end; bytes = clear }) r) (u : Writer T F) where
   abbrev before : List Piece
-  before = map command_piece (bring w.state.drawing h)
+  before = map command_piece (prelude w.state.drawing h)
 
   abbrev own : List Piece
-  own = spelled w.form (taking w.state.drawing (held e)) e
+  own = spelling_pieces w.form (with_attributes w.state.drawing (attributes e)) e
 
   parts : before ++ own ≡ entry_pieces w.form w.state e
-  parts = ap (λ (h : Held). map command_piece (bring w.state.drawing h) ++ own) holds
+  parts = ap (λ (h : Attributes). map command_piece (prelude w.state.drawing h) ++ own) holds
 
-  all : r.bytes ++ written r.tail own ≡ written w.room.tail (entry_pieces w.form w.state e)
+  all : r.bytes ++ pieces_bytes r.text_end own ≡ pieces_bytes w.pending.text_end (entry_pieces w.form w.state e)
   all =
-      ap (λ (bs : List ℕ). bs ++ written r.tail own) (brought.laid ∙ ap (λ (bs : List ℕ). bs ++ written w.room.tail before) none)
-      ∙ ap (λ (t : Tail). written w.room.tail before ++ written t own) brought.tail
-      ∙ sym (written-append w.room.tail before own)
-      ∙ ap (written w.room.tail) parts
+      ap (λ (bs : List ℕ). bs ++ pieces_bytes r.text_end own) (brought.laid ∙ ap (λ (bs : List ℕ). bs ++ pieces_bytes w.pending.text_end before) none)
+      ∙ ap (λ (t : TextEnd). pieces_bytes w.pending.text_end before ++ pieces_bytes t own) brought.text_end
+      ∙ sym (pieces_bytes-append w.pending.text_end before own)
+      ∙ ap (pieces_bytes w.pending.text_end) parts
 
   -- the write failed
-  pub led_fails : {D E : Type 0} {y : D} (x : E) → WritesPieces sent own (record w { room = r }) u (Err y) → Puts sent e w u (Err x)
-  led_fails x put = record { sent = subst (λ (bs : List ℕ). sent w.to bs true u.to) all put.sent; tail = tt; form = put.kept.0; state = tt; still = put.kept.1 }
+  pub led_fails : {D E : Type 0} {y : D} (x : E) → WritesPieces sent own (record w { pending = r }) u (Err y) → Puts sent e w u (Err x)
+  led_fails x put = record { sent = subst (λ (bs : List ℕ). sent w.to bs true u.to) all put.sent; text_end = tt; form = put.kept.0; state = tt; still = put.kept.1 }
 
   -- it didn't fail
-  pub led : {D E : Type 0} → WritesPieces {E = D} sent own (record w { room = r }) u (Ok tt) → (next : State) → next ≡ after u.state e → Puts {E = E} sent e w (record u { state = next }) (Ok tt)
+  pub led : {D E : Type 0} → WritesPieces {E = D} sent own (record w { pending = r }) u (Ok tt) → (next : State) → next ≡ after u.state e → Puts {E = E} sent e w (record u { state = next }) (Ok tt)
   led put next is = record {
     sent = subst (λ (bs : List ℕ). sent w.to bs false u.to) all put.sent;
-    tail = put.tail ∙ ap (λ (t : Tail). tail_after t own) brought.tail ∙ sym (tail_after-append w.room.tail before own) ∙ ap (tail_after w.room.tail) parts;
+    text_end = put.text_end ∙ ap (λ (t : TextEnd). text_end_after t own) brought.text_end ∙ sym (text_end_after-append w.pending.text_end before own) ∙ ap (text_end_after w.pending.text_end) parts;
     form = put.kept.0;
     state = is ∙ ap (λ (s : State). after s e) put.kept.1;
     still = tt;

@@ -1,11 +1,11 @@
-//! A reader of `std` as an inlet.
+//! An inlet over a reader of `std`.
 ghost use Rattle.std.specs.Prelude.{◌≡◌, false};
 
 use crate::device::{DeviceFault, Inlet};
 use std::io::Read;
 use std::marker::Model;
 
-/// A reader of `std` as an inlet. It tells its bytes where the reader does.
+/// An inlet over a reader of `std`. It tells its bytes if the reader does.
 #[derive(Drop)]
 pub struct Source<R> {
     reader: R,
@@ -22,7 +22,7 @@ impl<R> Model for Source<R> {
 }
 
 impl<R: Read> Source<R> {
-    /// The reader, which hasn't been read.
+    /// Returns an inlet over a reader, which hasn't been read through it.
     pub fn new(reader: R) -> Source<R>
         ensures { result ≡ record { reader = reader; calls = 0; failed = false } }
     {
@@ -33,7 +33,7 @@ impl<R: Read> Source<R> {
         }
     }
 
-    /// The reader as it stands.
+    /// Returns the reader.
     pub fn into_inner(self) -> R
         ensures { result ≡ self.reader }
     {

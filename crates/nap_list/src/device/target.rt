@@ -1,4 +1,4 @@
-//! A writer of `std` as an outlet.
+//! An outlet over a writer of `std`.
 ghost use Rattle.std.specs.Prelude.{◌≡◌, ◌||◌, Bool, false};
 ghost use Rattle.std.proofs.Common.{ap};
 
@@ -6,7 +6,7 @@ use crate::device::{DeviceFault, Outlet};
 use std::io::Write;
 use std::marker::Model;
 
-/// A writer of `std` as an outlet. It tells its bytes where the writer does.
+/// An outlet over a writer of `std`. It tells its bytes if the writer does.
 #[derive(Drop)]
 pub struct Target<W> {
     writer: W,
@@ -25,7 +25,7 @@ impl<W> Model for Target<W> {
 }
 
 impl<W: Write> Target<W> {
-    /// The writer, which hasn't been written.
+    /// Returns an outlet over a writer, which hasn't been written through it.
     pub fn new(writer: W) -> Target<W>
         ensures { result ≡ record { writer = writer; write_failed = false; flush_failed = false; sent = false; flushes = 0 } }
     {
@@ -38,7 +38,7 @@ impl<W: Write> Target<W> {
         }
     }
 
-    /// The writer as it stands.
+    /// Returns the writer.
     pub fn into_inner(self) -> W
         ensures { result ≡ self.writer }
     {

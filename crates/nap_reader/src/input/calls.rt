@@ -1,4 +1,4 @@
-//! Bodies that come next.
+//! Bodies that are called or presented.
 ghost use Rattle.std.specs.Prelude.{◌≡◌, ◌+◌, ◌-◌, ◌++◌, ◌<◌, ◌≤◌, [], ◌∷◌, None, MatchResult};
 ghost use Rattle.nap_codes.specs.Laws.{IsGraphic};
 ghost use Rattle.nap_reader.specs.Bodies.{body_of};
@@ -8,18 +8,18 @@ use super::Input;
 use crate::fault::Fault;
 
 impl Input {
-    ghost use Rattle.nap_reader.specs.Coming.{CannotShow, Shows};
-    ghost use Rattle.nap_reader.specs.Stored.{closed};
+    ghost use Rattle.nap_reader.specs.NextBytes.{CannotShow, Shows};
+    ghost use Rattle.nap_reader.specs.Stored.{store_bound};
 
-    /// What is left to charge.
-    fn left(&self) -> u64
+    /// Returns how many bytes may still be charged.
+    fn budget_left(&self) -> u64
         ensures left { result ≡ self.now.budget - self.now.charged }
         ensures most { result + self.now.charged ≤ most_budget }
     {
         u64::from(self.budget.get()) - self.charged
     }
 
-    /// The body of the name comes next, at this place.
+    /// Charges the body of a name, which comes next in the stream with this place (PROFILE.md, Macros).
     pub(crate) fn call(&mut self, name: u8, place: u64) -> Result<(), Fault>
         requires { name < 0x80 }
         ensures { MatchResult result (λ _. Shows self.old self.new self.old.store self.old.body (body_of self.old.store.names name) place) (λ fault. CannotShow self.old self.new (body_of self.old.store.names name) fault) }
@@ -29,7 +29,7 @@ impl Input {
         if count == 0 {
             return Ok(());
         }
-        if count > self.left() {
+        if count > self.budget_left() {
             return Err(Fault::Budget);
         }
         let Ok(()) = self.frames.reserve() else {
@@ -40,13 +40,14 @@ impl Input {
         Ok(())
     }
 
-    /// The body is over and is shown: it is bound to the name and comes next, at this place, with the two bytes that end it.
+    /// Ends a body that is presented: binds it to the name and charges it. Its bytes and the two that end it come next
+    /// in the stream, with this place (PROFILE.md, Macros).
     pub(crate) fn show(&mut self, name: u8, ender: u8, place: u64) -> Result<(), Fault>
         requires { IsGraphic name }
-        ensures { MatchResult result (λ _. Shows self.old self.new (closed self.old.store name) None (self.old.store.body ++ 0x1B ∷ ender ∷ []) place) (λ fault. CannotShow self.old self.new (self.old.store.body ++ 0x1B ∷ ender ∷ []) fault) }
+        ensures { MatchResult result (λ _. Shows self.old self.new (store_bound self.old.store name) None (self.old.store.body ++ 0x1B ∷ ender ∷ []) place) (λ fault. CannotShow self.old self.new (self.old.store.body ++ 0x1B ∷ ender ∷ []) fault) }
     {
         let count = self.store.open_len() as u64 + 2;
-        if count > self.left() {
+        if count > self.budget_left() {
             return Err(Fault::Budget);
         }
         let Ok(()) = self.frames.reserve() else {

@@ -8,13 +8,13 @@ use crate::body::OpenBody;
 use std::alloc::AllocError;
 
 impl Input {
-    ghost use Rattle.nap_reader.specs.Coming.{Sets};
-    ghost use Rattle.nap_reader.specs.Stored.{closed, grown};
+    ghost use Rattle.nap_reader.specs.NextBytes.{StoresBody};
+    ghost use Rattle.nap_reader.specs.Stored.{store_bound, store_grown};
 
-    /// The body of the macro of the name comes next, and whether it is shown once it has ended.
+    /// Opens the body of a macro, and keeps whether it is presented at its end.
     pub(crate) fn open_body(&mut self, name: u8, show: bool)
         requires { IsGraphic name }
-        ensures { Sets self.old self.new self.old.store (Some (record { name = name; show = show; escape = None })) }
+        ensures { StoresBody self.old self.new self.old.store (Some (record { name = name; show = show; escape = None })) }
     {
         self.body = Some(OpenBody {
             name,
@@ -23,11 +23,11 @@ impl Input {
         });
     }
 
-    /// An ESC comes in the body, at this place, and the byte behind it tells what it is.
+    /// Keeps an ESC of the body as undecided, at this place.
     #[inline(always)]
     pub(crate) fn hold_escape(&mut self, body: OpenBody, place: u64)
         requires { IsGraphic body.name }
-        ensures { Sets self.old self.new self.old.store (Some (record body { escape = Some place })) }
+        ensures { StoresBody self.old self.new self.old.store (Some (record body { escape = Some place })) }
     {
         self.body = Some(OpenBody {
             name: body.name,
@@ -36,11 +36,11 @@ impl Input {
         });
     }
 
-    /// The ESC that is held is of the body.
+    /// Adds the undecided ESC to the body.
     pub(crate) fn keep_escape(&mut self, body: OpenBody) -> Result<(), AllocError>
         requires named { IsGraphic body.name }
         requires few { self.old.store.stored + length self.old.store.body < store_limit }
-        ensures ok { OnOk result (Sets self.old self.new (grown self.old.store (0x1B ∷ [])) (Some (record body { escape = None }))) }
+        ensures ok { OnOk result (StoresBody self.old self.new (store_grown self.old.store (0x1B ∷ [])) (Some (record body { escape = None }))) }
         ensures err { OnErr result (self.new ≡ self.old) }
     {
         self.store.push(0x1B)?;
@@ -48,10 +48,10 @@ impl Input {
         Ok(())
     }
 
-    /// The body is over, and is bound to the name.
+    /// Ends a body, and binds it to the name.
     pub(crate) fn bind(&mut self, name: u8)
         requires { IsGraphic name }
-        ensures { Sets self.old self.new (closed self.old.store name) None }
+        ensures { StoresBody self.old self.new (store_bound self.old.store name) None }
     {
         self.store.bind(name);
         self.body = None;

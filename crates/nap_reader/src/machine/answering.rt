@@ -1,4 +1,4 @@
-//! What a code asks of the input is done.
+//! The requests that codes make of the input.
 ghost use Rattle.std.specs.Prelude.{◌≡◌, ◌≢◌, ◌⊎◌, [], Err, None, Some, MatchResult, OnOk};
 ghost use Rattle.nap_reader.specs.Stream.{refusal};
 
@@ -7,16 +7,16 @@ use crate::fault::{Fault, Refusal};
 use crate::input::Input;
 use nap_list::Sink;
 
-/// The stream was refused, and its refusal is kept.
+/// The stream is refused, and the refusal is kept.
 #[derive(Clone, Copy, Drop)]
 pub(crate) struct Refused;
 
 impl<S: Sink> Machine<S> {
-    ghost use Rattle.nap_reader.specs.Coming.{Reads, coming};
-    ghost use Rattle.nap_reader.specs.Pieces.{Goes, StopsFrom, Turn};
+    ghost use Rattle.nap_reader.specs.NextBytes.{Reads, next_bytes};
+    ghost use Rattle.nap_reader.specs.Pieces.{Goes, StopsFrom, TakesSlice};
     ghost use Rattle.nap_reader.specs.Steps.{IsLive, Refuses};
 
-    /// Takes bytes of the body that is being defined, where one is, until it is over or nothing comes.
+    /// Consumes bytes of the body that is being defined, if one is, until it ends or no byte is left.
     #[inline(always)]
     #[tactic(auto, using(crate::proofs::FurtherLemmas::goes_nowhere))]
     pub(super) fn define(&mut self, input: &mut Input, piece: &[u8]) -> Result<(), Refused>
@@ -24,7 +24,7 @@ impl<S: Sink> Machine<S> {
         requires reads { Reads input.old piece.now }
         ensures live { OnOk result (IsLive self.new) }
         ensures run { OnOk result (self.old.open_run ≡ None → self.new.open_run ≡ None) }
-        ensures ends { OnOk result ((input.new.body ≡ None) ⊎ (coming input.new piece.now ≡ [])) }
+        ensures ends { OnOk result ((input.new.body ≡ None) ⊎ (next_bytes input.new piece.now ≡ [])) }
         ensures goes { MatchResult result (λ _. Goes piece.now 0 self.old input.old self.new input.new) (λ _. StopsFrom piece.now self.old input.old self.new input.new) }
     {
         if input.body.is_none() {
@@ -33,7 +33,8 @@ impl<S: Sink> Machine<S> {
         self.take_body(input, piece)
     }
 
-    /// Passes the bytes that were taken, of which the last has this place, and does what their last code asks of the input.
+    /// Advances past the bytes that were consumed, the last of which has this place, and does what their last code
+    /// requests of the input.
     #[inline(always)]
     pub(super) fn answer(
         &mut self,
@@ -43,12 +44,12 @@ impl<S: Sink> Machine<S> {
         piece: &[u8],
     ) -> Result<(), Refused>
         requires live { taken.request ≢ Request.Stop → IsLive self.old }
-        requires turn { (old : Machine S S.Sink) × Turn old self.old input.old piece.now taken.count taken.request place }
+        requires turn { (old : Machine S S.Sink) × TakesSlice old self.old input.old piece.now taken.count taken.request place }
         ensures live { OnOk result (IsLive self.new) }
         ensures run { OnOk result (self.old.open_run ≡ None → self.new.open_run ≡ None) }
-        ensures ends { OnOk result ((input.new.body ≡ None) ⊎ (coming input.new piece.now ≡ [])) }
+        ensures ends { OnOk result ((input.new.body ≡ None) ⊎ (next_bytes input.new piece.now ≡ [])) }
         ensures on { OnOk result (taken.request ≢ Request.Stop) }
-        ensures goes { (old : Machine S S.Sink) → Turn old self.old input.old piece.now taken.count taken.request place →
+        ensures goes { (old : Machine S S.Sink) → TakesSlice old self.old input.old piece.now taken.count taken.request place →
             MatchResult result (λ _. Goes piece.now taken.count old input.old self.new input.new) (λ _. StopsFrom piece.now old input.old self.new input.new) }
     {
         input.advance(taken.count);
@@ -73,7 +74,7 @@ impl<S: Sink> Machine<S> {
         }
     }
 
-    /// Refuses the stream, for good.
+    /// Refuses the stream. Later calls answer the same refusal.
     #[inline(never)]
     pub(super) fn refuse(&mut self, fault: Fault, place: u64) -> Result<(), Refused>
         ensures latched { Refuses self.old self.new (refusal fault place) }

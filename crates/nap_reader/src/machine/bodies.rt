@@ -1,13 +1,13 @@
-//! Bodies of macros, from the name to their end.
+//! Macro bodies, from the name to their end (PROFILE.md, Macros).
 ghost use Rattle.std.specs.Prelude.{◌≡◌, ◌⊎◌, ◌<◌, [], None, Some, MatchResult, OnOk};
 
 use super::{Machine, Refused};
-use crate::body::{OpenBody, body_bytes, ends_body};
+use crate::body::{OpenBody, body_prefix_len, ends_body};
 use crate::fault::Fault;
 use crate::input::Input;
 use nap_list::Sink;
 
-/// The byte that comes next.
+/// The next byte.
 #[derive(Clone, Copy, Drop)]
 pub(super) struct Next {
     pub(super) byte: u8,
@@ -15,18 +15,18 @@ pub(super) struct Next {
 }
 
 impl<S: Sink> Machine<S> {
-    ghost use Rattle.nap_reader.specs.Coming.{IsNextByte, Reads, coming};
+    ghost use Rattle.nap_reader.specs.NextBytes.{IsNextByte, Reads, next_bytes};
     ghost use Rattle.nap_reader.specs.Pieces.{Goes, StopsFrom};
     ghost use Rattle.nap_reader.specs.Steps.{IsLive};
 
-    /// Takes bytes of the body that is being defined, until it is over or nothing comes.
+    /// Consumes bytes of the body that is being defined, until it ends or no byte is left.
     #[inline(never)]
     pub(super) fn take_body(&mut self, input: &mut Input, piece: &[u8]) -> Result<(), Refused>
         requires live { IsLive self.old }
         requires reads { Reads input.old piece.now }
         ensures live { OnOk result (IsLive self.new) }
         ensures run { OnOk result (self.old.open_run ≡ None → self.new.open_run ≡ None) }
-        ensures ends { OnOk result ((input.new.body ≡ None) ⊎ (coming input.new piece.now ≡ [])) }
+        ensures ends { OnOk result ((input.new.body ≡ None) ⊎ (next_bytes input.new piece.now ≡ [])) }
         ensures goes { MatchResult result (λ _. Goes piece.now 0 self.old input.old self.new input.new) (λ _. StopsFrom piece.now self.old input.old self.new input.new) }
     {
         while let Some(body) = input.body {
@@ -50,7 +50,7 @@ impl<S: Sink> Machine<S> {
         Ok(())
     }
 
-    /// Takes the ESC that comes next, or all bytes of the body up to one, where none is held.
+    /// Consumes an ESC as undecided, or all bytes of the body up to one.
     #[inline(always)]
     fn keep(
         &mut self,
@@ -72,11 +72,11 @@ impl<S: Sink> Machine<S> {
             input.advance(1);
             return Ok(());
         }
-        let room = input.store.room();
+        let room = input.store.space_left();
         let Some((slice, _)) = input.next_slice(piece) else {
             return Ok(());
         };
-        let count = body_bytes(slice.bytes);
+        let count = body_prefix_len(slice.bytes);
         if count > room {
             let place = slice.place_of(room);
             input.advance(room);

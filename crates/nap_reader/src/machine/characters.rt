@@ -1,4 +1,4 @@
-//! Characters at the front of the bytes that come next.
+//! Characters at the beginning of the next bytes.
 ghost use Rattle.std.specs.Prelude.{All, ◌≡◌, ◌++◌, ◌<◌, ◌≤◌, ℕ, Bool, List, None, length, slice_index};
 ghost use Rattle.nap_codes.specs.Laws.{IsGraphic};
 
@@ -12,7 +12,7 @@ use nap_list::Sink;
 impl<S: Sink> Machine<S> {
     ghost use Rattle.nap_reader.specs.Steps.{AreCharacters, Codes, IsLive};
 
-    /// Takes the characters at the front, which are of this set, and the format effectors among them.
+    /// Consumes the characters of this set at the beginning of the bytes, and the format effectors among them.
     #[inline(always)]
     pub(super) fn text(&mut self, set: CharSet, bytes: &[u8]) -> CodeOutcome
         requires live { IsLive self.old }
@@ -31,7 +31,7 @@ impl<S: Sink> Machine<S> {
         }
     }
 
-    /// Takes the character, if there is one.
+    /// Consumes a character, if there is one.
     #[inline(always)]
     fn character(&mut self, set: CharSet, text: &[u8]) -> CodeOutcome
         requires live { IsLive self.old }

@@ -1,38 +1,39 @@
-//! The codes at the front of the bytes that come next.
+//! The codes at the beginning of the next bytes.
 ghost use Rattle.std.specs.Prelude.{◌≡◌, ◌<◌, None, length};
-ghost use Rattle.nap_reader.specs.Framed.{spaced};
+ghost use Rattle.nap_reader.specs.Framed.{placed_by_step};
 
-use super::front::{Front, front_of};
+use super::front::{FrontCode, front_of};
 use super::{Machine, Request, Taken, took};
 use crate::fault::Fault;
 use crate::slice::Slice;
 use nap_codes::{Code, Opcode};
 use nap_list::Sink;
 
-/// What became of the code at the front.
+/// The outcome of the first code.
 #[derive(Clone, Copy, Drop)]
 pub(super) enum CodeOutcome {
-    /// It took so many bytes; and whether it unbinds all names.
+    /// The code acted: the number of its bytes, and whether it unbinds all names.
     Acted(usize, bool),
-    /// It is an opcode whose run isn't whole.
+    /// The code is an opcode whose run is incomplete.
     Opens(Opcode),
-    /// It is refused, or breaks, behind so many bytes: why, and the index of the byte whose place it has.
+    /// The code is refused or breaks: the number of bytes before it, the fault, and the index of the byte whose place
+    /// the fault has.
     Stopped(usize, Fault, usize),
-    /// It is none of these, and nothing was done.
+    /// The code is another one, and nothing was done.
     Other,
 }
 
 impl<S: Sink> Machine<S> {
     ghost use Rattle.nap_reader.specs.Steps.{Codes, IsLive, Takes};
 
-    /// Takes the codes of the slice, up to one that asks something of the input, while no run is open. What isn't whole at the end
-    /// is kept: a run is open then, or a code is half read.
+    /// Consumes the codes of a slice, up to one that requests something of the input, while no run is open. What is
+    /// incomplete at the end is kept: an open run, or a half-read code.
     #[inline(always)]
     pub(super) fn codes(&mut self, slice: &Slice, ended: bool) -> Taken
         requires live { IsLive self.old }
         requires closed { self.old.open_run ≡ None }
         requires some { 0 < length slice.now.bytes.now }
-        ensures { Takes self.old self.new (spaced slice.now.place slice.now.step slice.now.bytes.now) ended result.count result.request }
+        ensures { Takes self.old self.new (placed_by_step slice.now.place slice.now.step slice.now.bytes.now) ended result.count result.request }
     {
         let bytes = slice.bytes;
         let mut count = 0;
@@ -63,7 +64,7 @@ impl<S: Sink> Machine<S> {
         took(count)
     }
 
-    /// Takes the code at the front of the bytes, where it is one of those that stand whole in them.
+    /// Consumes the first code of the bytes, if it is a complete one of those that need no request.
     #[inline(always)]
     fn code(&mut self, bytes: &[u8], ended: bool) -> CodeOutcome
         requires live { IsLive self.old }
@@ -74,17 +75,20 @@ impl<S: Sink> Machine<S> {
             return CodeOutcome::Other;
         };
         match front_of(&self.lexer, *byte) {
-            Front::Opcode(op) => self.opcode(op, bytes, ended),
-            Front::Characters(set) => self.text(set, bytes),
-            Front::Shift => {
+            FrontCode::Opcode(op) => self.opcode(op, bytes, ended),
+            FrontCode::Characters(set) => self.text(set, bytes),
+            FrontCode::Shift => {
                 self.lexer.shift(*byte);
                 CodeOutcome::Acted(1, false)
             }
-            Front::Effector(step) => match self.work.control(&Code::Step(step), &mut self.sink) {
+            FrontCode::Effector(step) => match self
+                .work
+                .control(&Code::Step(step), &mut self.sink)
+            {
                 Ok(()) => CodeOutcome::Acted(1, false),
                 Err(fault) => CodeOutcome::Stopped(0, Fault::from(fault), 0),
             },
-            Front::Other => CodeOutcome::Other,
+            FrontCode::Other => CodeOutcome::Other,
         }
     }
 }

@@ -1,4 +1,4 @@
-//! An ESC that is held in a body, and the byte that comes behind it.
+//! An undecided ESC in a body, and the byte after it.
 ghost use Rattle.std.specs.Prelude.{◌≡◌, ◌<◌, ℕ, List, None, Some, false, true, IsSome, MatchResult, OnOk};
 ghost use Rattle.nap_reader.specs.Bodies as bodies;
 
@@ -10,11 +10,12 @@ use crate::input::Input;
 use nap_list::Sink;
 
 impl<S: Sink> Machine<S> {
-    ghost use Rattle.nap_reader.specs.Coming.{IsNextByte};
+    ghost use Rattle.nap_reader.specs.NextBytes.{IsNextByte};
     ghost use Rattle.nap_reader.specs.Pieces.{Goes, StopsFrom};
     ghost use Rattle.nap_reader.specs.Steps.{IsLive};
 
-    /// The ESC that is held is of the body, since this byte comes behind it, and so is the byte, or it is held itself.
+    /// Adds the undecided ESC to the body, since this byte doesn't end the body after it. Adds the byte too, or keeps
+    /// it as undecided if it is an ESC.
     pub(super) fn keep_escape(
         &mut self,
         input: &mut Input,
@@ -31,7 +32,7 @@ impl<S: Sink> Machine<S> {
         ensures same { OnOk result (self.new ≡ self.old) }
         ensures goes { MatchResult result (λ _. Goes piece.now 1 self.old input.old self.new input.new) (λ _. StopsFrom piece.now self.old input.old self.new input.new) }
     {
-        let room = input.store.room();
+        let room = input.store.space_left();
         if room == 0 {
             input.advance(1);
             return self.refuse(Fault::Store, body.escape.unwrap_or(next.place));
@@ -56,7 +57,7 @@ impl<S: Sink> Machine<S> {
         Ok(())
     }
 
-    /// The byte that comes next ends the open body, with the ESC that is held.
+    /// Ends the open body, by the undecided ESC and the next byte.
     pub(super) fn end_body(
         &mut self,
         input: &mut Input,
@@ -74,7 +75,7 @@ impl<S: Sink> Machine<S> {
         ensures goes { (piece : List ℕ) → IsNextByte input.old piece next.byte next.place →
             MatchResult result (λ _. Goes piece 0 self.old input.old self.new input.new) (λ _. StopsFrom piece self.old input.old self.new input.new) }
     {
-        // (no run is open in a body)
+        // No run is open in a body.
         self.open_run = None;
         if !body.show {
             input.bind(body.name);

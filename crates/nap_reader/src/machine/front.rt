@@ -1,51 +1,52 @@
-//! What stands at the front of the bytes that come next. Nothing is changed by asking.
+//! The kind of the first code of the next bytes, found without changing anything.
 ghost use Rattle.std.specs.Prelude.{◌≡◌, ◌<◌, ◌≤◌, ◌↔◌, length, slice_index, IfSome, IsTrue};
 ghost use Rattle.nap_codes.specs.Laws.{IsGraphic};
-ghost use Rattle.nap_reader.specs.Steps.{CallsBy, FrontIs};
+ghost use Rattle.nap_reader.specs.Steps.{CallsBy, IsFrontCode};
 
 use nap_codes::{CharSet, CodeSet, GSet, Lexer, Opcode, TextStep};
 
-/// What stands at the front of bytes, where no run is open and no body.
+/// The kind of the first code of bytes, outside a run and a body.
 #[derive(Clone, Copy, Drop)]
-pub(crate) enum Front {
+pub(crate) enum FrontCode {
     /// An opcode.
     Opcode(Opcode),
-    /// Characters of this set: bytes from `20` to `7F`, if the first byte is one.
+    /// Characters of this set, if the first byte is from `20` to `7F`.
     Characters(CharSet),
     /// SO or SI.
     Shift,
     /// A format effector of one byte.
     Effector(TextStep),
-    /// A call of a macro, another code, or a byte of a code that isn't whole.
+    /// A macro call, another code, or a byte of an incomplete code.
     Other,
 }
 
-/// What stands at the front where this byte comes next.
+/// Returns the kind of the first code, which begins with this byte.
 #[inline(always)]
-pub(crate) fn front_of(lexer: &Lexer, byte: u8) -> Front
-    ensures { FrontIs lexer.now byte result }
+pub(crate) fn front_of(lexer: &Lexer, byte: u8) -> FrontCode
+    ensures { IsFrontCode lexer.now byte result }
 {
     if byte >= 0x20 {
         if byte < 0x40 {
             if let Some(op) = lexer.opcode(byte) {
-                return Front::Opcode(op);
+                return FrontCode::Opcode(op);
             }
         }
-        if let Some(set) = lexer.characters() {
-            return Front::Characters(set);
+        if let Some(set) = lexer.char_set() {
+            return FrontCode::Characters(set);
         }
-        return Front::Other;
+        return FrontCode::Other;
     }
     if lexer.is_shift(byte) {
-        return Front::Shift;
+        return FrontCode::Shift;
     }
     match lexer.format_effector(byte) {
-        Some(step) => Front::Effector(step),
-        None => Front::Other,
+        Some(step) => FrontCode::Effector(step),
+        None => FrontCode::Other,
     }
 }
 
-/// How many bytes at the front call a macro, the last of them its name: a byte of the macro set, or SS3 and one of it.
+/// Returns how many bytes at the beginning call a macro, the last of which is its name: a byte of the macro set, or SS3
+/// and one.
 #[inline(always)]
 pub(crate) fn call_bytes(lexer: &Lexer, bytes: &[u8]) -> Option<usize>
     requires { 0 < length bytes.now }
@@ -55,16 +56,16 @@ pub(crate) fn call_bytes(lexer: &Lexer, bytes: &[u8]) -> Option<usize>
         return None;
     }
     let sets = lexer.sets();
-    if is_name(bytes, 0) && sets.at(sets.gl) == CodeSet::Macros {
+    if is_name(bytes, 0) && sets.set_at(sets.gl) == CodeSet::Macros {
         return Some(1);
     }
-    if bytes[0] == 0x1D && is_name(bytes, 1) && sets.at(GSet::G3) == CodeSet::Macros {
+    if bytes[0] == 0x1D && is_name(bytes, 1) && sets.set_at(GSet::G3) == CodeSet::Macros {
         return Some(2);
     }
     None
 }
 
-/// Whether the byte with this index is there and can be a name.
+/// Whether there is a byte at this index, and it can be a name.
 #[inline(always)]
 fn is_name(bytes: &[u8], index: usize) -> bool
     ensures { IsTrue result ↔ ((index < length bytes.now) × IsGraphic (slice_index bytes.now index)) }

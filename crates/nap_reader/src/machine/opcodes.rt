@@ -1,6 +1,6 @@
-//! Opcodes at the front of the bytes that come next.
+//! Opcodes at the beginning of the next bytes.
 ghost use Rattle.std.specs.Prelude.{◌≡◌, ◌-◌, ◌<◌, ℕ, List, ◌∷◌, None, drop, length, slice_index};
-ghost use Rattle.nap_reader.specs.Framed.{spaced};
+ghost use Rattle.nap_reader.specs.Framed.{placed_by_step};
 
 use super::codes::CodeOutcome;
 use super::{Machine, OpenRun, Taken};
@@ -13,7 +13,7 @@ use nap_list::Sink;
 impl<S: Sink> Machine<S> {
     ghost use Rattle.nap_reader.specs.Steps.{Codes, IsLive, IsOpcodeByte, Takes};
 
-    /// Executes the opcode at the front with its run, where that is whole.
+    /// Executes the first opcode with its run, if that is complete.
     #[inline(always)]
     pub(super) fn opcode(&mut self, op: Opcode, bytes: &[u8], ended: bool) -> CodeOutcome
         requires live { IsLive self.old }
@@ -33,7 +33,7 @@ impl<S: Sink> Machine<S> {
         }
     }
 
-    /// Opens a run: the opcode is the byte with this index, and the bytes behind it are its operands.
+    /// Opens a run: the opcode is at this index, and the bytes after it are its operands.
     #[inline(never)]
     pub(super) fn open(&mut self, op: Opcode, slice: &Slice, at: usize, ended: bool) -> Taken
         requires live { IsLive self.old }
@@ -41,7 +41,7 @@ impl<S: Sink> Machine<S> {
         requires within { at < length slice.now.bytes.now }
         requires is { IsOpcodeByte self.old.lexer.half self.old.lexer.sets (slice_index slice.now.bytes.now at) op }
         ensures some { at < result.count }
-        ensures takes { Takes self.old self.new (drop at (spaced slice.now.place slice.now.step slice.now.bytes.now)) ended (result.count - at) result.request }
+        ensures takes { Takes self.old self.new (drop at (placed_by_step slice.now.place slice.now.step slice.now.bytes.now)) ended (result.count - at) result.request }
     {
         let open_run = OpenRun {
             op,

@@ -1,6 +1,6 @@
-//! Codes that don't stand whole at the front as one byte or as a run.
+//! Codes that aren't complete as one byte or as a run.
 ghost use Rattle.std.specs.Prelude.{◌≡◌, ◌⊎◌, ◌-◌, ◌<◌, ◌≤◌, None, drop, length};
-ghost use Rattle.nap_reader.specs.Framed.{spaced};
+ghost use Rattle.nap_reader.specs.Framed.{placed_by_step};
 
 use super::front::call_bytes;
 use super::{Machine, Request, Taken, took};
@@ -13,7 +13,7 @@ use nap_list::Sink;
 impl<S: Sink> Machine<S> {
     ghost use Rattle.nap_reader.specs.Steps.{IsLive, Takes};
 
-    /// Takes a call that is the code with this index, or a byte of any code.
+    /// Consumes a call that is the code at this index, or a byte of any code.
     #[inline(never)]
     pub(super) fn other(&mut self, slice: &Slice, at: usize, ended: bool) -> Taken
         requires live { IsLive self.old }
@@ -21,7 +21,7 @@ impl<S: Sink> Machine<S> {
         requires within { at < length slice.now.bytes.now }
         ensures from { at ≤ result.count }
         ensures some { at < result.count ⊎ (result.request ≡ Request.Stop) }
-        ensures takes { Takes self.old self.new (drop at (spaced slice.now.place slice.now.step slice.now.bytes.now)) ended (result.count - at) result.request }
+        ensures takes { Takes self.old self.new (drop at (placed_by_step slice.now.place slice.now.step slice.now.bytes.now)) ended (result.count - at) result.request }
     {
         if let Some(more) = call_bytes(&self.lexer, &slice.bytes[at..]) {
             let count = at + more;

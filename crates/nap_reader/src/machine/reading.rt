@@ -1,6 +1,6 @@
-//! The loop over the slices of what comes next.
+//! The loop over the slices of the input.
 ghost use Rattle.std.specs.Prelude.{◌≡◌, ◌+◌, ◌<◌, ◌^◌, [], length, MatchResult, OnOk};
-ghost use Rattle.nap_reader.specs.Framed.{spaced};
+ghost use Rattle.nap_reader.specs.Framed.{placed_by_step};
 
 use super::{Machine, Refused, Taken};
 use crate::input::Input;
@@ -11,7 +11,7 @@ impl<S: Sink> Machine<S> {
     ghost use Rattle.nap_reader.specs.Pieces.{ReadsPiece, StopsPiece};
     ghost use Rattle.nap_reader.specs.Steps.{IsLive, Takes};
 
-    /// Reads the next piece, where nothing is refused yet: slice by slice, of the bodies that it calls and of itself.
+    /// Reads the next piece of a stream that isn't refused: slice by slice, of the bodies that it calls and of itself.
     pub(crate) fn read(&mut self, input: &mut Input, piece: &[u8]) -> Result<(), Refused>
         requires live { IsLive self.old }
         requires rested { input.old.frames.stack.items ≡ [] }
@@ -20,7 +20,7 @@ impl<S: Sink> Machine<S> {
         ensures rests { OnOk result (input.new.frames.stack.items ≡ []) }
         ensures reads { MatchResult result (λ _. ReadsPiece piece.now self.old input.old self.new input.new) (λ _. StopsPiece piece.now self.old input.old self.new input.new) }
     {
-        input.begin();
+        input.begin_piece();
         self.define(input, piece)?;
         while let Some((slice, ended)) = input.next_slice(piece) {
             let taken = self.take(&slice, ended);
@@ -30,12 +30,12 @@ impl<S: Sink> Machine<S> {
         Ok(())
     }
 
-    /// Takes bytes of the slice: operands of the open run, or codes.
+    /// Consumes bytes of a slice: operands of the open run, or codes.
     #[inline(always)]
     fn take(&mut self, slice: &Slice, ended: bool) -> Taken
         requires live { IsLive self.old }
         requires some { 0 < length slice.now.bytes.now }
-        ensures { Takes self.old self.new (spaced slice.now.place slice.now.step slice.now.bytes.now) ended result.count result.request }
+        ensures { Takes self.old self.new (placed_by_step slice.now.place slice.now.step slice.now.bytes.now) ended result.count result.request }
     {
         match self.open_run {
             Some(open_run) => self.join(open_run, slice, ended),

@@ -1,11 +1,11 @@
 //! The open run.
 ghost use Rattle.std.specs.Prelude.{◌≡◌, ◌++◌, ◌<◌, Some, length, MatchResult, OnErr, OnOk};
-ghost use Rattle.nap_reader.specs.Framed.{spaced};
+ghost use Rattle.nap_reader.specs.Framed.{placed_by_step};
 ghost use Rattle.nap_reader.specs.Stream.{refusal};
 
 use super::{Machine, OpenRun, Request, Taken, took};
 use crate::fault::Fault;
-use crate::operands::operand_bytes;
+use crate::operands::operand_prefix_len;
 use crate::slice::Slice;
 use nap_draw::RUN_LIMIT;
 use nap_list::Sink;
@@ -14,14 +14,14 @@ use std::alloc::AllocError;
 impl<S: Sink> Machine<S> {
     ghost use Rattle.nap_reader.specs.Steps.{Executes, FailsRun, IsLive, Takes};
 
-    /// Takes operands of the open run, and executes it where a byte behind it is known.
+    /// Consumes operands of the open run, and executes it once a byte after it is known.
     #[inline(always)]
     pub(super) fn join(&mut self, open_run: OpenRun, slice: &Slice, ended: bool) -> Taken
         requires live { IsLive self.old }
         requires run { self.old.open_run ≡ Some open_run }
-        ensures { Takes self.old self.new (spaced slice.now.place slice.now.step slice.now.bytes.now) ended result.count result.request }
+        ensures { Takes self.old self.new (placed_by_step slice.now.place slice.now.step slice.now.bytes.now) ended result.count result.request }
     {
-        let count = operand_bytes(slice.bytes);
+        let count = operand_prefix_len(slice.bytes);
         let most = RUN_LIMIT - self.run.len();
         if count > most {
             return self.stop(most, Fault::LongRun, open_run.place);
@@ -45,7 +45,7 @@ impl<S: Sink> Machine<S> {
         }
     }
 
-    /// Executes the opcode of the open run, which is over, and tells whether it unbinds all names.
+    /// Executes the opcode of the open run, which is complete. Returns whether it unbinds all names.
     pub(super) fn execute(&mut self, open_run: OpenRun) -> Result<bool, Fault>
         requires live { IsLive self.old }
         requires run { self.old.open_run ≡ Some open_run }
@@ -67,7 +67,7 @@ impl<S: Sink> Machine<S> {
     }
 }
 
-/// Adds bytes to a run. Often there is one, or none.
+/// Appends bytes to a run, often one or none.
 #[inline(always)]
 fn append(run: &mut Vec<u8>, bytes: &[u8]) -> Result<(), AllocError>
     ensures ok { OnOk result (run.new.items ≡ run.old.items ++ bytes.now) }

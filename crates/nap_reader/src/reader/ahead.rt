@@ -2,7 +2,7 @@
 ghost use Rattle.std.specs.Prelude.{◌≡◌, ◌<◌, ◌≤◌, ℕ, List, None, length};
 
 use super::Reader;
-use crate::operands::operand_bytes;
+use crate::operands::operand_prefix_len;
 use crate::text::text_bytes;
 use nap_list::Sink;
 
@@ -17,13 +17,13 @@ pub enum Ahead {
 
 impl<S: Sink> Reader<S> {
     ghost use Rattle.nap_reader.specs.Looking.{BringsAhead, bytes_ahead};
-    ghost use Rattle.nap_reader.specs.Standing.{Stands, budget_of, refusal_of};
+    ghost use Rattle.nap_reader.specs.Standing.{HasRead, budget_of, refusal_of};
 
     /// What the bytes at the front of this piece bring, if it comes next. Nothing is changed by asking.
     pub fn ahead(&self, piece: &[u8]) -> Ahead
         ensures some { 0 < length piece.now → 0 < bytes_ahead result }
         ensures within { bytes_ahead result ≤ length piece.now }
-        ensures brings { refusal_of self.now ≡ None → (s : S) (p : List ℕ) → Stands self.now s p →
+        ensures brings { refusal_of self.now ≡ None → (s : S) (p : List ℕ) → HasRead self.now s p →
             BringsAhead (budget_of self.now) p piece.now result }
     {
         let Some(byte) = piece.first() else {
@@ -34,10 +34,10 @@ impl<S: Sink> Reader<S> {
         }
         if *byte < 0x40 {
             if let Some(_) = self.machine.lexer.opcode(*byte) {
-                return Ahead::First(1 + operand_bytes(&piece[1..]));
+                return Ahead::First(1 + operand_prefix_len(&piece[1..]));
             }
         }
-        if let Some(_) = self.machine.lexer.characters() {
+        if let Some(_) = self.machine.lexer.char_set() {
             let count = text_bytes(piece).len();
             if count > 0 {
                 return Ahead::Each(count);

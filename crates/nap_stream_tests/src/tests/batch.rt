@@ -1,5 +1,5 @@
 //! Requests one after another, on inputs and outputs that fail and that give and take little at a call.
-use nap_batch::{Front, Question, answer_page, batch, front_of, parse_line};
+use nap_batch::{Question, RequestFront, answer_page, batch, parse_line, request_front_of};
 use nap_fixtures::devices::{End, Giver, Taker};
 use nap_list::{Source, Target};
 use nap_reader::Budget;
@@ -135,9 +135,9 @@ fn a_line_says_a_question_a_budget_and_a_length(rt: HostRuntime) -> Result<(), F
         line.question == Question::Places,
         (line.budget.get(), line.size) == (Budget::MOST, 16_777_216),
         parse_line(b"places 67108864 16777217").is_none(),
-        front_of(b"check 0 2\n\x0E") == Front::More(1),
-        front_of(b"check 0 2") == Front::More(0),
-        front_of(b"check 0 x\n") == Front::Wrong,
+        request_front_of(b"check 0 2\n\x0E") == RequestFront::More(1),
+        request_front_of(b"check 0 2") == RequestFront::More(0),
+        request_front_of(b"check 0 x\n") == RequestFront::Wrong,
     ];
     assert!(rt; found == [true; 6]);
     Ok(())

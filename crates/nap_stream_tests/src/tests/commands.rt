@@ -41,7 +41,7 @@ struct Row {
     flushes: Option<(u64, u64)>,
 }
 
-/// `check` of nothing.
+/// `check_answer` of nothing.
 const USUAL: Row = Row {
     action: Action::Check,
     hex: false,

@@ -50,11 +50,11 @@ fn behind(bytes: &[u8]) -> Lexer {
 fn are_characters(lexer: &Lexer) -> bool {
     for byte in 0x00..=0xFF_u8 {
         let set = if matches!(byte, 0x20..0x80) {
-            lexer.characters()
+            lexer.char_set()
         } else {
             None
         };
-        if lexer.character(byte) != set {
+        if lexer.char_set_of_byte(byte) != set {
             return false;
         }
     }
@@ -68,7 +68,7 @@ fn characters_are_those_of_the_set_in_gl(rt: HostRuntime) -> Result<(), Fail> {
         let (bytes, want) = parted(row);
         let lexer = behind(&bytes_of(alloc, bytes));
         let sets = lexer.sets();
-        let (set, rest, characters) = (sets.at(sets.gl), lexer.at_rest(), lexer.characters());
+        let (set, rest, characters) = (sets.set_at(sets.gl), lexer.at_rest(), lexer.char_set());
         let came = format!(in alloc; "{set:?} {rest} {characters:?}")?;
         let agrees = came.as_str() == want && are_characters(&lexer);
         assert!(rt; agrees, "{came}, of {row}");

@@ -208,7 +208,7 @@ const STANDING: &[(Sample, bool)] = &[
 fn values_stand_where_each_is_the_same(rt: HostRuntime) -> Result<(), Fail> {
     for (sample, want) in STANDING {
         let entry = entry_of(rt.alloc(), *sample)?;
-        assert!(rt; Drawing::start().stands(&entry) == *want, "{entry:?}");
+        assert!(rt; Drawing::start().is_current(&entry) == *want, "{entry:?}");
     }
     Ok(())
 }

@@ -2,7 +2,7 @@ use Rattle.std.proofs.Common.{ℕ, ◌+◌, ◌≡◌, List, [], length, take, d
 use Rattle.std.proofs.lemmas.List.{take-append-drop, take_all}
 use Rattle.nap_list.specs.State.{start, walk}
 use Rattle.nap_reader.specs.Breaking.{BreaksWithin}
-use Rattle.nap_reader.specs.Standing.{Stands, budget_of}
+use Rattle.nap_reader.specs.Standing.{HasRead, budget_of}
 use Rattle.nap_reader.specs.Stream.{begun, means}
 use Rattle.nap_batch.proofs.PlaceLemmas.{all_places, breaks_at, breaks_last, broke_apart, ends_longer, grows, kept, kept_refused, next_bytes, none_before, own_cause, still_refused, stops_so, true_isnt, walks_nothing, written_last, written_more}
 use Rattle.nap_batch.proofs.places.read_places.Goals as goal
@@ -13,7 +13,7 @@ new-reader-requires c = ap (walk start) c.new.ensures ∙ walks_nothing
 pub loop-byte-init : goal.loop-byte-init
 loop-byte-init c =
     let new = c.new-reader.ensures in
-    let stands = subst (λ (s : List _). Stands c.new-reader.result s []) c.new.ensures new.stands in
+    let stands = subst (λ (s : List _). HasRead c.new-reader.result s []) c.new.ensures new.stands in
     record {
       at = refl;
       fed = new.fed;
@@ -24,15 +24,15 @@ loop-byte-init c =
       written = c.new-text.ensures.items ∙ sym (none_before c.args.budget c.args.page.now);
     }
 
-pub stopped-requires : goal.stopped-requires
-stopped-requires c apart =
+pub stopped_places-requires : goal.stopped_places-requires
+stopped_places-requires c apart =
     let page = c.args.page.now in
     let i = c.loop-byte.place in
     let inv = c.loop-byte.invariant in
     let new = c.feed.new.self in
     let q = c.in-Err.refusal in
     let next = next_bytes page i c.loop-byte.byte-index inv.at (omega (arith, c.loop-byte-test.true)) in
-    let stands = subst (λ (bytes : List ℕ). Stands new [] bytes) next (c.feed.ensures.stands [] (take i page) inv.stands) in
+    let stands = subst (λ (bytes : List ℕ). HasRead new [] bytes) next (c.feed.ensures.stands [] (take i page) inv.stands) in
     let own = own_cause q.fault apart (λ is. true_isnt (c.in-Err.ensures.failed inv.live is)) in
     let k = kept_refused (λ s t d h. h) new c.args.budget (take (i + 1) page) stands (c.feed.ensures.budget ∙ inv.budget) q c.in-Err.ensures.answered own in
     let more = grows c.args.budget page i (omega (arith, inv.at, c.loop-byte-test.true)) in
@@ -50,11 +50,11 @@ returns-in-Err c =
     let q = c.in-Err.refusal in
     let next = next_bytes page i j inv.at (omega (arith, c.loop-byte-test.true)) in
     let fed = c.feed.ensures.stands [] (take i page) inv.stands in
-    let stands = subst (λ (bytes : List ℕ). Stands new [] bytes) next fed in
+    let stands = subst (λ (bytes : List ℕ). HasRead new [] bytes) next fed in
     let fails = c.in-Err.ensures.failed inv.live in
     let same = c.feed.ensures.budget ∙ inv.budget in
     let (n, stops) = c.in-Err.ensures.stops inv.live in
-    stops_so budget page c.stopped.result q _ c.stopped.ensures.ended c.stopped.ensures.memory c.stopped.ensures.own
+    stops_so budget page c.stopped_places.result q _ c.stopped_places.ensures.ended c.stopped_places.ensures.memory c.stopped_places.ensures.own
     (λ apart.
     let own = own_cause q.fault apart (λ is. true_isnt (fails is)) in
     let k = kept_refused (λ s t d h. h) new budget (take (i + 1) page) stands same q c.in-Err.ensures.answered own in (
@@ -71,7 +71,7 @@ write_new-requires c =
     let inv = c.loop-byte.invariant in
     let new = c.feed.new.self in
     let next = next_bytes page i c.loop-byte.byte-index inv.at (omega (arith, c.loop-byte-test.true)) in
-    let stands = subst (λ (bytes : List ℕ). Stands new [] bytes) next (c.feed.ensures.stands [] (take i page) inv.stands) in
+    let stands = subst (λ (bytes : List ℕ). HasRead new [] bytes) next (c.feed.ensures.stands [] (take i page) inv.stands) in
     let k = kept (λ s t d h. h) new c.args.budget (take (i + 1) page) stands (c.feed.ensures.budget ∙ inv.budget) c.in_default.ensures.answered in
     let more = grows c.args.budget page i (omega (arith, inv.at, c.loop-byte-test.true)) in
     let size = ap length (c.entries-in-loop-byte.ensures ∙ (c.sink-in-loop-byte.ensures.now ∙ k)) in
@@ -84,7 +84,7 @@ loop-byte-preserved c =
     let inv = c.loop-byte.invariant in
     let new = c.feed.new.self in
     let next = next_bytes page i c.loop-byte.byte-index inv.at (omega (arith, c.loop-byte-test.true)) in
-    let stands = subst (λ (bytes : List ℕ). Stands new [] bytes) next (c.feed.ensures.stands [] (take i page) inv.stands) in
+    let stands = subst (λ (bytes : List ℕ). HasRead new [] bytes) next (c.feed.ensures.stands [] (take i page) inv.stands) in
     let same = c.feed.ensures.budget ∙ inv.budget in
     let all = c.entries-in-loop-byte.ensures ∙ (c.sink-in-loop-byte.ensures.now ∙ kept (λ s t d h. h) new c.args.budget (take (i + 1) page) stands same c.in_default.ensures.answered) in
     record {
@@ -102,19 +102,19 @@ write_new-requires-in-Ok c =
     let page = c.args.page.now in
     let inv = c.loop-byte.invariant in
     let whole = take_all c.loop-byte.place page (omega (arith, inv.at, c.loop-byte-test.false)) in
-    let stands = subst (λ (bytes : List ℕ). Stands c.loop-byte.reader [] bytes) whole inv.stands in
+    let stands = subst (λ (bytes : List ℕ). HasRead c.loop-byte.reader [] bytes) whole inv.stands in
     let taken = c.in-Ok.ensures.ok [] page stands in
     let all = c.entries-in-Ok.ensures ∙ (taken.1 ∙ ap (λ (b : ℕ). (means b page).entries) inv.budget) in
     let count = inv.known ∙ ap (λ (bytes : List ℕ). length (begun c.args.budget bytes).entries) whole in
     omega (arith, count, ap length all, ends_longer c.args.budget page)
 
-pub stopped-requires-in-Err-finish : goal.stopped-requires-in-Err-finish
-stopped-requires-in-Err-finish c apart =
+pub stopped_places-requires-in-Err-finish : goal.stopped_places-requires-in-Err-finish
+stopped_places-requires-in-Err-finish c apart =
     let page = c.args.page.now in
     let inv = c.loop-byte.invariant in
     let q = c.in-Err-finish.end.refusal in
     let whole = take_all c.loop-byte.place page (omega (arith, inv.at, c.loop-byte-test.false)) in
-    let stands = subst (λ (bytes : List ℕ). Stands c.loop-byte.reader [] bytes) whole inv.stands in
+    let stands = subst (λ (bytes : List ℕ). HasRead c.loop-byte.reader [] bytes) whole inv.stands in
     let own = own_cause q.fault apart (λ is. true_isnt (c.in-Err-finish.ensures.failed inv.live is)) in
     let taken = c.in-Err-finish.ensures.err own [] page stands in
     let all = c.entries-in-Err-finish.ensures ∙ (taken.1 ∙ ap (λ (b : ℕ). (means b page).entries) inv.budget) in
@@ -129,10 +129,10 @@ returns-in-Err-finish c =
     let inv = c.loop-byte.invariant in
     let q = c.in-Err-finish.end.refusal in
     let whole = take_all i page (omega (arith, inv.at, c.loop-byte-test.false)) in
-    let stands = subst (λ (bytes : List ℕ). Stands c.loop-byte.reader [] bytes) whole inv.stands in
+    let stands = subst (λ (bytes : List ℕ). HasRead c.loop-byte.reader [] bytes) whole inv.stands in
     let fails = c.in-Err-finish.ensures.failed inv.live in
     let count = inv.known ∙ ap (λ (bytes : List ℕ). length (begun budget bytes).entries) whole in
-    stops_so budget page c.stopped-in-Err-finish.result q _ c.stopped-in-Err-finish.ensures.ended c.stopped-in-Err-finish.ensures.memory c.stopped-in-Err-finish.ensures.own
+    stops_so budget page c.stopped_places-in-Err-finish.result q _ c.stopped_places-in-Err-finish.ensures.ended c.stopped_places-in-Err-finish.ensures.memory c.stopped_places-in-Err-finish.ensures.own
     (λ apart.
     let own = own_cause q.fault apart (λ is. true_isnt (fails is)) in
     let taken = c.in-Err-finish.ensures.err own [] page stands in

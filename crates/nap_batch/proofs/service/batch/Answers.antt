@@ -22,18 +22,18 @@ returns-in-Request g c =
 
 pub returns-in-Read : goal.returns-in-Read
 returns-in-Read g c =
-    let t = c.tell.ensures in
+    let t = c.report.ensures in
     let k = tells_of t.0 _ ended.Read failure.Read _ read_stands t.2 in
     record { end = ended.Read; session = c.in-Read.ensures; e = t.0; told = t.1; tells = k.0; status_is = k.1 }
 
 pub returns-in-Write : goal.returns-in-Write
 returns-in-Write g c =
-    let t = c.tell-in-Write.ensures in
+    let t = c.report-in-Write.ensures in
     let k = tells_of t.0 _ (ended.Write c.in-Write.taken) (failure.Write c.in-Write.taken) _ (write_stands c.in-Write.taken) t.2 in
     record { end = ended.Write c.in-Write.taken; session = c.in-Write.ensures; e = t.0; told = t.1; tells = k.0; status_is = k.1 }
 
 pub returns-in-Memory : goal.returns-in-Memory
 returns-in-Memory g c =
-    let t = c.tell-in-Memory.ensures in
+    let t = c.report-in-Memory.ensures in
     let k = tells_of t.0 _ ended.Memory failure.Memory _ memory_stands t.2 in
     record { end = ended.Memory; session = c.in-Memory.ensures; e = t.0; told = t.1; tells = k.0; status_is = k.1 }

@@ -1,6 +1,6 @@
 use Rattle.std.proofs.Common.{ℕ, List, Ok, ◌≡◌, ◌++◌, ◌+◌, ◌∙◌, take, ap, refl, subst, sym, append-nil}
 use Rattle.nap_list.specs.Reading.{reading}
-use Rattle.nap_batch.specs.declared.waiting.Found.{Found}
+use Rattle.nap_batch.specs.declared.waiting.FoundRequest.{FoundRequest}
 use Rattle.nap_batch.specs.Requests.{IsWhole}
 use Rattle.nap_batch.specs.Waiting.{Finds}
 use Rattle.nap_batch.proofs.ExchangeLemmas.{answered, dropped_exchange, exchange_of, is_dropped, is_exchange, parts_of, unasked}
@@ -13,17 +13,17 @@ returns-in-Ok-Whole-clause-exchanged g c =
     let O = g.O.Outlet in
     let w = c.in-Ok-Whole in
     let h = w.ensures.found in
-    let held = c.wait.new.held in
-    let new = c.answer_front.new.held in
-    let all = c.args.held.now ++ h.bytes in
-    let (same, whole, works) = subst (λ (f : Found). Finds (reading I c.args.input.now c.wait.new.input) all held (Ok f)) w.field-0-is h.finds in
+    let buffer = c.wait.new.buffer in
+    let new = c.answer_front.new.buffer in
+    let all = c.args.buffer.now ++ h.bytes in
+    let (same, whole, works) = subst (λ (f : FoundRequest). Finds (reading I c.args.input.now c.wait.new.input) all buffer (Ok f)) w.field-0-is h.finds in
     let front = subst (λ (bytes : List ℕ). IsWhole bytes w.line w.start) (sym same) whole in
     let (text, is, sends) = c.answer_front.ensures.answers in
     let end = w.start + w.line.size in
-    let parts : all ≡ take end held ++ new =
-    sym same ∙ (parts_of held w.line w.start front _ refl text is ∙ ap (λ (back : List ℕ). take end held ++ back) (sym c.answer_front.ensures.held)) in
-    answered I O c.args.written c.args.held.now new h.bytes c.args.input.now c.wait.new.input c.args.output.now c.answer_front.new.output h.read works
-    (exchange_of held w.line w.start front _ refl text is) (is_exchange held w.line w.start front _ refl text is) parts c.answer_front.result sends.sends
+    let parts : all ≡ take end buffer ++ new =
+    sym same ∙ (parts_of buffer w.line w.start front _ refl text is ∙ ap (λ (back : List ℕ). take end buffer ++ back) (sym c.answer_front.ensures.held)) in
+    answered I O c.args.written c.args.buffer.now new h.bytes c.args.input.now c.wait.new.input c.args.output.now c.answer_front.new.output h.read works
+    (exchange_of buffer w.line w.start front _ refl text is) (is_exchange buffer w.line w.start front _ refl text is) parts c.answer_front.result sends.sends
 
 -- its page was dropped
 pub returns-in-Ok-Dropped-clause-exchanged : goal.returns-in-Ok-Dropped-clause-exchanged
@@ -32,15 +32,15 @@ returns-in-Ok-Dropped-clause-exchanged g c =
     let O = g.O.Outlet in
     let w = c.in-Ok-Dropped in
     let h = w.ensures.found in
-    let held = c.wait.new.held in
-    let all = c.args.held.now ++ h.bytes in
-    let (empty, asked, works) = subst (λ (f : Found). Finds (reading I c.args.input.now c.wait.new.input) all held (Ok f)) w.field-0-is h.finds in
-    let parts : all ≡ all ++ held = sym (append-nil all) ∙ ap (λ (back : List ℕ). all ++ back) (sym empty) in
-    answered I O c.args.written c.args.held.now held h.bytes c.args.input.now c.wait.new.input c.args.output.now c.send.new.output h.read works (dropped_exchange all asked)
+    let buffer = c.wait.new.buffer in
+    let all = c.args.buffer.now ++ h.bytes in
+    let (empty, asked, works) = subst (λ (f : FoundRequest). Finds (reading I c.args.input.now c.wait.new.input) all buffer (Ok f)) w.field-0-is h.finds in
+    let parts : all ≡ all ++ buffer = sym (append-nil all) ∙ ap (λ (back : List ℕ). all ++ back) (sym empty) in
+    answered I O c.args.written c.args.buffer.now buffer h.bytes c.args.input.now c.wait.new.input c.args.output.now c.send.new.output h.read works (dropped_exchange all asked)
     (is_dropped all asked) parts c.send.result c.send.ensures.sends
 
 -- none was read
 pub returns-in-Err-clause-exchanged : goal.returns-in-Err-clause-exchanged
 returns-in-Err-clause-exchanged g c =
     let h = c.in-Err.ensures.found in
-    unasked g.I.Inlet g.O.Outlet c.args.written c.args.held.now c.wait.new.held h.bytes c.args.input.now c.wait.new.input c.args.output.now h.read c.in-Err.ended h.finds
+    unasked g.I.Inlet g.O.Outlet c.args.written c.args.buffer.now c.wait.new.buffer h.bytes c.args.input.now c.wait.new.input c.args.output.now h.read c.in-Err.ended h.finds

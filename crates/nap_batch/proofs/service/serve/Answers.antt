@@ -9,11 +9,11 @@ returns-in_default g c = ends_unbegun (pipes g.I.Inlet g.O.Outlet c.args.input.n
 pub loop-init : goal.loop-init
 loop-init g c =
     let p = pipes g.I.Inlet g.O.Outlet c.args.input.now c.args.output.now in
-    record { room = refl; going = subst (λ (held : List ℕ). Going p p held 0 0) (sym c.in-Ok.ensures) (starts p) }
+    record { scratch = refl; going = subst (λ (buffer : List ℕ). Going p p buffer 0 0) (sym c.in-Ok.ensures) (starts p) }
 
 pub loop-preserved : goal.loop-preserved
 loop-preserved g c =
-    record { room = c.exchange.ensures.room; going = goes_on _ _ _ _ _ _ _ _ c.loop.invariant.going c.in-Ok-exchange.ensures.exchanged }
+    record { scratch = c.exchange.ensures.space; going = goes_on _ _ _ _ _ _ _ _ c.loop.invariant.going c.in-Ok-exchange.ensures.exchanged }
 
 pub returns-in-Err : goal.returns-in-Err
 returns-in-Err g c = ends _ _ _ _ _ _ _ c.loop.invariant.going c.in-Err.ensures.exchanged

@@ -4,7 +4,7 @@ use Rattle.nap_batch.proofs.skipping.skip.Given as goal
 
 abbrev pub invariant-loop : goal.invariant-loop
 invariant-loop g l = record {
-  room : length l.room ≡ length l.fn.room;
+  scratch : length l.scratch ≡ length l.fn.scratch;
   bytes : List ℕ;
   read : Consumes (g.I.Inlet.left l.fn.input) (g.I.Inlet.left l.input) bytes;
   size : length bytes + l.left ≡ l.fn.missing;

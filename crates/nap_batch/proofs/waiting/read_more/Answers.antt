@@ -1,7 +1,7 @@
 use Rattle.std.proofs.Common.{Result, Err, ◌≡◌, ◌∙◌, ap, subst, sym}
 use Rattle.std.proofs.lemmas.Result.{err_from_is_err_and}
 use Rattle.nap_batch.specs.declared.service.Ended.{Ended}
-use Rattle.nap_batch.specs.declared.waiting.Step.{Step}
+use Rattle.nap_batch.specs.declared.waiting.ReadStep.{ReadStep}
 use Rattle.nap_batch.specs.Waiting.{IsStep}
 use Rattle.nap_batch.proofs.WaitLemmas.{drops_step, ends_step, fails_step, lacks_step, stops_step}
 use Rattle.nap_batch.proofs.waiting.read_more.Goals as goal
@@ -16,12 +16,12 @@ returns-in_err-skip-in-Err-Memory-clause-steps g c =
     let end = c.in_err-skip-in-Err-Memory.field-0.0 in
     let e = err_from_is_err_and c.from_residual.result c.from_residual.ensures.1 in
     let is : c.from_residual.result ≡ Err end = e.1 ∙ ap Err e.2 in
-    subst (λ (r : Result Step Ended). IsStep g.I.Inlet c.args.held.now c.clear.new.self c.args.input.now c.skip.new.input r) (sym is)
+    subst (λ (r : Result ReadStep Ended). IsStep g.I.Inlet c.args.buffer.now c.clear.new.self c.args.input.now c.skip.new.input r) (sym is)
     (stops_step g.I.Inlet _ _ c.requires.more _ c.if-missing-eq0.false c.args.most _ _ _ lacks _ end c.requires.most c.in_err-skip-in-Err-Memory.ensures.skipped)
 
 pub returns-in-Ok-eq0-clause-steps : goal.returns-in-Ok-eq0-clause-steps
 returns-in-Ok-eq0-clause-steps g c =
-    subst (λ (end : Ended). IsStep g.I.Inlet c.args.held.now c.read.new.self c.args.input.now c.read.new.input (Err end)) (sym c.end_of.ensures)
+    subst (λ (end : Ended). IsStep g.I.Inlet c.args.buffer.now c.read.new.self c.args.input.now c.read.new.input (Err end)) (sym c.end_of.ensures)
     (ends_step g.I.Inlet _ _ c.requires.more _ _ _ (rw c.in-Ok-eq0.field-0-test at c.in-Ok-eq0.ensures.reads.reads))
 
 pub returns-in-Err-Read-clause-steps : goal.returns-in-Err-Read-clause-steps

@@ -1,14 +1,14 @@
 use Rattle.std.proofs.Common.{ℕ, List, ◌≡◌, ◌++◌, ◌≤◌, length}
 use Rattle.std.specs.Io.KnownBytes.{Consumes}
-use Rattle.nap_batch.specs.declared.held.TheConstants.{ROOM}
+use Rattle.nap_batch.specs.declared.input_buffer.TheConstants.{ROOM}
 use Rattle.nap_batch.proofs.waiting.wait.Given as goal
 
 abbrev pub invariant-loop-reads : goal.invariant-loop-reads
 invariant-loop-reads g l = record {
-  room : length l.room ≡ ROOM;
+  scratch : length l.scratch ≡ READ_SIZE;
   bytes : List ℕ;
   read : Consumes (g.I.Inlet.left l.fn.input) (g.I.Inlet.left l.input) bytes;
-  held : l.held ≡ l.fn.held ++ bytes;
+  buffer : l.buffer ≡ l.fn.buffer ++ bytes;
   some : l.reads ≤ length bytes;
   flag : g.I.Inlet.failed l.input ≡ g.I.Inlet.failed l.fn.input;
 }

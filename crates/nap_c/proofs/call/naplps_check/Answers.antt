@@ -12,4 +12,4 @@ returns-in-Err c =
     let b = c.in-Some.budget in
     let none = ap (λ (s : CountSink). s.count) c.new-2.ensures in
     let refused = refused_to_count _ c.new-2.result none (λ d wants. wants) (λ t. refl) b page r.fault r.place c.in-Err.ensures in
-    inl (c.in-Some.ensures.found.0 refl, subst (λ (b : ℕ). IsCounted b page c.refusing.result) c.in-Some.ensures.value (answers_uncounted b page r.fault r.place c.refusing.result refused c.refusing.ensures))
+    inl (c.in-Some.ensures.found.0 refl, subst (λ (b : ℕ). IsCounted b page c.refused_answer.result) c.in-Some.ensures.value (answers_uncounted b page r.fault r.place c.refused_answer.result refused c.refused_answer.ensures))

@@ -1,7 +1,7 @@
 use Rattle.std.proofs.Common.{ℕ, ◌∙◌, ap, inl, inr, refl, subst}
 use Rattle.nap_reader.specs.declared.fault.Refusal.{Refusal}
 use Rattle.nap_batch.specs.Answers.{places}
-use Rattle.nap_c.specs.Answers.{IsAnswered, refusing}
+use Rattle.nap_c.specs.Answers.{IsAnswered, refused_answer}
 use Rattle.nap_c.specs.Texts.{LacksForText}
 use Rattle.nap_c.proofs.AnswerLemmas.{answers_places}
 use Rattle.nap_c.proofs.call.naplps_places.Goals as goal
@@ -24,5 +24,5 @@ returns-in-Ok c =
 pub returns-in-Err : goal.returns-in-Err
 returns-in-Err c =
     let page = c.args.page.now in
-    let says = c.refusing.ensures ∙ ap (λ (r : Refusal). refusing r 0) c.wanting_at_end.ensures in
+    let says = c.refused_answer.ensures ∙ ap (λ (r : Refusal). refused_answer r 0) c.memory_refusal_at_end.ensures in
     inl (c.in-Some.ensures.found.0 refl, inr (inr (record { place = _; wanting = inr refl; answer = says }, refl)))

@@ -1,18 +1,18 @@
 use Rattle.std.proofs.Common.{ℕ, [], inl, refl, subst, sym}
 use Rattle.nap_c.specs.declared.check.Check.{Check}
-use Rattle.nap_c.specs.Checks.{StandsFor}
+use Rattle.nap_c.specs.Checks.{HasChecked}
 use Rattle.nap_c.proofs.pieces.naplps_check_begin.Goals as goal
 
 -- a page is begun
 pub returns-in-Ok : goal.returns-in-Ok
 returns-in-Ok c =
-    let stands = subst (λ (b : ℕ). StandsFor c.new-2.result b []) c.in-Some.ensures.value c.new-2.ensures in
+    let stands = subst (λ (b : ℕ). HasChecked c.new-2.result b []) c.in-Some.ensures.value c.new-2.ensures in
     inl (
       c.in-Some.ensures.found.0 refl,
       inl (record {
         check = c.in-Ok.check.value;
         begun = c.put.ensures;
-        stands = subst (λ (k : Check). StandsFor k c.args.budget []) (sym c.in-Ok.ensures.ok) stands;
-        answer = c.accepting.ensures;
+        stands = subst (λ (k : Check). HasChecked k c.args.budget []) (sym c.in-Ok.ensures.ok) stands;
+        answer = c.accepted_answer.ensures;
       }),
     )

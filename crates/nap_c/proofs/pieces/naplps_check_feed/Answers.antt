@@ -1,6 +1,6 @@
 use Rattle.std.proofs.Common.{ℕ, List, Option, subst, sym}
 use Rattle.nap_c.specs.declared.check.Check.{Check}
-use Rattle.nap_c.specs.Checks.{StandsFor}
+use Rattle.nap_c.specs.Checks.{HasChecked}
 use Rattle.nap_c.specs.Pieces.{Feeds}
 use Rattle.nap_c.proofs.pieces.naplps_check_feed.Goals as goal
 
@@ -8,8 +8,8 @@ use Rattle.nap_c.proofs.pieces.naplps_check_feed.Goals as goal
 pub returns : goal.returns
 returns c =
     let piece = c.args.piece.now in
-    let old = λ (budget : ℕ) (p : List ℕ) (h : StandsFor c.in-Some.check.value budget p).
-    subst (λ (k : Check). StandsFor k budget p) (sym c.deref_mut.ensures.value) h in
+    let old = λ (budget : ℕ) (p : List ℕ) (h : HasChecked c.in-Some.check.value budget p).
+    subst (λ (k : Check). HasChecked k budget p) (sym c.deref_mut.ensures.value) h in
     subst (λ (before : Option Check). Feeds before c.put.new.self.check piece c.feed-answer.result) (sym c.in-Some.ensures.known) (record {
       check = c.feed-answer.new.self;
       begun = c.put.ensures;

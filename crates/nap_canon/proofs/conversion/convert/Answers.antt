@@ -5,7 +5,7 @@ use Rattle.nap_list.specs.Reading.{reading}
 use Rattle.nap_list.specs.Sending.{sending, Writes}
 use Rattle.nap_canon.specs.Concluding.{Concludes}
 use Rattle.nap_canon.specs.Converting.{Converts, StopsAtOnce}
-use Rattle.nap_canon.specs.Sinking.{Canonical, shown}
+use Rattle.nap_canon.specs.Sinking.{Canonical, sending_of}
 use Rattle.nap_canon.proofs.conversions.ConvertLemmas.{end_converts, fed_converts, flushed_once, header_fails, whole_converts}
 use Rattle.nap_canon.proofs.conversion.convert.Goals as goal
 
@@ -32,7 +32,7 @@ returns-then-failed-clause-converts g c =
       h.1,
       subst (λ (budget : ℕ). Converts budget [] (reading I input input) h.0 (O.failed u) answer) c.new-reader.ensures.budget h.2,
       subst (λ (budget : ℕ). StopsAtOnce I budget [] input input h.0) c.new-reader.ensures.budget h.3,
-      flushed_once O g.met.O.Outlet.fails_by_write c.args.output c.requires.works c.into_sink.result u (subst (λ (t : Canonical _). Writes (sending O c.args.output 0) (shown O t)) (sym there) h.4)
+      flushed_once O g.met.O.Outlet.fails_by_write c.args.output c.requires.works c.into_sink.result u (subst (λ (t : Canonical _). Writes (sending O c.args.output 0) (sending_of O t)) (sym there) h.4)
           c.conclude.ensures.flushes c.conclude.ensures.write_failed,
     )
 

@@ -1,6 +1,6 @@
 use Rattle.std.proofs.Common.{◌+◌, sym, subst, ◌∙◌, arith}
 use Rattle.nap_codes.specs.Lexer.{LexerState}
-use Rattle.nap_canon.specs.declared.plain.Check.{Check}
+use Rattle.nap_canon.specs.declared.plain.PlainCheck.{PlainCheck}
 use Rattle.nap_canon.proofs.plain_codes.CheckLemmas.{start_check}
 use Rattle.nap_canon.proofs.plain_codes.LexedLemmas.{Checked, checked_start, checked_more, checked_code, refused_byte, refused_code, checked_end}
 use Rattle.nap_canon.proofs.plain.is_plain.Goals.{in-More, in-Code+in-Some}
@@ -29,9 +29,9 @@ loop-byte-preserved c =
     let i = c.loop-byte.byte-index in
     let lexer = c.step.new.self in
     elim c.match-step.branch [
-      | in-More w ↦ subst (λ (check : Check). Checked bytes (i + 1) lexer check) (sym w.check-is)
+      | in-More w ↦ subst (λ (check : PlainCheck). Checked bytes (i + 1) lexer check) (sym w.check-is)
           (checked_more bytes i c.loop-byte.lexer lexer c.loop-byte.check c.loop-byte.invariant c.loop-byte-test.true w.in-More.ensures.steps c.step.ensures.after)
-      | in-Code+in-Some w ↦ subst (λ (check : Check). Checked bytes (i + 1) lexer check) (sym w.check-is)
+      | in-Code+in-Some w ↦ subst (λ (check : PlainCheck). Checked bytes (i + 1) lexer check) (sym w.check-is)
           (checked_code bytes i c.loop-byte.lexer lexer c.loop-byte.check w.in-Some.after w.in-Code.code c.loop-byte.invariant c.loop-byte-test.true
           w.in-Code.ensures.steps c.step.ensures.after (sym w.in-Some.ensures))
     ]

@@ -10,7 +10,7 @@ use Rattle.nap_cli.proofs.program.explain.Goals as goal
 
 pub returns-in_default : goal.returns-in_default
 returns-in_default g c =
-    let t = c.tell.ensures in
+    let t = c.report.ensures in
     explains_memory (kind_of c.args.error) _ _ _ (record { unprinted = record { taken = refl; sent = refl; failed = refl; write_failed = refl; flushes = refl }; e = t.0; told = t.1; tells = t.2 })
 
 pub returns-in-Ok-write_whole : goal.returns-in-Ok-write_whole
@@ -28,9 +28,9 @@ returns-in-Ok-write_whole g c =
 pub returns : goal.returns
 returns g c =
     let write = c.in-Err.ensures in
-    let t = c.tell-told.ensures in
+    let t = c.report-told.ensures in
     let before = outputs g.O.Outlet g.E.Outlet c.args.output c.args.errors.now in
-    let after = outputs g.O.Outlet g.E.Outlet c.write_whole-2.new.output c.tell-told.new.errors in
+    let after = outputs g.O.Outlet g.E.Outlet c.write_whole-2.new.output c.report-told.new.errors in
     explains_help (kind_of c.args.error) before after _ (λ h. true_or_false c.use_stderr.result c.if-use_stderr.false (c.use_stderr.ensures.1 h)) (record {
       text = c.as_bytes-2.result.now;
       e = t.0;

@@ -1,11 +1,11 @@
 use Rattle.std.proofs.Common.{refl}
-use Rattle.nap_codes.specs.declared.lexer.Half.TheVariants.{SpacedDesignation}
-use Rattle.nap_codes.specs.Front.{designation_front, one_further, final_front}
+use Rattle.nap_codes.specs.declared.lexer.HalfRead.TheVariants.{SpacedDesignation}
+use Rattle.nap_codes.specs.Front.{designation_front, one_byte_later, final_front}
 use Rattle.nap_codes.proofs.HalfLemmas.{designation_final}
 use Rattle.nap_codes.proofs.lexer.designation_byte.Goals as goal
 
 pub returns-then-byte-eq32 : goal.returns-then-byte-eq32
-unfolding designation_front one_further final_front
+unfolding designation_front one_byte_later final_front
 returns-then-byte-eq32 c =
     rw c.if-byte-eq32.true (SpacedDesignation c.args.intermediate, refl, refl, (c.requires.from, c.requires.to))
 

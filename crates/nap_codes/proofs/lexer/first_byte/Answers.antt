@@ -8,7 +8,7 @@ graphic_byte-requires-clause-from c = control0_missing c.args.byte (sym c.in-Non
 
 pub returns-in-Some-More : goal.returns-in-Some-More
 returns-in-Some-More c =
-    first_more c.args.sets c.args.byte c.after.result (sym c.in-Some-More.ensures ∙ ap Some c.in-Some-More.field-0-is) c.after.ensures
+    first_more c.args.sets c.args.byte c.after_control.result (sym c.in-Some-More.ensures ∙ ap Some c.in-Some-More.field-0-is) c.after_control.ensures
 
 pub returns-in-None : goal.returns-in-None
 returns-in-None c =

@@ -6,7 +6,7 @@ use Rattle.nap_command.proofs.execution.execute.Goals as goal
 -- hexadecimal text isn't converted
 pub returns-then-command : goal.returns-then-command
 returns-then-command g c =
-    let (e, told, tells) = c.conclude-status-then-command.ensures in
+    let (e, told, tells) = c.report_end-status-then-command.ensures in
     record {
       p = [];
       q = [];

@@ -11,12 +11,12 @@ returns g c =
     let page = c.args.kept.page.items in
     let twice = c.read_twice-printer.result in
     let out = c.finished-output.result in
-    let ended = c.ended-answer.ensures in
+    let ended = c.end_list-answer.ensures in
     let gone = leaves O w c.requires.works command c.requires.list page _ c.new.result (λ t. refl) _ c.requires.works (λ t d k. k) (λ t d e k. k) out.0 out.1 twice.0
     c.new-printer.result c.new-printer.ensures c.as_slice.result.now c.as_slice.ensures.value twice.1 c.read_twice-printer.ensures c.finished-output.ensures in
     record {
-      ends = ends O w c.requires.works command c.requires.list page out.0 c.ended-answer.new.output out.1 twice.1 c.ended-answer.result gone ended.taken ended.failed ended.answer;
+      ends = ends O w c.requires.works command c.requires.list page out.0 c.end_list-answer.new.output out.1 twice.1 c.end_list-answer.result gone ended.taken ended.failed ended.answer;
       sends = ended.sent;
-      flushes = flushes_once O w c.requires.works command c.requires.list page out.0 c.ended-answer.new.output out.1 twice.1 gone
+      flushes = flushes_once O w c.requires.works command c.requires.list page out.0 c.end_list-answer.new.output out.1 twice.1 gone
           (none_written_amiss _ _ (g.met.O.Outlet.fails_by_write w) c.requires.works) ended.flushes ended.write_failed;
     }

@@ -1,7 +1,7 @@
 use Rattle.std.proofs.Common.{ℕ, List, map, Some, sym, ◌∙◌, ap}
 use Rattle.std.specs.List.{slice_get}
 use Rattle.std.specs.Slice.Iter.{chunks_rest}
-use Rattle.nap_values.specs.Operands.{carried, multi_of}
+use Rattle.nap_values.specs.Operands.{operand_words, multi_of}
 use Rattle.nap_draw.specs.Operands.{moves}
 use Rattle.nap_draw.proofs.ByteRuns.{first_operand, moves_none}
 use Rattle.nap_draw.proofs.operands.first_move.Goals as goal
@@ -10,7 +10,7 @@ pub returns-in_err-operand : goal.returns-in_err-operand
 returns-in_err-operand c =
     let k = c.args.domain.multi in
     let none = moves_none k (chunks_rest c.chunks.result) c.in_err-operand.ensures.steps.1.0 in
-    c.from_residual.ensures ∙ sym (ap (λ (run : List ℕ). slice_get (moves k (carried run)) 0) (sym c.chunks.ensures.rest) ∙ ap (λ ms. slice_get ms 0) none)
+    c.from_residual.ensures ∙ sym (ap (λ (run : List ℕ). slice_get (moves k (operand_words run)) 0) (sym c.chunks.ensures.rest) ∙ ap (λ ms. slice_get ms 0) none)
 
 pub returns : goal.returns
 returns c =

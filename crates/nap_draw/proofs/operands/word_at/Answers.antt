@@ -1,7 +1,7 @@
 use Rattle.std.proofs.Common.{◌∙◌}
 use Rattle.std.proofs.lemmas.Option.{unwrap_or-slice_get}
-use Rattle.nap_values.specs.Operands.{carried}
+use Rattle.nap_values.specs.Operands.{operand_words}
 use Rattle.nap_draw.proofs.operands.word_at.Goals as goal
 
 pub returns : goal.returns
-returns c = c.word_or.ensures ∙ unwrap_or-slice_get (carried c.args.run.now) c.args.index 0
+returns c = c.word_or.ensures ∙ unwrap_or-slice_get (operand_words c.args.run.now) c.args.index 0

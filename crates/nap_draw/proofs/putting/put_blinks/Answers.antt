@@ -1,13 +1,13 @@
 use Rattle.std.proofs.Common.{◌≡◌, ◌+◌, map, ◌∙◌, ap, arith, rules, subst, sym, ℕ, List}
 use Rattle.std.specs.Slice.Iter.{chunks_rest, chunks_size}
 use Rattle.std.proofs.lemmas.Result.{err_from_is_err_and}
-use Rattle.nap_values.specs.Operands.{carried}
+use Rattle.nap_values.specs.Operands.{operand_words}
 use Rattle.nap_draw.specs.Operands.{operands}
 use Rattle.nap_draw.specs.Rule.{blink}
-use Rattle.nap_draw.specs.Doing.{Putting}
+use Rattle.nap_draw.specs.Execution.{Putting}
 use Rattle.nap_draw.proofs.ByteRuns.{operands_none}
 use Rattle.nap_draw.proofs.Still.{blink_left}
-use Rattle.nap_list.specs.Shown.{shows_of}
+use Rattle.nap_list.specs.SinkModels.{sink_model_of}
 use Rattle.nap_list.specs.PuttingLaws.{put_begins, one_fits, one_goes, one_stops, put_ends}
 use Rattle.nap_draw.proofs.putting.put_blinks.Goals as goal
 
@@ -20,15 +20,15 @@ loop-group-init g c =
       can = omega arith;
       finite = tt;
       size = size;
-      putting = subst (λ (run : List ℕ). Putting g.S.Sink c.args.sink.now c.args.sink.now (map f (operands (c.args.domain.single + 3) (carried c.args.run.now))) (map f (operands (c.args.domain.single + 3) (carried run))))
-          (sym all) (put_begins (shows_of g.S.Sink) c.args.sink.now _ (g.met.S.Sink.took_none c.args.sink.now));
+      putting = subst (λ (run : List ℕ). Putting g.S.Sink c.args.sink.now c.args.sink.now (map f (operands (c.args.domain.single + 3) (operand_words c.args.run.now))) (map f (operands (c.args.domain.single + 3) (operand_words run))))
+          (sym all) (put_begins (sink_model_of g.S.Sink) c.args.sink.now _ (g.met.S.Sink.took_none c.args.sink.now));
     }
 
 pub put-requires : goal.put-requires
 put-requires g c =
     let inv = c.loop-group.invariant in
     let steps = c.in-Some.ensures.steps in
-    one_fits (shows_of g.S.Sink) _ _ _ _ _ c.blink_of.result inv.putting (blink_left c.args.domain.single _ _ _ _ _ _ inv.size steps.1.0 steps.1.1 steps.1.2 c.blink_of.ensures) c.requires
+    one_fits (sink_model_of g.S.Sink) _ _ _ _ _ c.blink_of.result inv.putting (blink_left c.args.domain.single _ _ _ _ _ _ inv.size steps.1.0 steps.1.1 steps.1.2 c.blink_of.ensures) c.requires
 
 pub loop-group-preserved : goal.loop-group-preserved
 loop-group-preserved g c =
@@ -39,7 +39,7 @@ loop-group-preserved g c =
       can = omega (arith, steps.0, inv.can);
       finite = tt;
       size = steps.0 ∙ inv.size;
-      putting = one_goes (shows_of g.S.Sink) _ _ _ _ inv.putting g.met.S.Sink.took_more _ c.blink_of.result _ (blink_left c.args.domain.single _ _ _ _ _ _ inv.size steps.1.0 steps.1.1 steps.1.2 c.blink_of.ensures)
+      putting = one_goes (sink_model_of g.S.Sink) _ _ _ _ inv.putting g.met.S.Sink.took_more _ c.blink_of.result _ (blink_left c.args.domain.single _ _ _ _ _ _ inv.size steps.1.0 steps.1.1 steps.1.2 c.blink_of.ensures)
           put.took put.after put.only_write put.refuses;
     }
 
@@ -49,9 +49,9 @@ returns-in_err-put g c =
     let steps = c.in-Some.ensures.steps in
     let put = c.in_err-put.ensures in
     let fault = err_from_is_err_and c.from_residual.result c.from_residual.ensures.1 in
-    rw (fault.1, fault.2) (one_stops (shows_of g.S.Sink) (Unit {0}) _ _ _ _ inv.putting (g.met.S.Sink.took_none _) g.met.S.Sink.took_more g.met.S.Sink.took_broke g.met.S.Sink.wants_more _ c.blink_of.result _ _ (blink_left c.args.domain.single _ _ _ _ _ _ inv.size steps.1.0 steps.1.1 steps.1.2 c.blink_of.ensures)
+    rw (fault.1, fault.2) (one_stops (sink_model_of g.S.Sink) (Unit {0}) _ _ _ _ inv.putting (g.met.S.Sink.took_none _) g.met.S.Sink.took_more g.met.S.Sink.took_broke g.met.S.Sink.wants_more _ c.blink_of.result _ _ (blink_left c.args.domain.single _ _ _ _ _ _ inv.size steps.1.0 steps.1.1 steps.1.2 c.blink_of.ensures)
     (record { memory = put.memory; wants = put.wants; refuses = put.refuses; write = put.write; only_write = put.only_write; broke = put.broke; still = put.still }))
 
 pub returns : goal.returns
 returns g c =
-    put_ends (shows_of g.S.Sink) _ _ _ _ c.loop-group.invariant.putting (ap (map (blink c.args.domain.single c.args.drawing.now.colour)) (operands_none (c.args.domain.single + 3) _ c.in-None.ensures.steps.1.0))
+    put_ends (sink_model_of g.S.Sink) _ _ _ _ c.loop-group.invariant.putting (ap (map (blink c.args.domain.single c.args.drawing.now.colour)) (operands_none (c.args.domain.single + 3) _ c.in-None.ensures.steps.1.0))

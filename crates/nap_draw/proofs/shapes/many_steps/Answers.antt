@@ -1,5 +1,5 @@
 use Rattle.std.proofs.Common.{ℕ, ◌≤◌, ◌*◌, nat_lt, sym, ◌∙◌, ap, ap₂, subst}
-use Rattle.nap_values.specs.Operands.{carried}
+use Rattle.nap_values.specs.Operands.{operand_words}
 use Rattle.nap_draw.proofs.Cuts.{more_than}
 use Rattle.nap_draw.proofs.ByteRuns.{carried_length}
 use Rattle.nap_draw.proofs.shapes.many_steps.Goals as goal
@@ -9,4 +9,4 @@ returns c =
     let run = c.args.run.now in
     let k = c.args.domain.multi in
     let size = c.from.ensures ∙ c.multi.ensures.value in
-    ap₂ nat_lt (ap (λ (n : ℕ). 2000 * n) size) (sym (carried_length run)) ∙ sym (more_than 2000 k (carried run) (subst (λ (n : ℕ). 1 ≤ n) c.multi.ensures.value c.multi.ensures.least))
+    ap₂ nat_lt (ap (λ (n : ℕ). 2000 * n) size) (sym (carried_length run)) ∙ sym (more_than 2000 k (operand_words run) (subst (λ (n : ℕ). 1 ≤ n) c.multi.ensures.value c.multi.ensures.least))

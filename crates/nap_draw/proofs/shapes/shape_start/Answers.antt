@@ -2,7 +2,7 @@ use Rattle.std.proofs.Common.{◌<◌, ◌≤◌, length, refl, sym, ◌∙◌, 
 use Rattle.std.proofs.lemmas.Bool.Decides.{nat_tests}
 use Rattle.std.proofs.lemmas.Result.{err_from_is_err_and}
 use Rattle.nap_values.specs.Coordinates.{point_at}
-use Rattle.nap_values.specs.Operands.{carried}
+use Rattle.nap_values.specs.Operands.{operand_words}
 use Rattle.nap_list.specs.Limits.{steps_limit}
 use Rattle.nap_draw.specs.Rule.{moves_of}
 use Rattle.nap_draw.proofs.Areas.{point_stream}
@@ -21,7 +21,7 @@ pub returns-then-many_steps-clause-err : goal.returns-then-many_steps-clause-err
 returns-then-many_steps-clause-err c =
     let w = c.args.work.now in
     let cut = cut_at c.args.start _ w.domain.multi _ c.args.run.now _ _ c.multi-size.ensures.value c.multi-size.ensures.least c.start_size.ensures.size c.split_at.ensures.front c.split_at.ensures.back in
-    let many : steps_limit < length (moves_of w (carried c.split_at.result.1.now)) = grind (arith, nat_tests) in
+    let many : steps_limit < length (moves_of w (operand_words c.split_at.result.1.now)) = grind (arith, nat_tests) in
     (refl, λ kind filled. start_many w kind filled _ _ _ c.args.start cut many)
 
 pub returns-in_err-from-in-AtPen-clause-err : goal.returns-in_err-from-in-AtPen-clause-err
@@ -29,7 +29,7 @@ returns-in_err-from-in-AtPen-clause-err c =
     let w = c.args.work.now in
     let cut = cut_at c.args.start _ w.domain.multi _ c.args.run.now _ _ c.multi-size.ensures.value c.multi-size.ensures.least c.start_size.ensures.size c.split_at.ensures.front c.split_at.ensures.back in
     let some = moves_some w.domain.multi c.split_at.result.1.now (grind (arith, nat_tests)) in
-    let few : length (moves_of w (carried c.split_at.result.1.now)) ≤ steps_limit = grind (arith, nat_tests) in
+    let few : length (moves_of w (operand_words c.split_at.result.1.now)) ≤ steps_limit = grind (arith, nat_tests) in
     let fault = err_from_is_err_and c.from_residual.result c.from_residual.ensures.1 in
     let lost = c.in_err-from-in-AtPen.ensures in
     rw (fault.1, fault.2) (point_stream w.state.drawing.pen _ (sym lost), λ kind filled. at_pen_lost w kind filled _ _ _ c.args.start cut some few _ c.in-AtPen.is lost)
@@ -39,7 +39,7 @@ returns-in_default-clause-err c =
     let w = c.args.work.now in
     let cut = cut_at c.args.start _ w.domain.multi _ c.args.run.now _ _ c.multi-size.ensures.value c.multi-size.ensures.least c.start_size.ensures.size c.split_at.ensures.front c.split_at.ensures.back in
     let some = moves_some w.domain.multi c.split_at.result.1.now (grind (arith, nat_tests)) in
-    let few : length (moves_of w (carried c.split_at.result.1.now)) ≤ steps_limit = grind (arith, nat_tests) in
+    let few : length (moves_of w (operand_words c.split_at.result.1.now)) ≤ steps_limit = grind (arith, nat_tests) in
     (refl, λ kind filled. at_operand_lost w kind filled _ _ _ c.args.start cut some few c.in-AtOperand.is (sym (c.point.ensures ∙ ap point_at c.multi_bytes.ensures) ∙ c.in_default.is))
 
 pub returns-in_ok-from-in-AtPen-clause-ok : goal.returns-in_ok-from-in-AtPen-clause-ok
@@ -47,7 +47,7 @@ returns-in_ok-from-in-AtPen-clause-ok c =
     let w = c.args.work.now in
     let cut = cut_at c.args.start _ w.domain.multi _ c.args.run.now _ _ c.multi-size.ensures.value c.multi-size.ensures.least c.start_size.ensures.size c.split_at.ensures.front c.split_at.ensures.back in
     let some = moves_some w.domain.multi c.split_at.result.1.now (grind (arith, nat_tests)) in
-    let few : length (moves_of w (carried c.split_at.result.1.now)) ≤ steps_limit = grind (arith, nat_tests) in
+    let few : length (moves_of w (operand_words c.split_at.result.1.now)) ≤ steps_limit = grind (arith, nat_tests) in
     λ kind filled. at_pen w kind filled _ _ _ c.args.start cut some few _ c.in-AtPen.is c.in_ok-from-in-AtPen.ensures
 
 pub returns-in_ok-from-in-AtPen-clause-some : goal.returns-in_ok-from-in-AtPen-clause-some
@@ -58,7 +58,7 @@ returns-in-Some-clause-ok c =
     let w = c.args.work.now in
     let cut = cut_at c.args.start _ w.domain.multi _ c.args.run.now _ _ c.multi-size.ensures.value c.multi-size.ensures.least c.start_size.ensures.size c.split_at.ensures.front c.split_at.ensures.back in
     let some = moves_some w.domain.multi c.split_at.result.1.now (grind (arith, nat_tests)) in
-    let few : length (moves_of w (carried c.split_at.result.1.now)) ≤ steps_limit = grind (arith, nat_tests) in
+    let few : length (moves_of w (operand_words c.split_at.result.1.now)) ≤ steps_limit = grind (arith, nat_tests) in
     λ kind filled. at_operand w kind filled _ _ _ c.args.start cut some few _ c.in-AtOperand.is (sym (c.point.ensures ∙ ap point_at c.multi_bytes.ensures) ∙ c.in-Some.is)
 
 pub returns-in-Some-clause-some : goal.returns-in-Some-clause-some

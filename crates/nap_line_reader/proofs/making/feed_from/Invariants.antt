@@ -1,15 +1,15 @@
 use Rattle.std.proofs.Common.{◌≡◌, ◌+◌, ◌≤◌, ℕ, List, [], length}
 use Rattle.std.specs.Io.KnownBytes.{Consumes}
 use Rattle.nap_line_reader.specs.declared.making.TheConstants.{ROOM}
-use Rattle.nap_line_reader.specs.Making.{IsReady, Stands}
+use Rattle.nap_line_reader.specs.Making.{IsReady, HasRead}
 use Rattle.nap_line_reader.proofs.making.feed_from.Given as goal
 
 abbrev pub invariant-loop : goal.invariant-loop
 invariant-loop g l = record {
-  room : length l.room ≡ ROOM;
+  buffer : length l.buffer ≡ READ_SIZE;
   calls : g.I.Inlet.calls l.input ≡ g.I.Inlet.calls l.fn.input + l.counter;
   flag : g.I.Inlet.failed l.input ≡ g.I.Inlet.failed l.fn.input;
   ready : IsReady g.S.Sink l.reader;
   read : (p : List ℕ) × Consumes (g.I.Inlet.left l.fn.input) (g.I.Inlet.left l.input) p × (l.counter ≤ length p)
-      × ((s : g.row.S.Denot) → Stands g.S.Sink s [] l.fn.reader → Stands g.S.Sink s p l.reader);
+      × ((s : g.row.S.Denot) → HasRead g.S.Sink s [] l.fn.reader → HasRead g.S.Sink s p l.reader);
 }

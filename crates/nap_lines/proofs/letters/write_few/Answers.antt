@@ -1,47 +1,47 @@
 use Rattle.std.proofs.Common.{ℕ, ◌≡◌, ◌≤◌, ◌+◌, ◌-◌, List, ◌++◌, flat_map, length, take, drop, get_or, refl, sym, ap, ◌∙◌, arith, append-nil, append_assoc, length-append}
 use Rattle.nap_lines.specs.Lines.{code_text}
-use Rattle.nap_lines.specs.Batches.{char_front, typed_front}
+use Rattle.nap_lines.specs.Batches.{char_front, text_byte_front}
 use Rattle.nap_lines.proofs.BatchLemmas.{appended, worked, around, kept, char_start, start_utf8, letter_typed, one_more, text_goes}
 use Rattle.nap_lines.proofs.letters.write_few.Goals as goal
 use Rattle.nap_lines.proofs.letters.write_few.Goals.{then-code-lt32+else-is_err, else-code-lt32+else-is_err-2}
 
 -- the digits stand behind the name of the set, and the end of a line behind them
-recoded : (start end old room : List ℕ) (last all rest place : ℕ) → old ≡ (start ++ code_text 0) ++ end → all ≡ length old → rest ≡ length end → place ≡ all - rest - 2 →
-    room ≡ (start ++ code_text last) ++ end → (place + 2 ≤ length room) × (take place room ≡ start) × (drop (place + 2) room ≡ end)
-recoded start end old room last all rest place is count ends at now =
+recoded : (start end old buffer : List ℕ) (last all rest place : ℕ) → old ≡ (start ++ code_text 0) ++ end → all ≡ length old → rest ≡ length end → place ≡ all - rest - 2 →
+    buffer ≡ (start ++ code_text last) ++ end → (place + 2 ≤ length buffer) × (take place buffer ≡ start) × (drop (place + 2) buffer ≡ end)
+recoded start end old buffer last all rest place is count ends at now =
     let front : place ≡ length start = omega (arith, ap length is, length-append (start ++ code_text 0) end, length-append start (code_text 0), count, ends, at) in
-    let parts = around start (code_text last) end room place now refl front in
+    let parts = around start (code_text last) end buffer place now refl front in
     (omega (arith, front, ap length now, length-append (start ++ code_text last) end, length-append start (code_text last)), parts.0, parts.1)
 
 pub loop-code-init : goal.loop-code-init
-loop-code-init c = record { last = 0; room = c.letter_front.ensures; written = refl; text = sym (append-nil c.args.text.now.items) }
+loop-code-init c = record { last = 0; space = c.push_char_front.ensures; written = refl; text = sym (append-nil c.args.text.now.items) }
 
 pub overflow_sub-place : goal.overflow_sub-place
 overflow_sub-place c =
     let front = char_front c.args.set 0 in
-    omega (arith, ap length c.letter_front.ensures, length-append front c.args.room.now)
+    omega (arith, ap length c.push_char_front.ensures, length-append front c.args.buffer.now)
 
 pub overflow_sub-place-2 : goal.overflow_sub-place-2
 overflow_sub-place-2 c =
     let start = char_start c.args.set in
-    omega (arith, ap length c.letter_front.ensures, length-append (start ++ code_text 0) c.args.room.now, length-append start (code_text 0))
+    omega (arith, ap length c.push_char_front.ensures, length-append (start ++ code_text 0) c.args.buffer.now, length-append start (code_text 0))
 
-pub recode-requires-clause-within : goal.recode-requires-clause-within
-recode-requires-clause-within c =
+pub replace_code-requires-clause-within : goal.replace_code-requires-clause-within
+replace_code-requires-clause-within c =
     let parts =
-    recoded (char_start c.args.set) c.args.room.now _ _ _ _ _ _ c.letter_front.ensures c.len.ensures.count c.len-end.ensures.count refl c.loop-code.invariant.room in
+    recoded (char_start c.args.set) c.args.buffer.now _ _ _ _ _ _ c.push_char_front.ensures c.len.ensures.count c.len-end.ensures.count refl c.loop-code.invariant.buffer in
     omega (arith, parts.0)
 
-pub recode-requires-clause-front : goal.recode-requires-clause-front
-recode-requires-clause-front c =
+pub replace_code-requires-clause-front : goal.replace_code-requires-clause-front
+replace_code-requires-clause-front c =
     let parts =
-    recoded (char_start c.args.set) c.args.room.now _ _ _ _ _ _ c.letter_front.ensures c.len.ensures.count c.len-end.ensures.count refl c.loop-code.invariant.room in
+    recoded (char_start c.args.set) c.args.buffer.now _ _ _ _ _ _ c.push_char_front.ensures c.len.ensures.count c.len-end.ensures.count refl c.loop-code.invariant.buffer in
     rw (parts.1) (start_utf8 c.args.set)
 
-pub recode-requires-clause-rest : goal.recode-requires-clause-rest
-recode-requires-clause-rest c =
+pub replace_code-requires-clause-rest : goal.replace_code-requires-clause-rest
+replace_code-requires-clause-rest c =
     let parts =
-    recoded (char_start c.args.set) c.args.room.now _ _ _ _ _ _ c.letter_front.ensures c.len.ensures.count c.len-end.ensures.count refl c.loop-code.invariant.room in
+    recoded (char_start c.args.set) c.args.buffer.now _ _ _ _ _ _ c.push_char_front.ensures c.len.ensures.count c.len-end.ensures.count refl c.loop-code.invariant.buffer in
     rw (parts.2) c.len-end.ensures.utf8
 
 pub loop-code-preserved : goal.loop-code-preserved
@@ -49,38 +49,38 @@ loop-code-preserved c =
     let invariant = c.loop-code.invariant in
     let set = c.args.set in
     let start = char_start set in
-    let end = c.args.room.now in
+    let end = c.args.buffer.now in
     let i = c.loop-code.code-index in
     let all = c.args.codes.now in
     let code = get_or all i 0 in
     let place = c.len.result - c.len-end.result - 2 in
-    let f = λ (code : ℕ). typed_front set code ++ end in
+    let f = λ (code : ℕ). text_byte_front set code ++ end in
     let goes = λ (next : List ℕ) (more : next ≡ c.loop-code.text.items ++ f code).
     text_goes c.args.text.now.items c.loop-code.text.items next (flat_map f (take i all)) (flat_map f (take (i + 1) all)) (f code) invariant.text more
     (one_more f all i code 0 (omega arith) refl) in
     elim c.if-code-lt32.branch [
       | then-code-lt32+else-is_err w ↦
-          let left = kept c.loop-code.room (char_front set invariant.last) end c.len-end.result invariant.room c.len-end.ensures.count in
-          let line = worked w.write_typed.result _ w.is_err.result w.is_err.ensures.value w.if-is_err.false w.write_typed.ensures.ok in
+          let left = kept c.loop-code.buffer (char_front set invariant.last) end c.len-end.result invariant.buffer c.len-end.ensures.count in
+          let line = worked w.write_text_byte.result _ w.is_err.result w.is_err.ensures.value w.if-is_err.false w.write_text_byte.ensures.ok in
           record {
             last = 0;
-            room = w.room-is ∙ w.write_typed.ensures.room ∙ ap (λ (bytes : List ℕ). char_front set 0 ++ bytes) left;
+            space = w.buffer-is ∙ w.write_text_byte.ensures.space ∙ ap (λ (bytes : List ℕ). char_front set 0 ++ bytes) left;
             written = ap (λ n. n + 1) invariant.written;
-            text = goes _ (ap (λ t. t.items) w.text-is ∙ line ∙ ap (λ (bytes : List ℕ). c.loop-code.text.items ++ (typed_front set code ++ bytes)) left);
+            text = goes _ (ap (λ t. t.items) w.text-is ∙ line ∙ ap (λ (bytes : List ℕ). c.loop-code.text.items ++ (text_byte_front set code ++ bytes)) left);
           }
       | else-code-lt32+else-is_err-2 w ↦
-          let parts = recoded start end _ _ _ _ _ place c.letter_front.ensures c.len.ensures.count c.len-end.ensures.count refl invariant.room in
-          let room : w.recode.new.self ≡ char_front set code ++ end =
-          w.recode.ensures
-          ∙ ap (λ (front : List ℕ). front ++ (code_text code ++ drop (place + 2) c.loop-code.room)) parts.1
+          let parts = recoded start end _ _ _ _ _ place c.push_char_front.ensures c.len.ensures.count c.len-end.ensures.count refl invariant.buffer in
+          let buffer : w.replace_code.new.self ≡ char_front set code ++ end =
+          w.replace_code.ensures
+          ∙ ap (λ (front : List ℕ). front ++ (code_text code ++ drop (place + 2) c.loop-code.buffer)) parts.1
           ∙ ap (λ (rest : List ℕ). start ++ (code_text code ++ rest)) parts.2
           ∙ sym (append_assoc start (code_text code) end) in
-          let line = w.as_slice.ensures.bytes ∙ room ∙ ap (λ (front : List ℕ). front ++ end) (sym (letter_typed set code (omega (arith, w.if-code-lt32.false)))) in
+          let line = w.as_slice.ensures.bytes ∙ buffer ∙ ap (λ (front : List ℕ). front ++ end) (sym (letter_typed set code (omega (arith, w.if-code-lt32.false)))) in
           let more = appended w.extend_from_slice.result w.is_err-else-code-lt32.result w.extend_from_slice.new.self.items c.loop-code.text.items w.as_slice.result.now w.extend_from_slice.ensures.items
           w.is_err-else-code-lt32.ensures.value w.if-is_err-2.false in
           record {
             last = code;
-            room = w.room-is ∙ room;
+            space = w.buffer-is ∙ buffer;
             written = ap (λ n. n + 1) invariant.written;
             text = goes _ (ap (λ t. t.items) w.text-is ∙ more ∙ ap (λ (bytes : List ℕ). c.loop-code.text.items ++ bytes) line);
           }

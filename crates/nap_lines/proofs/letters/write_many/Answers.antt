@@ -2,7 +2,7 @@ use Rattle.std.proofs.Common.{ℕ, ◌≡◌, ◌≤◌, ◌+◌, ◌-◌, ◌*�
 use Rattle.std.specs.Prelude.{slice_index}
 use Rattle.std.proofs.lemmas.List.{length-take-le}
 use Rattle.nap_lines.specs.Lines.{code_text}
-use Rattle.nap_lines.specs.Batches.{char_front, typed_front}
+use Rattle.nap_lines.specs.Batches.{char_front, text_byte_front}
 use Rattle.nap_lines.specs.Blocks.{recoded}
 use Rattle.nap_lines.proofs.BatchLemmas.{appended, worked, kept, char_start, one_more, text_goes}
 use Rattle.nap_lines.proofs.BlockLemmas.{block_again, coded_typed, filled, first_lines, more_lines}
@@ -11,10 +11,10 @@ use Rattle.nap_lines.proofs.letters.write_many.Goals as goal
 pub loop-written-init : goal.loop-written-init
 loop-written-init c =
     let start = char_start c.args.set in
-    let end = c.args.room.now in
-    let line = c.as_slice.ensures.bytes ∙ c.letter_front.ensures ∙ append_assoc start (code_text 0) end in
+    let end = c.args.buffer.now in
+    let line = c.as_slice.ensures.bytes ∙ c.push_char_front.ensures ∙ append_assoc start (code_text 0) end in
     let (digits, (rest, (ready, block))) = filled start end c.as_slice.result.now _ c.fill_lines.new.block c.min-ready.result c.fill_lines.ensures line in
-    record { within = omega arith; room = c.letter_front.ensures; digits = digits; rest = rest; ready = ready; block = block; text = sym (append-nil c.args.text.now.items) }
+    record { within = omega arith; space = c.push_char_front.ensures; digits = digits; rest = rest; ready = ready; block = block; text = sym (append-nil c.args.text.now.items) }
 
 -- no line of the block was asked for
 pub loop-written-preserved-then-count-eq0 : goal.loop-written-preserved-then-count-eq0
@@ -22,25 +22,25 @@ unfolding recoded
 loop-written-preserved-then-count-eq0 c =
     let at = c.loop-written.invariant in
     let set = c.args.set in
-    let end = c.args.room.now in
+    let end = c.args.buffer.now in
     let all = c.args.codes.now in
     let i = c.loop-written.written in
     let code : ℕ = slice_index all i in
-    let f = λ (code : ℕ). typed_front set code ++ end in
+    let f = λ (code : ℕ). text_byte_front set code ++ end in
     let size = c.len-size.result in
     let place = size - c.len-end.result - 2 in
-    let left = kept c.loop-written.room (char_front set 0) end c.len-end.result at.room c.len-end.ensures.count in
-    let line = worked c.write_typed.result _ c.is_err.result c.is_err.ensures.value c.if-is_err.false c.write_typed.ensures.ok in
+    let left = kept c.loop-written.buffer (char_front set 0) end c.len-end.result at.buffer c.len-end.ensures.count in
+    let line = worked c.write_text_byte.result _ c.is_err.result c.is_err.ensures.value c.if-is_err.false c.write_text_byte.ensures.ok in
     let none : c.recode_lines-count.result ≡ 0 = omega (arith, c.if-count-eq0.true) in
     record {
       within = omega (arith, c.loop-written-test.true);
-      room = c.write_typed.ensures.room ∙ ap (λ (bytes : List ℕ). char_front set 0 ++ bytes) left;
+      space = c.write_text_byte.ensures.space ∙ ap (λ (bytes : List ℕ). char_front set 0 ++ bytes) left;
       digits = at.digits;
       rest = at.rest;
       ready = at.ready;
-      block = c.recode_lines-count.ensures.block ∙ ap (λ (n : ℕ). recoded size place (take n c.part.result.now) c.loop-written.block) none ∙ at.block;
-      text = text_goes c.args.text.now.items c.loop-written.text.items c.write_typed.new.text.items (flat_map f (take i all)) (flat_map f (take (i + 1) all)) (f code) at.text
-          (line ∙ ap (λ (bytes : List ℕ). c.loop-written.text.items ++ (typed_front set code ++ bytes)) left)
+      block = c.recode_lines-count.ensures.block ∙ ap (λ (n : ℕ). recoded size place (take n c.slice_part.result.now) c.loop-written.block) none ∙ at.block;
+      text = text_goes c.args.text.now.items c.loop-written.text.items c.write_text_byte.new.text.items (flat_map f (take i all)) (flat_map f (take (i + 1) all)) (f code) at.text
+          (line ∙ ap (λ (bytes : List ℕ). c.loop-written.text.items ++ (text_byte_front set code ++ bytes)) left)
           (one_more f all i code 0 c.loop-written-test.true refl);
     }
 
@@ -50,39 +50,39 @@ loop-written-preserved c =
     let at = c.loop-written.invariant in
     let set = c.args.set in
     let start = char_start set in
-    let end = c.args.room.now in
+    let end = c.args.buffer.now in
     let all = c.args.codes.now in
     let i = c.loop-written.written in
-    let f = λ (code : ℕ). typed_front set code ++ end in
+    let f = λ (code : ℕ). text_byte_front set code ++ end in
     let size = c.len-size.result in
     let place = size - c.len-end.result - 2 in
-    let few : List ℕ = c.part.result.now in
+    let few : List ℕ = c.slice_part.result.now in
     let most = c.min-most.result in
     let count = c.recode_lines-count.result in
     let now : List ℕ = take count few in
     let many : length now ≡ count = length-take-le count few c.recode_lines-count.ensures.count in
     let left : List ℕ = drop (length now) at.digits in
-    let short : length few ≤ most = omega (arith, ap length c.part.ensures, length-take most (drop i all)) in
+    let short : length few ≤ most = omega (arith, ap length c.slice_part.ensures, length-take most (drop i all)) in
     let long : size ≡ length start + 2 + length end =
-    omega (arith, c.len-size.ensures.count, ap length c.letter_front.ensures, length-append (start ++ code_text 0) end, length-append start (code_text 0)) in
+    omega (arith, c.len-size.ensures.count, ap length c.push_char_front.ensures, length-append (start ++ code_text 0) end, length-append start (code_text 0)) in
     let front : place ≡ length start = omega (arith, long, c.len-end.ensures.count) in
     let less : length now ≤ length at.digits = omega (arith, many, c.recode_lines-count.ensures.count, short, c.min-most.ensures, at.ready) in
     let block = c.recode_lines-count.ensures.block ∙ block_again start end now at.digits at.rest c.loop-written.block size place front long less at.block in
     let bytes =
-    c.part-else-count-eq0.ensures
+    c.slice_part-else-count-eq0.ensures
     ∙ ap (take (count * size)) block
     ∙ first_lines start end now left at.rest size (count * size) long (ap (λ (n : ℕ). n * size) (sym many))
     ∙ coded_typed set end now c.recode_lines-count.ensures.characters in
-    let more = appended c.extend_from_slice.result c.is_err-else-count-eq0.result c.extend_from_slice.new.self.items c.loop-written.text.items c.part-else-count-eq0.result.now c.extend_from_slice.ensures.items
+    let more = appended c.extend_from_slice.result c.is_err-else-count-eq0.result c.extend_from_slice.new.self.items c.loop-written.text.items c.slice_part-else-count-eq0.result.now c.extend_from_slice.ensures.items
     c.is_err-else-count-eq0.ensures.value c.if-is_err-2.false in
     record {
       within = omega (arith, c.recode_lines-count.ensures.count, short, c.min-most.ensures, c.loop-written-test.true);
-      room = at.room;
+      space = at.buffer;
       digits = now ++ left;
       rest = at.rest;
       ready = omega (arith, length-append now left, length-drop (length now) at.digits, less, at.ready);
       block = block;
       text = text_goes c.args.text.now.items c.loop-written.text.items c.extend_from_slice.new.self.items (flat_map f (take i all)) (flat_map f (take (i + count) all)) (flat_map f now) at.text
           (more ∙ ap (λ (bytes : List ℕ). c.loop-written.text.items ++ bytes) bytes)
-          (more_lines f all few i most count c.part.ensures (omega (arith, c.recode_lines-count.ensures.count, short)));
+          (more_lines f all few i most count c.slice_part.ensures (omega (arith, c.recode_lines-count.ensures.count, short)));
     }

@@ -1,4 +1,4 @@
-use Rattle.nap_reader.proofs.{Consumes, List, None, Stands, [], budget_of, false, fed_of, length, refusal_of, sink_of, ℕ, ◌*◌, ◌+◌, ◌≡◌, ◌≤◌}
+use Rattle.nap_reader.proofs.{Consumes, List, None, HasRead, [], budget_of, false, fed_of, length, refusal_of, sink_of, ℕ, ◌*◌, ◌+◌, ◌≡◌, ◌≤◌}
 use Rattle.nap_reader.proofs.feeding.feed_from.Given as goal
 
 abbrev pub invariant-loop : goal.invariant-loop
@@ -11,5 +11,5 @@ invariant-loop g l = record {
   fed : fed_of l.reader ≤ l.counter * length l.fn.room;
   clear : g.S.Sink.failed (sink_of l.fn.reader) ≡ false → g.S.Sink.failed (sink_of l.reader) ≡ false;
   read : (p : List ℕ) × Consumes (g.I.Inlet.left l.fn.input) (g.I.Inlet.left l.input) p × (l.counter ≤ length p)
-      × ((s : g.row.S.Denot) → Stands l.fn.reader s [] → Stands l.reader s p);
+      × ((s : g.row.S.Denot) → HasRead l.fn.reader s [] → HasRead l.reader s p);
 }

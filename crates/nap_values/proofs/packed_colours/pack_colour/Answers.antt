@@ -1,5 +1,5 @@
 use Rattle.std.proofs.Common.{rules, ◌<◌, ◌∙◌, sym, subst}
-use Rattle.nap_values.specs.Packed.{HoldsWords}
+use Rattle.nap_values.specs.PackedCoordinates.{HoldsWords}
 use Rattle.nap_values.proofs.PackedColourLemmas.{packed_colour-parts, packed_colour-words}
 use Rattle.nap_values.proofs.packed_colours.pack_colour.Goals as goal
 
@@ -8,7 +8,7 @@ new-requires c =
     let g_fits : c.args.g < 65536 = search rules in
     let r_fits : c.args.r < 65536 = search rules in
     let b_fits : c.args.b < 65536 = search rules in
-    rw (c.spread.ensures.value, c.spread-2.ensures.value, c.spread-3.ensures.value)
+    rw (c.spread_digits.ensures.value, c.spread_digits-2.ensures.value, c.spread_digits-3.ensures.value)
     (subst HoldsWords (sym (packed_colour-parts c.args.g c.args.r c.args.b g_fits r_fits b_fits)) (packed_colour-words c.args.g c.args.r c.args.b g_fits r_fits b_fits))
 
 pub returns : goal.returns
@@ -16,4 +16,4 @@ returns c =
     let g_fits : c.args.g < 65536 = search rules in
     let r_fits : c.args.r < 65536 = search rules in
     let b_fits : c.args.b < 65536 = search rules in
-    c.new.ensures ∙ rw (c.spread.ensures.value, c.spread-2.ensures.value, c.spread-3.ensures.value) (packed_colour-parts c.args.g c.args.r c.args.b g_fits r_fits b_fits)
+    c.new.ensures ∙ rw (c.spread_digits.ensures.value, c.spread_digits-2.ensures.value, c.spread_digits-3.ensures.value) (packed_colour-parts c.args.g c.args.r c.args.b g_fits r_fits b_fits)

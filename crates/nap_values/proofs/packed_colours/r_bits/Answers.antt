@@ -1,16 +1,16 @@
 use Rattle.std.proofs.Common.{◌<◌, ◌∙◌, All, ap, sym, subst}
 use Rattle.nap_values.specs.Digits.{value_of}
-use Rattle.nap_values.specs.Packed.{words_in}
+use Rattle.nap_values.specs.PackedCoordinates.{words_in}
 use Rattle.nap_values.specs.PackedColours.{r_in}
 use Rattle.nap_values.proofs.SpellingLemmas.{r_digits-below}
 use Rattle.nap_values.proofs.PackedColourLemmas.{r_digits_are}
 use Rattle.nap_values.proofs.packed_colours.r_bits.Goals as goal
 
-pub gathered-requires : goal.gathered-requires
-gathered-requires c =
+pub gathered_number-requires : goal.gathered_number-requires
+gathered_number-requires c =
     let words = c.get-words.ensures.words in
     subst (All (λ d. d < 4)) (sym (r_digits_are _ words)) (r_digits-below (words_in _) words)
 
 pub returns : goal.returns
 unfolding r_in
-returns c = c.gathered.ensures ∙ ap (value_of 4 8) (r_digits_are _ c.get-words.ensures.words) ∙ ap r_in c.get-words.ensures.value
+returns c = c.gathered_number.ensures ∙ ap (value_of 4 8) (r_digits_are _ c.get-words.ensures.words) ∙ ap r_in c.get-words.ensures.value

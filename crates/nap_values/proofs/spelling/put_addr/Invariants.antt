@@ -1,7 +1,7 @@
 use Rattle.std.proofs.Common.{◌≡◌, ◌-◌, ◌++◌}
 use Rattle.arrayvec.specs.ArrayVec.{array_vec_len}
 use Rattle.nap_values.specs.Digits.{digits_of}
-use Rattle.nap_values.specs.Spellings.{bytes_of}
+use Rattle.nap_values.specs.Spellings.{operand_bytes}
 use Rattle.nap_values.proofs.LoopLemmas.{IsRestAt}
 use Rattle.nap_values.proofs.spelling.put_addr.Given as goal
 
@@ -9,5 +9,5 @@ abbrev pub invariant-loop-i : goal.invariant-loop-i
 invariant-loop-i l = record {
   at : IsRestAt 64 4 l.i l.unit l.rest;
   len : array_vec_len l.bytes ≡ l.i;
-  bytes : l.bytes.items ++ bytes_of (digits_of 64 (4 - l.i) l.rest) ≡ bytes_of (digits_of 64 4 l.fn.addr);
+  bytes : l.bytes.items ++ operand_bytes (digits_of 64 (4 - l.i) l.rest) ≡ operand_bytes (digits_of 64 4 l.fn.addr);
 }

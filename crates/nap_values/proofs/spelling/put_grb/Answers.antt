@@ -1,6 +1,6 @@
 use Rattle.std.proofs.Common.{rules, ◌<◌, ◌∙◌, ap, refl}
-use Rattle.nap_values.specs.Packed.{words_in}
-use Rattle.nap_values.specs.Spellings.{bytes_of, grb_bytes}
+use Rattle.nap_values.specs.PackedCoordinates.{words_in}
+use Rattle.nap_values.specs.Spellings.{operand_bytes, grb_bytes}
 use Rattle.nap_values.proofs.PackedColourLemmas.{words_in-packed_colour}
 use Rattle.nap_values.proofs.spelling.put_grb.Goals as goal
 
@@ -10,7 +10,7 @@ returns c =
     let g_fits : c.g.result < 65536 = search rules in
     let r_fits : c.r.result < 65536 = search rules in
     let b_fits : c.b.result < 65536 = search rules in
-    c.carrying.ensures
-    ∙ ap (λ n. bytes_of (words_in n)) c.pack_colour.ensures
-    ∙ ap bytes_of (words_in-packed_colour c.g.result c.r.result c.b.result g_fits r_fits b_fits)
+    c.put_words.ensures
+    ∙ ap (λ n. operand_bytes (words_in n)) c.pack_colour.ensures
+    ∙ ap operand_bytes (words_in-packed_colour c.g.result c.r.result c.b.result g_fits r_fits b_fits)
     ∙ rw (c.g.ensures, c.r.ensures, c.b.ensures) refl

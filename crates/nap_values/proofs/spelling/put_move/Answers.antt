@@ -1,10 +1,10 @@
 use Rattle.std.proofs.Common.{◌∙◌, ap}
-use Rattle.nap_values.specs.Spellings.{bytes_of, move_bytes}
+use Rattle.nap_values.specs.Spellings.{operand_bytes, move_bytes}
 use Rattle.nap_values.proofs.ByteLemmas.{words_of_move}
 use Rattle.nap_values.proofs.spelling.put_move.Goals as goal
 
 pub returns : goal.returns
 unfolding move_bytes
 returns c =
-    c.carrying.ensures
-    ∙ ap bytes_of (words_of_move c.words.result c.words.ensures.words _ _ c.words.ensures.x c.words.ensures.y)
+    c.put_words.ensures
+    ∙ ap operand_bytes (words_of_move c.words.result c.words.ensures.words _ _ c.words.ensures.x c.words.ensures.y)

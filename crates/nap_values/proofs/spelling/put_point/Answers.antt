@@ -1,10 +1,10 @@
 use Rattle.std.proofs.Common.{◌∙◌, ap}
-use Rattle.nap_values.specs.Spellings.{bytes_of, point_bytes}
+use Rattle.nap_values.specs.Spellings.{operand_bytes, point_bytes}
 use Rattle.nap_values.proofs.ByteLemmas.{words_of_point}
 use Rattle.nap_values.proofs.spelling.put_point.Goals as goal
 
 pub returns-clause-bytes : goal.returns-clause-bytes
 unfolding point_bytes
 returns-clause-bytes c =
-    c.carrying.ensures
-    ∙ ap bytes_of (words_of_point c.words.result c.words.ensures.words _ _ c.words.ensures.x c.words.ensures.y)
+    c.put_words.ensures
+    ∙ ap operand_bytes (words_of_point c.words.result c.words.ensures.words _ _ c.words.ensures.x c.words.ensures.y)

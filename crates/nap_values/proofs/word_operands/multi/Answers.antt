@@ -4,4 +4,4 @@ use Rattle.nap_values.proofs.FrontLemmas.{multi_of-front}
 use Rattle.nap_values.proofs.word_operands.multi.Goals as goal
 
 pub returns : goal.returns
-returns c = c.multi_bytes.ensures ∙ ap multi_of c.padded.ensures ∙ multi_of-front c.args.run.now
+returns c = c.multi_bytes.ensures ∙ ap multi_of c.padded_bytes.ensures ∙ multi_of-front c.args.run.now

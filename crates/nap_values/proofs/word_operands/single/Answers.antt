@@ -3,4 +3,4 @@ use Rattle.nap_values.proofs.FrontLemmas.{single_of-front}
 use Rattle.nap_values.proofs.word_operands.single.Goals as goal
 
 pub returns : goal.returns
-returns c = c.single_bytes.ensures ∙ single_of-front c.padded.result c.args.run.now c.padded.ensures
+returns c = c.single_bytes.ensures ∙ single_of-front c.padded_bytes.result c.args.run.now c.padded_bytes.ensures

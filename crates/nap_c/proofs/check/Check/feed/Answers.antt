@@ -22,8 +22,8 @@ returns-in-Err-clause-answer c =
       | inr before ↦ h.sound r (sym (ap (λ x. refusal_of x) (c.feed.ensures.latched before.0 before.1).1) ∙ some)
     ] in
     inr (record {
-      status = ap (λ (a : Answer). a.status) c.refusing.ensures;
+      status = ap (λ (a : Answer). a.status) c.refused_answer.ensures;
       whole = λ more.
           let why = refused_so_far (λ d wants. wants) new budget (c.feed.ensures.budget ∙ h.budget_is) fed (c.feed.ensures.stands _ p h.stands) r some sound more in
-          answers_uncounted budget (fed ++ more) r.fault r.place c.refusing.result why c.refusing.ensures;
+          answers_uncounted budget (fed ++ more) r.fault r.place c.refused_answer.result why c.refused_answer.ensures;
     })

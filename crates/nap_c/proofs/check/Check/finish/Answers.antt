@@ -24,4 +24,4 @@ returns-in-Err c =
           subst (λ (q : List ℕ). IsRefusal budget q (LacksToCount budget q) r) (append-nil p)
           (refused_so_far (λ d wants. wants) reader budget h.budget_is p h.stands r some (h.sound r some) [])
     ] in
-    answers_uncounted budget p r.fault r.place c.refusing.result why c.refusing.ensures
+    answers_uncounted budget p r.fault r.place c.refused_answer.result why c.refused_answer.ensures

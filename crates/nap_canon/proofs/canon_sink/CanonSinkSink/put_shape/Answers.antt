@@ -1,8 +1,8 @@
 use Rattle.std.proofs.Common.{◌≡◌, [], ◌∷◌, Err, false, sym, subst, ◌∙◌}
 use Rattle.nap_list.specs.declared.sink.SinkFault.TheVariants.{Write}
 use Rattle.nap_list.specs.Putting.{PutSome, TakesAll}
-use Rattle.nap_list.specs.Shapes.{drawn_shape}
-use Rattle.nap_canon.specs.Batches.{canon_shows}
+use Rattle.nap_list.specs.Shapes.{entry_of_shape}
+use Rattle.nap_canon.specs.Batches.{canon_sink_model}
 use Rattle.nap_canon.specs.Sinking.{Canonical}
 use Rattle.nap_canon.proofs.sinks.PutLemmas.{one_breaks, still_put, takes_all}
 use Rattle.nap_canon.proofs.sinks.SinkingLemmas.{took_answered}
@@ -13,17 +13,17 @@ pub returns-then-failed : goal.returns-then-failed
 returns-then-failed g c =
     let o = g.O.Outlet in
     let w = c.self.inside.writer in
-    let s : Canonical _ = record { outlet = w.to.outlet; written = w.to.written; form = w.form; tail = w.room.tail; state = w.state } in
-    let x = drawn_shape c.args.shape.now in
+    let s : Canonical _ = record { outlet = w.to.outlet; written = w.to.written; form = w.form; text_end = w.pending.text_end; state = w.state } in
+    let x = entry_of_shape c.args.shape.now in
     elim c.then-failed.branch [
-      | then-failed-via-then-failed b ↦ subst (λ (t : Canonical _). PutSome {A = Unit {0}} (canon_shows o) (x ∷ []) c.args.self.now t (Err Write)) (sym b.self-is)
+      | then-failed-via-then-failed b ↦ subst (λ (t : Canonical _). PutSome {A = Unit {0}} (canon_sink_model o) (x ∷ []) c.args.self.now t (Err Write)) (sym b.self-is)
           (still_put o c.args.self.now (x ∷ []) (sym c.failed.ensures ∙ b.if-failed.true))
       | then-failed-via-else-failed+then-is_err b ↦
           let v = b.put_shape.new.self in
-          let t : Canonical _ = record { outlet = v.to.outlet; written = v.to.written; form = v.form; tail = v.room.tail; state = v.state } in
+          let t : Canonical _ = record { outlet = v.to.outlet; written = v.to.written; form = v.form; text_end = v.pending.text_end; state = v.state } in
           let works : o.failed s.outlet ≡ false = subst (λ (s : Canonical _). o.failed s.outlet ≡ false) (sym c.self.view_is) (sym c.failed.ensures ∙ b.if-failed.false) in
-          subst (λ (t : Canonical _). PutSome {A = Unit {0}} (canon_shows o) (x ∷ []) c.args.self.now t (Err Write)) (sym b.self-is)
-          (subst (λ (s : Canonical _). PutSome {A = Unit {0}} (canon_shows o) (x ∷ []) s t (Err Write)) c.self.view_is
+          subst (λ (t : Canonical _). PutSome {A = Unit {0}} (canon_sink_model o) (x ∷ []) c.args.self.now t (Err Write)) (sym b.self-is)
+          (subst (λ (s : Canonical _). PutSome {A = Unit {0}} (canon_sink_model o) (x ∷ []) s t (Err Write)) c.self.view_is
           (one_breaks o s t works x b.put_shape.result (sym b.is_err.ensures.value ∙ b.if-is_err.true) b.put_shape.ensures.sent b.put_shape.ensures.still))
     ]
 
@@ -32,10 +32,10 @@ returns g c =
     let o = g.O.Outlet in
     let w = c.self.inside.writer in
     let v = c.put_shape.new.self in
-    let s : Canonical _ = record { outlet = w.to.outlet; written = w.to.written; form = w.form; tail = w.room.tail; state = w.state } in
-    let t : Canonical _ = record { outlet = v.to.outlet; written = v.to.written; form = v.form; tail = v.room.tail; state = v.state } in
-    let x = drawn_shape c.args.shape.now in
+    let s : Canonical _ = record { outlet = w.to.outlet; written = w.to.written; form = w.form; text_end = w.pending.text_end; state = w.state } in
+    let t : Canonical _ = record { outlet = v.to.outlet; written = v.to.written; form = v.form; text_end = v.pending.text_end; state = v.state } in
+    let x = entry_of_shape c.args.shape.now in
     let works : o.failed s.outlet ≡ false = subst (λ (s : Canonical _). o.failed s.outlet ≡ false) (sym c.self.view_is) (sym c.failed.ensures ∙ c.if-failed.false) in
     let put = c.put_shape.ensures in
-    subst (λ (s : Canonical _). TakesAll (canon_shows o) (x ∷ []) s t) c.self.view_is
-    (takes_all o s t works (x ∷ []) (took_answered o s t x c.put_shape.result (sym c.is_err.ensures.value ∙ c.if-is_err.false) put.sent put.form put.tail put.state))
+    subst (λ (s : Canonical _). TakesAll (canon_sink_model o) (x ∷ []) s t) c.self.view_is
+    (takes_all o s t works (x ∷ []) (took_answered o s t x c.put_shape.result (sym c.is_err.ensures.value ∙ c.if-is_err.false) put.sent put.form put.text_end put.state))

@@ -3,18 +3,18 @@ use Rattle.nap_canon.proofs.sinks.FrontLemmas.{joined_cut, joined_whole}
 use Rattle.nap_canon.proofs.sinks.JoinLemmas.{whole_few}
 use Rattle.nap_canon.proofs.writer.Writer.put_joined.Goals as goal
 
-pub pass_on-requires-in-Err-clause-few : goal.pass_on-requires-in-Err-clause-few
-pass_on-requires-in-Err-clause-few g c =
+pub step_from-requires-in-Err-clause-few : goal.step_from-requires-in-Err-clause-few
+step_from-requires-in-Err-clause-few g c =
     let w = c.args.self.now in
-    whole_few g.T.ByteSink.sent w.to c.write_joined.new.self.to (opening w.room.tail c.args.batch.now c.args.count) c.args.batch.now c.args.first c.args.count c.in-Err.whole
+    whole_few g.T.ByteSink.sent w.to c.write_joined.new.self.to (opening w.pending.text_end c.args.batch.now c.args.count) c.args.batch.now c.args.first c.args.count c.in-Err.whole
     c.requires.some c.requires.few c.in-Err.ensures.sent
 
 pub returns-in-Ok : goal.returns-in-Ok
 returns-in-Ok g c =
     joined_whole g.T.ByteSink.sent c.args.self.now c.write_joined.new.self c.args.batch.now c.args.first c.args.count c.requires.some c.requires.few c.requires.stand c.requires.joins
-    c.in-Ok.ensures c.pass_on.new.self c.pass_on.ensures
+    c.in-Ok.ensures c.step_from.new.self c.step_from.ensures
 
 pub returns-in-Err : goal.returns-in-Err
 returns-in-Err g c =
     joined_cut g.T.ByteSink.sent c.args.self.now c.write_joined.new.self c.args.batch.now c.args.first c.args.count c.requires.some c.requires.few c.requires.stand c.requires.joins
-    c.in-Err.whole c.in-Err.ensures c.pass_on-in-Err.new.self c.pass_on-in-Err.ensures
+    c.in-Err.whole c.in-Err.ensures c.step_from-in-Err.new.self c.step_from-in-Err.ensures

@@ -1,13 +1,13 @@
 use Rattle.std.proofs.Common.{rules, inl, inr, ◌⊎◌, ◌≤◌, ℕ, ◌≡◌, ◌*◌, OnOk, List, length, drop, ap, subst, ◌∙◌, length-drop, arith}
 use Rattle.std.proofs.lemmas.List.{length-take-le}
 use Rattle.nap_list.specs.BatchLaws.{sized_lines, sized_text}
-use Rattle.nap_canon.specs.declared.tail.Tail.TheVariants.{Apart, InRun}
+use Rattle.nap_canon.specs.declared.text_end.TextEnd.TheVariants.{NoRun, InRun}
 use Rattle.nap_list.specs.declared.batch.Batch.{Batch}
 use Rattle.nap_list.specs.declared.batch.Batch.TheVariants as batches
 use Rattle.nap_codes.specs.declared.code_set.GSet.TheVariants.{G0}
-use Rattle.nap_canon.specs.declared.tail.Tail.{Tail}
+use Rattle.nap_canon.specs.declared.text_end.TextEnd.{TextEnd}
 use Rattle.nap_canon.specs.Batches.{Joins, TextJoins}
-use Rattle.nap_canon.specs.Text.{run_behind}
+use Rattle.nap_canon.specs.Text.{run_after}
 use Rattle.nap_canon.proofs.writer.Writer.write_joined.Goals as goal
 
 pub part-requires-in-Lines : goal.part-requires-in-Lines
@@ -24,22 +24,22 @@ returns-in-Lines g c =
     ∙ length-take-le c.args.count (drop c.args.first ps) (omega (arith, c.requires.few, sized_lines _ _ _ _ c.in-Lines.is, length-drop c.args.first ps)) in
     rw c.in-Lines.is (record {
       sent = search rules;
-      tail = subst (λ (n : ℕ). OnOk c.join_run-in-Lines.result (c.join_run-in-Lines.new.self.room.tail ≡ InRun (run_behind c.args.self.now.room.tail 0x28 (8 * n)))) size c.join_run-in-Lines.ensures.tail;
-      kept = c.join_run-in-Lines.ensures.kept;
+      text_end = subst (λ (n : ℕ). OnOk c.write_run-in-Lines.result (c.write_run-in-Lines.new.self.pending.text_end ≡ InRun (run_after c.args.self.now.pending.text_end 0x28 (8 * n)))) size c.write_run-in-Lines.ensures.tail;
+      kept = c.write_run-in-Lines.ensures.kept;
     })
 
 -- the codes are few that open a text
-few_codes : (tail : Tail) (codes part : List ℕ) (count : ℕ) → TextJoins tail codes count → length part ≡ count → (tail ≡ Apart G0) ⊎ (length part ≤ 1023)
-few_codes tail codes part count (inl is) size = inl is
-few_codes tail codes part count (inr opens) size = inr (omega (arith, opens.0, size))
+few_codes : (text_end : TextEnd) (codes part : List ℕ) (count : ℕ) → TextJoins text_end codes count → length part ≡ count → (text_end ≡ NoRun G0) ⊎ (length part ≤ 1023)
+few_codes text_end codes part count (inl is) size = inl is
+few_codes text_end codes part count (inr opens) size = inr (omega (arith, opens.0, size))
 
-pub join_text-requires : goal.join_text-requires
-join_text-requires g c =
+pub write_text-requires : goal.write_text-requires
+write_text-requires g c =
     let codes = c.in-Text.codes.now in
     let rest : List ℕ = drop c.args.first codes in
     let size : length c.part-in-Text.result.now ≡ c.args.count =
     ap length c.part-in-Text.ensures
     ∙ length-take-le c.args.count rest (omega (arith, c.requires.few, sized_text _ _ _ _ _ c.in-Text.is, length-drop c.args.first codes)) in
-    let joins : Joins c.args.self.now.form c.args.self.now.room.tail c.args.self.now.state (batches.Text c.in-Text.set c.in-Text.codes c.in-Text.pen c.in-Text.drawing) c.args.first c.args.count =
-    subst (λ (b : Batch). Joins c.args.self.now.form c.args.self.now.room.tail c.args.self.now.state b c.args.first c.args.count) c.in-Text.is c.requires.joins in
-    record { few = few_codes c.args.self.now.room.tail rest c.part-in-Text.result.now c.args.count joins.1 size }
+    let joins : Joins c.args.self.now.form c.args.self.now.pending.text_end c.args.self.now.state (batches.Text c.in-Text.set c.in-Text.codes c.in-Text.pen c.in-Text.drawing) c.args.first c.args.count =
+    subst (λ (b : Batch). Joins c.args.self.now.form c.args.self.now.pending.text_end c.args.self.now.state b c.args.first c.args.count) c.in-Text.is c.requires.joins in
+    record { few = few_codes c.args.self.now.pending.text_end rest c.part-in-Text.result.now c.args.count joins.1 size }

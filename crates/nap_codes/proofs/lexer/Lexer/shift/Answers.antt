@@ -1,7 +1,7 @@
 use Rattle.std.proofs.Common.{ℕ, ◌≡◌, List, [], ap, ◌∙◌}
 use Rattle.nap_codes.specs.CodeSets.{after_control0}
 use Rattle.nap_codes.specs.declared.code_set.CodeSets.{CodeSets}
-use Rattle.nap_codes.specs.Half.{half_bytes}
+use Rattle.nap_codes.specs.HalfReadCodes.{half_read_bytes}
 use Rattle.nap_codes.specs.Lexer.{LexerState}
 use Rattle.nap_codes.proofs.ControlLemmas.{shift_steps}
 use Rattle.nap_codes.proofs.lexer.Lexer.shift.Goals as goal
@@ -13,7 +13,7 @@ returns c =
     let after = c.after_control0-self-inside.result in
     let sets : after ≡ after_control0 lexer.sets byte =
     c.after_control0-self-inside.ensures ∙ ap (λ (l : LexerState). after_control0 l.sets byte) c.self.view_is in
-    let half : half_bytes c.self.inside.half ≡ [] = ap (λ (l : LexerState). l.half) c.self.view_is ∙ c.requires.0 in
-    let new : LexerState = record { sets = after; half = half_bytes c.self.inside.half } in
+    let half : half_read_bytes c.self.inside.half ≡ [] = ap (λ (l : LexerState). l.half) c.self.view_is ∙ c.requires.0 in
+    let new : LexerState = record { sets = after; half = half_read_bytes c.self.inside.half } in
     shift_steps lexer new byte c.requires.0 c.requires.1
     (ap (λ (s : CodeSets). record new { sets = s }) sets ∙ ap (λ (h : List ℕ). record { sets = after_control0 lexer.sets byte; half = h }) half)

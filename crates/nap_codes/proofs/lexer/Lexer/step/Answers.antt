@@ -1,7 +1,7 @@
 use Rattle.std.proofs.Common.{refl}
-use Rattle.nap_codes.specs.declared.lexer.Turn.TheVariants as turns
+use Rattle.nap_codes.specs.declared.lexer.ByteOutcome.TheVariants as turns
 use Rattle.nap_codes.specs.Front.{front}
-use Rattle.nap_codes.proofs.HalfLemmas.{half_unfinished, turn_more-IsHalf, turn-Steps}
+use Rattle.nap_codes.proofs.HalfLemmas.{half_unfinished, turn_more-IsHalfRead, turn-Steps}
 use Rattle.nap_codes.proofs.lexer.Lexer.step.Goals as goal
 
 pub returns-in-More-clause-steps : goal.returns-in-More-clause-steps
@@ -13,7 +13,7 @@ returns-in-More-clause-before c = rw (← c.self.view_is) (half_unfinished c.sel
 
 pub returns-in-More-clause-after : goal.returns-in-More-clause-after
 returns-in-More-clause-after c =
-    half_unfinished c.self.inside.sets c.in-More.half (turn_more-IsHalf c.self.inside.sets c.self.inside.half c.args.byte c.in-More.half c.in-More.ensures)
+    half_unfinished c.self.inside.sets c.in-More.half (turn_more-IsHalfRead c.self.inside.sets c.self.inside.half c.args.byte c.in-More.half c.in-More.ensures)
 
 pub returns-in-Code-clause-steps : goal.returns-in-Code-clause-steps
 returns-in-Code-clause-steps c =

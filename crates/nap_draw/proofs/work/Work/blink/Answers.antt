@@ -2,14 +2,14 @@ use Rattle.std.proofs.Common.{◌≡◌, ◌<◌, ◌+◌, Ok, [], ◌∷◌, le
 use Rattle.std.proofs.lemmas.Bool.Decides.{nat_tests}
 use Rattle.nap_list.specs.declared.attribute.Colour.{Colour}
 use Rattle.nap_list.specs.declared.entry.Entry.TheVariants.{BlinkEnd}
-use Rattle.nap_values.specs.Operands.{carried}
+use Rattle.nap_values.specs.Operands.{operand_words}
 use Rattle.nap_draw.specs.Operands.{operands}
-use Rattle.nap_draw.specs.Rule.{blink, drawn}
-use Rattle.nap_draw.specs.Doing.{quiet}
+use Rattle.nap_draw.specs.Rule.{blink, rule_result}
+use Rattle.nap_draw.specs.Execution.{clears_nothing}
 use Rattle.nap_draw.proofs.Acting.{does_as, does_put, does_stop}
 use Rattle.nap_draw.proofs.Attributes.{blink_none, blink_some}
-use Rattle.nap_list.specs.Entry.{colour_alone}
-use Rattle.nap_list.specs.Agreement.{Holds}
+use Rattle.nap_list.specs.Entry.{colour_only}
+use Rattle.nap_list.specs.Agreement.{EqualCurrent}
 use Rattle.nap_draw.proofs.Walks.{left_by}
 use Rattle.nap_draw.proofs.Still.{blink_stays, stays_fit}
 use Rattle.nap_draw.proofs.ByteRuns.{carried_length}
@@ -17,13 +17,13 @@ use Rattle.nap_draw.proofs.work.Work.blink.Goals as goal
 
 pub returns-then-is_empty : goal.returns-then-is_empty
 returns-then-is_empty g c =
-    let none : length (carried c.args.run.now) ≡ 0 = grind (arith, nat_tests, carried_length c.args.run.now) in
-    does_as g.S.Sink quiet _ _ _ _ _ _ _ (blink_none c.args.self.now (carried c.args.run.now) none ∙ ap (λ (colour : Colour). Ok (drawn c.args.self.now (BlinkEnd colour ∷ []))) (sym c.colour-colour.ensures)) c.single.ensures.does
+    let none : length (operand_words c.args.run.now) ≡ 0 = grind (arith, nat_tests, carried_length c.args.run.now) in
+    does_as g.S.Sink clears_nothing _ _ _ _ _ _ _ (blink_none c.args.self.now (operand_words c.args.run.now) none ∙ ap (λ (colour : Colour). Ok (rule_result c.args.self.now (BlinkEnd colour ∷ []))) (sym c.colour-colour.ensures)) c.put_and_set_pen.ensures.does
 
-pub single-requires : goal.single-requires
-single-requires g c =
+pub put_and_set_pen-requires : goal.put_and_set_pen-requires
+put_and_set_pen-requires g c =
     let s = c.args.self.now.state in
-    let held : Holds (colour_alone s.drawing.colour) s.drawing = record { pen = tt; pel = tt; colour = refl; texture = tt; text = tt } in
+    let held : EqualCurrent (colour_only s.drawing.colour) s.drawing = record { pen = tt; pel = tt; colour = refl; texture = tt; text = tt } in
     rw (c.pen.ensures, c.colour-colour.ensures) (record {
       agrees = c.requires;
       follows = record { holds = held; made = tt; comes = tt };
@@ -34,14 +34,14 @@ pub put_blinks-requires : goal.put_blinks-requires
 put_blinks-requires g c =
     let s = c.args.self.now.state in
     let k = c.args.self.now.domain.single in
-    (stays_fit s.drawing (blink k s.drawing.colour) (blink_stays s.drawing k c.requires.drawing.mode) s s.last (operands (k + 3) (carried c.args.run.now)) _ c.requires).0
+    (stays_fit s.drawing (blink k s.drawing.colour) (blink_stays s.drawing k c.requires.drawing.mode) s s.last (operands (k + 3) (operand_words c.args.run.now)) _ c.requires).0
 
 pub returns-in_err-put_blinks : goal.returns-in_err-put_blinks
 returns-in_err-put_blinks g c =
-    let some : 0 < length (carried c.args.run.now) = grind (arith, nat_tests, carried_length c.args.run.now) in
-    does_stop g.S.Sink quiet _ _ _ _ _ _ _ c.from_residual.ensures.1 (blink_some c.args.self.now (carried c.args.run.now) c.requires.drawing.mode some) c.in_err-put_blinks.ensures
+    let some : 0 < length (operand_words c.args.run.now) = grind (arith, nat_tests, carried_length c.args.run.now) in
+    does_stop g.S.Sink clears_nothing _ _ _ _ _ _ _ c.from_residual.ensures.1 (blink_some c.args.self.now (operand_words c.args.run.now) c.requires.drawing.mode some) c.in_err-put_blinks.ensures
 
 pub returns : goal.returns
 returns g c =
-    let some : 0 < length (carried c.args.run.now) = grind (arith, nat_tests, carried_length c.args.run.now) in
-    does_put g.S.Sink quiet _ c.args.self.now _ _ _ _ (tt {0}) (blink_some c.args.self.now (carried c.args.run.now) c.requires.drawing.mode some) c.in_ok-put_blinks.ensures
+    let some : 0 < length (operand_words c.args.run.now) = grind (arith, nat_tests, carried_length c.args.run.now) in
+    does_put g.S.Sink clears_nothing _ c.args.self.now _ _ _ _ (tt {0}) (blink_some c.args.self.now (operand_words c.args.run.now) c.requires.drawing.mode some) c.in_ok-put_blinks.ensures

@@ -7,7 +7,7 @@ use Rattle.nap_list.specs.declared.state.State.{State}
 use Rattle.nap_list.specs.State.{walk, with_pen}
 use Rattle.nap_draw.specs.declared.fault.DrawFault.{DrawFault}
 use Rattle.nap_list.specs.State.{hand_of}
-use Rattle.nap_draw.specs.Rule.{Drawn, drawn}
+use Rattle.nap_draw.specs.Rule.{RuleResult, rule_result}
 use Rattle.nap_draw.proofs.Acting.{obeys_put, obeys_stop}
 use Rattle.nap_draw.proofs.Copies.{char_holds, char_left}
 use Rattle.nap_draw.proofs.work.Work.character.Goals as goal
@@ -22,7 +22,7 @@ put-requires g c =
 pub returns-in_err-put : goal.returns-in_err-put
 returns-in_err-put g c =
     let w = c.args.self.now in
-    let by = ap (λ (hand : Hand). Ok (drawn w (entries.Char c.args.set c.args.code hand ∷ []))) (sym c.hand-hand.ensures) in
+    let by = ap (λ (hand : Hand). Ok (rule_result w (entries.Char c.args.set c.args.code hand ∷ []))) (sym c.hand-hand.ensures) in
     obeys_stop g.S.Sink _ _ _ _ _ _ _ c.from_residual.ensures.1 (g.met.S.Sink.took_none _) g.met.S.Sink.wants_more by (λ none. cc) c.in_err-put.ensures
 
 pub returns : goal.returns
@@ -30,6 +30,6 @@ unfolding walk
 returns g c =
     let w = c.args.self.now in
     let last : LastChar = record { set = c.args.set; code = c.args.code } in
-    let by : Hand → State → Result Drawn DrawFault = λ hand s. Ok (record { entries = entries.Char c.args.set c.args.code hand ∷ []; work = record w { state = s }; clears = false }) in
+    let by : Hand → State → Result RuleResult DrawFault = λ hand s. Ok (record { entries = entries.Char c.args.set c.args.code hand ∷ []; work = record w { state = s }; clears = false }) in
     let left = char_left last w.state c.requires.agrees.drawing.mode in
     obeys_put g.S.Sink _ w _ _ _ _ (ap (by (hand_of w.state.drawing)) left ∙ ap (λ (hand : Hand). by hand (record w.state { drawing = with_pen pens.After w.state.drawing; last = Some last })) (sym c.hand-hand.ensures)) c.in_ok-put.ensures

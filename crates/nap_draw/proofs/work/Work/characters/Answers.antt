@@ -37,9 +37,9 @@ returns-clause-put g c = rw (text_is c.args.self.now.state c.args.set c.args.cod
 pub returns-clause-work : goal.returns-clause-work
 returns-clause-work g c =
     let w = c.args.self.now in
-    ap (λ (s : State). record w { state = s }) (sym (text_left w.state c.args.set c.args.codes.now c.in-Some.field-0-1.now c.in-Some.code.now _ c.requires.agrees.drawing.mode c.in-Some.ensures.cases.0 c.last_typed-self.ensures))
+    ap (λ (s : State). record w { state = s }) (sym (text_left w.state c.args.set c.args.codes.now c.in-Some.field-0-1.now c.in-Some.code.now _ c.requires.agrees.drawing.mode c.in-Some.ensures.cases.0 c.last_char_of_text-self.ensures))
 
 pub returns-clause-agree : goal.returns-clause-agree
 returns-clause-agree g c =
     text_agrees c.args.self.now.state _ _ _ c.args.set c.args.codes.now c.requires.agrees c.requires.made c.in_ok-put_batch.ensures.state
-    (text_left c.args.self.now.state c.args.set c.args.codes.now c.in-Some.field-0-1.now c.in-Some.code.now _ c.requires.agrees.drawing.mode c.in-Some.ensures.cases.0 c.last_typed-self.ensures)
+    (text_left c.args.self.now.state c.args.set c.args.codes.now c.in-Some.field-0-1.now c.in-Some.code.now _ c.requires.agrees.drawing.mode c.in-Some.ensures.cases.0 c.last_char_of_text-self.ensures)

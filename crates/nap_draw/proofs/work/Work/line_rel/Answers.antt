@@ -1,7 +1,7 @@
 use Rattle.std.proofs.Common.{refl}
 use Rattle.std.specs.Option.{option_map}
-use Rattle.nap_draw.specs.Geometry.{joined}
-use Rattle.nap_draw.specs.Rule.{draws, line_on}
+use Rattle.nap_draw.specs.Geometry.{polyline_spans}
+use Rattle.nap_draw.specs.Rule.{entries_result, span_line_entry}
 use Rattle.nap_draw.proofs.Acting.{does_refused, does_unfilled, does_filled}
 use Rattle.nap_draw.proofs.work.Work.line_rel.Goals as goal
 
@@ -10,8 +10,8 @@ returns-in_err-from g c = does_refused g.S.Sink _ (g.met.S.Sink.took_none _) _ _
 
 pub returns-in_err-steps_into : goal.returns-in_err-steps_into
 returns-in_err-steps_into g c =
-    does_unfilled g.S.Sink _ (g.met.S.Sink.took_none _) _ _ _ _ _ c.from_residual-in_err-steps_into.ensures.1 (λ o. draws c.args.self.now line_on (option_map (joined c.in_ok-from.from) o))
+    does_unfilled g.S.Sink _ (g.met.S.Sink.took_none _) _ _ _ _ _ c.from_residual-in_err-steps_into.ensures.1 (λ o. entries_result c.args.self.now span_line_entry (option_map (polyline_spans c.in_ok-from.from) o))
     (c.in_ok-from.ensures.ok _) refl (λ xs. (_, refl)) c.in_err-steps_into.ensures
 
 pub returns : goal.returns
-returns g c = does_filled g.S.Sink _ _ _ _ _ _ (λ o. draws c.args.self.now line_on (option_map (joined c.in_ok-from.from) o)) (λ ps. ps) _ _ _ (c.in_ok-from.ensures.ok _) c.in_ok-steps_into.ensures c.deref.ensures.value c.joined.ensures
+returns g c = does_filled g.S.Sink _ _ _ _ _ _ (λ o. entries_result c.args.self.now span_line_entry (option_map (polyline_spans c.in_ok-from.from) o)) (λ ps. ps) _ _ _ (c.in_ok-from.ensures.ok _) c.in_ok-steps_into.ensures c.deref.ensures.value c.draw_polyline.ensures

@@ -1,15 +1,15 @@
 use Rattle.std.proofs.Common.{refl}
-use Rattle.nap_list.specs.Batches.{point_on}
-use Rattle.nap_draw.specs.Rule.{draws}
+use Rattle.nap_list.specs.Batches.{point_entry}
+use Rattle.nap_draw.specs.Rule.{entries_result}
 use Rattle.nap_draw.proofs.Acting.{does_refused, does_unfilled, does_filled}
 use Rattle.nap_draw.proofs.work.Work.point_abs.Goals as goal
 
-pub returns-in_err-some_operand : goal.returns-in_err-some_operand
-returns-in_err-some_operand g c = does_refused g.S.Sink _ (g.met.S.Sink.took_none _) _ _ _ _ c.from_residual.ensures.1 c.in_err-some_operand.ensures.err.0 (c.in_err-some_operand.ensures.err.1 _)
+pub returns-in_err-require_operand : goal.returns-in_err-require_operand
+returns-in_err-require_operand g c = does_refused g.S.Sink _ (g.met.S.Sink.took_none _) _ _ _ _ c.from_residual.ensures.1 c.in_err-require_operand.ensures.err.0 (c.in_err-require_operand.ensures.err.1 _)
 
 pub returns-in_err-points_into : goal.returns-in_err-points_into
 returns-in_err-points_into g c =
-    does_unfilled g.S.Sink _ (g.met.S.Sink.took_none _) _ _ _ _ _ c.from_residual-in_err-points_into.ensures.1 (draws c.args.self.now point_on) (c.in_ok-some_operand.ensures.ok _) refl (λ xs. (_, refl)) c.in_err-points_into.ensures
+    does_unfilled g.S.Sink _ (g.met.S.Sink.took_none _) _ _ _ _ _ c.from_residual-in_err-points_into.ensures.1 (entries_result c.args.self.now point_entry) (c.in_ok-require_operand.ensures.ok _) refl (λ xs. (_, refl)) c.in_err-points_into.ensures
 
 pub returns : goal.returns
-returns g c = does_filled g.S.Sink _ _ _ _ _ _ (draws c.args.self.now point_on) (λ ps. ps) _ _ _ (c.in_ok-some_operand.ensures.ok _) c.in_ok-points_into.ensures c.deref.ensures.value c.dots.ensures
+returns g c = does_filled g.S.Sink _ _ _ _ _ _ (entries_result c.args.self.now point_entry) (λ ps. ps) _ _ _ (c.in_ok-require_operand.ensures.ok _) c.in_ok-points_into.ensures c.deref.ensures.value c.draw_points.ensures

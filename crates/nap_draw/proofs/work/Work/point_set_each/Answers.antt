@@ -1,10 +1,10 @@
 use Rattle.std.proofs.Common.{ℕ, List, sym, ◌∙◌, ap, arith, refl}
 use Rattle.std.specs.Slice.Iter.{chunks_rest, chunks_size}
 use Rattle.nap_values.specs.Coordinates.{point_at}
-use Rattle.nap_values.specs.Operands.{carried}
+use Rattle.nap_values.specs.Operands.{operand_words}
 use Rattle.nap_draw.specs.Operands.{moves}
 use Rattle.nap_draw.specs.Geometry.{points_at}
-use Rattle.nap_draw.specs.Rule.{goes}
+use Rattle.nap_draw.specs.Rule.{pen_result}
 use Rattle.nap_draw.proofs.Acting.{sets_refused}
 use Rattle.nap_draw.proofs.ByteRuns.{moves_chunk, moves_none}
 use Rattle.nap_draw.proofs.Decoding.{filling_begins, filling_more, filling_none, filling_end}
@@ -12,8 +12,8 @@ use Rattle.nap_draw.proofs.Going.{goes_end, pen_before, pen_behind}
 use Rattle.nap_draw.proofs.Turns.{points_turn, onward_more, onward_none}
 use Rattle.nap_draw.proofs.work.Work.point_set_each.Goals as goal
 
-pub returns-in_err-some_operand : goal.returns-in_err-some_operand
-returns-in_err-some_operand c = sets_refused _ _ _ _ c.from_residual.ensures.1 c.in_err-some_operand.ensures.err.0 (c.in_err-some_operand.ensures.err.1 _)
+pub returns-in_err-require_operand : goal.returns-in_err-require_operand
+returns-in_err-require_operand c = sets_refused _ _ _ _ c.from_residual.ensures.1 c.in_err-require_operand.ensures.err.0 (c.in_err-require_operand.ensures.err.1 _)
 
 pub loop-operand-init : goal.loop-operand-init
 loop-operand-init c =
@@ -22,7 +22,7 @@ loop-operand-init c =
       can = omega (arith, c.from.ensures, c.multi.ensures.value, c.multi.ensures.least, c.chunks-operand-items.ensures.size, ap chunks_size given);
       finite = tt;
       size = omega (arith, c.from.ensures, c.multi.ensures.value, c.chunks-operand-items.ensures.size, ap chunks_size given);
-      filling = filling_begins _ _ _ _ (ap (λ (run : List ℕ). points_at (moves c.args.self.now.domain.multi (carried run))) (sym (ap chunks_rest given ∙ c.chunks-operand-items.ensures.rest))) (pen_before c.args.self.now.state.drawing c.pen-pen.result c.pen-pen.ensures);
+      filling = filling_begins _ _ _ _ (ap (λ (run : List ℕ). points_at (moves c.args.self.now.domain.multi (operand_words run))) (sym (ap chunks_rest given ∙ c.chunks-operand-items.ensures.rest))) (pen_before c.args.self.now.state.drawing c.pen-pen.result c.pen-pen.ensures);
     }
 
 pub returns-in_default : goal.returns-in_default
@@ -31,7 +31,7 @@ returns-in_default c =
     let steps = c.in-Some.ensures.steps in
     let cut = moves_chunk c.args.self.now.domain.multi _ _ _ _ inv.size (omega (arith, c.multi.ensures.value, c.multi.ensures.least)) steps.1.0 steps.1.1 steps.1.2 in
     let none = filling_none _ _ _ _ inv.filling (onward_none _ _ _ (points_turn _ _ _ cut) (sym (c.point.ensures ∙ ap point_at c.multi_bytes.ensures) ∙ c.in_default.is)) in
-    (refl, c.in_ok-some_operand.ensures.ok _ ∙ ap (goes c.args.self.now) none)
+    (refl, c.in_ok-require_operand.ensures.ok _ ∙ ap (pen_result c.args.self.now) none)
 
 pub loop-operand-preserved : goal.loop-operand-preserved
 loop-operand-preserved c =
@@ -53,4 +53,4 @@ unfolding points_at
 returns c =
     let filling = c.loop-operand.invariant.filling in
     let all = filling_end _ _ _ _ filling (ap points_at (moves_none _ _ c.in-None.ensures.steps.1.0)) in
-    c.in_ok-some_operand.ensures.ok _ ∙ (ap (goes c.args.self.now) all ∙ goes_end c.args.self.now filling.front _ (filling.kept refl))
+    c.in_ok-require_operand.ensures.ok _ ∙ (ap (pen_result c.args.self.now) all ∙ goes_end c.args.self.now filling.front _ (filling.kept refl))

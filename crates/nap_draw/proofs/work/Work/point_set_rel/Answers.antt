@@ -1,10 +1,10 @@
 use Rattle.std.proofs.Common.{ℕ, List, sym, ◌∙◌, ap, arith, refl}
 use Rattle.std.specs.Slice.Iter.{chunks_rest, chunks_size}
-use Rattle.nap_values.specs.Coordinates.{moved}
-use Rattle.nap_values.specs.Operands.{carried}
+use Rattle.nap_values.specs.Coordinates.{displaced_point}
+use Rattle.nap_values.specs.Operands.{operand_words}
 use Rattle.nap_draw.specs.Operands.{moves}
-use Rattle.nap_draw.specs.Geometry.{end_of, reached}
-use Rattle.nap_draw.specs.Rule.{goes}
+use Rattle.nap_draw.specs.Geometry.{last_or, points_reached}
+use Rattle.nap_draw.specs.Rule.{pen_result}
 use Rattle.nap_draw.proofs.Acting.{sets_refused}
 use Rattle.nap_draw.proofs.ByteRuns.{moves_chunk, moves_none}
 use Rattle.nap_draw.proofs.Decoding.{filling_begins, filling_more, filling_none, filling_end}
@@ -16,14 +16,14 @@ pub returns-in_err-at : goal.returns-in_err-at
 returns-in_err-at c = sets_refused _ _ _ _ c.from_residual.ensures.1 c.in_err-at.ensures.err.0 (c.in_err-at.ensures.err.1 _)
 
 pub loop-operand-init : goal.loop-operand-init
-unfolding end_of
+unfolding last_or
 loop-operand-init c =
     let given = c.into_iter-operand-iterator.ensures.into_iter_gives in
     record {
       can = omega (arith, c.from.ensures, c.multi.ensures.value, c.multi.ensures.least, c.chunks-operand-items.ensures.size, ap chunks_size given);
       finite = tt;
       size = omega (arith, c.from.ensures, c.multi.ensures.value, c.chunks-operand-items.ensures.size, ap chunks_size given);
-      filling = filling_begins _ _ _ _ (ap (λ (run : List ℕ). reached c.in_ok-at.at (moves c.args.self.now.domain.multi (carried run))) (sym (ap chunks_rest given ∙ c.chunks-operand-items.ensures.rest))) refl;
+      filling = filling_begins _ _ _ _ (ap (λ (run : List ℕ). points_reached c.in_ok-at.at (moves c.args.self.now.domain.multi (operand_words run))) (sym (ap chunks_rest given ∙ c.chunks-operand-items.ensures.rest))) refl;
     }
 
 pub returns-in_default : goal.returns-in_default
@@ -31,8 +31,8 @@ returns-in_default c =
     let inv = c.loop-operand.invariant in
     let steps = c.in-Some.ensures.steps in
     let cut = moves_chunk c.args.self.now.domain.multi _ _ _ _ inv.size (omega (arith, c.multi.ensures.value, c.multi.ensures.least)) steps.1.0 steps.1.1 steps.1.2 in
-    let none = filling_none _ _ _ _ inv.filling (onward_none _ _ _ (reached_turn _ _ _ _ cut) (sym (c.by.ensures ∙ ap (moved c.loop-operand.at) c.multi_bytes.ensures) ∙ c.in_default.is)) in
-    (refl, c.in_ok-at.ensures.ok _ ∙ ap (goes c.args.self.now) none)
+    let none = filling_none _ _ _ _ inv.filling (onward_none _ _ _ (reached_turn _ _ _ _ cut) (sym (c.by.ensures ∙ ap (displaced_point c.loop-operand.at) c.multi_bytes.ensures) ∙ c.in_default.is)) in
+    (refl, c.in_ok-at.ensures.ok _ ∙ ap (pen_result c.args.self.now) none)
 
 pub loop-operand-preserved : goal.loop-operand-preserved
 loop-operand-preserved c =
@@ -44,15 +44,15 @@ loop-operand-preserved c =
       finite = tt;
       size = steps.0 ∙ inv.size;
       filling = filling_more _ _ _ c.in-Some-by.point _ _ _ _ inv.filling
-          (onward_more _ _ _ _ (reached_turn _ _ _ _ cut) (sym (c.by.ensures ∙ ap (moved c.loop-operand.at) c.multi_bytes.ensures) ∙ c.in-Some-by.is))
+          (onward_more _ _ _ _ (reached_turn _ _ _ _ cut) (sym (c.by.ensures ∙ ap (displaced_point c.loop-operand.at) c.multi_bytes.ensures) ∙ c.in-Some-by.is))
           (λ e. e)
           (λ front e kept. end_behind _ front c.in-Some-by.point);
     }
 
 pub returns : goal.returns
-unfolding reached
+unfolding points_reached
 returns c =
     let filling = c.loop-operand.invariant.filling in
-    let all = filling_end _ _ _ _ filling (ap (reached _) (moves_none _ _ c.in-None.ensures.steps.1.0)) in
+    let all = filling_end _ _ _ _ filling (ap (points_reached _) (moves_none _ _ c.in-None.ensures.steps.1.0)) in
     let last = pen_reached c.args.self.now _ _ _ filling.front c.in_ok-at.ensures.ok all (filling.kept refl) in
-    c.in_ok-at.ensures.ok _ ∙ (ap (goes c.args.self.now) all ∙ goes_end c.args.self.now filling.front _ last)
+    c.in_ok-at.ensures.ok _ ∙ (ap (pen_result c.args.self.now) all ∙ goes_end c.args.self.now filling.front _ last)

@@ -1,9 +1,9 @@
 use Rattle.std.proofs.Common.{◌≡◌, Some, false}
 use Rattle.std.specs.Slice.Iter.{chunks_rest, chunks_size}
-use Rattle.nap_values.specs.Operands.{carried}
+use Rattle.nap_values.specs.Operands.{operand_words}
 use Rattle.nap_draw.specs.Operands.{moves}
-use Rattle.nap_draw.specs.Geometry.{end_of, reached}
-use Rattle.nap_draw.specs.Doing.{Filling}
+use Rattle.nap_draw.specs.Geometry.{last_or, points_reached}
+use Rattle.nap_draw.specs.Execution.{Filling}
 use Rattle.nap_draw.proofs.work.Work.point_set_rel.Given as goal
 
 abbrev pub invariant-loop-operand : goal.invariant-loop-operand
@@ -11,5 +11,5 @@ invariant-loop-operand l = record {
   can : (goal.iterator-loop-operand).can_next l.operand-iterator;
   finite : (goal.iterator-loop-operand).is_finite l.operand-iterator;
   size : chunks_size l.operand-iterator ≡ l.fn.self.domain.multi;
-  filling : Filling (reached l.initial.at (moves l.fn.self.domain.multi (carried l.fn.run))) (reached l.at (moves l.fn.self.domain.multi (carried (chunks_rest l.operand-iterator)))) false (λ front. end_of (Some l.initial.at) front ≡ Some l.at);
+  filling : Filling (points_reached l.initial.at (moves l.fn.self.domain.multi (operand_words l.fn.run))) (points_reached l.at (moves l.fn.self.domain.multi (operand_words (chunks_rest l.operand-iterator)))) false (λ front. last_or (Some l.initial.at) front ≡ Some l.at);
 }

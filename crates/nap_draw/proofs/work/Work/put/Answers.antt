@@ -1,5 +1,5 @@
 use Rattle.nap_list.proofs.PublicLaws.{agreeing_fits}
-use Rattle.nap_list.specs.Shown.{shows_of}
+use Rattle.nap_list.specs.SinkModels.{sink_model_of}
 use Rattle.nap_list.specs.PuttingLaws.{one_put}
 use Rattle.nap_draw.proofs.work.Work.put.Goals as goal
 
@@ -10,4 +10,4 @@ pub returns : goal.returns
 returns g c =
     let put = c.put.ensures in
     let laws = g.met.S.Sink in
-    one_put (shows_of g.S.Sink) c.args.sink.now c.put.new.self c.args.entry c.put.result (laws.took_none c.args.sink.now) put.took put.after put.memory put.wants put.refuses put.write put.only_write put.broke put.still
+    one_put (sink_model_of g.S.Sink) c.args.sink.now c.put.new.self c.args.entry c.put.result (laws.took_none c.args.sink.now) put.took put.after put.memory put.wants put.refuses put.write put.only_write put.broke put.still

@@ -2,20 +2,20 @@ use Rattle.std.proofs.Common.{◌≡◌, ◌<◌, Ok, Option, refl, ap, ◌∙�
 use Rattle.std.proofs.lemmas.Bool.Decides.{nat_tests}
 use Rattle.nap_list.specs.declared.state.LastChar.{LastChar}
 use Rattle.nap_list.specs.PuttingLaws.{some_put}
-use Rattle.nap_list.specs.Shown.{shows_of}
+use Rattle.nap_list.specs.SinkModels.{sink_model_of}
 use Rattle.nap_list.specs.State.{walk}
-use Rattle.nap_draw.specs.Codes.{copies, with_last}
-use Rattle.nap_draw.specs.Rule.{drawn}
+use Rattle.nap_draw.specs.Codes.{repeated_chars, with_last}
+use Rattle.nap_draw.specs.Rule.{rule_result}
 use Rattle.nap_draw.proofs.Acting.{obeys_put, obeys_stop, obeys_quietly}
 use Rattle.nap_draw.proofs.Copies.{front_some, front_typed, last_is_code, repeat_is}
 use Rattle.nap_draw.proofs.work.Work.repeat.Goals as goal
 
 pub returns-then-get-eq0 : goal.returns-then-get-eq0
-unfolding walk copies
+unfolding walk repeated_chars
 returns-then-get-eq0 g c =
     let w = c.args.self.now in
     let none : c.args.count ≡ 0 = grind (arith, nat_tests) in
-    let last = ap (λ (o : Option LastChar). with_last o (λ last. Ok (drawn w (copies w.state last c.args.count)))) c.in-Some.is in
+    let last = ap (λ (o : Option LastChar). with_last o (λ last. Ok (rule_result w (repeated_chars w.state last c.args.count)))) c.in-Some.is in
     obeys_quietly g.S.Sink _ w w c.args.sink.now (g.met.S.Sink.took_none c.args.sink.now) (last ∙ rw none refl)
 
 pub characters-requires-clause-made : goal.characters-requires-clause-made
@@ -33,7 +33,7 @@ returns-in_err-characters g c =
     let by = repeat_is last c.args.count c.from.result (c.from.ensures ∙ c.get-2.ensures.value) few w c.in-Some.is (last_is_code w.state _ last c.requires c.in-Some.is) in
     let entries = front_some last c.args.count c.from.result (c.from.ensures ∙ c.get-2.ensures.value) few w.state some in
     rw c.in_err-characters.ensures.work (obeys_stop g.S.Sink _ w _ _ _ _ _ c.from_residual.ensures.1 (g.met.S.Sink.took_none _) g.met.S.Sink.wants_more by entries
-    (some_put (shows_of g.S.Sink) (Unit {0}) _ _ _ _ _ c.in_err-characters.ensures.put))
+    (some_put (sink_model_of g.S.Sink) (Unit {0}) _ _ _ _ _ c.in_err-characters.ensures.put))
 
 pub returns : goal.returns
 returns g c =

@@ -4,4 +4,4 @@ use Rattle.nap_draw.proofs.work.Work.select_color.Goals as goal
 
 pub returns : goal.returns
 unfolding walk
-returns c = rw (c.selected-self.ensures, c.base-base.ensures) refl
+returns c = rw (c.selected_colour-self.ensures, c.base-base.ensures) refl

@@ -1,5 +1,5 @@
 use Rattle.std.proofs.Common.{◌%◌, map, ◌∙◌, ap}
-use Rattle.nap_values.specs.Operands.{carried}
+use Rattle.nap_values.specs.Operands.{operand_words}
 use Rattle.nap_draw.specs.Rule.{domain_in}
 use Rattle.nap_draw.proofs.Domains.{domain_given}
 use Rattle.nap_draw.proofs.work.Work.set_domain.Goals as goal
@@ -7,5 +7,5 @@ use Rattle.nap_draw.proofs.work.Work.set_domain.Goals as goal
 pub returns : goal.returns
 returns c =
     let word = c.of_byte-word.ensures in
-    rw c.set_pel.ensures (domain_given c.args.self.now (carried c.args.run.now) (carried c.in-Some.words.now) (c.in-Some.word.now % 64) c.get.result c.domain_in-self.result c.first_move-pel.result
+    rw c.set_pel.ensures (domain_given c.args.self.now (operand_words c.args.run.now) (operand_words c.in-Some.words.now) (c.in-Some.word.now % 64) c.get.result c.domain_in-self.result c.first_move-pel.result
     (ap (map (λ byte. byte % 64)) c.in-Some.ensures.cases.0) (c.get.ensures.value ∙ word) c.if-get-eq1.false (c.domain_in-self.ensures ∙ ap domain_in word) c.first_move-pel.ensures)

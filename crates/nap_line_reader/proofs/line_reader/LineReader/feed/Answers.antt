@@ -33,16 +33,16 @@ loop-next-preserved g c =
       );
     }
 
-pub keep-requires : goal.keep-requires
-keep-requires g c = (c.loop-next.invariant.ready, uncut c.loop-next.rest.now c.in_default.ensures)
+pub keep_part-requires : goal.keep_part-requires
+keep_part-requires g c = (c.loop-next.invariant.ready, uncut c.loop-next.rest.now c.in_default.ensures)
 
 pub returns-clause-ready : goal.returns-clause-ready
 returns-clause-ready g c =
-    ready_last g.S.Sink c.loop-next.self c.keep.new.self c.loop-next.rest.now c.keep.result c.loop-next.invariant.ready (uncut c.loop-next.rest.now c.in_default.ensures)
-    c.keep.ensures.part c.keep.ensures.maker c.keep.ensures.short
+    ready_last g.S.Sink c.loop-next.self c.keep_part.new.self c.loop-next.rest.now c.keep_part.result c.loop-next.invariant.ready (uncut c.loop-next.rest.now c.in_default.ensures)
+    c.keep_part.ensures.part c.keep_part.ensures.maker c.keep_part.ensures.short
 
 pub returns-clause-feeds : goal.returns-clause-feeds
 returns-clause-feeds g c s p stands =
     let (done, is, reads) = c.loop-next.invariant.read in
-    subst (λ (xs : List ℕ). Feeds g.S.Sink s (p ++ xs) c.keep.new.self c.keep.result) (sym is)
-    (fed_last g.S.Sink s p done c.loop-next.rest.now c.loop-next.self c.keep.new.self c.keep.result (reads s p stands) c.keep.ensures.part c.keep.ensures.maker c.keep.ensures.keeps)
+    subst (λ (xs : List ℕ). Feeds g.S.Sink s (p ++ xs) c.keep_part.new.self c.keep_part.result) (sym is)
+    (fed_last g.S.Sink s p done c.loop-next.rest.now c.loop-next.self c.keep_part.new.self c.keep_part.result (reads s p stands) c.keep_part.ensures.part c.keep_part.ensures.maker c.keep_part.ensures.keeps)

@@ -3,7 +3,7 @@ use Rattle.std.specs.Option.{is_some}
 use Rattle.std.proofs.lemmas.Bool.{eqb-false, false≢true}
 use Rattle.std.proofs.lemmas.List.{nil_from_length}
 use Rattle.nap_lines.specs.Listing.{lines}
-use Rattle.nap_line_reader.specs.Making.{Cuts}
+use Rattle.nap_line_reader.specs.Making.{IsUnendedLine}
 use Rattle.nap_line_reader.proofs.FeedLemmas.{finishes_cut, finishes_list}
 use Rattle.nap_line_reader.proofs.line_reader.LineReader.finish.Goals as goal
 
@@ -11,9 +11,9 @@ pub returns-then-not-is_empty : goal.returns-then-not-is_empty
 returns-then-not-is_empty g c s p stands =
     let part = c.args.self.now.part.items in
     let same = c.as_slice-part.ensures.value in
-    finishes_cut g.S.Sink s stands.entries c.args.self.now.maker stands.holds p part c.cut_off.result stands.parts c.requires.whole
+    finishes_cut g.S.Sink s stands.entries c.args.self.now.maker stands.holds p part c.unended_line_fault.result stands.parts c.requires.whole
     (omega (arith, eqb-false _ 0 (sym c.is_empty.ensures ∙ c.if-not-is_empty.true), ap length same))
-    (subst (λ (xs : List ℕ). Cuts stands.entries xs c.cut_off.result) same (c.cut_off.ensures s stands.entries stands.holds))
+    (subst (λ (xs : List ℕ). IsUnendedLine stands.entries xs c.unended_line_fault.result) same (c.unended_line_fault.ensures s stands.entries stands.holds))
 
 none_there : {A : Type 0} (o : Option A) → is_some o ≡ false → o ≡ None
 none_there None h = refl

@@ -1,5 +1,5 @@
 use Rattle.std.proofs.Common.{◌∙◌, ap, refl, arith}
-use Rattle.nap_list.specs.Batches.{listed}
+use Rattle.nap_list.specs.Batches.{batch_entries}
 use Rattle.nap_lines.specs.Printing.{Printing}
 use Rattle.nap_lines.specs.PrintingLaws.{passes_none}
 use Rattle.nap_lines.proofs.PrintLemmas.{chunk, sent_on}
@@ -25,9 +25,9 @@ returns-then-more-count g c =
     let at = c.loop-taken.invariant in
     let sent = c.in-Ok.ensures in (
       (
-        chunk O c.args.self.now c.loop-taken.self c.settle.new.self (listed c.args.batch.now) c.loop-taken.taken c.write_batch-more.result c.self.inside.held.items
+        chunk O c.args.self.now c.loop-taken.self c.send_if_large.new.self (batch_entries c.args.batch.now) c.loop-taken.taken c.write_batch-more.result c.self.inside.buffered.items
             c.write_batch-more.new.text.items c.self.inside.outlet c.self.inside.written at.passes sent.0 (ap (λ (t : Printing _). t.outlet) c.self.view_is)
-            (ap (λ (t : Printing _). t.written) c.self.view_is) (ap (λ (t : Printing _). t.held) c.self.view_is) c.write_batch-more.ensures.text,
+            (ap (λ (t : Printing _). t.written) c.self.view_is) (ap (λ (t : Printing _). t.buffered) c.self.view_is) c.write_batch-more.ensures.text,
         ap (λ (t : Printing _). O.failed t.outlet) c.self.view_is ∙ sent.1 ∙ at.works,
       ),
       omega (arith, c.if-more-count.true, c.min-count.ensures, c.len.ensures, c.len-in-loop-taken.ensures, c.loop-taken-test.true),
@@ -41,9 +41,9 @@ loop-taken-preserved g c =
     let sent = c.in-Ok.ensures in
     record {
       within = omega (arith, c.write_batch-more.ensures.count, c.min-count.ensures, c.len.ensures, c.len-in-loop-taken.ensures, c.loop-taken-test.true);
-      passes = chunk O c.args.self.now c.loop-taken.self c.settle.new.self (listed c.args.batch.now) c.loop-taken.taken c.write_batch-more.result c.self.inside.held.items
+      passes = chunk O c.args.self.now c.loop-taken.self c.send_if_large.new.self (batch_entries c.args.batch.now) c.loop-taken.taken c.write_batch-more.result c.self.inside.buffered.items
           c.write_batch-more.new.text.items c.self.inside.outlet c.self.inside.written at.passes sent.0 (ap (λ (t : Printing _). t.outlet) c.self.view_is)
-          (ap (λ (t : Printing _). t.written) c.self.view_is) (ap (λ (t : Printing _). t.held) c.self.view_is) c.write_batch-more.ensures.text;
+          (ap (λ (t : Printing _). t.written) c.self.view_is) (ap (λ (t : Printing _). t.buffered) c.self.view_is) c.write_batch-more.ensures.text;
       works = ap (λ (t : Printing _). O.failed t.outlet) c.self.view_is ∙ sent.1 ∙ at.works;
       state = ap (λ (t : Printing _). t.state) c.self.view_is ∙ sent.2 ∙ at.state;
     }

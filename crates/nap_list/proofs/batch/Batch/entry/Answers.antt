@@ -5,7 +5,7 @@ use Rattle.nap_list.proofs.batch.Batch.entry.Goals.{then-index-eq0, else-index-e
 
 pub returns-after-index-eq0 : goal.returns-after-index-eq0
 returns-after-index-eq0 c =
-    rw (c.typed.ensures) (elim c.if-index-eq0.branch [
-      | then-index-eq0 w ↦ (text_at _ _ _ _ _ _ _ _ _ c.in-Text.is (λ none. w.pen-is) (λ some. absurd (omega (arith, some, w.if-index-eq0.true))) c.item-in-Text.ensures)
-      | else-index-eq0 w ↦ (text_at _ _ _ _ _ _ _ _ _ c.in-Text.is (λ none. absurd (omega (arith, none, w.if-index-eq0.false))) (λ some. w.pen-is) c.item-in-Text.ensures)
+    rw (c.text_entry.ensures) (elim c.if-index-eq0.branch [
+      | then-index-eq0 w ↦ (text_at _ _ _ _ _ _ _ _ _ c.in-Text.is (λ none. w.pen-is) (λ some. absurd (omega (arith, some, w.if-index-eq0.true))) c.item_at-in-Text.ensures)
+      | else-index-eq0 w ↦ (text_at _ _ _ _ _ _ _ _ _ c.in-Text.is (λ none. absurd (omega (arith, none, w.if-index-eq0.false))) (λ some. w.pen-is) c.item_at-in-Text.ensures)
     ])

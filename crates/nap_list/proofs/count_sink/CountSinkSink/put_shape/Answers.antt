@@ -1,16 +1,16 @@
 use Rattle.std.proofs.Common.{◌∷◌, [], Err, refl, arith}
 use Rattle.nap_list.specs.declared.sink.SinkFault.TheVariants.{Memory}
-use Rattle.nap_list.specs.Counting.{Counts, counting, counts_none}
+use Rattle.nap_list.specs.Counting.{CountsEntries, count_sink_model, counts_none}
 use Rattle.nap_list.specs.PuttingLaws.{wanting_put}
-use Rattle.nap_list.specs.Shapes.{drawn_shape}
+use Rattle.nap_list.specs.Shapes.{entry_of_shape}
 use Rattle.nap_list.specs.State.{walk}
 use Rattle.nap_list.proofs.count_sink.CountSinkSink.put_shape.Goals as goal
 
 pub returns-in_default : goal.returns-in_default
-returns-in_default c = wanting_put counting c.args.self.now (drawn_shape c.args.shape.now) (Err Memory) refl (counts_none c.args.self.now) refl (omega (arith, c.checked_add.ensures))
+returns-in_default c = wanting_put count_sink_model c.args.self.now (entry_of_shape c.args.shape.now) (Err Memory) refl (counts_none c.args.self.now) refl (omega (arith, c.checked_add.ensures))
 
 pub returns : goal.returns
 unfolding walk
 returns c =
-    let took : Counts c.args.self.now (drawn_shape c.args.shape.now ∷ []) _ = record { count = omega (arith, c.in-Some.ensures); state = c.step_shape.ensures } in
+    let took : CountsEntries c.args.self.now (entry_of_shape c.args.shape.now ∷ []) _ = record { count = omega (arith, c.in-Some.ensures); state = c.step_shape.ensures } in
     record { took = took; state = took.state; works = λ works. refl; none = λ set. (let bad : ⊥ = cc in absurd bad) }

@@ -1,17 +1,17 @@
 use Rattle.std.proofs.Common.{◌≡◌, List, [], ◌∷◌, ◌++◌, false, refl, sym, append-nil, subst}
 use Rattle.nap_list.specs.declared.entry.Entry.{Entry}
 use Rattle.nap_list.specs.PuttingLaws.{one_put, wanting_put}
-use Rattle.nap_list.specs.Putting.{PutSome, SinkShows, shows}
-use Rattle.nap_list.specs.Shapes.{drawn_shape}
+use Rattle.nap_list.specs.Putting.{PutSome, SinkModel, sink_model}
+use Rattle.nap_list.specs.Shapes.{entry_of_shape}
 use Rattle.nap_list.specs.State.{start, walk}
 use Rattle.nap_list.proofs.sink.ListSinkSink.put_shape.Goals as goal
 
-abbrev listing : SinkShows (List Entry)
-listing = shows (walk start) (λ s d. Unit {0}) (λ s. false) (λ s d t. t ≡ s ++ d) (λ s d e t. ⊥)
+abbrev listing : SinkModel (List Entry)
+listing = sink_model (walk start) (λ s d. Unit {0}) (λ s. false) (λ s d t. t ≡ s ++ d) (λ s d e t. ⊥)
 
 pub returns-in_err-entry : goal.returns-in_err-entry
 returns-in_err-entry c =
-    wanting_put listing c.args.self.now (drawn_shape c.args.shape.now) c.from_residual.result c.from_residual.ensures.1 (sym (append-nil c.args.self.now)) refl tt
+    wanting_put listing c.args.self.now (entry_of_shape c.args.shape.now) c.from_residual.result c.from_residual.ensures.1 (sym (append-nil c.args.self.now)) refl tt
 
 pub returns : goal.returns
 returns c =

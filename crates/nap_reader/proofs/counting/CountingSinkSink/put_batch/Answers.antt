@@ -1,5 +1,5 @@
-use Rattle.nap_reader.proofs.{Counting, Put, ap, length, listed, made, puts, subst, sym, taken_of, ◌∙◌, ◌≡◌}
-use Rattle.nap_reader.proofs.Common.{counting}
+use Rattle.nap_reader.proofs.{CountedSink, Put, ap, length, listed, made, puts, subst, sym, taken_of, ◌∙◌, ◌≡◌}
+use Rattle.nap_reader.proofs.Common.{counting_sink_model}
 use Rattle.nap_reader.proofs.counting.CountingSinkSink.put_batch.Goals as goal
 
 pub returns : goal.returns
@@ -7,11 +7,11 @@ returns g c =
     let s = made c.self.inside.sink c.self.inside.count in
     let put = c.put_batch-put.result in
     let list = listed c.args.batch.now in
-    let t = made c.put_batch-put.new.self c.counted-self-inside.result in
+    let t = made c.put_batch-put.new.self c.count_plus-self-inside.result in
     let is : c.match-put.taken ≡ taken_of (length list) put =
     elim c.match-put.branch [
       | goal.in-Ok w ↦ w.taken-is ∙ w.len-taken.ensures ∙ sym (ap (taken_of (length list)) w.in-Ok.is)
       | goal.in-Err w ↦ w.taken-is ∙ sym (ap (taken_of (length list)) w.in-Err.is)
     ] in
-    subst (λ (x : Counting g.row.S.Denot). Put (counting g.S.Sink) list x t put) c.self.view_is
-    (puts g.S.Sink list s t put c.match-put.taken is c.counted-self-inside.ensures.grows c.counted-self-inside.ensures.none c.put_batch-put.ensures)
+    subst (λ (x : CountedSink g.row.S.Denot). Put (counting_sink_model g.S.Sink) list x t put) c.self.view_is
+    (puts g.S.Sink list s t put c.match-put.taken is c.count_plus-self-inside.ensures.grows c.count_plus-self-inside.ensures.none c.put_batch-put.ensures)

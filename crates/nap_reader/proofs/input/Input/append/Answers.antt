@@ -1,11 +1,11 @@
-use Rattle.nap_reader.proofs.{Frame, List, OnOk, [], ap, arith, bytes_of, coming, drop, grown, grown_either, grown_few, grown_framed, grown_paired, grown_turned, length, length-append, length-take, on_ok_by, part, part_inside, refl, same-frame, subst, sym, take, taken_next, ℕ, ◌++◌, ◌+◌, ◌-◌, ◌∙◌, ◌∷◌, ◌≡◌, ◌≤◌}
+use Rattle.nap_reader.proofs.{Frame, List, OnOk, [], ap, arith, bytes_of, next_bytes, drop, store_grown, grown_either, grown_few, grown_framed, grown_paired, grown_turned, length, length-append, length-take, on_ok_by, sublist, part_inside, refl, same-frame, subst, sym, take, taken_next, ℕ, ◌++◌, ◌+◌, ◌-◌, ◌∙◌, ◌∷◌, ◌≡◌, ◌≤◌}
 use Rattle.nap_reader.proofs.input.Input.append.Goals as goal
 use Rattle.nap_reader.proofs.input.Input.append.Goals.{After-extend_within, After-next}
 
 -- where the bytes lie in the store
 lies : (c : After-next) → (next : ℕ) → (before : List Frame) (frame : Frame) → c.args.self.now.frames.stack.items ≡ before ++ frame ∷ [] → next ≡ frame.next →
     (next + c.args.count ≤ length c.args.self.now.store.bytes)
-    × (part c.args.self.now.store.bytes next (next + c.args.count) ≡ take c.args.count (bytes_of (coming c.args.self.now c.args.piece.now)))
+    × (sublist c.args.self.now.store.bytes next (next + c.args.count) ≡ take c.args.count (bytes_of (next_bytes c.args.self.now c.args.piece.now)))
 lies c next before frame last is =
     let input = c.args.self.now in
     let frames = input.frames.stack.items in
@@ -14,7 +14,7 @@ lies c next before frame last is =
     let same : inner.frame.next ≡ next = ap (λ (f : Frame). f.next) (same-frame frames inner.before before inner.frame frame inner.last last) ∙ sym is in
     let there = part_inside input.store.bytes frames text place inner input.framed c.args.count few in (
       omega (arith, there.0, same),
-      ap (λ (n : ℕ). part input.store.bytes n (n + c.args.count)) (sym same) ∙ there.1
+      ap (λ (n : ℕ). sublist input.store.bytes n (n + c.args.count)) (sym same) ∙ there.1
           ∙ sym (taken_next input c.args.piece.now text place comes c.args.count few),
     )
 
@@ -24,10 +24,10 @@ extend_within-requires-clause-within c =
     (lies (goal.at.extend_within-requires-clause-within c).After-next c.in-Some.next before frame last is).0
 
 -- what was stored
-stored_within : (c : After-extend_within) → (some : List ℕ) × (length some ≤ length (part c.args.self.now.store.bytes c.in-Some.next (c.in-Some.next + c.args.count))) × (c.extend_within.new.self ≡ grown c.args.self.now.store some)
+stored_within : (c : After-extend_within) → (some : List ℕ) × (length some ≤ length (sublist c.args.self.now.store.bytes c.in-Some.next (c.in-Some.next + c.args.count))) × (c.extend_within.new.self ≡ store_grown c.args.self.now.store some)
 stored_within c =
     let bytes = c.args.self.now.store.bytes in
-    grown_either c.extend_within.result c.args.self.now.store c.extend_within.new.self (part bytes c.in-Some.next (c.in-Some.next + c.args.count)) c.extend_within.ensures.ok c.extend_within.ensures.err
+    grown_either c.extend_within.result c.args.self.now.store c.extend_within.new.self (sublist bytes c.in-Some.next (c.in-Some.next + c.args.count)) c.extend_within.ensures.ok c.extend_within.ensures.err
 
 pub invariant_of-self-clause-framed : goal.invariant_of-self-clause-framed
 invariant_of-self-clause-framed c = let k = stored_within c in grown_framed c.args.self.now c.extend_within.new.self k.0 k.2
@@ -38,7 +38,7 @@ invariant_of-self-clause-turned c = let k = stored_within c in grown_turned c.ar
 pub invariant_of-self-clause-few : goal.invariant_of-self-clause-few
 invariant_of-self-clause-few c =
     let k = stored_within c in
-    let count : length (part c.args.self.now.store.bytes c.in-Some.next (c.in-Some.next + c.args.count)) ≤ c.args.count =
+    let count : length (sublist c.args.self.now.store.bytes c.in-Some.next (c.in-Some.next + c.args.count)) ≤ c.args.count =
     omega (arith, length-take (c.in-Some.next + c.args.count - c.in-Some.next) (drop c.in-Some.next c.args.self.now.store.bytes)) in
     grown_few c.args.self.now c.extend_within.new.self k.0 k.2 (omega (arith, k.1, count, c.requires.few))
 
@@ -52,8 +52,8 @@ returns-in-Some-clause-ok c =
     let bytes = (lies (goal.at.returns-in-Some-clause-ok c).After-next c.in-Some.next before frame last there).1 in
     record {
       still = record { same = record { budget = refl; at = refl; fed = refl; turns = refl }; frames = refl; charged = refl };
-      store_is = subst (λ r. OnOk r (c.extend_within.new.self ≡ grown c.args.self.now.store (part c.args.self.now.store.bytes c.in-Some.next (c.in-Some.next + c.args.count)))) is c.extend_within.ensures.ok
-          ∙ ap (grown c.args.self.now.store) bytes;
+      store_is = subst (λ r. OnOk r (c.extend_within.new.self ≡ store_grown c.args.self.now.store (sublist c.args.self.now.store.bytes c.in-Some.next (c.in-Some.next + c.args.count)))) is c.extend_within.ensures.ok
+          ∙ ap (store_grown c.args.self.now.store) bytes;
       body = refl;
     })
 
@@ -67,8 +67,8 @@ returns-in-None-clause-ok c =
     let same : input.at + c.args.count - input.at ≡ c.args.count = omega arith in
     record {
       still = record { same = record { budget = refl; at = refl; fed = refl; turns = refl }; frames = refl; charged = refl };
-      store_is = subst (λ r. OnOk r (c.extend.new.self ≡ grown input.store (take (input.at + c.args.count - input.at) (drop input.at piece)))) is c.extend.ensures.ok
-          ∙ ap (grown input.store)
+      store_is = subst (λ r. OnOk r (c.extend.new.self ≡ store_grown input.store (take (input.at + c.args.count - input.at) (drop input.at piece)))) is c.extend.ensures.ok
+          ∙ ap (store_grown input.store)
           (ap (λ (n : ℕ). take n (drop input.at piece)) same ∙ ap (take c.args.count) (sym front)
           ∙ sym (taken_next input piece text place comes c.args.count few));
       body = refl;

@@ -41,9 +41,9 @@ returns-then-count-eq0 c =
       same = record { budget = refl; at = refl; fed = refl; turns = refl };
     })
 
-pub returns-then-count-left : goal.returns-then-count-left
-returns-then-count-left c = record {
-  reason = inl (refl, omega (arith, counted (goal.at.returns-then-count-left c).After-span-span, c.left.ensures.left, c.if-count-left.true));
+pub returns-then-count-budget_left : goal.returns-then-count-budget_left
+returns-then-count-budget_left c = record {
+  reason = inl (refl, omega (arith, counted (goal.at.returns-then-count-budget_left c).After-span-span, c.budget_left.ensures.left, c.if-count-budget_left.true));
   still = record { same = record { budget = refl; at = refl; fed = refl; turns = refl }; frames = refl; charged = refl };
 }
 
@@ -51,7 +51,7 @@ pub returns-in_default : goal.returns-in_default
 returns-in_default c =
     let count = counted (goal.at.returns-in_default c).After-span-span in
     record {
-      reason = inr (refl, omega (arith, count, c.if-count-eq0.false), omega (arith, count, c.left.ensures.left, c.if-count-left.false));
+      reason = inr (refl, omega (arith, count, c.if-count-eq0.false), omega (arith, count, c.budget_left.ensures.left, c.if-count-budget_left.false));
       still = record { same = record { budget = refl; at = refl; fed = refl; turns = refl }; frames = c.reserve.ensures.items; charged = refl };
     }
 
@@ -62,7 +62,7 @@ returns c =
     let frame : Frame = record { next = span.start; end = span.end; place = c.args.place } in
     let count = counted (goal.at.returns c).After-span-span in
     record {
-      few = omega (arith, count, c.left.ensures.left, c.if-count-left.false);
+      few = omega (arith, count, c.budget_left.ensures.left, c.if-count-budget_left.false);
       charged = omega (arith, count);
       unread = ap (unread input.store.bytes) (c.push_reserved.ensures ∙ ap (λ (fs : List Frame). fs ++ frame ∷ []) c.reserve.ensures.items) ∙ unread-push input.store.bytes input.frames.stack.items frame
           ∙ ap (λ (bytes : List ℕ). all_at c.args.place bytes ++ unread input.store.bytes input.frames.stack.items) c.span-span.ensures.body;

@@ -1,4 +1,4 @@
-use Rattle.nap_reader.proofs.{Bool, Comes, IsOver, IsTrue, List, behind, false, is_operand_byte, not, subst, sym, true, ℕ, ◌∷◌, ◌≡◌}
+use Rattle.nap_reader.proofs.{Bool, AreNextBytes, IsOver, IsTrue, List, bytes_after, false, is_operand_byte, not, subst, sym, true, ℕ, ◌∷◌, ◌≡◌}
 use Rattle.nap_reader.proofs.input.Input.is_ended.Goals as goal
 
 -- bytes are over where their first is no operand byte
@@ -9,6 +9,6 @@ over_by bytes b rest is false operand ends = record { byte = b; rest = rest; is 
 pub returns-in-Some : goal.returns-in-Some
 returns-in-Some c text place comes ends =
     let input = c.args.self.now in
-    let next = c.in-Some.ensures text input.fed place (subst (λ (stored : List ℕ). Comes stored input.frames.stack.items c.args.piece.now input.at input.fed text place) (sym c.bytes.ensures) comes) in
-    subst (λ (stored : List ℕ). IsOver (behind stored input.frames.stack.items c.args.piece.now input.at text)) c.bytes.ensures
+    let next = c.in-Some.ensures text input.fed place (subst (λ (stored : List ℕ). AreNextBytes stored input.frames.stack.items c.args.piece.now input.at input.fed text place) (sym c.bytes.ensures) comes) in
+    subst (λ (stored : List ℕ). IsOver (bytes_after stored input.frames.stack.items c.args.piece.now input.at text)) c.bytes.ensures
     (over_by _ c.in-Some.byte next.0 next.1 c.is_operand.result c.is_operand.ensures ends)

@@ -1,4 +1,4 @@
-use Rattle.nap_reader.proofs.{bytes_of, comes_grown, coming, reads_still, refl, take}
+use Rattle.nap_reader.proofs.{bytes_of, comes_grown, next_bytes, reads_still, refl, take}
 use Rattle.nap_reader.proofs.input.Input.keep.Goals as goal
 
 pub advance-requires : goal.advance-requires
@@ -10,7 +10,7 @@ advance-requires c =
       reads = reads_still c.requires.reads sets.still.same;
       place = place;
       text = text;
-      comes = comes_grown (take c.args.count (bytes_of (coming c.args.self.now c.args.piece.now))) sets refl comes;
+      comes = comes_grown (take c.args.count (bytes_of (next_bytes c.args.self.now c.args.piece.now))) sets refl comes;
       few = few;
     }
 

@@ -1,9 +1,9 @@
-use Rattle.nap_reader.proofs.{List, [], arith, grown, grown_either, grown_few, grown_framed, grown_paired, grown_turned, length, ℕ, ◌∷◌, ◌≡◌, ◌≤◌}
+use Rattle.nap_reader.proofs.{List, [], arith, store_grown, grown_either, grown_few, grown_framed, grown_paired, grown_turned, length, ℕ, ◌∷◌, ◌≡◌, ◌≤◌}
 use Rattle.nap_reader.proofs.input.Input.keep_escape.Goals as goal
 use Rattle.nap_reader.proofs.input.Input.keep_escape.Goals.{After-push}
 
 -- what was stored
-stored : (c : After-push) → (some : List ℕ) × (length some ≤ 1) × (c.push.new.self ≡ grown c.args.self.now.store some)
+stored : (c : After-push) → (some : List ℕ) × (length some ≤ 1) × (c.push.new.self ≡ store_grown c.args.self.now.store some)
 stored c = grown_either c.push.result c.args.self.now.store c.push.new.self (0x1B ∷ []) c.push.ensures.ok c.push.ensures.err
 
 pub invariant_of-self-clause-framed : goal.invariant_of-self-clause-framed

@@ -1,8 +1,8 @@
-use Rattle.nap_reader.proofs.{Frame, FramesIn, List, Placed, Span, StoreState, [], all_at, ap, arith, frames-push, frames-store, length, length-append, length-part, length-unread-push, part_at, refl, subst, sym, unread, unread-push, unread-store, ℕ, ◌++◌, ◌+◌, ◌-◌, ◌<◌, ◌∙◌, ◌∷◌, ◌≡◌, ◌≤◌}
+use Rattle.nap_reader.proofs.{Frame, FramesIn, List, Placed, Span, StoreState, [], all_at, ap, arith, frames-push, frames-store, length, length-append, length-part, length-unread-push, sublist_at, refl, subst, sym, unread, unread-push, unread-store, ℕ, ◌++◌, ◌+◌, ◌-◌, ◌<◌, ◌∙◌, ◌∷◌, ◌≡◌, ◌≤◌}
 use Rattle.nap_reader.proofs.input.Input.show.Goals as goal
 
 -- how many bytes come next
-counted : (bytes : List ℕ) (span : Span) (body : List ℕ) (ender : ℕ) → (span.start < span.end) × (span.end ≤ length bytes) → part_at bytes span ≡ body ++ 0x1B ∷ ender ∷ [] → span.end - span.start ≡ length body + 2
+counted : (bytes : List ℕ) (span : Span) (body : List ℕ) (ender : ℕ) → (span.start < span.end) × (span.end ≤ length bytes) → sublist_at bytes span ≡ body ++ 0x1B ∷ ender ∷ [] → span.end - span.start ≡ length body + 2
 counted bytes span body ender within next =
     omega (arith, within.0, ap (λ (xs : List ℕ). length xs) next, length-append body (0x1B ∷ ender ∷ []), length-part bytes span.start span.end (omega (arith, within.0)) within.1)
 
@@ -49,7 +49,7 @@ returns c =
     let frame : Frame = record { next = span.start; end = span.end; place = c.args.place } in
     let same = unread-store input.store c.show.new.self (0x1B ∷ c.args.ender ∷ []) input.frames.stack.items (ap (λ (t : StoreState). t.bytes) c.in-Ok-show.ensures.ok) input.framed in
     record {
-      few = omega (arith, many, c.open_len.ensures.count, c.left.ensures.left, c.if-count-left.false);
+      few = omega (arith, many, c.open_len.ensures.count, c.budget_left.ensures.left, c.if-count-budget_left.false);
       charged = omega (arith, many, c.open_len.ensures.count);
       unread = ap (unread stored) (c.push_reserved.ensures ∙ ap (λ (fs : List Frame). fs ++ frame ∷ []) c.reserve.ensures.items) ∙ unread-push stored input.frames.stack.items frame
           ∙ ap (λ (bs : List ℕ). all_at c.args.place bs ++ unread stored input.frames.stack.items) c.in-Ok-show.ensures.next ∙ ap (λ (xs : List Placed). all_at c.args.place bytes ++ xs) same;

@@ -1,18 +1,18 @@
-use Rattle.nap_reader.proofs.{Bool, Ghosts, List, None, Refuses, Request, Takes, TookMore, ap, arith, bytes_of, bytes_of-spaced, drop, inr, left_bytes, length, length-drop, length-spaced, place_at, place_at-drop, place_at-spaced, refl, refusal, spaced, subst, sym, take, take_all, takes_then, took, took_all, took_none, ℕ, ◌+◌, ◌-◌, ◌<◌, ◌∙◌, ◌≡◌}
+use Rattle.nap_reader.proofs.{Bool, Ghosts, List, None, Refuses, Request, Takes, TookMore, ap, arith, bytes_of, bytes_of-spaced, drop, inr, left_bytes, length, length-drop, length-spaced, place_at, place_at-drop, place_at-spaced, refl, refusal, placed_by_step, subst, sym, take, take_all, takes_then, took, took_all, took_none, ℕ, ◌+◌, ◌-◌, ◌<◌, ◌∙◌, ◌≡◌}
 use Rattle.nap_reader.specs.declared.machine.Machine.{Machine}
 use Rattle.nap_reader.proofs.TakingLemmas.{Took}
 use Rattle.nap_reader.proofs.machine.Machine.codes.Goals as goal
 
 -- the bytes behind so many
-bytes_at : (place step : ℕ) (bytes : List ℕ) (count : ℕ) → take (length bytes - count) (drop count bytes) ≡ bytes_of (drop count (spaced place step bytes))
+bytes_at : (place step : ℕ) (bytes : List ℕ) (count : ℕ) → take (length bytes - count) (drop count bytes) ≡ bytes_of (drop count (placed_by_step place step bytes))
 bytes_at place step bytes count =
-    take_all (length bytes - count) (drop count bytes) (omega (arith, length-drop count bytes)) ∙ ap (drop count) (sym (bytes_of-spaced place step bytes)) ∙ sym (left_bytes (spaced place step bytes) count)
+    take_all (length bytes - count) (drop count bytes) (omega (arith, length-drop count bytes)) ∙ ap (drop count) (sym (bytes_of-spaced place step bytes)) ∙ sym (left_bytes (placed_by_step place step bytes) count)
 
 -- It takes more.
-further : {S : Type 0} {g : Ghosts S} {old mid mid' new : Machine S g} {ended : Bool} {count n : ℕ} {request : Request} (place step : ℕ) (bytes : List ℕ) → Took old mid (spaced place step bytes) ended count → TookMore g → count < length bytes → mid.open_run ≡ None → mid' ≡ mid →
-    Takes mid' new (drop count (spaced place step bytes)) ended n request → Takes old new (spaced place step bytes) ended (count + n) request
+further : {S : Type 0} {g : Ghosts S} {old mid mid' new : Machine S g} {ended : Bool} {count n : ℕ} {request : Request} (place step : ℕ) (bytes : List ℕ) → Took old mid (placed_by_step place step bytes) ended count → TookMore g → count < length bytes → mid.open_run ≡ None → mid' ≡ mid →
+    Takes mid' new (drop count (placed_by_step place step bytes)) ended n request → Takes old new (placed_by_step place step bytes) ended (count + n) request
 further {new = new} {ended = ended} {count = count} {n = n} {request = request} place step bytes t more less closed same takes =
-    takes_then t more (inr (omega (arith, less, length-spaced place step bytes), closed)) (subst (λ (m : Machine _ _). Takes m new (drop count (spaced place step bytes)) ended n request) same takes)
+    takes_then t more (inr (omega (arith, less, length-spaced place step bytes), closed)) (subst (λ (m : Machine _ _). Takes m new (drop count (placed_by_step place step bytes)) ended n request) same takes)
 
 pub loop-count-init : goal.loop-count-init
 loop-count-init g c = record { took = took_none _ _ c.requires.live c.requires.closed; live = c.requires.live; closed = λ less. c.requires.closed }
@@ -51,7 +51,7 @@ returns-in-Opens g c =
     let less = c.loop-count-test.true in
     let count = c.loop-count.count in
     let e : count + (c.open.result.count - count) ≡ c.open.result.count = omega (arith, c.open.ensures.some) in
-    subst (λ (n : ℕ). Takes c.args.self.now c.open.new.self (spaced slice.place slice.step slice.bytes.now) c.args.ended n c.open.result.request) e
+    subst (λ (n : ℕ). Takes c.args.self.now c.open.new.self (placed_by_step slice.place slice.step slice.bytes.now) c.args.ended n c.open.result.request) e
     (further slice.place slice.step slice.bytes.now so.took g.met.S.Sink.took_more less (so.closed less) c.in-Opens.ensures.within.0 c.open.ensures.takes)
 
 pub returns-in-Stopped : goal.returns-in-Stopped
@@ -62,7 +62,7 @@ returns-in-Stopped g c =
     let less = c.loop-count-test.true in
     let count = c.loop-count.count in
     let index = c.in-Stopped.index in
-    let xs = spaced slice.place slice.step bytes in
+    let xs = placed_by_step slice.place slice.step bytes in
     let code = rw (bytes_at slice.place slice.step bytes count) at c.in-Stopped.ensures in
     let within : count + index < length bytes = omega (arith, c.in-Stopped.ensures.within.1, less, length-drop count bytes, ap length (bytes_at slice.place slice.step bytes count)) in
     let place : c.place_of.result ≡ place_at (drop count xs) index = c.place_of.ensures ∙ sym (place_at-drop xs count index ∙ place_at-spaced slice.place slice.step bytes (count + index) within) in
@@ -80,7 +80,7 @@ returns-in_default g c =
     let less = c.loop-count-test.true in
     let count = c.loop-count.count in
     let e : count + (c.other-taken.result.count - count) ≡ c.other-taken.result.count = omega (arith, c.other-taken.ensures.from) in
-    subst (λ (n : ℕ). Takes c.args.self.now c.other-taken.new.self (spaced slice.place slice.step slice.bytes.now) c.args.ended n c.other-taken.result.request) e
+    subst (λ (n : ℕ). Takes c.args.self.now c.other-taken.new.self (placed_by_step slice.place slice.step slice.bytes.now) c.args.ended n c.other-taken.result.request) e
     (further slice.place slice.step slice.bytes.now so.took g.met.S.Sink.took_more less (so.closed less) c.in-Other.ensures.within c.other-taken.ensures.takes)
 
 pub loop-count-preserved : goal.loop-count-preserved
@@ -89,7 +89,7 @@ loop-count-preserved g c =
     let so = c.loop-count.invariant in
     let less = c.loop-count-test.true in
     let count = c.loop-count.count in
-    let xs = spaced slice.place slice.step slice.bytes.now in
+    let xs = placed_by_step slice.place slice.step slice.bytes.now in
     let takes = rw c.in-Nothing.is at c.other-taken.ensures.takes in
     let e : count + (c.other-taken.result.count - count) ≡ c.other-taken.result.count = omega (arith, c.other-taken.ensures.from) in
     record {

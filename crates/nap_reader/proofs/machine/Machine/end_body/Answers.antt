@@ -1,4 +1,4 @@
-use Rattle.nap_reader.proofs.{Bool, CannotShow, Lawful, None, Shows, StoreState, [], behind_escape, bound_goes, byte_passed, byte_stops, can_pass, closed, false, not, own_fault, passed_still, refl, shown_goes, shown_stops, subst, sym, true, ◌++◌, ◌∷◌, ◌≡◌}
+use Rattle.nap_reader.proofs.{Bool, CannotShow, Lawful, None, Shows, StoreState, [], behind_escape, bound_goes, byte_passed, byte_stops, can_pass, store_bound, false, not, own_fault, passed_still, refl, shown_goes, shown_stops, subst, sym, true, ◌++◌, ◌∷◌, ◌≡◌}
 use Rattle.nap_reader.proofs.machine.Machine.end_body.Goals as goal
 
 was_not : (b : Bool) → not b ≡ false → b ≡ true
@@ -22,7 +22,7 @@ pub returns-in-Ok-clause-goes : goal.returns-in-Ok-clause-goes
 returns-in-Ok-clause-goes g c = λ piece next.
     let live = c.requires.live in
     let adv = c.advance.ensures in
-    let shows = subst (λ (store : StoreState). Shows c.advance.new.self c.show.new.self (closed store c.args.body.name) None (store.body ++ 0x1B ∷ c.args.next.byte ∷ []) c.args.next.place) adv.store c.in-Ok.ensures in
+    let shows = subst (λ (store : StoreState). Shows c.advance.new.self c.show.new.self (store_bound store c.args.body.name) None (store.body ++ 0x1B ∷ c.args.next.byte ∷ []) c.args.next.place) adv.store c.in-Ok.ensures in
     shown_goes c.args.self.now (behind_escape c.requires.open c.requires.held next c.requires.ends) (was_not c.args.body.show c.if-not-body.false) g.met.S.Sink.took_more adv shows
     (record { live = record { live = live.live; agrees = live.agrees }; clear = λ clear. clear }) (refl, refl, refl) refl
 

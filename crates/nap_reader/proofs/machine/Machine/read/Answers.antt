@@ -1,28 +1,28 @@
-use Rattle.nap_reader.proofs.{ReadsTo, Turn, ap, arith, begin_reads, comes_rested, err_from_is_err_and, leaves_live, length-spaced, reads_piece, smaller, stops_piece, stops_then, subst, sym, turn_is, turn_less, ℕ, ◌*◌, ◌+◌, ◌-◌, ◌∙◌, ◌≡◌}
+use Rattle.nap_reader.proofs.{ReadsTo, TakesSlice, ap, arith, begin_reads, comes_rested, err_from_is_err_and, leaves_live, length-spaced, reads_piece, smaller, stops_piece, stops_then, subst, sym, turn_is, turn_less, ℕ, ◌*◌, ◌+◌, ◌-◌, ◌∙◌, ◌≡◌}
 use Rattle.nap_reader.proofs.machine.Machine.read.Goals as goal
 use Rattle.nap_reader.proofs.machine.Machine.read.Goals.{After-place_of-place}
 
 -- the bytes that were taken
-turned : (g : _) (c : After-place_of-place g) → Turn {S = g.row.S.Denot} {g = g.S.Sink} c.loop-slice.self c.take-taken.new.self c.loop-slice.input c.args.piece.now c.take-taken.result.count c.take-taken.result.request c.place_of-place.result
+turned : (g : _) (c : After-place_of-place g) → TakesSlice {S = g.row.S.Denot} {g = g.S.Sink} c.loop-slice.self c.take-taken.new.self c.loop-slice.input c.args.piece.now c.take-taken.result.count c.take-taken.result.request c.place_of-place.result
 turned g c =
     let last : c.saturating_sub.result ≡ c.take-taken.result.count - 1 = omega (arith, c.saturating_sub.ensures) in
     turn_is c.loop-slice.invariant.reads c.loop-slice.invariant.ends c.in-Some.ensures c.take-taken.ensures (c.place_of-place.ensures ∙ ap (λ (i : ℕ). c.in-Some.slice.place + c.in-Some.slice.step * i) last)
 
 pub define-requires-clause-reads : goal.define-requires-clause-reads
-define-requires-clause-reads g c = begin_reads c.args.input.now c.begin.new.self c.args.piece.now c.begin.ensures (omega (arith, c.requires.few)) c.requires.few
+define-requires-clause-reads g c = begin_reads c.args.input.now c.begin_piece.new.self c.args.piece.now c.begin_piece.ensures (omega (arith, c.requires.few)) c.requires.few
 
 pub loop-slice-init : goal.loop-slice-init
 loop-slice-init g c = record {
   live = c.in_ok-define.ensures.live;
   reads = c.in_ok-define.ensures.goes.counts.reads;
   ends = c.in_ok-define.ensures.ends;
-  goes = λ old before by. c.in_ok-define.ensures.goes.on old before (subst (λ i. ReadsTo {S = g.row.S.Denot} {g = g.S.Sink} old c.args.piece.now c.args.self.now i) (sym c.begin.ensures) by);
+  goes = λ old before by. c.in_ok-define.ensures.goes.on old before (subst (λ i. ReadsTo {S = g.row.S.Denot} {g = g.S.Sink} old c.args.piece.now c.args.self.now i) (sym c.begin_piece.ensures) by);
 }
 
 pub returns-in_err-define-clause-reads : goal.returns-in_err-define-clause-reads
 returns-in_err-define-clause-reads g c =
     let e = err_from_is_err_and c.from_residual.result c.from_residual.ensures.1 in
-    rw e.1 (stops_piece c.begin.ensures c.requires.rested c.requires.live.live (omega (arith, c.requires.few)) c.requires.few c.in_err-define.ensures.goes)
+    rw e.1 (stops_piece c.begin_piece.ensures c.requires.rested c.requires.live.live (omega (arith, c.requires.few)) c.requires.few c.in_err-define.ensures.goes)
 
 pub place_of-place-requires : goal.place_of-place-requires
 place_of-place-requires g c = omega (arith, c.take-taken.ensures.within, length-spaced c.in-Some.slice.place c.in-Some.slice.step c.in-Some.slice.bytes.now, c.saturating_sub.ensures)
@@ -56,8 +56,8 @@ returns-in_err-answer-clause-reads g c =
     let e = err_from_is_err_and c.from_residual-in_err-answer.result c.from_residual-in_err-answer.ensures.1 in
     let turn = turned g (goal.at.returns-in_err-answer-clause-reads g c).After-place_of-place in
     rw e.1
-    (stops_piece c.begin.ensures c.requires.rested c.requires.live.live (omega (arith, c.requires.few)) c.requires.few
-    (stops_then (λ old before by. c.loop-slice.invariant.goes old before (subst (λ i. ReadsTo {S = g.row.S.Denot} {g = g.S.Sink} old c.args.piece.now c.args.self.now i) c.begin.ensures by))
+    (stops_piece c.begin_piece.ensures c.requires.rested c.requires.live.live (omega (arith, c.requires.few)) c.requires.few
+    (stops_then (λ old before by. c.loop-slice.invariant.goes old before (subst (λ i. ReadsTo {S = g.row.S.Denot} {g = g.S.Sink} old c.args.piece.now c.args.self.now i) c.begin_piece.ensures by))
     (c.in_err-answer.ensures.goes c.loop-slice.self turn)))
 
 pub returns-clause-rests : goal.returns-clause-rests
@@ -65,5 +65,5 @@ returns-clause-rests g c = comes_rested c.loop-slice.input c.args.piece.now c.in
 
 pub returns-clause-reads : goal.returns-clause-reads
 returns-clause-reads g c =
-    reads_piece c.begin.ensures c.requires.rested c.requires.live.live (omega (arith, c.requires.few)) c.requires.few
-    (λ old before by. c.loop-slice.invariant.goes old before (subst (λ i. ReadsTo {S = g.row.S.Denot} {g = g.S.Sink} old c.args.piece.now c.args.self.now i) c.begin.ensures by)) c.in_default.ensures
+    reads_piece c.begin_piece.ensures c.requires.rested c.requires.live.live (omega (arith, c.requires.few)) c.requires.few
+    (λ old before by. c.loop-slice.invariant.goes old before (subst (λ i. ReadsTo {S = g.row.S.Denot} {g = g.S.Sink} old c.args.piece.now c.args.self.now i) c.begin_piece.ensures by)) c.in_default.ensures

@@ -1,4 +1,4 @@
-use Rattle.nap_reader.proofs.{EighthBit, IsLive, Lawful, None, Sink, Some, ap, arith, byte_eighth, byte_passed, byte_stops, can_pass, err_from_is_err_and, get_or, goes_nowhere, goes_then, held_by, inl, inr, is_some, next_byte, placed_at, refl, refusal, smaller, stops_own, stops_then, subst, sym, ◌∙◌, ◌≡◌, ◌≢◌}
+use Rattle.nap_reader.proofs.{EighthBit, IsLive, Lawful, None, Sink, Some, ap, arith, byte_eighth, byte_passed, byte_stops, can_pass, err_from_is_err_and, get_or, goes_nowhere, goes_then, reading_state_by, inl, inr, is_some, next_byte, placed_at, refl, refusal, smaller, stops_own, stops_then, subst, sym, ◌∙◌, ◌≡◌, ◌≢◌}
 use Rattle.nap_reader.proofs.machine.Machine.take_body.Goals as goal
 
 pub loop-input-init : goal.loop-input-init
@@ -27,7 +27,7 @@ pub returns-then-next-ge128-clause-goes : goal.returns-then-next-ge128-clause-go
 returns-then-next-ge128-clause-goes g c =
     let laws : Lawful g.S.Sink = record { more = g.met.S.Sink.took_more; broken = g.met.S.Sink.took_broke; wants = g.met.S.Sink.wants_more; none = g.met.S.Sink.took_none } in
     let m = c.loop-input.self in
-    let h = held_by m c.loop-input.input in
+    let h = reading_state_by m c.loop-input.input in
     let place = c.in-Some-next_slice.slice.place in
     let byte = get_or c.in-Some-next_slice.slice.bytes.now 0 0 in
     let next = next_byte c.loop-input.invariant.goes.counts.reads c.in-Some-next_slice.ensures in

@@ -8,7 +8,7 @@ returns-then-eq c =
     let lexer = c.args.lexer.now in
     let name = c.if-is_name.ensures.0 refl in
     let macros : set_at lexer.sets lexer.sets.gl ≡ Macros =
-    ap (λ (sets : CodeSets). set_at sets sets.gl) (sym c.sets-sets.ensures) ∙ sym c.at.ensures ∙ same_true the_type (search rules) _ _ (sym c.if-eq.ensures) in
+    ap (λ (sets : CodeSets). set_at sets sets.gl) (sym c.sets-sets.ensures) ∙ sym c.set_at.ensures ∙ same_true the_type (search rules) _ _ (sym c.if-eq.ensures) in
     calls_by_name lexer c.args.bytes.now (c.if-not-at_rest.ensures.rests.0 refl) name.0 name.1 macros
 
 pub returns-then-eq-2 : goal.returns-then-eq-2
@@ -16,5 +16,5 @@ returns-then-eq-2 c =
     let lexer = c.args.lexer.now in
     let name = c.if-is_name-2.ensures.0 refl in
     let macros : lexer.sets.g3 ≡ Macros =
-    ap (λ (sets : CodeSets). sets.g3) (sym c.sets-sets.ensures) ∙ sym c.at-then-is_name-2.ensures ∙ same_true the_type (search rules) _ _ (sym c.if-eq-2.ensures) in
+    ap (λ (sets : CodeSets). sets.g3) (sym c.sets-sets.ensures) ∙ sym c.set_at-then-is_name-2.ensures ∙ same_true the_type (search rules) _ _ (sym c.if-eq-2.ensures) in
     calls_by_shift lexer c.args.bytes.now (c.if-not-at_rest.ensures.rests.0 refl) (omega (arith, c.if-bytes-eq29.true)) name.0 name.1 macros

@@ -13,10 +13,10 @@ returns-in-Some c =
       names = c.in-Some.ensures.front;
     }
 
-pub returns-in-Some-characters : goal.returns-in-Some-characters
-returns-in-Some-characters c =
-    let set = c.in-Some-characters.set in
-    let chars = (c.characters.ensures set).0 c.in-Some-characters.is in
+pub returns-in-Some-char_set : goal.returns-in-Some-char_set
+returns-in-Some-char_set c =
+    let set = c.in-Some-char_set.set in
+    let chars = (c.char_set.ensures set).0 c.in-Some-char_set.is in
     (record { rested = (chars 0x20 (omega arith, omega arith)).0; chars = λ b graphic. (chars b graphic).1 }, omega arith)
 
 pub returns-in-Some-format_effector : goal.returns-in-Some-format_effector

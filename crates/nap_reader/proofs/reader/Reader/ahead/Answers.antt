@@ -3,7 +3,7 @@ use Rattle.std.proofs.lemmas.List.Sums.{prefix_len-le-length}
 use Rattle.std.specs.List.{prefix_len}
 use Rattle.nap_reader.specs.Standing.{budget_of}
 use Rattle.nap_reader.proofs.AheadLemmas.{behind_first, closed_by_characters, no_operand, opcode_brings, text_brings}
-use Rattle.nap_reader.proofs.ComingLemmas.{first_byte}
+use Rattle.nap_reader.proofs.NextByteLemmas.{first_byte}
 use Rattle.nap_reader.proofs.Common.{AllCharacters, begun, is_of_text, is_operand_byte}
 use Rattle.nap_reader.proofs.OperandLemmas.{at_front}
 use Rattle.nap_reader.proofs.reader.Reader.ahead.Goals as goal
@@ -12,7 +12,7 @@ pub overflow_add-result : goal.overflow_add-result
 overflow_add-result g c =
     let piece = c.args.piece.now in
     let (rest, parts) = first_byte piece c.in-Some.byte.now (sym c.in-Some.ensures.value) in
-    let counted = c.operand_bytes.ensures ∙ ap (prefix_len is_operand_byte) (behind_first piece rest c.in-Some.byte.now parts) in
+    let counted = c.operand_prefix_len.ensures ∙ ap (prefix_len is_operand_byte) (behind_first piece rest c.in-Some.byte.now parts) in
     omega (arith, counted, prefix_len-le-length is_operand_byte rest, ap length parts)
 
 -- the opcode, and its operands
@@ -20,7 +20,7 @@ pub returns-in-Some-opcode-clause-within : goal.returns-in-Some-opcode-clause-wi
 returns-in-Some-opcode-clause-within g c =
     let piece = c.args.piece.now in
     let (rest, parts) = first_byte piece c.in-Some.byte.now (sym c.in-Some.ensures.value) in
-    let counted = c.operand_bytes.ensures ∙ ap (prefix_len is_operand_byte) (behind_first piece rest c.in-Some.byte.now parts) in
+    let counted = c.operand_prefix_len.ensures ∙ ap (prefix_len is_operand_byte) (behind_first piece rest c.in-Some.byte.now parts) in
     omega (arith, counted, prefix_len-le-length is_operand_byte rest, ap length parts)
 
 pub returns-in-Some-opcode-clause-brings : goal.returns-in-Some-opcode-clause-brings
@@ -30,10 +30,10 @@ returns-in-Some-opcode-clause-brings g c = λ live s p stands j some few.
     let b = c.in-Some.byte.now in
     let op = c.in-Some-opcode.field-0 in
     let (rest, parts) = first_byte piece b (sym c.in-Some.ensures.value) in
-    let counted = c.operand_bytes.ensures ∙ ap (prefix_len is_operand_byte) (behind_first piece rest b parts) in
+    let counted = c.operand_prefix_len.ensures ∙ ap (prefix_len is_operand_byte) (behind_first piece rest b parts) in
     ap (λ (bs : List ℕ). (begun budget (p ++ take j bs)).entries) parts
     ∙ opcode_brings budget p (stands.continues live) c.in_default-body.is ((c.opcode.ensures.is op).0 c.in-Some-opcode.is).0 b op c.in-Some-opcode.ensures.front
-    (no_operand b (omega (arith, c.if-byte-lt64.true))) rest c.operand_bytes.result counted j some few
+    (no_operand b (omega (arith, c.if-byte-lt64.true))) rest c.operand_prefix_len.result counted j some few
     ∙ sym (ap (λ (bs : List ℕ). (begun budget (p ++ take 1 bs)).entries) parts)
 
 -- characters
@@ -41,8 +41,8 @@ pub returns-then-count-gt0-clause-brings : goal.returns-then-count-gt0-clause-br
 returns-then-count-gt0-clause-brings g c = λ live s p stands.
     let machine = c.args.self.now.machine in
     let piece = c.args.piece.now in
-    let set = c.in-Some-characters.field-0 in
-    let chars = (c.characters.ensures set).0 c.in-Some-characters.is in
+    let set = c.in-Some-char_set.field-0 in
+    let chars = (c.char_set.ensures set).0 c.in-Some-char_set.is in
     let are : AllCharacters machine.lexer.sets set = λ b graphic. (chars b graphic).1 in
     text_brings (budget_of c.args.self.now) p piece c.text_bytes-count.result.now (stands.continues live)
     (record {

@@ -1,4 +1,4 @@
-use Rattle.nap_reader.proofs.{ClosesInto, EndsRun, IfErr, IsOwn, IsTaken, Lawful, List, MatchResult, None, Outcome, Some, Stands, ap, begun, body_ended, broke_in_run, cause_of, device, ended_is, ends_run, ends_works, false, holding_of, if_err_by, leads_unrefused, means, on_ok_by, refused_at_end, stops_at_end, stream, subst, sym, true, with_run, ℕ, ◌∙◌, ◌≡◌}
+use Rattle.nap_reader.proofs.{ClosesInto, EndsRun, IfErr, IsOwn, IsTaken, Lawful, List, MatchResult, None, Outcome, Some, HasRead, ap, begun, body_ended, broke_in_run, cause_of, device, ended_is, ends_run, ends_works, false, reading_state, if_err_by, leads_unrefused, means, on_ok_by, refused_at_end, stops_at_end, stream, subst, sym, true, with_run, ℕ, ◌∙◌, ◌≡◌}
 use Rattle.nap_reader.proofs.reader.Reader.end.Goals as goal
 use Rattle.nap_reader.proofs.reader.Reader.end.Goals.{After-check_finished, In-Err, In_default-end_run}
 
@@ -10,10 +10,10 @@ returns-in-Some-body-clause-refused g c = λ own s p h.
     body_ended c.args.self.now.input.budget p c.args.self.now.input.fed (h.continues c.in_default.is) c.in-Some-body.is (h.fed c.in_default.is)
 
 -- The opcode of the open run was refused, or broke.
-closes : (g : _) (c : In-Err g) (s : g.row.S.Denot) (p : List ℕ) → Stands {S = g.row.S.Denot} {g = g.S.Sink} c.args.self.now s p → ClosesInto g.S.Sink s c.args.self.now.input.budget p c.end_run.new.self.sink c.in-Err.refusal
+closes : (g : _) (c : In-Err g) (s : g.row.S.Denot) (p : List ℕ) → HasRead {S = g.row.S.Denot} {g = g.S.Sink} c.args.self.now s p → ClosesInto g.S.Sink s c.args.self.now.input.budget p c.end_run.new.self.sink c.in-Err.refusal
 closes g c s p h =
     let laws : Lawful g.S.Sink = record { more = g.met.S.Sink.took_more; broken = g.met.S.Sink.took_broke; wants = g.met.S.Sink.wants_more; none = g.met.S.Sink.took_none } in
-    stops_at_end c.args.self.now.input.budget p (h.continues c.in_default.is) laws (c.in-Err.ensures.acts.0 (holding_of c.args.self.now) c.in_default-body.is)
+    stops_at_end c.args.self.now.input.budget p (h.continues c.in_default.is) laws (c.in-Err.ensures.acts.0 (reading_state c.args.self.now) c.in_default-body.is)
 
 pub returns-in-Err-clause-refused : goal.returns-in-Err-clause-refused
 returns-in-Err-clause-refused g c = λ own s p h.
@@ -46,7 +46,7 @@ pub check_finished-requires : goal.check_finished-requires
 check_finished-requires g c = (ends_works (ends g (goal.at.check_finished-requires g c).In_default-end_run)).live.live
 
 -- what the stream means was taken
-settled : (g : _) (c : After-check_finished g) → EndsRun {S = g.row.S.Denot} {g = g.S.Sink} c.args.self.now.machine c.end_run.new.self → (s : g.row.S.Denot) (p : List ℕ) → Stands {S = g.row.S.Denot} {g = g.S.Sink} c.args.self.now s p →
+settled : (g : _) (c : After-check_finished g) → EndsRun {S = g.row.S.Denot} {g = g.S.Sink} c.args.self.now.machine c.end_run.new.self → (s : g.row.S.Denot) (p : List ℕ) → HasRead {S = g.row.S.Denot} {g = g.S.Sink} c.args.self.now s p →
     MatchResult c.check_finished.result (λ _. IsTaken g.S.Sink s (means c.args.self.now.input.budget p) c.check_finished.new.self.machine.sink None)
     (λ f. IsTaken g.S.Sink s (means c.args.self.now.input.budget p) c.check_finished.new.self.machine.sink (Some f))
 settled g c over s p h =

@@ -1,4 +1,4 @@
-use Rattle.nap_reader.proofs.{List, StoreState, [], ap, append_assoc, bound_grown, length, set, shown, state_of, ℕ, ◌++◌, ◌+◌, ◌-◌, ◌∙◌, ◌∷◌, ◌≡◌}
+use Rattle.nap_reader.proofs.{List, StoreState, [], ap, append_assoc, bound_grown, length, set, store_shown, state_of, ℕ, ◌++◌, ◌+◌, ◌-◌, ◌∙◌, ◌∷◌, ◌≡◌}
 use Rattle.nap_reader.proofs.store.Store.show.Goals as goal
 
 pub returns-clause-ok : goal.returns-clause-ok
@@ -17,4 +17,4 @@ returns-clause-ok c =
     ∙ ap (λ (i : ℕ). state_of t.items (set s.spans i (record { start = s.from; end = end })) (length t.items) (s.stored + (end - s.from))) c.from.ensures
     ∙ ap (λ (xs : List ℕ). state_of xs (set s.spans (c.args.name - 32) (record { start = s.from; end = end })) (length xs) (s.stored + (end - s.from))) items
     ∙ bound_grown s.bytes.items s.spans s.from s.stored c.args.name c.args.ender end c.self.invariant.bound c.self.invariant.begun all
-    ∙ ap (λ (t : StoreState). shown t c.args.name c.args.ender) c.self.view_is
+    ∙ ap (λ (t : StoreState). store_shown t c.args.name c.args.ender) c.self.view_is

@@ -1,9 +1,9 @@
 use Rattle.std.proofs.Common.{◌∙◌, ap₂}
 use Rattle.nap_values.specs.Coordinates.{point_at, point_with}
 use Rattle.nap_values.specs.Operands.{multi_of}
-use Rattle.nap_values.specs.Packed.{x_in, y_in}
+use Rattle.nap_values.specs.PackedCoordinates.{x_in, y_in}
 use Rattle.nap_values.proofs.displacement.Move.point.Goals as goal
 
 pub returns : goal.returns
 unfolding point_at multi_of x_in y_in
-returns c = c.spelled.ensures ∙ ap₂ point_with c.words.ensures.x c.words.ensures.y
+returns c = c.from_words.ensures ∙ ap₂ point_with c.words.ensures.x c.words.ensures.y

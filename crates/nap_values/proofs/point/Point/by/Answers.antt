@@ -1,19 +1,19 @@
 use Rattle.std.proofs.Common.{◌∙◌, refl, ap, ap₂}
-use Rattle.nap_values.specs.Coordinates.{point_at, point_with, moved}
+use Rattle.nap_values.specs.Coordinates.{point_at, point_with, displaced_point}
 use Rattle.nap_values.specs.Operands.{multi_of}
 use Rattle.nap_values.specs.TwosComplement.{signed_of}
-use Rattle.nap_values.specs.Packed.{x_in, y_in}
+use Rattle.nap_values.specs.PackedCoordinates.{x_in, y_in}
 use Rattle.nap_values.proofs.PackedLemmas.{x_in-below, y_in-below}
 use Rattle.nap_values.proofs.MotionLemmas.{kept-x, kept-y}
 use Rattle.nap_values.proofs.InsideLemmas.{sum_leads}
 use Rattle.nap_values.proofs.point.Point.by.Goals as goal
 
 pub returns : goal.returns
-unfolding point_at multi_of moved x_in y_in
+unfolding point_at multi_of displaced_point x_in y_in
 returns c =
     let here = c.words.ensures in
     let step = c.words-2.ensures in
-    c.spelled.ensures
+    c.from_words.ensures
     ∙ ap (λ n. point_with (signed_of (x_in n)) (signed_of (y_in n))) c.sum.ensures
     ∙ ap₂ (λ x y. point_with (signed_of x) (signed_of y)) (kept-x _ _) (kept-y _ _)
     ∙ sum_leads (x_in c.words.result) (y_in c.words.result) (x_in c.words-2.result) (y_in c.words-2.result) here.x_below here.y_below

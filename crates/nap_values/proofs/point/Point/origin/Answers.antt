@@ -1,12 +1,12 @@
 use Rattle.std.proofs.Common.{refl, arith}
 use Rattle.nap_values.specs.Digits.{value_of, digits_of}
-use Rattle.nap_values.specs.Packed.{words_in, x_in, y_in}
-use Rattle.nap_values.proofs.PackedLemmas.{zero_words, packed-in}
+use Rattle.nap_values.specs.PackedCoordinates.{words_in, x_in, y_in}
+use Rattle.nap_values.proofs.PackedLemmas.{zero_words, packed_coordinates-in}
 use Rattle.nap_values.proofs.point.Point.origin.Goals as goal
 
 pub invariant_of-result : goal.invariant_of-result
 unfolding value_of digits_of words_in x_in y_in
-invariant_of-result c = (zero_words, packed-in 0 zero_words, omega arith, omega arith)
+invariant_of-result c = (zero_words, packed_coordinates-in 0 zero_words, omega arith, omega arith)
 
 pub returns : goal.returns
 unfolding value_of digits_of words_in x_in y_in

@@ -2,7 +2,7 @@ use Rattle.std.proofs.Common.{◌∙◌, refl, ap, ap₂}
 use Rattle.nap_values.specs.Coordinates.{displacement_to}
 use Rattle.nap_values.specs.Operands.{multi_of}
 use Rattle.nap_values.specs.TwosComplement.{signed_of}
-use Rattle.nap_values.specs.Packed.{x_in, y_in}
+use Rattle.nap_values.specs.PackedCoordinates.{x_in, y_in}
 use Rattle.nap_values.proofs.MotionLemmas.{kept-x, kept-y}
 use Rattle.nap_values.proofs.InsideLemmas.{way_is}
 use Rattle.nap_values.proofs.point.Point.to.Goals as goal
@@ -12,7 +12,7 @@ unfolding multi_of displacement_to x_in y_in
 returns c =
     let there = c.words.ensures in
     let here = c.words-2.ensures in
-    c.spelled.ensures
+    c.from_words.ensures
     ∙ ap (λ n. record { x = signed_of (x_in n); y = signed_of (y_in n) }) c.difference.ensures
     ∙ ap₂ (λ x y. record { x = signed_of x; y = signed_of y }) (kept-x _ _) (kept-y _ _)
     ∙ ap₂ (λ x y. record { x = x; y = y })

@@ -1,0 +1,52 @@
+use Rattle.std.proofs.Common.{◌≡◌, ◌+◌, ◌*◌, ◌++◌, [], ℕ, List, arith, ◌∙◌, ap, sym, refl, length, length-append, append-nil}
+use Rattle.std.proofs.Math.ListN.{drop_of_length-le}
+use Rattle.nap_values.specs.Coordinates.{Coordinates, displacement_to}
+use Rattle.nap_values.specs.Spellings.{move_bytes}
+use Rattle.nap_canon.specs.Buffers.{with_bytes_at}
+use Rattle.nap_canon.specs.Spelling.{displacement_bytes}
+use Rattle.nap_canon.proofs.texts.LaidLemmas.{laid_none, laid_behind}
+use Rattle.nap_canon.proofs.texts.WriterLemmas.{move_size, onward_more}
+use Rattle.nap_canon.proofs.byte_buffer.write_displacements_at.Goals as goal
+
+pub loop-i-init : goal.loop-i-init
+loop-i-init c = ([], laid_none c.args.bytes.now c.args.at, refl, refl)
+
+pub write_bytes_at-requires : goal.write_bytes_at-requires
+write_bytes_at-requires c = record {
+  within = omega (
+    arith,
+    c.loop-i-test.true,
+    c.requires.within,
+    ap length (c.deref.ensures.0 ∙ c.put_move-operand.ensures) ∙ move_size c.to.result,
+  );
+}
+
+pub loop-i-preserved : goal.loop-i-preserved
+loop-i-preserved c =
+    let pending = c.args.bytes.now in
+    let others = c.args.others.now in
+    let i = c.loop-i.i in
+    let at = c.args.at in
+    let from = c.loop-i.from in
+    let to = c.index-others-i.result in
+    let (done, bytes, size, all) = c.loop-i.invariant in
+    let step : List ℕ = move_bytes (displacement_to from to) in
+    let spelled : c.deref.result.now ≡ step = c.deref.ensures.0 ∙ c.put_move-operand.ensures ∙ ap move_bytes c.to.ensures in
+    let long : length step ≡ 8 = move_size (displacement_to from to) in (
+      done ++ step,
+      c.write_bytes_at.ensures
+          ∙ ap (λ (bs : List ℕ). with_bytes_at c.loop-i.bytes (at + 8 * i) bs) spelled
+          ∙ ap (λ (bs : List ℕ). with_bytes_at bs (at + 8 * i) step) bytes
+          ∙ laid_behind pending done step at (at + 8 * i) (omega (arith, size)) (omega (arith, c.loop-i-test.true, c.requires.within)),
+      omega (arith, length-append done step, size, long),
+      onward_more done (done ++ step) step (displacement_bytes c.args.first others) from to others i c.loop-i-test.true c.index-others-i.is refl refl all,
+    )
+
+pub returns : goal.returns
+unfolding displacement_bytes
+returns c =
+    let (done, bytes, size, all) = c.loop-i.invariant in
+    let none = drop_of_length-le c.args.others.now {i = c.loop-i.i} (omega (arith, c.loop-i-test.false)) in
+    let whole : done ≡ displacement_bytes c.args.first c.args.others.now =
+    sym (append-nil done) ∙ ap (λ (qs : List Coordinates). done ++ displacement_bytes c.loop-i.from qs) (sym none) ∙ all in
+    bytes ∙ ap (with_bytes_at c.args.bytes.now c.args.at) whole

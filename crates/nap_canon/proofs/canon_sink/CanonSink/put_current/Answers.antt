@@ -1,0 +1,51 @@
+use Rattle.std.proofs.Common.{◌+◌, ◌≤◌, Ok, drop, length, arith, length-drop, refl}
+use Rattle.nap_list.specs.Batches.{batch_entries}
+use Rattle.nap_list.specs.PuttingLaws.{put_begins}
+use Rattle.nap_canon.specs.Batches.{canon_sink_model, PutsSome}
+use Rattle.nap_canon.specs.SinkLaws.{took_none}
+use Rattle.nap_canon.proofs.sinks.PutLemmas.{behind_broke, halts_within, part_put, stands_on, works_behind}
+use Rattle.nap_canon.proofs.canon_sink.CanonSink.put_current.Goals as goal
+
+pub loop-taken-init : goal.loop-taken-init
+loop-taken-init g c =
+    let o = g.O.Outlet in
+    let s = c.args.self.now in
+    record {
+      from = omega arith;
+      few = c.requires.few;
+      putting = put_begins (canon_sink_model o) s (drop c.args.first (batch_entries c.args.batch.now)) (took_none o s);
+      stand = c.requires.stand;
+      works = c.requires.works;
+    }
+
+pub loop-taken-preserved : goal.loop-taken-preserved
+loop-taken-preserved g c =
+    let o = g.O.Outlet in
+    let s = c.args.self.now in
+    let t = c.loop-taken.self in
+    let u = c.put_one_write.new.self in
+    let list = batch_entries c.args.batch.now in
+    let taken = c.loop-taken.taken in
+    let more = c.in-Ok.more in
+    let inv = c.loop-taken.invariant in
+    let some : PutsSome o (drop taken list) t u (Ok more) = c.in-Ok.ensures in
+    record {
+      from = omega (arith, inv.from);
+      few = omega (arith, some.1, inv.few, length-drop taken list);
+      putting = part_put o s t u (drop c.args.first list) list taken inv.putting more (taken + more) refl some.2;
+      stand = stands_on o t u list taken more (taken + more) refl inv.stand some;
+      works = works_behind o t u (drop taken list) more some;
+    }
+
+pub overflow_add-result : goal.overflow_add-result
+overflow_add-result g c =
+    let list = batch_entries c.args.batch.now in
+    let taken = c.loop-taken.taken in
+    let more = c.in-Err.more in
+    let few : more ≤ length (drop taken list) = halts_within g.O.Outlet c.loop-taken.self c.put_one_write.new.self (drop taken list) more c.in-Err.ensures in
+    omega (arith, few, c.loop-taken.invariant.few, length-drop taken list, c.len-count.ensures, c.len-count.type_inv)
+
+pub returns-in-Err : goal.returns-in-Err
+returns-in-Err g c =
+    let inv = c.loop-taken.invariant in
+    behind_broke g.O.Outlet c.args.self.now c.loop-taken.self c.put_one_write.new.self (batch_entries c.args.batch.now) c.args.first c.loop-taken.taken c.in-Err.more inv.from inv.few inv.putting c.in-Err.ensures

@@ -1,0 +1,18 @@
+use Rattle.std.proofs.Common.{◌≡◌, ◌-◌, ◌≤◌, false, drop, length}
+use Rattle.nap_list.specs.Batches.{EachIsCurrent, batch_entries}
+use Rattle.nap_list.specs.Putting.{Putting}
+use Rattle.nap_canon.specs.Batches.{canon_sink_model}
+use Rattle.nap_canon.proofs.canon_sink.CanonSink.put_current.Given as goal
+
+-- the entries so far
+abbrev pub invariant-loop-taken : goal.invariant-loop-taken
+invariant-loop-taken g l = record {
+  from : l.first ≤ l.taken;
+  few : l.taken ≤ length (batch_entries l.batch);
+  putting : Putting (canon_sink_model g.O.Outlet) l.fn.self l.self (drop l.first (batch_entries l.batch)) (drop l.taken (batch_entries l.batch));
+  stand : EachIsCurrent l.self.state (drop l.taken (batch_entries l.batch));
+  works : g.O.Outlet.failed l.self.outlet ≡ false;
+}
+
+abbrev pub decreases-loop-taken : goal.decreases-loop-taken
+decreases-loop-taken g l = l.count - l.taken

@@ -1,0 +1,76 @@
+-- Commands that lead from some values to others.
+
+use Rattle.std.proofs.Common.{◌≡◌, List, [], ◌∷◌, ◌++◌, All, Bool, true, false, refl, sym, ap, subst, ◌∙◌}
+use Rattle.std.specs.Prelude.{⊤}
+use Rattle.std.proofs.lemmas.List.Elements.{All-nil, All-cons, All-append}
+use Rattle.nap_values.specs.Colours.{HasSixteenBitParts}
+use Rattle.nap_values.specs.Coordinates.{IsInSquare, IsInRange}
+use Rattle.nap_values.specs.Laws.{IsWord}
+use Rattle.nap_list.specs.declared.attribute.Colour.{Colour}
+use Rattle.nap_list.specs.declared.attribute.Colour.TheVariants as colours
+use Rattle.nap_list.specs.declared.state.Drawing.{Drawing}
+use Rattle.nap_list.specs.Range.{IsAddress}
+use Rattle.nap_canon.specs.declared.command.Command.{Command}
+use Rattle.nap_canon.specs.declared.command.Command.TheVariants as commands
+use Rattle.nap_canon.specs.Preludes.{unless}
+use Rattle.nap_canon.specs.Commands.{effect, effects}
+
+abbrev pub CommandInRange : Command → Type 0
+CommandInRange (commands.PointSet p) = IsInSquare p
+CommandInRange (commands.Pel m) = IsInRange m
+CommandInRange (commands.SelectFront a) = IsAddress a
+CommandInRange (commands.SelectPair a b) = IsAddress a × IsAddress b
+CommandInRange (commands.SetColor grb) = HasSixteenBitParts grb
+CommandInRange (commands.Texture word) = IsWord word
+CommandInRange (commands.TextureMask word m) = IsWord word × IsInRange m
+CommandInRange (commands.Text first second) = IsWord first × IsWord second
+CommandInRange (commands.TextSize first second m) = IsWord first × IsWord second × IsInRange m
+CommandInRange _ = ⊤
+
+-- a colour of mode 0, which SET COLOR sets
+abbrev pub IsModeZero : Colour → Type 0
+IsModeZero (colours.Own origin) = ⊤
+IsModeZero (colours.Direct grb) = ⊤
+IsModeZero _ = ⊥
+
+-- The command does what it is to do where these values stand.
+abbrev pub Takes : Command → Drawing → Type 0
+Takes (commands.SetColor grb) d = IsModeZero d.colour
+Takes _ d = ⊤
+
+-- each command of a list, where those before it have left the values
+abbrev pub AllTake : List Command → Drawing → Type 0
+AllTake [] d = ⊤
+AllTake (c ∷ cs) d = Takes c d × AllTake cs (effect c d)
+
+-- The commands lead from the values d to the values e. Where R holds their operands are in range.
+pub record Leads (R : Type 0) (cs : List Command) (d e : Drawing) : Type 0 where
+  pub there : effects cs d ≡ e
+  pub takes : AllTake cs d
+  pub inside : R → All CommandInRange cs
+
+effects-append : (xs ys : List Command) (d : Drawing) → effects (xs ++ ys) d ≡ effects ys (effects xs d)
+effects-append [] ys d = refl
+effects-append (x ∷ xs) ys d = effects-append xs ys (effect x d)
+
+take_behind : (xs ys : List Command) (d : Drawing) → AllTake xs d → AllTake ys (effects xs d) → AllTake (xs ++ ys) d
+take_behind [] ys d first second = second
+take_behind (x ∷ xs) ys d first second = (first.0, take_behind xs ys (effect x d) first.1 second)
+
+module _ (R : Type 0) where
+  pub none_leads : (d e : Drawing) → d ≡ e → Leads R [] d e
+  none_leads d e is = record { there = is; takes = tt; inside = λ r. All-nil CommandInRange }
+
+  pub one_leads : (c : Command) (d e : Drawing) → effect c d ≡ e → Takes c d → (R → CommandInRange c) → Leads R (c ∷ []) d e
+  one_leads c d e is takes inside = record { there = is; takes = (takes, tt); inside = λ r. All-cons CommandInRange c [] (inside r) (All-nil CommandInRange) }
+
+  pub both_lead : (xs ys : List Command) (d e f : Drawing) → Leads R xs d e → Leads R ys e f → Leads R (xs ++ ys) d f
+  both_lead xs ys d e f first second = record {
+    there = effects-append xs ys d ∙ ap (effects ys) first.there ∙ second.there;
+    takes = take_behind xs ys d first.takes (subst (AllTake ys) (sym first.there) second.takes);
+    inside = λ r. All-append CommandInRange xs ys (first.inside r) (second.inside r);
+  }
+
+  pub unless_leads : (same : Bool) (xs : List Command) (d e : Drawing) → (same ≡ true → d ≡ e) → Leads R xs d e → Leads R (unless same xs) d e
+  unless_leads true xs d e is leads = none_leads d e (is refl)
+  unless_leads false xs d e is leads = leads

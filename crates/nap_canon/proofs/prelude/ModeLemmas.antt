@@ -1,0 +1,88 @@
+-- A colour of mode 0 is the base, so it is of every walk of entries that fit.
+
+use Rattle.std.proofs.Common.{List, [], ◌∷◌, Bool, true, false, Option, Some, None, refl, cond}
+use Rattle.std.specs.Prelude.{unwrap_or, ◌==◌, slice_get, length, ◌-◌, ⊤}
+use Rattle.nap_values.specs.Coordinates.{Coordinates}
+use Rattle.nap_list.specs.declared.attribute.Origin.TheVariants as origins
+use Rattle.nap_list.specs.declared.attribute.Preset.TheVariants as presets
+use Rattle.nap_list.specs.declared.attribute.Base.{Base}
+use Rattle.nap_list.specs.declared.attribute.Base.TheVariants as bases
+use Rattle.nap_list.specs.declared.attribute.Colour.{Colour}
+use Rattle.nap_list.specs.declared.attribute.Colour.TheVariants as colours
+use Rattle.nap_list.specs.declared.state.Drawing.{Drawing}
+use Rattle.nap_list.specs.declared.state.OpenDefinition.{OpenDefinition}
+use Rattle.nap_list.specs.declared.state.State.{State}
+use Rattle.nap_list.specs.declared.entry.Entry.{Entry}
+use Rattle.nap_list.specs.declared.entry.Entry.TheVariants as entries
+use Rattle.nap_list.specs.Entry.{attributes}
+use Rattle.nap_list.specs.Known.{colour_code}
+use Rattle.nap_list.specs.State.{ColourFits, Fits, base_after, with_attributes, with_pen_at, restored_drawing, effect_on_drawing, definition_after, after, start, walk, AllFit}
+use Rattle.nap_list.specs.Agreement.{ModeZeroIsBase}
+use Rattle.nap_canon.specs.Laws.{PreludeLeads}
+use Rattle.nap_canon.proofs.prelude.BringLemmas as brings
+
+abbrev SavedInMode : Option OpenDefinition → Type 0
+SavedInMode None = ⊤
+SavedInMode (Some opened) = ModeZeroIsBase opened.saved.base opened.saved.colour
+
+-- so it is of the values that stand, and of those that a definition saved
+pub record IsInMode (s : State) : Type 0 where
+  pub drawing : ModeZeroIsBase s.drawing.base s.drawing.colour
+  pub definition : SavedInMode s.definition
+
+taking_in_mode : (d : Drawing) (w : Option Colour) → ModeZeroIsBase d.base d.colour → ColourFits d w → ModeZeroIsBase (base_after d.base w) (unwrap_or w d.colour)
+taking_in_mode d None h fits = h
+taking_in_mode d (Some (colours.Own origin)) h fits = fits
+taking_in_mode d (Some (colours.Direct grb)) h fits = refl
+taking_in_mode d (Some (colours.Front a)) h fits = tt
+taking_in_mode d (Some (colours.Pair a b)) h fits = tt
+taking_in_mode d (Some (colours.ByReset preset)) h fits = tt
+
+reset_in_mode : (a b c : Bool) (base : Base) (colour : Colour) → ModeZeroIsBase base colour →
+    ModeZeroIsBase (cond a (bases.Own origins.AfterReset) base)
+    (cond a (colours.Own origins.AfterReset) (cond b (colours.ByReset presets.Two) (cond c (colours.ByReset presets.Three) colour)))
+reset_in_mode true b c base colour h = refl
+reset_in_mode false true c base colour h = tt
+reset_in_mode false false true base colour h = tt
+reset_in_mode false false false base colour h = h
+
+pen_in_mode : (p : Option Coordinates) (d : Drawing) → ModeZeroIsBase d.base d.colour → ModeZeroIsBase (with_pen_at p d).base (with_pen_at p d).colour
+pen_in_mode None d h = h
+pen_in_mode (Some p) d h = h
+
+saved_in_mode : (o : Option OpenDefinition) (d : Drawing) → SavedInMode o → ModeZeroIsBase d.base d.colour → ModeZeroIsBase (restored_drawing o d).base (restored_drawing o d).colour
+saved_in_mode None d s h = h
+saved_in_mode (Some opened) d s h = s
+
+drawn_in_mode : (o : Option OpenDefinition) (d : Drawing) (e : Entry) → SavedInMode o → ModeZeroIsBase d.base d.colour → ModeZeroIsBase (effect_on_drawing o d e).base (effect_on_drawing o d e).colour
+drawn_in_mode o d (entries.Arc filled points ink) s h = pen_in_mode (slice_get points (length points - 1)) d h
+drawn_in_mode o d (entries.Poly filled points ink) s h = pen_in_mode (slice_get points 0) d h
+drawn_in_mode o d (entries.Reset first second pen) s h = reset_in_mode (colour_code first == 1) (colour_code first == 2) (colour_code first == 3) d.base d.colour h
+drawn_in_mode o d (entries.Map addr grb) s h = tt
+drawn_in_mode o d entries.DefEnd s h = saved_in_mode o d s h
+drawn_in_mode o d e s h = h
+
+definition_in_mode : (o : Option OpenDefinition) (d : Drawing) (e : Entry) → SavedInMode o → ModeZeroIsBase d.base d.colour → SavedInMode (definition_after o d e)
+definition_in_mode o d (entries.GlyphStart code) s h = h
+definition_in_mode o d (entries.MaskStart mask) s h = h
+definition_in_mode o d entries.DefEnd s h = tt
+definition_in_mode o d e s h = s
+
+pub in_mode_after : (s : State) (e : Entry) → IsInMode s → Fits s e → IsInMode (after s e)
+in_mode_after s e h fits =
+    let taken = taking_in_mode s.drawing (attributes e).colour h.drawing fits.values.colour in
+    record {
+      drawing = drawn_in_mode s.definition (with_attributes s.drawing (attributes e)) e h.definition taken;
+      definition = definition_in_mode s.definition (with_attributes s.drawing (attributes e)) e h.definition taken;
+    }
+
+in_mode_along : (s : State) (es : List Entry) → IsInMode s → AllFit s es → IsInMode (walk s es)
+unfolding walk AllFit
+in_mode_along s [] h all = h
+in_mode_along s (e ∷ es) h all = in_mode_along (after s e) es (in_mode_after s e h all.0) all.1
+
+pub start_in_mode : IsInMode start
+start_in_mode = record { drawing = refl; definition = tt }
+
+pub bring_leads : PreludeLeads
+bring_leads es e all fits = (brings.bring_leads (walk start es).drawing (attributes e) (in_mode_along start es start_in_mode all).drawing fits.values).there

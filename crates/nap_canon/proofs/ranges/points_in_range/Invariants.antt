@@ -1,0 +1,7 @@
+use Rattle.std.proofs.Common.{All, take}
+use Rattle.nap_values.specs.Coordinates.{IsInSquare}
+use Rattle.nap_canon.proofs.ranges.points_in_range.Given as goal
+
+-- the points so far
+abbrev pub invariant-loop-at : goal.invariant-loop-at
+invariant-loop-at l = All IsInSquare (take l.at-index l.points)

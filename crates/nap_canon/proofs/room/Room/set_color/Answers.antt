@@ -1,9 +1,0 @@
-use Rattle.std.proofs.Common.{◌≡◌, arith, ap, sym, ◌∙◌, length}
-use Rattle.std.proofs.lemmas.List.{length-take-le}
-use Rattle.nap_canon.proofs.texts.GatheredLemmas.{grb_size}
-use Rattle.nap_canon.proofs.room.Room.set_color.Goals as goal
-
-pub slice_bounds-opened-end-2 : goal.slice_bounds-opened-end-2
-slice_bounds-opened-end-2 c =
-    let size : length c.deref.result.now ≡ 8 = ap length (c.deref.ensures.0 ∙ c.put_grb.ensures) ∙ grb_size c.args.grb in
-    sym (length-take-le 8 c.deref.result.now (omega (arith, size)))

@@ -1,0 +1,76 @@
+use Rattle.std.proofs.Common.{◌++◌, subst, ℕ, [], List, ◌≡◌, ◌∙◌, ap, sym, refl, false, append-nil, arith, rules}
+use Rattle.std.specs.Slice.Iter.{chunks_rest, chunks_size}
+use Rattle.std.proofs.lemmas.List.{nil_from_length, take_all}
+use Rattle.std.proofs.lemmas.Result.{err_from_is_err_and}
+use Rattle.nap_values.specs.Coordinates.{Coordinates}
+use Rattle.nap_list.specs.Batches.{last_point}
+use Rattle.nap_canon.specs.Spelling.{displacement_bytes}
+use Rattle.nap_canon.proofs.texts.WriterLemmas.{onward_part, sent_second}
+use Rattle.nap_canon.proofs.writer.Writer.write_displacements.Goals as goal
+
+pub loop-chunk-init : goal.loop-chunk-init
+loop-chunk-init g c =
+    let size : chunks_size c.into_iter-chunk-iterator.result ≡ 128 = search rules in
+    let all : chunks_rest c.into_iter-chunk-iterator.result ≡ c.args.others.now = search rules in
+    record {
+      can = omega arith;
+      finite = tt;
+      size = size;
+      sent = ([], g.met.T.ByteSink.sent_none c.args.self.now.to, ap (displacement_bytes c.args.first) all);
+      text_end = refl;
+      kept = (refl, refl);
+    }
+
+pub loop-chunk-preserved : goal.loop-chunk-preserved
+loop-chunk-preserved g c =
+    let inv = c.loop-chunk.invariant in
+    let so_far = inv.sent in
+    let steps = c.in-Some.ensures.steps in
+    let piece = c.as_slice.result.now in
+    let part = c.in-Some.chunk.now in
+    let last : c.line_start-from.result ≡ last_point c.loop-chunk.from part =
+    c.line_start-from.ensures ∙ ap (last_point c.loop-chunk.from) (take_all _ part (omega arith)) in
+    record {
+      can = omega (arith, steps.0, inv.can);
+      finite = tt;
+      size = steps.0 ∙ inv.size;
+      sent = (
+        so_far.0 ++ piece,
+        g.met.T.ByteSink.sent_more c.args.self.now.to c.loop-chunk.self.to c.write_all.new.self so_far.0 piece false so_far.1 c.in_ok-write_all.ensures,
+        onward_part so_far.0 piece (displacement_bytes c.args.first c.args.others.now) c.loop-chunk.from c.line_start-from.result _ c.in-Some.chunk.now (chunks_rest c.next.new.self)
+            steps.1.0 (c.as_slice.ensures ∙ c.append_displacements.ensures.bytes ∙ ap (λ (bs : List ℕ). bs ++ displacement_bytes c.loop-chunk.from c.in-Some.chunk.now) c.clear.ensures) last so_far.2,
+      );
+      text_end = inv.text_end;
+      kept = inv.kept;
+    }
+
+pub returns-in_err-write_all : goal.returns-in_err-write_all
+returns-in_err-write_all g c =
+    let so_far = c.loop-chunk.invariant.sent in
+    let piece = c.as_slice.result.now in
+    let whole = displacement_bytes c.args.first c.args.others.now in
+    let from = c.loop-chunk.from in
+    let part = c.in-Some.chunk.now in
+    let failure = err_from_is_err_and c.from_residual.result c.from_residual.ensures.1 in
+    rw failure.1 (record {
+      sent = sent_second g.T.ByteSink.sent g.met.T.ByteSink.sent_more g.met.T.ByteSink.sent_cut c.args.self.now.to c.loop-chunk.self.to c.write_all.new.self so_far.0 piece _ whole
+          (onward_part so_far.0 piece whole from (last_point from part) _ part (chunks_rest c.next.new.self) c.in-Some.ensures.steps.1.0 (c.as_slice.ensures ∙ c.append_displacements.ensures.bytes ∙ ap (λ (bs : List ℕ). bs ++ displacement_bytes c.loop-chunk.from c.in-Some.chunk.now) c.clear.ensures) refl so_far.2)
+          so_far.1 c.in_err-write_all.ensures;
+      text_end = c.loop-chunk.invariant.text_end;
+      kept = c.loop-chunk.invariant.kept;
+    })
+
+pub returns : goal.returns
+unfolding displacement_bytes
+returns g c =
+    let so_far = c.loop-chunk.invariant.sent in
+    let none = nil_from_length _ c.in-None.ensures.steps.1.0 in
+    let all : so_far.0 ≡ displacement_bytes c.args.first c.args.others.now =
+    sym (append-nil so_far.0)
+    ∙ ap (λ (qs : List Coordinates). so_far.0 ++ displacement_bytes c.loop-chunk.from qs) (sym none)
+    ∙ so_far.2 in
+    record {
+      sent = subst (λ (bytes : List ℕ). g.T.ByteSink.sent c.args.self.now.to bytes false c.loop-chunk.self.to) all so_far.1;
+      text_end = c.loop-chunk.invariant.text_end;
+      kept = c.loop-chunk.invariant.kept;
+    }

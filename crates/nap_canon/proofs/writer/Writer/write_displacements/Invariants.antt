@@ -1,0 +1,16 @@
+use Rattle.std.proofs.Common.{◌≡◌, ◌++◌, ℕ, List, false}
+use Rattle.std.specs.Slice.Iter.{chunks_rest, chunks_size}
+use Rattle.nap_canon.specs.Spelling.{displacement_bytes}
+use Rattle.nap_canon.proofs.writer.Writer.write_displacements.Given as goal
+
+-- what was sent so far, and the displacements left, are all of them
+abbrev pub invariant-loop-chunk : goal.invariant-loop-chunk
+invariant-loop-chunk g l = record {
+  can : (goal.iterator-loop-chunk g).can_next l.chunk-iterator;
+  finite : (goal.iterator-loop-chunk g).is_finite l.chunk-iterator;
+  size : chunks_size l.chunk-iterator ≡ 128;
+  sent : (done : List ℕ) × g.T.ByteSink.sent l.fn.self.to done false l.self.to
+      × (done ++ displacement_bytes l.from (chunks_rest l.chunk-iterator) ≡ displacement_bytes l.fn.first l.others);
+  text_end : l.self.pending.text_end ≡ l.fn.self.pending.text_end;
+  kept : (l.self.form ≡ l.fn.self.form) × (l.self.state ≡ l.fn.self.state);
+}

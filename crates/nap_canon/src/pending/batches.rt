@@ -1,0 +1,72 @@
+//! Entries of a batch, appended one after another.
+ghost use Rattle.std.specs.Prelude.{◌≡◌, ◌++◌, ◌<◌, ◌≤◌, ◌+◌, ◌*◌, length, drop};
+ghost use Rattle.nap_list.specs.Batches.{EachIsCurrent, batch_entries};
+ghost use Rattle.nap_canon.specs.declared.text_end.TextEnd.TheVariants.{InRun};
+ghost use Rattle.nap_canon.specs.Batches.{bytes_of_rest, text_end_after_rest, points_bytes, run_opening};
+ghost use Rattle.nap_canon.specs.Text.{run_after};
+ghost use Rattle.nap_canon.specs.Writing.{AppendsNext};
+ghost use Rattle.nap_canon.specs.Buffers.{piece_limit, buffer_limit};
+
+use crate::form::Form;
+use crate::parts::{item, part};
+use crate::pending::{Pending, opcodes};
+use nap_list::{Batch, State, line_start};
+use nap_values::Point;
+
+impl Pending {
+    /// Appends the entry of a batch at an index, whose attributes are current.
+    #[inline(always)]
+    pub(crate) fn append_next(&mut self, form: Form, state: &State, batch: &Batch, index: usize)
+        requires some { index < length (batch_entries batch.now) }
+        requires stand { EachIsCurrent state.now (drop index (batch_entries batch.now)) }
+        requires space { length self.old.bytes + piece_limit ≤ buffer_limit }
+        ensures { AppendsNext form state.now (drop index (batch_entries batch.now)) self.old self.new }
+    {
+        match batch {
+            Batch::Points { points, .. } => self.append_point(form, item(points, index)),
+            Batch::Lines { from, points, .. } => self.append_line(
+                form,
+                state.drawing.pen,
+                line_start(*from, points, index),
+                item(points, index),
+            ),
+            Batch::Text { set, codes, .. } => self.append_text_byte(*set, item(codes, index)),
+        }
+    }
+
+    /// Appends the operands of points, which join the run of this opcode or open one.
+    #[inline(always)]
+    fn append_point_run(&mut self, opcode: u8, points: &[Point])
+        requires space { length self.old.bytes + 2 + 8 * length points.now ≤ buffer_limit }
+        ensures bytes { self.new.bytes ≡ self.old.bytes ++ (run_opening self.old.text_end opcode (8 * length points.now) ++ points_bytes points.now) }
+        ensures tail { self.new.text_end ≡ InRun (run_after self.old.text_end opcode (8 * length points.now)) }
+    {
+        self.append_opcode_unless_joined(opcode, 8 * points.len());
+        self.bytes.append_points(points);
+    }
+
+    /// Appends `operand_count` entries of a batch from `first`, which join the last run or text, or open one.
+    #[inline(always)]
+    pub(crate) fn append_joined(&mut self, batch: &Batch, first: usize, count: usize)
+        requires few { count + first ≤ length (batch_entries batch.now) }
+        requires space { 0 < count → length self.old.bytes + 2 + 8 * count ≤ buffer_limit }
+        ensures bytes { self.new.bytes ≡ self.old.bytes ++ bytes_of_rest self.old.text_end batch.now first count }
+        ensures tail { self.new.text_end ≡ text_end_after_rest self.old.text_end batch.now count }
+    {
+        if count == 0 {
+            return;
+        }
+        match batch {
+            Batch::Points { points, .. } => {
+                self.append_point_run(opcodes::POINT_ABS, part(points, first, count));
+            }
+            Batch::Lines { points, .. } => {
+                self.append_point_run(opcodes::LINE_ABS, part(points, first, count));
+            }
+            Batch::Text { codes, .. } => {
+                self.append_shift_in();
+                self.bytes.append_codes(part(codes, first, count));
+            }
+        }
+    }
+}

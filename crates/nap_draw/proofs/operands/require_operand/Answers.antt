@@ -1,0 +1,12 @@
+use Rattle.std.proofs.Common.{refl, arith}
+use Rattle.std.proofs.lemmas.Bool.Decides.{nat_tests}
+use Rattle.nap_values.specs.Operands.{operand_words}
+use Rattle.nap_draw.proofs.Cuts.{none_of, more_of}
+use Rattle.nap_draw.proofs.ByteRuns.{carried_length}
+use Rattle.nap_draw.proofs.operands.require_operand.Goals as goal
+
+pub returns-then-is_empty-clause-err : goal.returns-then-is_empty-clause-err
+returns-then-is_empty-clause-err c = (refl, none_of c.args.work.now (operand_words c.args.run.now) (grind (arith, nat_tests, carried_length c.args.run.now)))
+
+pub returns-clause-ok : goal.returns-clause-ok
+returns-clause-ok c = more_of c.args.work.now (operand_words c.args.run.now) (grind (arith, nat_tests, carried_length c.args.run.now))

@@ -1,0 +1,48 @@
+use Rattle.std.proofs.Common.{◌≡◌, ℕ, List, [], ◌∷◌, ◌++◌, sym, ◌∙◌, ap, subst, arith}
+use Rattle.std.specs.Slice.Iter.{chunks_rest, chunks_size}
+use Rattle.nap_values.specs.Coordinates.{displaced_point}
+use Rattle.nap_values.specs.Operands.{operand_words}
+use Rattle.nap_draw.specs.Operands.{moves}
+use Rattle.nap_draw.specs.Geometry.{points_reached}
+use Rattle.nap_draw.specs.Execution.{Filling}
+use Rattle.nap_draw.proofs.ByteRuns.{moves_chunk, moves_none}
+use Rattle.nap_draw.proofs.Decoding.{filling_more, filling_none, filled, still_kept, pushed}
+use Rattle.nap_draw.proofs.Turns.{reached_turn, onward_more, onward_none}
+use Rattle.nap_draw.proofs.scratch.steps.fill_more_steps.Goals as goal
+
+pub loop-operand-init : goal.loop-operand-init
+loop-operand-init c =
+    let given = c.into_iter-operand-iterator.ensures.into_iter_gives in
+    record {
+      can = omega (arith, c.from.ensures, c.multi.ensures.value, c.multi.ensures.least, c.chunks-operand-items.ensures.size, ap chunks_size given);
+      finite = tt;
+      size = omega (arith, c.from.ensures, c.multi.ensures.value, c.chunks-operand-items.ensures.size, ap chunks_size given);
+      filling = λ all begins. subst (λ (run : List ℕ). Filling all (points_reached c.args.from (moves c.args.domain.multi (operand_words run))) c.args.lacks (λ front. c.args.scratch.now.items ≡ front)) (sym (ap chunks_rest given ∙ c.chunks-operand-items.ensures.rest)) begins;
+    }
+
+pub returns-in_default : goal.returns-in_default
+returns-in_default c =
+    let inv = c.loop-operand.invariant in
+    let steps = c.in-Some.ensures.steps in
+    let cut = moves_chunk c.args.domain.multi _ _ _ _ inv.size (omega (arith, c.multi.ensures.value, c.multi.ensures.least)) steps.1.0 steps.1.1 steps.1.2 in
+    let out = sym (c.by.ensures ∙ ap (displaced_point c.loop-operand.at) c.multi_bytes.ensures) ∙ c.in_default.is in
+    λ all begins. filling_none _ _ _ _ (inv.filling all begins) (onward_none _ _ _ (reached_turn _ _ _ _ cut) out)
+
+pub loop-operand-preserved : goal.loop-operand-preserved
+loop-operand-preserved c =
+    let inv = c.loop-operand.invariant in
+    let steps = c.in-Some.ensures.steps in
+    let cut = moves_chunk c.args.domain.multi _ _ _ _ inv.size (omega (arith, c.multi.ensures.value, c.multi.ensures.least)) steps.1.0 steps.1.1 steps.1.2 in
+    record {
+      can = omega (arith, steps.0, inv.can);
+      finite = tt;
+      size = steps.0 ∙ inv.size;
+      filling = λ all begins. filling_more _ _ _ c.in-Some-by.point _ _ _ _ (inv.filling all begins)
+          (onward_more _ _ _ _ (reached_turn _ _ _ _ cut) (sym (c.by.ensures ∙ ap (displaced_point c.loop-operand.at) c.multi_bytes.ensures) ∙ c.in-Some-by.is))
+          (still_kept _ _)
+          (λ front e kept. pushed _ _ _ _ _ _ c.push.ensures.items c.is_err-full.ensures.value e ∙ ap (λ l. l ++ c.in-Some-by.point ∷ []) kept);
+    }
+
+pub returns : goal.returns
+unfolding points_reached
+returns c = λ all begins. filled _ _ _ _ _ _ (c.loop-operand.invariant.filling all begins) (ap (points_reached _) (moves_none _ _ c.in-None.ensures.steps.1.0)) (λ front kept. kept) c.memory_fault_if.ensures.ok c.memory_fault_if.ensures.err

@@ -1,0 +1,52 @@
+use Rattle.std.proofs.Common.{◌≡◌, [], Ok, refl, ap}
+use Rattle.nap_codes.specs.declared.code.Code.{Code}
+use Rattle.nap_codes.specs.declared.code.Code.TheVariants as codes
+use Rattle.nap_list.specs.State.{walk}
+use Rattle.nap_draw.specs.Codes.{code_rule}
+use Rattle.nap_draw.specs.Rule.{rule_result}
+use Rattle.nap_draw.proofs.Acting.{obeys_quietly}
+use Rattle.nap_draw.proofs.work.Work.apply_control.Goals as goal
+
+pub returns-in-Named : goal.returns-in-Named
+unfolding walk
+returns-in-Named g c = obeys_quietly g.S.Sink _ c.args.self.now _ _ (g.met.S.Sink.took_none _) (ap (code_rule c.args.self.now) c.in-Named.is)
+
+pub returns-in-Reverse : goal.returns-in-Reverse
+unfolding walk
+returns-in-Reverse g c = obeys_quietly g.S.Sink _ c.args.self.now _ _ (g.met.S.Sink.took_none _) (ap (code_rule c.args.self.now) c.in-Reverse.is)
+
+pub returns-in-Underline : goal.returns-in-Underline
+unfolding walk
+returns-in-Underline g c = obeys_quietly g.S.Sink _ c.args.self.now _ _ (g.met.S.Sink.took_none _) (ap (code_rule c.args.self.now) c.in-Underline.is)
+
+pub returns-in-Wrap : goal.returns-in-Wrap
+unfolding walk
+returns-in-Wrap g c = obeys_quietly g.S.Sink _ c.args.self.now _ _ (g.met.S.Sink.took_none _) (ap (code_rule c.args.self.now) c.in-Wrap.is)
+
+pub returns-in-Scroll : goal.returns-in-Scroll
+unfolding walk
+returns-in-Scroll g c = obeys_quietly g.S.Sink _ c.args.self.now _ _ (g.met.S.Sink.took_none _) (ap (code_rule c.args.self.now) c.in-Scroll.is)
+
+pub returns-in_default : goal.returns-in_default
+unfolding walk
+returns-in_default g c = obeys_quietly g.S.Sink _ c.args.self.now _ c.args.sink.now (g.met.S.Sink.took_none c.args.sink.now) (other c.args.code.now refl)
+  where
+    other : (code : Code) → c.args.code.now ≡ code → code_rule c.args.self.now code ≡ Ok (rule_result c.args.self.now [])
+    other codes.Bell is = absurd (c.in_default.not-Bell is)
+    other (codes.Step x) is = absurd (c.in_default.not-Step x is)
+    other codes.Clear is = absurd (c.in_default.not-Clear is)
+    other (codes.Char x y) is = absurd (c.in_default.not-Char x y is)
+    other (codes.Repeat x) is = absurd (c.in_default.not-Repeat x is)
+    other codes.ToEol is = absurd (c.in_default.not-ToEol is)
+    other (codes.Named x) is = absurd (c.in_default.not-Named x is)
+    other (codes.Reverse x) is = absurd (c.in_default.not-Reverse x is)
+    other (codes.Underline x) is = absurd (c.in_default.not-Underline x is)
+    other (codes.Wrap x) is = absurd (c.in_default.not-Wrap x is)
+    other (codes.Scroll x) is = absurd (c.in_default.not-Scroll x is)
+    other (codes.BlinkMark x) is = absurd (c.in_default.not-BlinkMark x is)
+    other (codes.Cursor x) is = absurd (c.in_default.not-Cursor x is)
+    other (codes.DefGlyph x) is = absurd (c.in_default.not-DefGlyph x is)
+    other (codes.DefMask x) is = absurd (c.in_default.not-DefMask x is)
+    other (codes.DefMacro x y) is = absurd (c.in_default.not-DefMacro x y is)
+    other codes.End is = absurd (c.in_default.not-End is)
+    other _ is = refl

@@ -1,0 +1,17 @@
+use Rattle.std.proofs.Common.{[], ◌∷◌, false, Ok, Result, refl, ap}
+use Rattle.nap_list.specs.State.{walk}
+use Rattle.nap_list.specs.declared.state.State.{State}
+use Rattle.nap_draw.specs.declared.fault.DrawFault.{DrawFault}
+use Rattle.nap_draw.specs.Rule.{RuleResult}
+use Rattle.nap_draw.proofs.Acting.{obeys_put, obeys_stop}
+use Rattle.nap_draw.proofs.work.Work.put_and_set_pen.Goals as goal
+
+pub returns-in_err-put : goal.returns-in_err-put
+returns-in_err-put g c = obeys_stop g.S.Sink _ _ _ _ _ _ _ c.from_residual.ensures.1 (g.met.S.Sink.took_none _) g.met.S.Sink.wants_more refl (λ none. cc) c.in_err-put.ensures
+
+pub returns : goal.returns
+unfolding walk
+returns g c =
+    let w = c.args.self.now in
+    let by : State → Result RuleResult DrawFault = λ s. Ok (record { entries = c.args.entry ∷ []; work = record w { state = s }; clears = false }) in
+    obeys_put g.S.Sink _ w _ _ _ _ (ap by c.requires.leaves) c.in_ok-put.ensures

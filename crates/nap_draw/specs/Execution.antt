@@ -1,0 +1,160 @@
+use Rattle.std.specs.Prelude.{ℕ, min, ◌≡◌, ◌++◌, IsErrOf, Bool, true, false, List, [], ◌∷◌, Option, Some, None, option_map, Result, Ok, Err}
+use Rattle.nap_values.specs.Coordinates.{Coordinates, Displacement}
+use Rattle.nap_list.specs.declared.attribute.Ink.{Ink}
+use Rattle.nap_list.specs.declared.attribute.Pen.{Pen}
+use Rattle.nap_list.specs.declared.attribute.Pen.TheVariants as pens
+use Rattle.nap_list.specs.declared.entry.Entry.{Entry}
+use Rattle.nap_list.specs.declared.entry.Entry.TheVariants as shapes
+use Rattle.nap_list.specs.declared.shape.ShapeKind.{ShapeKind}
+use Rattle.nap_list.specs.declared.shape.ShapeKind.TheVariants as kinds
+use Rattle.nap_list.specs.declared.state.Definition.{Definition}
+use Rattle.nap_list.specs.declared.state.Definition.TheVariants as definitions
+use Rattle.nap_list.specs.declared.state.Drawing.{Drawing}
+use Rattle.nap_list.specs.declared.state.State.{State}
+use Rattle.nap_list.specs.declared.sink.Sink.{Ghosts}
+use Rattle.nap_list.specs.declared.sink.SinkFault.{SinkFault}
+use Rattle.nap_list.specs.Entry.{attributes, WellMade}
+use Rattle.nap_list.specs.Putting as puts
+use Rattle.nap_list.specs.Shapes.{outline, shape_on}
+use Rattle.nap_list.specs.SinkModels.{sink_model_of}
+use Rattle.nap_list.specs.State.{MayCome, walk, with_pen, corner, ink_of}
+use Rattle.nap_list.specs.Agreement.{EqualCurrent}
+use Rattle.nap_draw.specs.declared.fault.DrawFault.{DrawFault}
+use Rattle.nap_draw.specs.declared.fault.DrawFault.TheVariants as faults
+use Rattle.nap_draw.specs.declared.spans.Span.{Span}
+use Rattle.nap_draw.specs.declared.spans.Figure.{Figure}
+use Rattle.nap_draw.specs.declared.spans.Figure.TheVariants as figures
+use Rattle.nap_draw.specs.declared.shapes.ShapeStart.{ShapeStart}
+use Rattle.nap_draw.specs.declared.shapes.ShapeStart.TheVariants as starts
+use Rattle.nap_draw.specs.declared.work.Work.{Work}
+use Rattle.nap_draw.specs.Rule.{RuleResult, entry_result, shape_from_pen, shape_from_point}
+use Rattle.nap_draw.specs.Geometry.{polyline_spans, arc_points, poly_points}
+use Rattle.nap_draw.specs.Draws.{Cause, stream, memory, device, DrawsBy, cause_of}
+use Rattle.nap_draw.specs.Acts.{WantsBy, GivesSome}
+
+-- The steps in which a code is executed: its run is decoded into the scratch list, its entries are put, and the work is
+-- changed.
+
+-- all points were decoded, and the list is those of the scratch list
+abbrev pub Fills : {A : Type 0} → Option (List A) → List A → Result (Unit {0}) DrawFault → Type 0
+Fills all list (Ok _) = all ≡ Some list
+Fills all list (Err faults.Outside) = all ≡ None
+Fills {A} all list (Err faults.Memory) = (xs : List A) × (all ≡ Some xs)
+Fills all list (Err _) = ⊥
+
+-- the progress of decoding a run: the points so far come before the rest, and are in the scratch list unless memory ran
+-- out
+pub record Filling {A : Type 0} (all rest : Option (List A)) (full : Bool) (Keeps : List A → Type 0) : Type 0 where
+  pub front : List A
+  pub parts : all ≡ option_map (λ xs. front ++ xs) rest
+  pub kept : full ≡ false → Keeps front
+
+-- the entry of a figure on a span, with these attributes
+abbrev pub figure_with_ink : Figure → Ink → Span → Entry
+figure_with_ink figures.Line ink s = shapes.Line s.from s.to ink
+figure_with_ink (figures.Rect filled) ink s = shapes.Rect filled s.from s.to ink
+
+-- the position of the pen after a figure on a span
+abbrev pub figure_end : Figure → Span → Coordinates
+figure_end figures.Line s = s.to
+figure_end (figures.Rect filled) s = corner s.from s.to
+
+abbrev pub figure_entry : Figure → Drawing → Span → Entry
+figure_entry figure d s = figure_with_ink figure (ink_of d) s
+
+-- the points of an arc or polygon from this point by displacements
+abbrev pub shape_points : ShapeKind → Coordinates → List Displacement → Option (List Coordinates)
+shape_points kinds.Arc p ms = arc_points p ms
+shape_points kinds.Poly p ms = poly_points p ms
+
+-- the result of a shape, by the kind of its start
+abbrev pub shape_from : ShapeStart → Work → List ℕ → (Drawing → List Coordinates → Entry) → (Coordinates → List Displacement → Option (List Coordinates)) → Result RuleResult DrawFault
+shape_from starts.AtPen = shape_from_pen
+shape_from starts.AtOperand = shape_from_point
+
+-- how many of n bytes of a run belong to the operand that a shape starts at
+abbrev pub start_size : ShapeStart → ℕ → ℕ → ℕ
+start_size starts.AtPen k n = 0
+start_size starts.AtOperand k n = min k n
+
+-- the result of a shape through these points, or Outside
+abbrev pub shape_result : Work → ShapeKind → Bool → Coordinates → Option (List Coordinates) → Result RuleResult DrawFault
+shape_result work kind filled p qs = entry_result work (shape_on kind filled) (option_map (λ qs. outline kind (p ∷ qs)) qs)
+
+-- the state after an entry that moves the pen and isn't a character
+abbrev pub with_pen_moved : State → Pen → State
+with_pen_moved s pen = record s { drawing = with_pen pen s.drawing; last = None }
+
+-- the state after entries that move the pen, the last of them to this point
+abbrev pub with_pen_moved_to : State → Option Coordinates → State
+with_pen_moved_to s None = s
+with_pen_moved_to s (Some p) = with_pen_moved s (pens.At p)
+
+-- the entry that opens a definition
+abbrev pub definition_start : Definition → Entry
+definition_start (definitions.Glyph code) = shapes.GlyphStart code
+definition_start (definitions.Mask mask) = shapes.MaskStart mask
+
+-- pairs of points as spans
+unfoldable pub pair_spans : List Coordinates → List Span
+pair_spans [] = []
+pair_spans (p ∷ []) = []
+pair_spans (p ∷ q ∷ ps) = record { from = p; to = q } ∷ pair_spans ps
+
+-- both ends of each span, in order
+unfoldable pub span_ends : List Span → List Coordinates
+span_ends [] = []
+span_ends (s ∷ ss) = s.from ∷ s.to ∷ span_ends ss
+
+-- the spans of rectangles: from this point to the first, and from each corner where a rectangle leaves the pen to the
+-- next point
+unfoldable pub rect_spans : Coordinates → List Coordinates → List Span
+rect_spans p [] = []
+rect_spans p (q ∷ qs) = record { from = p; to = q } ∷ rect_spans (corner p q) qs
+
+-- the spans of a figure that continues from where it leaves the pen
+abbrev pub chain_spans : Figure → Coordinates → List Coordinates → List Span
+chain_spans figures.Line p qs = polyline_spans p qs
+chain_spans (figures.Rect filled) p qs = rect_spans p qs
+
+-- the list was put: the sink took all of it, or a prefix up to an entry that it didn't take
+abbrev pub Put : {S A : Type 0} → Ghosts S → List Entry → S → S → Result A SinkFault → Type 0
+Put g list s t r = puts.PutSome (sink_model_of g) list s t r
+
+-- the progress of putting a list
+abbrev pub Putting : {S : Type 0} → Ghosts S → S → S → List Entry → List Entry → Type 0
+Putting g s t whole rest = puts.Putting (sink_model_of g) s t whole rest
+
+-- a code acted by the result of its rule, and all macros were cleared exactly if the answer says so
+abbrev pub ActsByRule : {S A : Type 0} → (g : Ghosts S) → (A → Bool) → Result RuleResult DrawFault → Work → Work → S → S → Result A DrawFault → Type 0
+ActsByRule g clears by w v s t (Ok x) = (entries : List Entry) × (by ≡ Ok (record { entries = entries; work = v; clears = clears x })) × g.took s entries t
+    × (g.state t ≡ walk (g.state s) entries) × (g.failed s ≡ false → g.failed t ≡ false)
+ActsByRule g clears by w v s t (Err fault) = (v ≡ w) × DrawsBy g.took g.broke g.failed by s t fault (cause_of fault) × (fault ≡ faults.Sink → g.failed t ≡ true)
+    × (g.failed s ≡ false → g.failed t ≡ true → fault ≡ faults.Sink)
+
+-- the answer says nothing about macros, which stay
+abbrev pub clears_nothing : Unit {0} → Bool
+clears_nothing _ = false
+
+-- a character or control acted by the result of its rule, and lacked memory or a device only for its entries
+pub record AppliesControl {S : Type 0} (g : Ghosts S) (by : Result RuleResult DrawFault) (w v : Work) (s t : S) (r : Result (Unit {0}) DrawFault) : Type 0 where
+  pub does : ActsByRule g clears_nothing by w v s t r
+  pub wants : IsErrOf r faults.Memory → WantsBy g by s t
+  pub gives : IsErrOf r faults.Sink → GivesSome by
+
+-- the rule refuses the code with this fault, if the cause is the stream
+abbrev pub RefusedBy : Result RuleResult DrawFault → DrawFault → Cause → Type 0
+RefusedBy by fault stream = by ≡ Err fault
+RefusedBy by fault memory = (d : RuleResult) × (by ≡ Ok d)
+RefusedBy by fault device = ⊥
+
+-- an opcode without entries changed the work by the result of its rule
+abbrev pub SetsWork : Result RuleResult DrawFault → Work → Work → Result (Unit {0}) DrawFault → Type 0
+SetsWork by w v (Ok _) = by ≡ Ok (record { entries = []; work = v; clears = false })
+SetsWork by w v (Err fault) = (v ≡ w) × RefusedBy by fault (cause_of fault)
+
+-- an entry with the current attributes of this state, which fits every state that agrees with it
+pub record MayFollow (s : State) (e : Entry) : Type 0 where
+  pub holds : EqualCurrent (attributes e) s.drawing
+  pub made : WellMade e
+  pub comes : MayCome s e

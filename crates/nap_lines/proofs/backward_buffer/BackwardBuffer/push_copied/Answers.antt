@@ -1,0 +1,31 @@
+use Rattle.std.proofs.Common.{◌≡◌, ◌-◌, ◌++◌, ℕ, List, length, drop, length-drop, arith, ap, ◌∙◌}
+use Rattle.std.proofs.lemmas.Str.{IsUtf8-append}
+use borrow.Rule.Slice.PartMut.{put_mid}
+use Rattle.nap_lines.proofs.KeptLemmas.{last_put}
+use Rattle.nap_lines.proofs.backward_buffer.BackwardBuffer.push_copied.Goals as goal
+
+pub invariant_of-self : goal.invariant_of-self
+invariant_of-self c =
+    let end = c.self.inside.at in
+    let bytes = c.self.inside.bytes in
+    let from = c.kept.inside.from in
+    let size = ap length c.self.view_is in
+    let gone = length-drop end bytes in
+    let start = end - 16 in
+    let made : drop (end - (16 - from)) (put_mid start (end - start) bytes c.copy_from_slice.new.self) ≡ drop from c.kept.inside.bytes ++ drop end bytes =
+    last_put bytes c.copy_from_slice.new.self end start (end - start) (end - (16 - from)) from (omega arith) (omega arith) (omega arith) (omega arith) (omega arith)
+    ∙ ap (λ (kept : List ℕ). drop from kept ++ drop end bytes) c.copy_from_slice.ensures.after in
+    record { within = omega arith; utf8 = rw made (IsUtf8-append (drop from c.kept.inside.bytes) (drop end bytes) c.kept.invariant.utf8 c.self.invariant.utf8) }
+
+pub returns-clause-text : goal.returns-clause-text
+returns-clause-text c =
+    let end = c.self.inside.at in
+    let bytes = c.self.inside.bytes in
+    let from = c.kept.inside.from in
+    let size = ap length c.self.view_is in
+    let gone = length-drop end bytes in
+    let start = end - 16 in
+    last_put bytes c.copy_from_slice.new.self end start (end - start) (end - (16 - from)) from (omega arith) (omega arith) (omega arith) (omega arith) (omega arith)
+    ∙ ap (λ (kept : List ℕ). drop from kept ++ drop end bytes) c.copy_from_slice.ensures.after
+    ∙ ap (λ (front : List ℕ). front ++ drop end bytes) c.kept.view_is
+    ∙ ap (λ (rest : List ℕ). c.args.kept.now ++ rest) c.self.view_is

@@ -1,5 +1,0 @@
-use Rattle.nap_list.proofs.PublicLaws.{batch_stands}
-use Rattle.nap_list.proofs.laws.batch_stands.Goals as goal
-
-pub returns : goal.returns
-returns c = batch_stands

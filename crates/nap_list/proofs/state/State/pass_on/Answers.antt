@@ -1,6 +1,0 @@
-use Rattle.std.proofs.Common.{arith}
-use Rattle.nap_list.proofs.Batches.{batch_passes}
-use Rattle.nap_list.proofs.state.State.pass_on.Goals as goal
-
-pub returns-in-Some : goal.returns-in-Some
-returns-in-Some c = batch_passes _ _ _ _ _ _ (omega (arith, c.requires.few, c.in-Some.ensures)) c.requires.stand c.in-Some.ensures c.mark.ensures

@@ -1,0 +1,26 @@
+use Rattle.nap_list.specs.declared.entry.Entry.TheVariants as entry
+use Rattle.nap_make.specs.declared.name.Name.TheVariants as names
+use Rattle.nap_make.proofs.KindLemmas.{none_named, written_named}
+use Rattle.std.proofs.Common.{arith}
+use Rattle.nap_codes.specs.declared.control.TextStep.TheVariants as steps
+use Rattle.nap_lines.specs.Lines.{hand_text}
+use Rattle.nap_make.proofs.KindLayouts.{no_plain, no_position, plain_made, plain_range, position_is}
+use Rattle.nap_make.proofs.kind.text_move_entry.Goals as goal
+
+pub returns-in_err-row-in-Some : goal.returns-in_err-row-in-Some
+returns-in_err-row-in-Some c = rw (c.from_residual.ensures) (none_named names.Move _ (no_position _ _ c.in-Some.ensures c.in_err-row-in-Some.ensures))
+
+pub returns-in_err-step-in-None : goal.returns-in_err-step-in-None
+returns-in_err-step-in-None c = rw (c.from_residual-in_err-step-in-None.ensures) (none_named names.Move _ (no_plain _ c.in-None.ensures c.in_err-step-in-None.ensures))
+
+pub returns-in_ok-row-in-Some : goal.returns-in_ok-row-in-Some
+returns-in_ok-row-in-Some c =
+    let told = c.in_ok-row-in-Some.ensures in
+    written_named (entry.TextMove (steps.Aps _ _) _) _
+    (record { in_range = ((omega (arith, told.fitting.0), omega (arith, told.fitting.1.0)), told.fitting.1.1); well_made = (told.fitting.0, told.fitting.1.0) }) tt
+    (position_is _ _ _ _ (hand_text _) c.in-Some.ensures told.written)
+
+pub returns-in_ok-step-in-None : goal.returns-in_ok-step-in-None
+returns-in_ok-step-in-None c =
+    let told = c.in_ok-step-in-None.ensures in
+    written_named (entry.TextMove _ _) _ (record { in_range = (plain_range _ told.fitting.0, told.fitting.1); well_made = plain_made _ told.fitting.0 }) tt told.written

@@ -1,0 +1,213 @@
+use Rattle.std.specs.Prelude.{⊤, ◌≡◌, ◌≢◌, ◌<◌, ◌≤◌, ◌-◌, ◌+◌, ◌++◌, ℕ, false, List, [], ◌∷◌, Option, Some, None, length}
+use Rattle.nap_reader.specs.Below.{operand_words, CodeSets, Ghosts, Entry, Cause, stream, memory, run_limit}
+use Rattle.nap_codes.specs.declared.code.Code.TheVariants as code
+use Rattle.nap_codes.specs.Front as codes
+use Rattle.nap_reader.specs.declared.fault.Refusal.{Refusal}
+use Rattle.nap_reader.specs.declared.body.OpenBody.{OpenBody}
+use Rattle.nap_reader.specs.declared.machine.OpenRun.{OpenRun}
+use Rattle.nap_reader.specs.declared.machine.Machine as struct
+use Rattle.nap_reader.specs.declared.input.Input.{Input}
+use Rattle.nap_reader.specs.declared.reader.Reader.{Reader}
+use Rattle.nap_reader.specs.Bodies as bodies
+use Rattle.nap_reader.specs.Bodies.{Mode, between, in_body, BodyFront, store_limit, body_front}
+use Rattle.nap_reader.specs.Framed.{unread}
+use Rattle.nap_reader.specs.Course.{prepend}
+use Rattle.nap_reader.specs.Stream as model
+use Rattle.nap_reader.specs.Stream.{Placed, Machine, Outcome, Unfinished, open_body, after_charge, refusal, bytes_of, words_of, is_operand_byte, run_length, half_read, outcome_from, begun, with_run}
+use Rattle.nap_reader.specs.Breaking.{cause_of, TookPart, BreaksInRun, BreaksFrom, Begins}
+
+-- What a reader keeps between two bytes, and how it leads to what the stream means. No caller sees these definitions.
+
+-- the machine, the bytes of a half-read code, the open run with its words, and the open body with its bytes
+pub record ReadingState : Type 0 where
+  pub machine : Machine
+  pub half : List ℕ
+  pub open_run : Option OpenRun
+  pub run : List ℕ
+  pub open_body : Option OpenBody
+  pub body : List ℕ
+
+-- where the stream is
+abbrev pub mode_of : Option OpenBody → Mode
+mode_of None = between
+mode_of (Some body) = in_body body.name body.show
+
+-- the machine of the model, a part of which is the reader's input
+abbrev pub machine_of : {S : Type 0} {g : Ghosts S} → struct.Machine S g → Input → Machine
+machine_of machine input = record {
+  work = machine.work;
+  sets = machine.lexer.sets;
+  left = input.budget - input.charged;
+  names = input.store.names;
+  stored = input.store.stored;
+  mode = mode_of input.body;
+}
+
+-- the words of the open run, which these bytes carry
+abbrev pub run_by : Option OpenRun → List ℕ → List ℕ
+run_by None bytes = []
+run_by (Some open_run) bytes = operand_words bytes
+
+abbrev pub reading_state_by : {S : Type 0} {g : Ghosts S} → struct.Machine S g → Input → ReadingState
+reading_state_by machine input = record {
+  machine = machine_of machine input;
+  half = machine.lexer.half;
+  open_run = machine.open_run;
+  run = run_by machine.open_run machine.run.items;
+  open_body = input.body;
+  body = input.store.body;
+}
+
+abbrev pub reading_state : {S : Type 0} {g : Ghosts S} → Reader S g → ReadingState
+reading_state reader = reading_state_by reader.machine reader.input
+
+-- what remains to be read of the bodies that are being read
+abbrev pub unread_of : Input → List Placed
+unread_of input = unread input.store.bytes input.frames.stack.items
+
+abbrev pub unfinished_by : Option OpenBody → Option OpenRun → List ℕ → List ℕ → Unfinished
+unfinished_by (Some body) open_run half run = open_body
+unfinished_by None None half run = half_read half
+unfinished_by None (Some open_run) half run = model.open_run open_run.op open_run.place run
+
+-- what is unfinished in this state of a reader
+abbrev pub unfinished_of : ReadingState → Unfinished
+unfinished_of h = unfinished_by h.open_body h.open_run h.half h.run
+
+-- these bytes are an opcode and the words of its run
+pub record IsOpenRun (rest : List Placed) (open_run : OpenRun) (run : List ℕ) (sets : CodeSets) : Type 0 where
+  pub opcode : Placed
+  pub operands : List Placed
+  pub is : rest ≡ opcode ∷ operands
+  pub place : opcode.place ≡ open_run.place
+  pub names : codes.front sets (opcode.byte ∷ []) ≡ codes.whole (code.Op open_run.op) 1 sets
+  pub words : words_of operands ≡ run
+  pub all : run_length operands ≡ length operands
+  pub short : length run ≤ run_limit
+
+abbrev pub ArePendingBy : List Placed → ReadingState → Option OpenRun → Type 0
+ArePendingBy rest h (Some open_run) = IsOpenRun rest open_run h.run h.machine.sets × (h.half ≡ [])
+ArePendingBy rest h None = (bytes_of rest ≡ h.half) × (codes.front h.machine.sets h.half ≡ codes.unfinished)
+
+-- ESC, if one is pending of which it isn't known yet whether it belongs to a body
+abbrev pub pending_escape : Option ℕ → List Placed
+pending_escape None = []
+pending_escape (Some place) = record { byte = 0x1B; place = place } ∷ []
+
+-- what is known of a body with this many bytes before
+abbrev pub body_front_after : ℕ → BodyFront → BodyFront
+body_front_after n bodies.unfinished = bodies.unfinished
+body_front_after n (bodies.refused fault i) = bodies.refused fault (n + i)
+body_front_after n (bodies.ended k) = bodies.ended (n + k)
+
+-- These are bytes of a body if the next bytes come after them: what is there then has the same outcome as right after
+-- the name, with less space.
+abbrev pub AreOfBody : ℕ → List ℕ → List ℕ → Type 0
+AreOfBody room body next = (more : List ℕ) → body_front room (body ++ (next ++ more)) ≡ body_front_after (length body) (body_front (room - length body) (next ++ more))
+
+-- these bytes are those of a body that hasn't ended, if the next bytes come after them
+pub record AtBody (rest : List Placed) (b : OpenBody) (h : ReadingState) (next : List ℕ) : Type 0 where
+  pub mode : h.machine.mode ≡ in_body b.name b.show
+  pub body : bytes_of rest ≡ h.body
+  pub goes_on : AreOfBody (store_limit - h.machine.stored) h.body next
+  pub still : h.open_run ≡ None
+  pub half : h.half ≡ []
+
+-- these bytes are those of a body that hasn't ended, and maybe a pending ESC
+pub record IsOpenBody (rest : List Placed) (b : OpenBody) (h : ReadingState) : Type 0 where
+  pub bytes : List Placed
+  pub is : rest ≡ bytes ++ pending_escape b.escape
+  pub at : AtBody bytes b h (bytes_of (pending_escape b.escape))
+
+-- between two codes, these bytes are an open run, else those of a half-read code
+pub record ArePendingBetweenCodes (rest : List Placed) (h : ReadingState) : Type 0 where
+  pub mode : h.machine.mode ≡ between
+  pub body : h.body ≡ []
+  pub half : ArePendingBy rest h h.open_run
+
+abbrev pub ArePendingIn : List Placed → ReadingState → Option OpenBody → Type 0
+ArePendingIn rest h None = ArePendingBetweenCodes rest h
+ArePendingIn rest h (Some body) = IsOpenBody rest body h
+
+-- these bytes are pending: those of an open body, an open run, or a half-read code
+abbrev pub ArePending : List Placed → ReadingState → Type 0
+ArePending rest h = ArePendingIn rest h h.open_body
+
+-- A sink that was s took the first entries of the outcome; the others come of the pending bytes and then of those that
+-- come next.
+pub record Continues {S : Type 0} (g : Ghosts S) (s : S) (o : Outcome) (t : S) (h : ReadingState) (pending : List Placed) : Type 0 where
+  pub done : List Entry
+  pub taken : g.took s done t
+  pub clear : g.failed s ≡ false → g.failed t ≡ false
+  pub rest : List Placed
+  pub held : ArePending rest h
+  pub leads : o ≡ prepend done (outcome_from h.machine (rest ++ pending))
+
+-- A sink that was s took the first entries of the outcome, and the pending bytes are those of the body before this
+-- byte.
+pub record ReadsOn {S : Type 0} (g : Ghosts S) (s : S) (o : Outcome) (t : S) (h : ReadingState) (b : OpenBody) (x : Placed) (pending : List Placed) : Type 0 where
+  pub done : List Entry
+  pub taken : g.took s done t
+  pub clear : g.failed s ≡ false → g.failed t ≡ false
+  pub rest : List Placed
+  pub at : AtBody rest b h (x.byte ∷ [])
+  pub leads : o ≡ prepend done (outcome_from h.machine (rest ++ x ∷ pending))
+
+-- A sink that was s took these entries, the first of the outcome; the others come of the pending bytes and then of
+-- those that come next.
+pub record ContinuesPast {S : Type 0} (g : Ghosts S) (s : S) (known : List Entry) (o : Outcome) (t : S) (h : ReadingState) (pending : List Placed) : Type 0 where
+  pub continues : Continues g s o t h pending
+  pub done : continues.done ≡ known
+
+-- A sink that was s has the known entries, and a part of those that the outcome has more. The outcome has no refusal.
+pub record BreaksNext {S : Type 0} (g : Ghosts S) (s : S) (known : List Entry) (o : Outcome) (t : S) (cause : Cause) : Type 0 where
+  pub more : List Entry
+  pub adds : o.entries ≡ known ++ more
+  pub unrefused : o.refusal ≡ None
+  pub sublist : TookPart g s known more t cause
+
+-- There are entries after the known ones. If memory was lacking, the sink may lack it for these.
+pub record BreaksPast {S : Type 0} (g : Ghosts S) (s : S) (known : List Entry) (o : Outcome) (t : S) (cause : Cause) : Type 0 where
+  pub next : BreaksNext g s known o t cause
+  pub some : next.more ≢ []
+  pub wants : cause ≡ memory → g.wants s (known ++ next.more)
+
+-- What comes next broke; or a body is charged, and the sink has a part of what comes.
+pub data BreaksInBody {S : Type 0} (g : Ghosts S) (s : S) (known : List Entry) (o : Outcome) (t : S) (left : ℕ) (cause : Cause) : Type 0 where
+  next_broke : BreaksNext g s known o t cause → BreaksInBody g s known o t left cause
+  body_broke : o.machine.left < left → BreaksFrom g s known o t cause → BreaksInBody g s known o t left cause
+
+-- What comes next broke, or a body is charged; and some entries come.
+pub data BreaksSome {S : Type 0} (g : Ghosts S) (s : S) (known : List Entry) (o : Outcome) (t : S) (left : ℕ) (cause : Cause) : Type 0 where
+  some_broke : BreaksPast g s known o t cause → BreaksSome g s known o t left cause
+  charged_broke : o.machine.left < left → BreaksFrom g s known o t cause → BreaksSome g s known o t left cause
+
+-- the refusal is the stream's own
+abbrev pub IsOwn : Refusal → Type 0
+IsOwn r = cause_of r.fault ≡ stream
+
+-- the outcome is refused, a sink that was s has its entries, and this much is left to charge
+abbrev pub IsRefused : {S : Type 0} → Ghosts S → S → Outcome → S → ReadingState → Refusal → Type 0
+IsRefused g s o t h r = (o.refusal ≡ Some r) × g.took s o.entries t × (o.machine.left ≡ h.machine.left)
+
+-- A sink that was s has taken the entries of an outcome that ends with this drawing state, and with these bytes of a
+-- half-read code.
+pub record Ends {S : Type 0} (g : Ghosts S) (s : S) (o : Outcome) (t : S) (h : ReadingState) : Type 0 where
+  pub refusal : o.refusal ≡ None
+  pub taken : g.took s o.entries t
+  pub work : o.machine.work ≡ h.machine.work
+  pub half : o.unfinished ≡ Some (half_read h.half)
+
+-- the entries of the open run after p come first of those with any byte that ends the run
+abbrev pub BeginsAll : ℕ → List ℕ → Type 0
+BeginsAll budget p = (b : ℕ) → is_operand_byte b ≡ false → Begins (with_run (begun budget p)) (begun budget (p ++ b ∷ []))
+
+-- The opcode of the open run was refused, or broke.
+pub data ClosesInto {S : Type 0} (g : Ghosts S) (s : S) (budget : ℕ) (p : List ℕ) (t : S) (r : Refusal) : Type 0 where
+  run_refused : (with_run (begun budget p)).refusal ≡ Some r → g.took s (with_run (begun budget p)).entries t → IsOwn r → ClosesInto g s budget p t r
+  run_broke : BeginsAll budget p → BreaksInRun g s budget p t r → cause_of r.fault ≢ stream → ClosesInto g s budget p t r
+
+-- the open run, if there is one, is at this place
+abbrev pub RunAt : ℕ → Option OpenRun → Type 0
+RunAt n None = ⊤
+RunAt n (Some open_run) = open_run.place ≡ n

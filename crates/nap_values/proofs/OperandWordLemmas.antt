@@ -1,0 +1,65 @@
+use Rattle.std.proofs.Common.{◌≡◌, ℕ, suc, zero, ◌%◌, ◌<◌, ◌≤◌, List, [], ◌∷◌, ◌++◌, length, replicate, take, get_or, All, refl, sym, ap, subst, ◌∙◌, arith, bit_and, append-nil, ◌-◌}
+use Rattle.std.specs.Int.{w64, from_be_bytes}
+use Rattle.std.proofs.lemmas.Nat.{and_mask}
+use Rattle.std.proofs.lemmas.Grind.{get_or_default_zero}
+use Rattle.std.proofs.lemmas.List.{length-map, length-take, take_all, map-append}
+use Rattle.std.proofs.lemmas.List.Elements.{All-map}
+use Rattle.nap_values.specs.Digits.{value_of}
+use Rattle.nap_values.specs.Operands.{operand_words, multi_of}
+use Rattle.nap_values.specs.Laws.{IsWord}
+use Rattle.nap_values.specs.PackedCoordinates.{words_in, HoldsWords}
+use Rattle.nap_values.proofs.MaskLemmas.{masked_bytes, map_same, everywhere}
+use Rattle.nap_values.proofs.RunLemmas.{run_holds, words_in_run}
+use Rattle.nap_values.proofs.PublicLaws.{missing_words_are_zero}
+
+-- Eight bytes are read at once as one number, and a mask keeps the words that the first of them carry.
+
+bytes_at_once : (bytes : List ℕ) → length bytes ≡ 8 → from_be_bytes w64 bytes ≡ value_of 256 8 bytes
+unfolding value_of
+bytes_at_once (a ∷ b ∷ c ∷ d ∷ e ∷ f ∷ g ∷ h ∷ []) len = omega arith
+bytes_at_once _ len = absurd (omega arith)
+
+module _ (count : ℕ) (bytes : List ℕ) (fit : (i : ℕ) → get_or bytes i 0 < 256) (len : length bytes ≡ 8) where
+  abbrev words : List ℕ
+  words = operand_words (take count bytes)
+
+  abbrev kept : ℕ
+  kept = bit_and (from_be_bytes w64 bytes) (value_of 256 8 (replicate count 63))
+
+  all_words : All IsWord words
+  all_words = All-map IsWord (λ byte. byte % 64) (take count bytes) (everywhere (λ byte. byte % 64 < 64) (take count bytes) (λ byte. omega arith))
+
+  few_words : length words ≤ 8
+  few_words = omega (arith, length-map (take count bytes) (λ byte. byte % 64), length-take count bytes)
+
+  kept_is : kept ≡ value_of 256 8 words
+  kept_is =
+      ap (λ n. bit_and n (value_of 256 8 (replicate count 63))) (bytes_at_once bytes len)
+      ∙ masked_bytes 63 (omega arith) 8 count bytes (λ i d inside. subst (λ b. b < 256) (sym (get_or_default_zero bytes i d inside)) (fit i)) len
+      ∙ ap (value_of 256 8) (map_same (λ b. bit_and b 63) (λ b. b % 64) (take count bytes)
+      (everywhere (λ b. bit_and b 63 ≡ b % 64) (take count bytes) (λ b. and_mask b 6)))
+
+  pub kept_holds : HoldsWords kept
+  kept_holds = subst HoldsWords (sym kept_is) (run_holds words all_words few_words)
+
+  pub kept_run : words_in kept ≡ words ++ replicate (8 - length words) 0
+  kept_run = ap words_in kept_is ∙ words_in_run words all_words few_words
+
+  pub kept_spells : multi_of (words_in kept) ≡ multi_of words
+  kept_spells = ap multi_of kept_run ∙ (missing_words_are_zero words (8 - length words)).0
+
+  -- a mask of all eight words keeps those of all bytes
+  pub kept_all : count ≡ 8 → words_in kept ≡ operand_words bytes
+  kept_all whole =
+      let all : take count bytes ≡ bytes = take_all count bytes (omega arith) in
+      let none : 8 - length words ≡ 0 = omega (arith, length-map (take count bytes) (λ byte. byte % 64), ap length all) in
+      kept_run ∙ ap (λ n. words ++ replicate n 0) none ∙ append-nil words ∙ ap operand_words all
+
+carried_zeros : (n : ℕ) → operand_words (replicate n 0) ≡ replicate n 0
+carried_zeros zero = refl
+carried_zeros (suc n) = ap (λ ws. 0 ∷ ws) (carried_zeros n)
+
+-- bytes of zero carry words of zero
+pub zeros_behind : (bytes : List ℕ) (missing : ℕ) → operand_words (bytes ++ replicate missing 0) ≡ operand_words bytes ++ replicate missing 0
+zeros_behind bytes missing =
+    map-append (λ byte. byte % 64) bytes (replicate missing 0) ∙ ap (λ ws. operand_words bytes ++ ws) (carried_zeros missing)

@@ -1,8 +1,0 @@
-use Rattle.nap_values.proofs.WalkLemmas.{y_kept, y_kept-words}
-use Rattle.nap_values.proofs.packed.Packed.y_alone.Goals as goal
-
-pub invariant_of-result : goal.invariant_of-result
-invariant_of-result c = y_kept-words _ c.self.invariant
-
-pub returns : goal.returns
-returns c = rw (← c.self.view_is) (y_kept _ c.self.invariant)

@@ -1,0 +1,19 @@
+use Rattle.std.proofs.Common.{◌<◌, ◌∙◌, All, ap, sym, subst}
+use Rattle.nap_values.specs.Digits.{value_of}
+use Rattle.nap_values.specs.PackedCoordinates.{words_in, y_in}
+use Rattle.nap_values.proofs.SpellingLemmas.{y_digits-below}
+use Rattle.nap_values.proofs.PackedLemmas.{y_digits_are, y_in-below}
+use Rattle.nap_values.proofs.packed.PackedWords.y_bits.Goals as goal
+
+pub gathered_number-requires : goal.gathered_number-requires
+gathered_number-requires c =
+    subst (All (λ d. d < 8)) (sym (y_digits_are _ c.self.invariant)) (y_digits-below (words_in _) c.self.invariant)
+
+pub returns-clause-value : goal.returns-clause-value
+unfolding y_in
+returns-clause-value c = rw (← c.self.view_is) (c.gathered_number.ensures ∙ ap (value_of 8 8) (y_digits_are _ c.self.invariant))
+
+pub returns-clause-below : goal.returns-clause-below
+unfolding y_in
+returns-clause-below c =
+    subst (λ n. n < 16777216) (sym (c.gathered_number.ensures ∙ ap (value_of 8 8) (y_digits_are _ c.self.invariant))) (y_in-below _ c.self.invariant)

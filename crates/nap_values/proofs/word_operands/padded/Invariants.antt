@@ -1,9 +1,0 @@
-use Rattle.std.proofs.Common.{◌≡◌, ◌-◌, ◌++◌, length, take, replicate}
-use Rattle.nap_values.specs.Operands.{carried}
-use Rattle.nap_values.proofs.word_operands.padded.Given as goal
-
-abbrev pub invariant-loop-at : goal.invariant-loop-at
-invariant-loop-at l = record {
-  size : length l.bytes ≡ 8;
-  words : carried l.bytes ≡ take l.at l.run ++ replicate (8 - l.at) 0;
-}

@@ -1,0 +1,34 @@
+use Rattle.std.proofs.Common.{◌≡◌, ◌+◌, ◌-◌, ◌<◌, ◌%◌, ◌∙◌, ◌++◌, [], ◌∷◌, ℕ, List, suc, length, take, replicate, set, get_or, length-set, append_assoc, arith, ap, sym}
+use Rattle.std.proofs.lemmas.List.{take_more, map-set, set_at, length-take-le, get_or_read}
+use Rattle.nap_values.specs.Operands.{operand_words}
+use Rattle.nap_values.proofs.FrontLemmas.{front-filled}
+use Rattle.nap_values.proofs.word_operands.padded_bytes.Goals as goal
+
+-- one more byte, in the place of a zero
+one_byte_more : (bytes run : List ℕ) (at word : ℕ) → at < 8 → at < length run → word % 64 ≡ get_or run at 0 →
+    operand_words bytes ≡ take at run ++ replicate (8 - at) 0 → operand_words (set bytes at word) ≡ take (at + 1) run ++ replicate (8 - (at + 1)) 0
+one_byte_more bytes run at word place inside is so_far =
+    let first : 8 - at ≡ suc (8 - (at + 1)) = omega arith in
+    map-set (λ byte. byte % 64) bytes at word
+    ∙ ap (λ words. set words at (word % 64)) (so_far ∙ ap (λ n. take at run ++ replicate n 0) first)
+    ∙ set_at (take at run) 0 (replicate (8 - (at + 1)) 0) (word % 64) at (length-take-le at run (omega arith))
+    ∙ ap (λ w. take at run ++ w ∷ replicate (8 - (at + 1)) 0) is
+    ∙ sym (append_assoc (take at run) (get_or run at 0 ∷ []) (replicate (8 - (at + 1)) 0))
+    ∙ ap (λ words. words ++ replicate (8 - (at + 1)) 0) (sym (take_more run at 0 inside))
+
+pub loop-at-preserved : goal.loop-at-preserved
+loop-at-preserved c =
+    let l = c.loop-at in
+    let run = c.args.run.now in
+    let inside : l.at < length run = omega arith in
+    let same : c.get.result ≡ get_or run l.at 0 =
+    c.get.ensures.value ∙ get_or_read run l.at c.index-run-at.result inside c.index-run-at.is 0 in
+    record {
+      size = length-set l.bytes l.at c.get.result ∙ l.invariant.size;
+      words = one_byte_more l.bytes run l.at c.get.result (omega arith) inside (omega (arith, same, c.get.ensures.below)) l.invariant.words;
+    }
+
+pub returns : goal.returns
+returns c =
+    c.loop-at.invariant.words
+    ∙ front-filled 8 c.loop-at.at c.args.run.now (omega arith) (omega arith) (λ few more. absurd (omega arith))

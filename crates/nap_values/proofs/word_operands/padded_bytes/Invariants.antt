@@ -1,0 +1,9 @@
+use Rattle.std.proofs.Common.{◌≡◌, ◌-◌, ◌++◌, length, take, replicate}
+use Rattle.nap_values.specs.Operands.{operand_words}
+use Rattle.nap_values.proofs.word_operands.padded_bytes.Given as goal
+
+abbrev pub invariant-loop-at : goal.invariant-loop-at
+invariant-loop-at l = record {
+  size : length l.bytes ≡ 8;
+  words : operand_words l.bytes ≡ take l.at l.run ++ replicate (8 - l.at) 0;
+}
