@@ -167,11 +167,11 @@ impl<T: ByteSink + Drop> Writer<T> {
 
     /// Writes what was laid, and how a rectangle is spelled.
     #[inline(always)]
-    fn spell_rect(&mut self, filled: bool, from: Point, target: Point) -> Result<(), T::Fault>
+    fn spell_rect(&mut self, filled: bool, from: Point, to: Point) -> Result<(), T::Fault>
         requires { length self.old.pending.bytes + piece_limit ≤ buffer_limit }
-        ensures { WritesPendingAnd T.sent (rect_piece self.old.form filled from target) self.old self.new result }
+        ensures { WritesPendingAnd T.sent (rect_piece self.old.form filled from to) self.old self.new result }
     {
-        self.pending.append_rect(self.form, filled, from, target);
+        self.pending.append_rect(self.form, filled, from, to);
         self.target.write_all(self.pending.bytes.as_slice())
     }
 
@@ -204,20 +204,14 @@ impl<T: ByteSink + Drop> Writer<T> {
 
     /// Writes a rectangle that may come next, as any entry.
     #[inline(always)]
-    fn put_rect(
-        &mut self,
-        filled: bool,
-        from: Point,
-        target: Point,
-        ink: &Ink,
-    ) -> Result<(), T::Fault>
-        requires { Fits self.old.state (Rect filled from target ink.now) }
-        ensures { Puts T.sent (Rect filled from target ink.now) self.old self.new result }
+    fn put_rect(&mut self, filled: bool, from: Point, to: Point, ink: &Ink) -> Result<(), T::Fault>
+        requires { Fits self.old.state (Rect filled from to ink.now) }
+        ensures { Puts T.sent (Rect filled from to ink.now) self.old self.new result }
     {
         self.pending.bytes.clear();
         let stands = self.pending.append_ink_prelude(&self.state.drawing, ink);
-        self.spell_rect(filled, from, target)?;
-        step_rect(&mut self.state, filled, from, target, ink, stands);
+        self.spell_rect(filled, from, to)?;
+        step_rect(&mut self.state, filled, from, to, ink, stands);
         Ok(())
     }
 
@@ -230,9 +224,9 @@ impl<T: ByteSink + Drop> Writer<T> {
             Entry::Rect {
                 filled,
                 from,
-                target,
+                to,
                 ink,
-            } => self.put_rect(*filled, *from, *target, ink),
+            } => self.put_rect(*filled, *from, *to, ink),
             _ => self.put_other(entry),
         }
     }

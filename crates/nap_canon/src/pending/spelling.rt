@@ -115,7 +115,7 @@ impl Pending {
                 from,
                 to,
                 ..
-            } => self.rect(form, *filled, *from, *to),
+            } => self.append_rect(form, *filled, *from, *to),
             Entry::Char { set, code, .. } => self.character(*set, *code),
             Entry::TextMove { step, .. } => self.append_text_move(*step),
             Entry::ToEol { .. } => self.append_control(&[0x1B, 0x47]),
