@@ -124,8 +124,8 @@ class Suite:
 # Those that look at the sources alone; and those that are no parts, or parts of others.
 OF_SOURCES = (
     "scripts/prove/test-wrong-bodies", "scripts/prove/test-citations", "scripts/prove/test-repeated-clauses",
-    "scripts/prove/test-headline", "scripts/test/test-launcher", "scripts/prove/test-trying",
-    "scripts/shared/test-scripts",
+    "scripts/prove/test-headline", "scripts/prove/test-plain-words", "scripts/test/test-launcher",
+    "scripts/prove/test-trying", "scripts/shared/test-scripts",
 )
 NO_PARTS = ("scripts/packages/test-kept", "scripts/vectors/test-rows")
 # Those that take longest, longest first.

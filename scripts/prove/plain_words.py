@@ -1,0 +1,205 @@
+"""The texts in which old words are looked for, the table of these words, and the places where one may stay.
+
+The table is plain-words.tsv: a name of the row, the kinds of text in which it holds, a pattern, and what to say
+instead. plain-words-stay.tsv has the places where a word stays: the row's name, files, a pattern that the place
+matches, and why. A pattern that begins with `^` minds capitals, others don't.
+"""
+import ast
+import csv
+import fnmatch
+import io
+import re
+import tokenize
+from pathlib import Path
+from typing import Iterator, List, NamedTuple, Optional, Tuple
+
+FOLDER = Path(__file__).resolve().parent
+RULES, STAYS = "plain-words.tsv", "plain-words-stay.tsv"
+RULE_COLUMNS, STAY_COLUMNS = ["row", "look", "pattern", "say"], ["row", "files", "reads", "why"]
+COMMENT = re.compile(r"^(?P<before>.*?)(?<!\S)(?P<mark>//!|///|//|--)(?:\s+(?P<words>.*))?$")
+WORD = re.compile(r"[A-Z]?[a-z]+|[A-Z]+(?![a-z])|\d+")
+NAME = re.compile(r"[A-Za-z][\w'+-]*")
+TEXT = re.compile(r'b?"(?:\\.|[^"\\])*"')
+FENCE = re.compile(r"^ *```")
+SPAN = re.compile(r"`[^`]*`")
+MACRO = re.compile(r"^[.'][A-Za-z]+ ?|\\f[BIRP]|\\")
+DOCUMENTS = ("*.md", "docs/*.md", "scripts/*.md", "scripts/*/*.md", "library/*.md", "python/*.md", "vectors/*.md",
+             "man/*.1")
+
+
+class Text(NamedTuple):
+    """A text that is looked through: its kind, its file below the top, the line on which it begins, and its words."""
+
+    kind: str
+    file: str
+    line: int
+    words: str
+
+
+class Rule(NamedTuple):
+    """A word that isn't to be used: the row's name, the kinds of text, the pattern, and what to say instead."""
+
+    row: str
+    look: Tuple[str, ...]
+    pattern: "re.Pattern[str]"
+    say: str
+
+
+class Stay(NamedTuple):
+    """Where a row's word may stay: in these files, within what this pattern matches."""
+
+    row: str
+    files: Tuple[str, ...]
+    reads: "re.Pattern[str]"
+    why: str
+
+    def allows(self, text: Text, start: int, end: int) -> bool:
+        """Whether a word that was found between two places of a text may stay."""
+        if not any(fnmatch.fnmatch(text.file, pattern) for pattern in self.files):
+            return False
+        return any(one.start() <= start and end <= one.end() for one in self.reads.finditer(text.words))
+
+
+class Finding(NamedTuple):
+    """A word in a text that the table has, and the place where it may stay, or None."""
+
+    text: Text
+    rule: Rule
+    stay: Optional[Stay]
+
+    def __str__(self) -> str:
+        return f"{self.text.file}:{self.text.line}: {self.rule.row}: {self.rule.say}: {self.text.words[:110]}"
+
+
+def _rows(path: Path, columns: List[str]) -> List[List[str]]:
+    with path.open(encoding="utf-8", newline="") as file:
+        head, *lines = csv.reader(file, delimiter="\t", quoting=csv.QUOTE_NONE)
+    for number, line in enumerate([head, *lines], 1):
+        if len(line) != len(columns) or not all(line):
+            raise ValueError(f"{path.name}:{number} hasn't a text in each of the columns {', '.join(columns)}")
+    return lines
+
+
+def _compiled(pattern: str) -> "re.Pattern[str]":
+    return re.compile(pattern, 0 if pattern.startswith("^") else re.IGNORECASE)
+
+
+def rules_in(folder: Path = FOLDER) -> List[Rule]:
+    """The rows of the table of words."""
+    return [Rule(row, tuple(look.split()), _compiled(pattern), say)
+            for row, look, pattern, say in _rows(folder / RULES, RULE_COLUMNS)]
+
+
+def stays_in(folder: Path = FOLDER) -> List[Stay]:
+    """The places where words may stay; one of a row that the table hasn't raises ValueError."""
+    known = {rule.row for rule in rules_in(folder)}
+    found = []
+    for row, files, reads, why in _rows(folder / STAYS, STAY_COLUMNS):
+        if row not in known:
+            raise ValueError(f"{STAYS} has a row {row}, which {RULES} hasn't")
+        found.append(Stay(row, tuple(files.split()), _compiled(reads), why))
+    return found
+
+
+def comments_in(text: str, kind: str, file: str) -> Iterator[Text]:
+    """The comments of a source or of an edit; lines of comments below one another are one."""
+    words: List[str] = []
+    began, last = 0, ""
+    for number, line in enumerate([*text.split("\n"), ""], 1):
+        found = COMMENT.match(line)
+        mark = found["mark"] if found and not found["before"].strip() else ""
+        if words and mark != last:
+            yield Text(kind, file, began, " ".join([last, *words]))
+            words = []
+        if mark and found:
+            began, last = began if words else number, mark
+            words.append((found["words"] or "").strip())
+        elif found and found["before"].count('"') % 2 == 0:
+            yield Text(kind, file, number, f"{found['mark']} {found['words'] or ''}")
+
+
+def spaced(name: str) -> str:
+    """The words of a name with blanks between them, in small letters."""
+    return " ".join(WORD.findall(name)).lower()
+
+
+def names_in(text: str, file: str) -> Iterator[Text]:
+    """The names of a source, each once, as their words; and that of its file."""
+    yield Text("names", file, 1, spaced(Path(file).stem))
+    known = set()
+    for number, line in enumerate(text.split("\n"), 1):
+        found = COMMENT.match(line)
+        code = TEXT.sub("", found["before"] if found else line)
+        for name in NAME.findall(code):
+            if name not in known:
+                known.add(name)
+                yield Text("names", file, number, spaced(name))
+
+
+def prose_in(text: str, file: str) -> Iterator[Text]:
+    """The paragraphs of a document, without what is code; those of a manual page, without its macros."""
+    words: List[str] = []
+    is_code, began = False, 0
+    for number, line in enumerate([*text.split("\n"), ""], 1):
+        if FENCE.match(line):
+            is_code = not is_code
+            line = ""
+        plain = MACRO.sub("", line) if file.endswith(".1") else line
+        starts = bool(re.match(r"\s*(?:- |\||#|\d+\. )", plain))
+        if words and (is_code or not plain.strip() or starts):
+            yield Text("documents", file, began, SPAN.sub("`", " ".join(words)))
+            words = []
+        if plain.strip() and not is_code and not line.startswith("    "):
+            began = began if words else number
+            words.append(plain.strip())
+
+
+def python_words(text: str, file: str) -> Iterator[Text]:
+    """The comments and docstrings of a script."""
+    for token in tokenize.generate_tokens(io.StringIO(text).readline):
+        if token.type == tokenize.COMMENT:
+            yield Text("scripts", file, token.start[0], token.string)
+    for node in ast.walk(ast.parse(text)):
+        if isinstance(node, (ast.FunctionDef, ast.ClassDef, ast.AsyncFunctionDef, ast.Module)):
+            words = ast.get_docstring(node)
+            line = 1 if isinstance(node, ast.Module) else node.lineno
+            if words:
+                yield Text("scripts", file, line, " ".join(words.split()))
+
+
+def texts_of_crates(top: Path) -> Iterator[Text]:
+    """The comments and names of all crates, and the names and comments of their edits."""
+    for path in sorted(top.glob("crates/*/*/**/*")):
+        file, folder = str(path.relative_to(top)), path.relative_to(top).parts[2]
+        if folder == "out":
+            continue
+        if path.suffix in (".rt", ".antt"):
+            text = path.read_text("utf-8")
+            yield from comments_in(text, "lemmas" if folder == "proofs" else "comments", file)
+            yield from names_in(text, file)
+        elif path.suffix == ".edit":
+            yield Text("names", file, 1, spaced(path.stem))
+            for one in comments_in(re.sub(r"(?m)^(?:old|new):", "", path.read_text("utf-8")), "comments", file):
+                yield one
+
+
+def texts_of_documents(top: Path) -> Iterator[Text]:
+    """The paragraphs of all documents, what the list of wrong bodies says, and the comments of scripts."""
+    for path in sorted(path for pattern in DOCUMENTS for path in top.glob(pattern)):
+        yield from prose_in(path.read_text("utf-8"), str(path.relative_to(top)))
+    for number, line in enumerate((top / "docs" / "wrong-bodies.tsv").read_text("utf-8").splitlines(), 1):
+        yield Text("documents", "docs/wrong-bodies.tsv", number, SPAN.sub("`", line.split("\t")[-1]))
+    for path in sorted(path for folder in ("scripts", "library") for path in (top / folder).rglob("*")):
+        if path.is_file() and "__pycache__" not in path.parts and not path.suffix == ".md":
+            text = path.read_text("utf-8")
+            if path.suffix == ".py" or text.startswith("#!/usr/bin/python3"):
+                yield from python_words(text, str(path.relative_to(top)))
+
+
+def findings_in(text: Text, rules: List[Rule], stays: List[Stay]) -> Iterator[Finding]:
+    """What of the table stands in a text."""
+    for rule in rules:
+        if text.kind in rule.look:
+            for found in rule.pattern.finditer(text.words):
+                allowed = (one for one in stays if one.row == rule.row and one.allows(text, *found.span()))
+                yield Finding(text, rule, next(allowed, None))
