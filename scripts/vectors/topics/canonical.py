@@ -1,4 +1,4 @@
-"""Canonical text: what is brought before an entry, how it is spelled, and which runs are joined; in both forms."""
+"""Canonical text: the prelude of an entry, how it is spelled, and which runs are joined; in both forms."""
 from typing import Iterator, List, Tuple
 
 from vectors.cases import Case, written
@@ -8,9 +8,9 @@ SPELLINGS = """
 0F
 # Canonical text: A canonical stream is its own canonical stream.
 0E 21 5F 26 52 40*7
-# Canonical text: A canonical stream with a bring, a run of two and a character.
+# Canonical text: A canonical stream with a prelude, a run of two and a character.
 0E 21 5F 3C 52 40*7 26 52 40*7 49 40*7 0F 41
-# Canonical text: Codes that bring nothing new leave no trace.
+# Canonical text: Codes that set nothing new leave no trace.
 0F 0E 3C 52 3C 49 24 52 24 49 1B 48 1B 49 26 52
 # spelling Point: The opcode and eight bytes.
 0E 26 52 40 40
@@ -46,7 +46,7 @@ SPELLINGS = """
 41
 # spelling Char, primary: No SI before the second.
 41 42
-# spelling Char, primary: SI again behind an opcode.
+# spelling Char, primary: SI again after an opcode.
 41 0E 26 52 0F 42
 # spelling Char, supplementary: SS2 and the code.
 1B 6E 41
@@ -66,19 +66,19 @@ SPELLINGS = """
 08 09 0A 0B 0D 1E
 # spelling TextMove: APS and both bytes.
 1C 41 42
-# spelling TextMove: It leaves GL, so the character behind it has no SI.
+# spelling TextMove: It leaves GL, so the character after it has no SI.
 41 08 41
 # spelling ToEol: Its control.
 41 1B 47
-# spelling Map: The bring of the colour front, and SET COLOR.
+# spelling Map: The prelude of the colour front, and SET COLOR.
 0E 3E 44 3C 52
-# spelling Map: No bring at the same address.
+# spelling Map: No prelude at the same address.
 0E 3E 44 3C 52 3C 49
-# spelling Map: Under a pair the colour front is brought, and the pair again for a point.
+# spelling Map: Under a pair the colour front is set, and the pair again for a point.
 0E 3E 44 48 3C 52 26 52
 # spelling Map: Under a pair, and a second Map at the same address.
 0E 3E 44 48 3C 52 3C 49
-# spelling Map: Behind it a point in the base colour.
+# spelling Map: After it a point in the base colour.
 0E 3E 44 3C 52 3E 26 52
 # spelling Blink: Address and three words.
 0E 3F 44 41 42 43
@@ -102,15 +102,15 @@ SPELLINGS = """
 0E 38
 # spelling Field: Of a part.
 0E 38 49 40 40 49 40 40
-# spelling Field: From the pen: the pen is brought, and named again.
+# spelling Field: From the pen: the pen is set, and named again.
 0E 24 49 40 40 38 49 40 40
-# spelling Field: Two fields: at the second the pen is After, and isn't brought.
+# spelling Field: Two fields: at the second the pen is After, and isn't set.
 0E 38 38 49 40 40 49 40 40
 # spelling Reset: The opcode and both words.
 0E 20
 # spelling Reset: With b1 of the first word DOMAIN follows.
 0E 20 41
-# spelling Reset: With b1 of the first word, and a point behind it.
+# spelling Reset: With b1 of the first word, and a point after it.
 0E 20 41 26 52
 # spelling Reset: With all bits.
 0E 20 7F 7F 26 52
@@ -137,17 +137,17 @@ NEIGHBOURS: List[Tuple[str, str, str]] = [
     ("Char, mosaic", "1D 0F", "A control in the place of a mosaic character."),
     ("Char, DRCS", "1B 2B 7B 1D 1B", "A control in the place of a DRCS character."),
     ("TextMove", "1C 41 1B", "APS with a control in the place of its second byte."),
-    ("ToEol", "07 1B 47", "REPEAT TO EOL behind a bell."),
+    ("ToEol", "07 1B 47", "REPEAT TO EOL after a bell."),
     ("Map", "0E 3E 44 3C", "SET COLOR without a colour."),
-    ("Blink", "0E 3F 44 41 42 43 0E 41", "A word behind BLINK and SO."),
-    ("BlinkEnd", "0E 3F 0E 41", "A word behind the end of blinking and SO."),
-    ("BlinkMark", "0E 26 52 1B 4E 40", "A word behind BLINK START."),
-    ("Wait", "0E 3D 41 0E 41", "A word behind WAIT and SO."),
-    ("Bell", "0E 26 52 07 40", "A word behind a bell."),
-    ("Cursor", "0E 26 52 1B 5C 40", "A word behind STEADY CURSOR."),
+    ("Blink", "0E 3F 44 41 42 43 0E 41", "A word after BLINK and SO."),
+    ("BlinkEnd", "0E 3F 0E 41", "A word after the end of blinking and SO."),
+    ("BlinkMark", "0E 26 52 1B 4E 40", "A word after BLINK START."),
+    ("Wait", "0E 3D 41 0E 41", "A word after WAIT and SO."),
+    ("Bell", "0E 26 52 07 40", "A word after a bell."),
+    ("Cursor", "0E 26 52 1B 5C 40", "A word after STEADY CURSOR."),
     ("Field", "0E 38 52 40 40 52 40 40", "A field that leads outside."),
-    ("Reset", "0E 20 41 27 52", "A point at the pen behind RESET."),
-    ("Clear", "0C 0E 27 52", "A point at the pen behind CS."),
+    ("Reset", "0E 20 41 27 52", "A point at the pen after RESET."),
+    ("Clear", "0C 0E 27 52", "A point at the pen after CS."),
     ("GlyphStart", "1B 43 1B 45", "END in the place of a glyph's code."),
     ("MaskStart", "1B 44 1B 45", "END in the place of a mask."),
     ("DefEnd", "1B 43 21 0E 26 52", "A glyph without its end."),
@@ -182,77 +182,77 @@ HOLDERS = [
 ]
 
 
-def brings() -> Iterator[Case]:
-    """Each value that changes between two entries, and what is brought for the second."""
+def preludes() -> Iterator[Case]:
+    """Each value that changes between two entries, and the prelude of the second."""
     for change, what in CHANGES:
         for holder, name in HOLDERS:
-            yield Case("The bring", f"{name} twice, with {what} set between.", f"0E {holder} {change} {holder}")
+            yield Case("The prelude", f"{name} twice, with {what} set between.", f"0E {holder} {change} {holder}")
     front = "24 52 40 40 21 48 49 40 40 3C 52 40 40 23 43 49 40 40"
     look = "22 41 42 49 40 40 1B 48 1B 59 1B 55 1B 57"
     yield Case(
-        "The bring",
+        "The prelude",
         "All that a line holds, in its order: pel, colour, texture; the pen isn't held.",
         f"0E {front} 2A 49 40 40 50 40 40",
     )
     yield Case(
-        "The bring",
-        "All that a character holds, in its order: pen, colour, text look.",
+        "The prelude",
+        "All that a character holds, in its order: pen, colour, text attributes.",
         f"0E {front} {look} 0F 41",
     )
     yield Case(
-        "The bring",
+        "The prelude",
         "The same set in the other order.",
         "0E 1B 57 1B 55 1B 59 1B 48 22 41 42 49 40 40 3C 52 40 40 24 52 40 40 0F 41",
     )
     yield Case(
-        "The bring",
+        "The prelude",
         "All of it, and a named size in place of the displacement.",
         f"0E {front} {look} 1B 4A 0F 41",
     )
 
 
 COLOURS = """
-# The bring: The own colour behind a colour of the map: 3E.
+# The prelude: The own colour after a colour of the map: 3E.
 0E 3E 44 26 52 3E 26 52
-# The bring: A direct colour behind a colour of the map: 3E, and no 3C where the base is that colour.
+# The prelude: A direct colour after a colour of the map: 3E, and no 3C where the base is that colour.
 0E 3C 52 26 52 3E 44 26 52 3E 26 52
-# The bring: A direct colour behind a colour of the map: 3E and 3C where the base is another.
+# The prelude: A direct colour after a colour of the map: 3E and 3C where the base is another.
 0E 3C 52 26 52 3E 44 26 52 3E 3C 49 26 52
-# The bring: A direct colour behind a direct one: 3C alone.
+# The prelude: A direct colour after a direct one: 3C alone.
 0E 3C 52 26 52 3C 49 26 52
-# The bring: A direct colour behind the own one of RESET.
+# The prelude: A direct colour after the own one of RESET.
 0E 20 42 26 52 3C 49 26 52
-# The bring: A direct colour behind reset-2.
+# The prelude: A direct colour after reset-2.
 0E 3C 52 26 52 20 44 26 52 3E 26 52
-# The bring: The own colour of the start behind reset-3.
+# The prelude: The own colour of the start after reset-3.
 0E 26 52 20 46 26 52 3E 26 52
-# The bring: Another address: 3E and the address.
+# The prelude: Another address: 3E and the address.
 0E 3E 44 26 52 3E 48 26 52
-# The bring: The same address as front and in a pair.
+# The prelude: The same address as front and in a pair.
 0E 3E 44 26 52 3E 44 44 26 52
-# The bring: A pair with its addresses exchanged.
+# The prelude: A pair with its addresses exchanged.
 0E 3E 44 48 26 52 3E 48 44 26 52
-# The bring: A colour that no entry holds isn't brought.
+# The prelude: A colour that no entry holds isn't set.
 0E 3E 44 3C 52 3E 48 07
-# The bring: A colour that was set and set back.
+# The prelude: A colour that was set and set back.
 0E 3C 52 26 52 3C 49 3C 52 26 52
-# The bring: A Map brings its address before the point that holds another.
+# The prelude: A Map sets its address before the point that holds another.
 0E 3E 44 3C 52 3E 48 26 52
-# The bring: A colour behind a definition that had another.
+# The prelude: A colour after a definition that had another.
 0E 3C 52 26 52 1B 43 21 3C 49 26 52 1B 45 26 52
-# The bring: Inside a definition the pen of a character is Start, and nothing is brought.
+# The prelude: Inside a definition the pen of a character is Start, and nothing is set.
 0E 24 49 40 40 1B 43 21 0F 41 1B 45 41
-# The bring: A size of text goes from a displacement to a named one.
+# The prelude: A size of text goes from a displacement to a named one.
 0E 22 40 40 49 40 40 0F 41 1B 4C 41
-# The bring: A size of text goes from one displacement to another: both words are written too.
+# The prelude: A size of text goes from one displacement to another: both words are written too.
 0E 22 41 42 49 40 40 0F 41 0E 22 41 42 48 40 40 0F 41
-# The bring: A mask size goes to another, and the word stays.
+# The prelude: A mask size goes to another, and the word stays.
 0E 23 43 49 40 40 2A 49 40 40 50 40 40 23 43 48 40 40 2A 49 40 40 50 40 40
-# The bring: A texture word changes under a mask size, which isn't written again.
+# The prelude: A texture word changes under a mask size, which isn't written again.
 0E 23 43 49 40 40 2A 49 40 40 50 40 40 23 41 2A 49 40 40 50 40 40
-# The bring: Flags are taken off again.
+# The prelude: Flags are taken off again.
 1B 48 1B 59 1B 55 1B 57 41 1B 49 1B 5A 1B 56 1B 58 41
-# The bring: A pen that is Start isn't brought.
+# The prelude: A pen that is Start isn't set.
 41 1B 43 21 41 1B 45
 """
 
@@ -263,7 +263,7 @@ JOINS = """
 0E 28 52 40 40 49 40 40 72 40 40
 # joined 0E 26 52: Two points, a bell, and a third.
 0E 26 52 40 40 49 40 40 07 26 40 40 40
-# joined 0E 26 52: The same, where a word stands behind the bell.
+# joined 0E 26 52: The same, where a word stands after the bell.
 0E 26 52 40 40 49 40 40 07 40
 # joined 0E 32 49: An outlined and a filled rectangle.
 0E 32 49 40 40 49 40 40 33 49 40 40 49 40 40
@@ -275,17 +275,17 @@ JOINS = """
 0E 26 52 26 49
 # Runs that are joined: Lines that go on from one another join.
 0E 24 49 28 52 28 49 28 50
-# Runs that are joined: A line from elsewhere behind one that goes on.
+# Runs that are joined: A line from elsewhere after one that starts at the pen.
 0E 24 49 28 52 2A 49 40 40 50
 # Runs that are joined: Two lines from elsewhere join, with both points each.
 0E 2A 49 40 40 52 40 40 2A 50 40 40 42 40 40
-# Runs that are joined: A line from elsewhere, and one that goes on from it: another opcode.
+# Runs that are joined: A line from elsewhere, and one that starts at its end: another opcode.
 0E 2A 49 40 40 52 40 40 28 50
 # Runs that are joined: A line that is set to start where the pen is already.
 0E 2A 49 40 40 52 40 40 2A 52 40 40 50 40 40
-# Runs that are joined: A line behind a point, from there.
+# Runs that are joined: A line after a point, from there.
 0E 26 49 28 52
-# Runs that are joined: A point behind a line.
+# Runs that are joined: A point after a line.
 0E 24 49 28 52 26 50
 # Runs that are joined: Rectangles of one kind join.
 0E 32 49 40 40 48 40 40 50 40 40 41 40 40
@@ -297,13 +297,13 @@ JOINS = """
 0E 36 49 40 40 48 40 40 36 49 40 40 48 40 40
 # Runs that are joined: Waits never join.
 0E 3D 41 3D 42
-# Runs that are joined: A bring ends the run: a colour.
+# Runs that are joined: A prelude ends the run: a colour.
 0E 26 52 3C 52 26 49
-# Runs that are joined: A bring ends the run: a pel.
+# Runs that are joined: A prelude ends the run: a pel.
 0E 26 52 21 48 49 40 40 26 49
-# Runs that are joined: A texture isn't held by points, so it isn't brought, and they join.
+# Runs that are joined: A texture isn't held by points, so it isn't set, and they join.
 0E 26 52 23 43 26 49
-# Runs that are joined: A pen that was set between two points isn't brought, and they join.
+# Runs that are joined: A pen that was set between two points isn't set, and they join.
 0E 26 52 24 50 26 49
 # Runs that are joined: A character ends the run.
 0E 26 52 0F 41 0E 26 49
@@ -315,7 +315,7 @@ JOINS = """
 0E 26 52 1B 43 21 26 49 1B 45
 # Runs that are joined: The end of a definition ends the run.
 1B 43 21 0E 26 52 1B 45 26 49
-# Runs that are joined: A call that brings points joins them.
+# Runs that are joined: A call that gives points joins them.
 1B 40 21 26 52 1B 45 1B 2A 7A 0E 26 49 19 21 26 50
 # Runs that are joined: RESET ends the run.
 0E 26 52 20 26 49
@@ -362,13 +362,13 @@ def lengths() -> Iterator[Case]:
     yield Case(rule, "2,048 points, a bell, and 2,048 points.", "0E 21 40 26 52*2048 07 26 49*2048")
     yield Case(
         rule,
-        "A character, and 2,049 points behind it: the run that SO precedes is counted too.",
+        "A character, and 2,049 points after it: the run that SO precedes is counted too.",
         "41 0E 21 40 26 52*2049",
     )
-    yield Case(rule, "A character, and 1,025 rectangles behind it.", "41 0E 21 40 32 (49 48)*1025")
-    yield Case(rule, "A character, and 1,025 lines from elsewhere behind it.", "41 0E 21 40 2A (49 52)*1025")
+    yield Case(rule, "A character, and 1,025 rectangles after it.", "41 0E 21 40 32 (49 48)*1025")
+    yield Case(rule, "A character, and 1,025 lines from elsewhere after it.", "41 0E 21 40 2A (49 52)*1025")
     yield Case(rule, "A character, a point to start from, and 2,049 lines.", "41 0E 21 40 24 49 28 49*2049")
-    yield Case(rule, "2,000 points, a point that brings a colour, and 2,047 points: the count begins anew.",
+    yield Case(rule, "2,000 points, a point whose prelude sets a colour, and 2,047 points: the count begins anew.",
                "0E 21 40 26 52*2000 3C 49 26 52*2048")
 
 
@@ -383,7 +383,7 @@ def spelled() -> Iterator[Case]:
     for opcode, name in (("2E", "An arc"), ("36", "A polygon")):
         yield Case(
             "Canonical text",
-            f"{name} of 70 points: each displacement goes on from the point before it.",
+            f"{name} of 70 points: each displacement starts at the point before it.",
             f"0E 21 40 {opcode} 52 (41 48 7F)*23",
         )
     yield Case(
@@ -409,7 +409,7 @@ def cases() -> Iterator[Case]:
     yield from written(SPELLINGS)
     for row, stream, why in NEIGHBOURS:
         yield Case(f"spelling {row}", why, stream)
-    yield from brings()
+    yield from preludes()
     yield from written(COLOURS)
     yield from written(JOINS)
     yield from lengths()

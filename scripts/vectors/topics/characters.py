@@ -8,31 +8,31 @@ CONTROLS = """
 41 42
 # control a character: A character of each set.
 41 19 41 1D 41 1B 2B 7B 1D 41
-# control a character: Behind a character a point at the pen is refused.
+# control a character: After a character a point at the pen is refused.
 41 0E 27 40
-# control a character: It holds pen, colour and text look.
+# control a character: It holds pen, colour and text attributes.
 0E 24 49 40 40 3C 52 22 41 42 1B 48 0F 41
 # control APB: A TextMove entry, and then the pen is After.
 08 08
 # control APB: Each move in turn.
 08 09 0A 0B 0D 1E 1C 41 42
-# control APB: Behind a move a point at the pen is refused.
+# control APB: After a move a point at the pen is refused.
 08 0E 27 40
-# control APB: A move holds pen, colour and text look.
+# control APB: A move holds pen, colour and text attributes.
 0E 24 49 40 40 3C 52 22 41 42 1B 48 08
 # control CS: A Clear entry, and then the pen is After.
 0C 0C
-# control CS: Behind CS a point at the pen is refused.
+# control CS: After CS a point at the pen is refused.
 0C 0E 27 40
-# control CS: It leaves colour, pel, texture and text look.
+# control CS: It leaves colour, pel, texture and text attributes.
 0E 3C 52 21 48 49 40 40 23 43 22 41 42 0C 2A 49 40 40 50 40 40 0F 41
-# control CS: It leaves the text look.
+# control CS: It leaves the text attributes.
 0E 22 41 42 0C 0F 41
 # control BEL: A Bell entry; the pen stays.
 0E 24 49 40 40 07 27 40
 # control BEL: Two bells.
 07 07
-# control BEL: Behind it nothing is to be repeated.
+# control BEL: After it nothing is to be repeated.
 41 07 1B 46 41
 # control REPEAT n: The last character once more.
 41 1B 46 41
@@ -46,7 +46,7 @@ CONTROLS = """
 1B 46 40
 # control REPEAT n: With no character before it is refused.
 1B 46 41
-# control REPEAT n: The first copy holds the state that stands at the REPEAT.
+# control REPEAT n: The first copy holds the state at the REPEAT.
 41 0E 24 49 40 40 3C 52 1B 48 1B 46 42
 # control REPEAT n: A copy of a supplementary character.
 19 41 1B 46 41
@@ -68,7 +68,7 @@ CONTROLS = """
 41 0E 3C 52 1B 46 41
 # control REPEAT n: DOMAIN, TEXT and TEXTURE add no entry, and are passed.
 41 0E 21 48 22 41 23 43 1B 46 41
-# control REPEAT n: A point is an entry: behind it nothing is to be repeated.
+# control REPEAT n: A point is an entry: after it nothing is to be repeated.
 41 0E 26 49 40 40 1B 46 41
 # control REPEAT n: An open run acts before it: its point comes between, and it is refused.
 41 0E 26 49 1B 46 41
@@ -82,21 +82,21 @@ CONTROLS = """
 1B 2A 7A 41 19 21 1B 46 41
 # control REPEAT n: A glyph is an entry: in it nothing is to be repeated.
 41 1B 43 21 1B 46 41 1B 45
-# control REPEAT n: The last character of a glyph isn't that behind it.
+# control REPEAT n: The last character of a glyph isn't that after it.
 1B 43 21 41 1B 45 1B 46 41
 # control REPEAT TO EOL: A ToEol entry, and then the pen is After.
 41 1B 47
-# control REPEAT TO EOL: It holds what stands.
+# control REPEAT TO EOL: It holds what is current.
 41 0E 24 49 40 40 3C 52 1B 48 1B 47
 # control REPEAT TO EOL: Without a character before it is refused.
 1B 47
-# control REPEAT TO EOL: It isn't itself a character: REPEAT behind it is refused.
+# control REPEAT TO EOL: It isn't itself a character: REPEAT after it is refused.
 41 1B 47 1B 46 41
 # control REPEAT TO EOL: Nor may it come twice.
 41 1B 47 1B 47
-# control REPEAT TO EOL: Behind a REPEAT of no times.
+# control REPEAT TO EOL: After a REPEAT of no times.
 41 1B 46 40 1B 47
-# control REPEAT TO EOL: Behind copies.
+# control REPEAT TO EOL: After copies.
 41 1B 46 42 1B 47
 # control REVERSE VIDEO: Reverse on and off.
 1B 48 41 1B 49 41
@@ -118,11 +118,11 @@ CONTROLS = """
 1B 4E 41 1B 5E
 # control BLINK START: It holds the colour.
 0E 3C 52 1B 4E 1B 5E
-# control BLINK START: Behind it nothing is to be repeated.
+# control BLINK START: After it nothing is to be repeated.
 41 1B 4E 1B 46 41
 # control FLASH CURSOR: A Cursor entry, of each kind.
 1B 5B 1B 5C 1B 5D
-# control FLASH CURSOR: Behind it nothing is to be repeated.
+# control FLASH CURSOR: After it nothing is to be repeated.
 41 1B 5B 1B 46 41
 # control PROTECT: PROTECT and NUL do nothing between a character and its REPEAT.
 41 1B 50 00 1B 46 41
@@ -148,7 +148,7 @@ def texts() -> Iterator[Case]:
         yield Case(rule, f"{count} characters: only the first holds Start.", f"41*{count}")
     yield Case(rule, "All primary characters from 20 to 7F.", " ".join(f"{byte:02X}" for byte in range(0x20, 0x80)))
     for flag, off, name in FLAGS:
-        yield Case("Characters and controls", f"{name} on behind {name} on.", f"1B {flag} 41 1B {flag} 41")
+        yield Case("Characters and controls", f"{name} on after {name} on.", f"1B {flag} 41 1B {flag} 41")
         yield Case("Characters and controls", f"{name} off at the start.", f"1B {off} 41")
         yield Case(
             "Characters and controls",
@@ -163,7 +163,7 @@ def texts() -> Iterator[Case]:
             if after != size:
                 yield Case(
                     "Characters and controls",
-                    f"The size {second} behind {name}.",
+                    f"The size {second} after {name}.",
                     f"1B {size} 41 1B {after} 41",
                 )
 
@@ -173,12 +173,12 @@ def repeats() -> Iterator[Case]:
     for piece, name in WHOLE:
         yield Case(
             "control REPEAT n",
-            f"{name} is an entry, behind which nothing is to be repeated.",
+            f"{name} is an entry, after which nothing is to be repeated.",
             f"41 {piece} 1B 46 41",
         )
         yield Case(
             "control REPEAT TO EOL",
-            f"{name} is an entry, behind which nothing is to be repeated.",
+            f"{name} is an entry, after which nothing is to be repeated.",
             f"41 {piece} 1B 47",
         )
     for count in (2, 16, 32, 62):

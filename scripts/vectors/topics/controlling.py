@@ -12,11 +12,11 @@ RESETS = """
 0E 20 41 48
 # opcode 20: Surplus words of RESET aren't looked at.
 0E 20 40 40 7F 7F
-# opcode 20: Behind RESET the pen is After, and a line from it is refused.
+# opcode 20: After RESET the pen is After, and a line from it is refused.
 0E 20 28 52
 # opcode 20: RESET holds the pen that stood before it.
 0E 24 49 40 40 20
-# opcode 20: RESET ends no text look by its first word.
+# opcode 20: RESET resets no text attributes by its first word.
 1B 4A 0E 20 7F 0F 41
 # reset first b1: The lengths go back to 3 and 1.
 0E 21 40 20 41 26 49 40 40
@@ -28,7 +28,7 @@ RESETS = """
 0E 21 48 49 40 40 20 7E 26 49
 # reset first b1: The length of an address goes back.
 0E 21 4B 20 41 3E 41 42 26 49
-# reset first b1: Behind it three words are one colour, where they were three before.
+# reset first b1: After it three words are one colour, where they were three before.
 0E 21 40 20 41 3C 52 40 40 26 49
 # reset first b1: Without the bit three words are three colours, which is refused.
 0E 21 40 20 40 3C 52 40 40
@@ -48,7 +48,7 @@ RESETS = """
 0E 20 46 3C 52
 # reset first b3 b2: The colour code 2, then an address, then SET COLOR.
 0E 20 44 3E 44 3C 52 26 49
-# reset first b3 b2: The colour code 2 behind a direct colour: SELECT COLOR brings that back.
+# reset first b3 b2: The colour code 2 after a direct colour: SELECT COLOR sets that again.
 0E 3C 52 20 44 3E 26 49
 # reset first b6 b5 b4: They do nothing, but stand in the entry.
 0E 3C 52 21 48 49 40 40 20 78 26 49
@@ -56,25 +56,25 @@ RESETS = """
 0E 20 78 26 49 40
 # reset first b6 b5 b4: They do nothing to the pen, which is After: refused.
 0E 24 49 20 78 28 49
-# reset second b1: The text look goes back: words, size and flags.
+# reset second b1: The text attributes go back: words, size and flags.
 1B 48 1B 59 1B 55 1B 57 1B 4A 0E 22 41 42 20 40 41 0F 41
-# reset second b1: Without the bit the text look stays.
+# reset second b1: Without the bit the text attributes stay.
 1B 48 1B 59 1B 55 1B 57 1B 4A 0E 22 41 42 20 40 7E 0F 41
 # reset second b1: A size given by a displacement goes back.
 0E 22 41 42 49 40 40 20 40 41 0F 41
-# reset second b1: It brings back no character for REPEAT.
+# reset second b1: It restores no character for REPEAT.
 41 0E 20 40 41 1B 46 41
 # reset second b4: The texture goes back: word and mask size.
 0E 23 43 49 40 40 20 40 48 2A 49 40 40 52 40 40
 # reset second b4: Without the bit the texture stays.
 0E 23 43 49 40 40 20 40 77 2A 49 40 40 52 40 40
-# reset second b4: It brings back no pen for a line.
+# reset second b4: It restores no pen for a line.
 0E 23 43 24 49 20 40 48 28 52
 # reset second b5: No macro name is bound any more, so a call does nothing.
 1B 40 21 07 1B 45 1B 2A 7A 19 21 0E 20 40 50 19 21
 # reset second b5: Without the bit the names stay.
 1B 40 21 07 1B 45 1B 2A 7A 19 21 0E 20 40 6F 19 21
-# reset second b5: The body isn't called behind it; its code in the stream itself is refused.
+# reset second b5: The body isn't called after it; its code in the stream itself is refused.
 1B 40 21 18 1B 45 1B 2A 7A 0E 20 40 50 19 21 18
 # reset second b6, b3, b2: They do nothing, but stand in the entry.
 1B 4A 0E 23 43 20 40 66 2A 49 40 40 52 40 40 0F 41
@@ -89,7 +89,7 @@ RESETS = """
 DOMAINS = """
 # opcode 21: DOMAIN without a word is refused.
 0E 21
-# opcode 21: DOMAIN without a word, and another opcode behind it.
+# opcode 21: DOMAIN without a word, and another opcode after it.
 0E 21 26 52
 # opcode 21: DOMAIN with its word: the pel stays.
 0E 21 48 49 40 40 21 40 26 49
@@ -97,7 +97,7 @@ DOMAINS = """
 0E 21 40 49 26 52
 # opcode 21: The pel is cut short.
 0E 21 5F 49 26 52
-# opcode 21: Surplus words behind the pel aren't looked at.
+# opcode 21: Surplus words after the pel aren't looked at.
 0E 21 40 49 64 7F 26 52
 # opcode 21: DOMAIN leaves the pen and the colour.
 0E 24 49 40 40 3C 52 21 48 28 52
@@ -136,9 +136,9 @@ TEXTS = """
 0E 22 41 42 49 40 40 1B 4A 0F 41
 # opcode 22: TEXT with two words leaves a named size.
 1B 4F 0E 22 41 42 0F 41
-# opcode 22: TEXT adds no entry, and REPEAT behind it copies the last character.
+# opcode 22: TEXT adds no entry, and REPEAT after it copies the last character.
 41 0E 22 41 42 1B 46 41
-# opcode 22: Behind TEXT a word with no run open is refused.
+# opcode 22: After TEXT a word with no run open is refused.
 0E 22 41 0F 0E 41
 # opcode 23: TEXTURE without operands changes nothing.
 0E 23 43 23 28 52
@@ -154,7 +154,7 @@ TEXTS = """
 0E 23 40 40 28 52
 # opcode 23: Surplus words aren't looked at.
 0E 23 43 49 40 40 64 40 40 28 52
-# opcode 23: Behind TEXTURE a word with no run open is refused.
+# opcode 23: After TEXTURE a word with no run open is refused.
 0E 23 41 0F 0E 41
 """
 
@@ -187,7 +187,7 @@ FIELDS = """
 41 0E 38 49 40 40 49 40 40
 # opcode 38: The whole screen where the pen is After.
 41 0E 38
-# opcode 38: Behind FIELD the pen is After.
+# opcode 38: After FIELD the pen is After.
 0E 38 27 49
 # opcode 38: FIELD holds the pen that stood before it.
 0E 24 49 40 40 38
@@ -206,9 +206,9 @@ COLOURS = """
 0E 3C 52 40 40 49 40 40
 # opcode 3C: SET COLOR adds no entry in mode 0.
 0E 3C 52
-# opcode 3C: In mode 0 the last SET COLOR stands.
+# opcode 3C: In mode 0 the last SET COLOR is current.
 0E 3C 52 3C 49 26 52
-# opcode 3C: SET COLOR in mode 0 to what stands.
+# opcode 3C: SET COLOR in mode 0 to the current colour.
 0E 3C 52 3C 52 26 52
 # opcode 3E: SELECT COLOR without an operand, at the start.
 0E 3E 26 52
@@ -224,13 +224,13 @@ COLOURS = """
 0E 3E 44 48 7F 7F 26 52
 # opcode 3E: SELECT COLOR adds no entry.
 0E 3E 44
-# opcode 3E: SELECT COLOR doesn't set: behind it SET COLOR lacks its operand.
+# opcode 3E: SELECT COLOR doesn't set: after it SET COLOR lacks its operand.
 0E 3E 44 3C
 # opcode 3E: Under the length 2 of an address two words are one.
 0E 21 51 3E 44 48 26 52
 # colour own-start: The terminal's own colour, at the start.
 0E 26 52
-# colour own-start: The own colour can't be brought back by SET COLOR without an operand.
+# colour own-start: The own colour can't be set again by SET COLOR without an operand.
 0E 26 52 3C
 # colour own-start: The own colour after RESET.
 0E 20 42 26 52
@@ -250,7 +250,7 @@ COLOURS = """
 0E 3E 44 3C 3E
 # colour pair: SET COLOR sets the entry at the front address.
 0E 3E 44 48 3C 52 26 52
-# colour pair: The pair stays behind SET COLOR.
+# colour pair: The pair stays after SET COLOR.
 0E 3E 44 48 3C 52 3C 49 26 52
 # colour pair: Two colours are refused, also under a pair.
 0E 3E 44 48 3C 52 40 40 49
@@ -279,7 +279,7 @@ TIMES = """
 0E 24 49 40 40 3D 41 28 52
 # opcode 3D: WAIT has no other operands: under the lengths 8 and 4 each word is a wait.
 0E 21 5F 3D 41 41
-# opcode 3D: Behind WAIT nothing is to be repeated.
+# opcode 3D: After WAIT nothing is to be repeated.
 41 0E 3D 41 1B 46 41
 # opcode 3D: WAIT without a word leaves the last character for REPEAT.
 41 0E 3D 1B 46 41
@@ -307,7 +307,7 @@ TIMES = """
 0E 21 51 3F 44 48 41
 # opcode 3F: BLINK leaves the pen.
 0E 24 49 40 40 3F 44 28 52
-# opcode 3F: Behind BLINK nothing is to be repeated.
+# opcode 3F: After BLINK nothing is to be repeated.
 41 0E 3F 44 1B 46 41
 # opcode 39: INCREMENTAL POINT is left out.
 0E 39
@@ -352,13 +352,13 @@ COLOURS_BEFORE = {
 def words() -> Iterator[Case]:
     """Each bit of both words of RESET, where everything has been set before."""
     front = "0E 21 48 49 40 40 3C 52 40 23 43 49 40 22 41 42 49 40 1B 48"
-    behind = "2A 49 40 40 52 40 40 0F 41"
+    after = "2A 49 40 40 52 40 40 0F 41"
     for word in range(2):
         for bit in range(6):
             words = ["40", "40"]
             words[word] = f"{0x40 + (1 << bit):02X}"
             name = f"b{bit + 1} of the {'second' if word else 'first'} word"
-            yield Case("RESET", f"{name} alone, where all has been set.", f"{front} 20 {' '.join(words)} {behind}")
+            yield Case("RESET", f"{name} alone, where all has been set.", f"{front} 20 {' '.join(words)} {after}")
     for code in range(4):
         for before, name in COLOURS_BEFORE.items():
             stream = f"0E {before} 20 {0x40 + 2 * code:02X} 26 52 3E 26 52".replace("  ", " ")

@@ -48,7 +48,7 @@ TEXT = """
 1B 43 21 07 1B 40 21 80
 # Definitions of glyphs and masks: The DefEnd that DEFP MACRO added stays where the budget is passed.
 1B 43 21 07 1B 41 21 08 1B 45 | budget 2
-# Definitions of glyphs and masks: The end of a glyph by a character behind it.
+# Definitions of glyphs and masks: The end of a glyph by a character after it.
 1B 43 21 41 1B 45 41
 # Definitions of glyphs and masks: Inside the pen is at Start again.
 0E 24 49 40 40 1B 43 21 28 52 1B 45
@@ -56,11 +56,11 @@ TEXT = """
 0E 24 49 40 40 1B 44 41 28 52 1B 45
 # Definitions of glyphs and masks: Inside the pen is Start, also where it was After.
 41 0E 1B 43 21 28 52 1B 45
-# Definitions of glyphs and masks: Behind the end the pen is where it was.
+# Definitions of glyphs and masks: After the end the pen is where it was.
 0E 24 49 40 40 1B 43 21 28 52 1B 45 27 40
-# Definitions of glyphs and masks: Behind the end the pen is After where it was: refused.
+# Definitions of glyphs and masks: After the end the pen is After where it was: refused.
 41 0E 1B 43 21 28 52 1B 45 27 40
-# Definitions of glyphs and masks: Behind the end the pen is Start where it was.
+# Definitions of glyphs and masks: After the end the pen is Start where it was.
 0E 1B 43 21 28 52 1B 45 28 52
 # Definitions of glyphs and masks: The colour carries on inside.
 0E 3C 52 1B 43 21 26 52 1B 45
@@ -74,7 +74,7 @@ TEXT = """
 0E 21 48 49 40 1B 43 21 26 52 21 48 41 40 26 52 1B 45 26 52
 # Definitions of glyphs and masks: The texture carries on, and comes back.
 0E 23 43 49 40 40 1B 43 21 28 52 23 41 28 52 1B 45 28 52
-# Definitions of glyphs and masks: The text look carries on, and comes back.
+# Definitions of glyphs and masks: The text attributes carry on, and come back.
 1B 4A 1B 48 1B 43 21 41 1B 4F 1B 49 41 1B 45 41
 # Definitions of glyphs and masks: The lengths of operands come back.
 0E 1B 43 21 21 40 26 52 1B 45 26 52 40 40
@@ -106,11 +106,11 @@ TEXT = """
 0E 26 52 1B 43 21 1B 45
 # Definitions of glyphs and masks: END ends a run, which acts inside.
 1B 43 21 0E 26 52 1B 45
-# Definitions of glyphs and masks: END parts words: a word behind it is refused.
+# Definitions of glyphs and masks: END parts words: a word after it is refused.
 1B 43 21 0E 26 52 1B 45 40
-# Definitions of glyphs and masks: Behind the opening nothing is to be repeated.
+# Definitions of glyphs and masks: After the opening nothing is to be repeated.
 41 1B 43 21 1B 46 41
-# Definitions of glyphs and masks: Behind the end nothing is to be repeated.
+# Definitions of glyphs and masks: After the end nothing is to be repeated.
 1B 43 21 41 1B 45 1B 46 41
 # Definitions of glyphs and masks: A glyph is defined twice.
 1B 43 21 07 1B 45 1B 43 21 08 1B 45
@@ -141,12 +141,12 @@ def glyphs() -> Iterator[Case]:
     for piece, name in INSIDE:
         yield Case(
             RULE,
-            f"{name} inside a glyph, and a line behind it from where the pen was.",
+            f"{name} inside a glyph, and a line after it from where the pen was.",
             f"0E 24 49 40 40 1B 43 21 {piece} 1B 45 28 52",
         )
         yield Case(
             RULE,
-            f"{name} inside a mask, and a point behind it in the colour that was.",
+            f"{name} inside a mask, and a point after it in the colour that was.",
             f"0E 3C 52 1B 44 41 {piece} 1B 45 26 49",
         )
         yield Case(RULE, f"{name} inside a glyph that has no end.", f"0E 1B 43 21 {piece}")

@@ -108,7 +108,7 @@ def pens(code: Opcode) -> Iterator[Case]:
     yield Case(rule, f"{name} where the pen is at a point.", f"0E 24 {UP} {byte} {one}")
     for front, where in NOWHERE:
         told = "is refused: nobody knows where the pen is" if code.from_pen else "names its own point"
-        yield Case(rule, f"{name} behind {where} {told}.", f"0E {front} {byte} {one}")
+        yield Case(rule, f"{name} after {where} {told}.", f"0E {front} {byte} {one}")
     if code.from_pen:
         yield Case(
             "Refusals",
@@ -123,12 +123,12 @@ def attributes(code: Opcode) -> Iterator[Case]:
     """Which values the entries of an opcode hold."""
     if code.byte in ("24", "25"):
         return
-    for bring, value, other in HELD:
-        if code.byte in ("26", "27") and bring.startswith("23"):
+    for codes, value, other in HELD:
+        if code.byte in ("26", "27") and codes.startswith("23"):
             told = f"A point doesn't hold {value}."
         else:
-            told = f"{code.name} holds {value} that stands."
-        yield Case(f"opcode {code.byte}", told, f"0E {bring} {code.byte} {ONE[code.operands]} {other}")
+            told = f"{code.name} holds {value} that is current."
+        yield Case(f"opcode {code.byte}", told, f"0E {codes} {code.byte} {ONE[code.operands]} {other}")
 
 
 SHAPES = """
@@ -148,31 +148,31 @@ SHAPES = """
 0E 34 49 40 40
 # shape Points of a shape: An arc whose later point is outside is refused.
 0E 2C 49 40 40 52 40 40 49 40 40
-# shape In the square: A circle reaches its farther point alone.
+# shape On the unit screen: A circle reaches its farther point alone.
 0E 24 50 40 40 2C 48 40 40
-# shape In the square: A point outside amid the points of a polygon, whose end is inside, refuses it.
+# shape On the unit screen: A point outside amid the points of a polygon, whose end is inside, refuses it.
 0E 24 49 40 40 34 70 40 40 60 40 40 60 40 40 50 40 40
-# shape In the square: The far corner of a rectangle is looked at.
+# shape On the unit screen: The far corner of a rectangle is looked at.
 0E 24 52 40 40 30 52 40 40
-# shape In the square: A rectangle of negative size is one, where both corners are inside.
+# shape On the unit screen: A rectangle of negative size is one, where both corners are inside.
 0E 24 52 40 40 30 77 40 40
-# shape In the square: POINT SET is looked at too.
+# shape On the unit screen: POINT SET is looked at too.
 0E 25 64 40 40
-# shape In the square: POINT SET with a second point outside leaves the pen where it was, since it is refused.
+# shape On the unit screen: POINT SET with a second point outside leaves the pen where it was, since it is refused.
 0E 24 49 40 40 64 40 40
-# shape The pen after a shape: Behind an arc the pen is at its last point.
+# shape The pen after a shape: After an arc the pen is at its last point.
 0E 2C 49 40 40 41 40 40 27 40
-# shape The pen after a shape: Behind a circle it is where it started.
+# shape The pen after a shape: After a circle it is where it started.
 0E 24 49 40 40 2C 49 40 40 27 40
-# shape The pen after a shape: Behind a polygon it is at the first point.
+# shape The pen after a shape: After a polygon it is at the first point.
 0E 24 49 40 40 34 48 40 40 41 40 40 27 40
-# shape The pen after a shape: Behind a filled polygon too.
+# shape The pen after a shape: After a filled polygon too.
 0E 24 49 40 40 35 48 40 40 41 40 40 27 40
-# shape The pen after a shape: The pen behind an arc is at its end, from which a step leads outside.
+# shape The pen after a shape: The pen after an arc is at its end, from which a step leads outside.
 0E 2C 52 40 40 49 40 40 27 50 40 40
-# shape The pen after a shape: Behind a rectangle the pen is at (x + dx, y).
+# shape The pen after a shape: After a rectangle the pen is at (x + dx, y).
 0E 24 49 40 40 30 49 40 40 27 40
-# shape The pen after a shape: Behind two rectangles, each from where the first left the pen.
+# shape The pen after a shape: After two rectangles, each from where the first left the pen.
 0E 30 49 40 40 49 40 40 27 40
 # shape Pairs: Three pairs of lines.
 0E 2A 49 40 40 52 40 40 52 40 40 49 40 40 41 40 40 48 40 40

@@ -35,7 +35,7 @@ FF*64
 1B 5B 33 31 6D
 # Macros: A body that calls itself twice, until the budget is passed.
 1B 40 21 19 21 19 21 1B 45 1B 2A 7A 19 21 | budget 4000
-# Macros: A body that calls itself behind a character: characters until the budget is passed.
+# Macros: A body that calls itself after a character: characters until the budget is passed.
 1B 40 21 41 19 21 1B 45 1B 2A 7A 19 21 | budget 300
 # Macros: A ring of three bodies.
 1B 40 21 19 22 1B 45 1B 40 22 19 23 1B 45 1B 40 23 19 21 1B 45 1B 2A 7A 19 21 | budget 4000

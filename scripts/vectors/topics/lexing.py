@@ -46,7 +46,7 @@ C0 = """
 1C 41 FF
 # c0 1C x y: ESC doesn't break off an APS; it is a bad argument.
 1C 1B 41
-# c0 1C x y: The input ends behind APS.
+# c0 1C x y: The input ends after APS.
 1C
 # c0 1C x y: The input ends amid APS.
 1C 41
@@ -54,25 +54,25 @@ C0 = """
 1D 41 41
 # c0 1E: APH moves the active position home.
 1E
-# c0 08: The pen is After behind APB.
+# c0 08: The pen is After after APB.
 08 0E 27 52
-# c0 09: The pen is After behind APF.
+# c0 09: The pen is After after APF.
 09 0E 27 52
-# c0 0A: The pen is After behind APD.
+# c0 0A: The pen is After after APD.
 0A 0E 27 52
-# c0 0B: The pen is After behind APU.
+# c0 0B: The pen is After after APU.
 0B 0E 27 52
-# c0 0C: The pen is After behind CS.
+# c0 0C: The pen is After after CS.
 0C 0E 27 52
-# c0 0D: The pen is After behind APR.
+# c0 0D: The pen is After after APR.
 0D 0E 27 52
-# c0 1E: The pen is After behind APH.
+# c0 1E: The pen is After after APH.
 1E 0E 27 52
-# c0 1C x y: The pen is After behind APS.
+# c0 1C x y: The pen is After after APS.
 1C 41 41 0E 27 52
-# c0 0E: Behind SO a word with no opcode is refused.
+# c0 0E: After SO a word with no opcode is refused.
 0E 40
-# c0 0F: SI ends a run; behind SO a further word is refused.
+# c0 0F: SI ends a run; after SO a further word is refused.
 0E 26 52 0F 0E 40
 # c0 19: SS2 before a control is refused at the control.
 19 0F
@@ -92,15 +92,15 @@ LEFT = {"18": "CAN", "1A": "SDC", "1F": "NSR"}
 WITHOUT_EFFECT = [*range(0x00, 0x07), *range(0x10, 0x18)]
 
 ESCAPES = """
-# Where an escape ends: The input ends behind ESC.
+# Where an escape ends: The input ends after ESC.
 1B
-# Where an escape ends: ESC behind ESC is refused.
+# Where an escape ends: ESC after ESC is refused.
 1B 1B 48
-# Where an escape ends: A control of the C0 set behind ESC is refused.
+# Where an escape ends: A control of the C0 set after ESC is refused.
 1B 00
-# Where an escape ends: An eighth bit behind ESC is refused as such.
+# Where an escape ends: An eighth bit after ESC is refused as such.
 1B 80
-# Where an escape ends: The greatest byte behind ESC is refused as such.
+# Where an escape ends: The greatest byte after ESC is refused as such.
 1B FF
 # Where an escape ends: An announcer is refused at its second byte.
 1B 20 41
@@ -123,19 +123,19 @@ ESCAPES = """
 NO_ESCAPE = [0x01, 0x0F, 0x18, 0x1F, *range(0x20, 0x28), 0x30, 0x31, 0x3E, 0x3F, 0x60, 0x61, 0x6D, 0x70, 0x7D, 0x7F]
 
 DESIGNATIONS = """
-# Designations: The input ends behind the register.
+# Designations: The input ends after the register.
 1B 28
-# Designations: The input ends behind the blank.
+# Designations: The input ends after the blank.
 1B 28 20
 # Designations: Two blanks are refused at the second.
 1B 28 20 20 42
 # Designations: A control in the place of the set is refused.
 1B 28 0F
-# Designations: A control behind the blank is refused.
+# Designations: A control after the blank is refused.
 1B 28 20 0F
 # Designations: An eighth bit in the place of the set.
 1B 28 C2
-# Designations: An eighth bit behind the blank.
+# Designations: An eighth bit after the blank.
 1B 28 20 C2
 # Designations: A set that is designated into the register in use acts at once.
 1B 28 57 26 52
@@ -179,11 +179,11 @@ SHIFTS = """
 1B 6F 0F 41
 # shift 0E: SO ends a locking shift 2.
 1B 6E 0E 26 52
-# shift 0F: SI ends a run; behind it a word is a character.
+# shift 0F: SI ends a run; after it a word is a character.
 0E 26 52 0F 40
-# shift 0F: SI ends a run; a word behind it and SO is refused.
+# shift 0F: SI ends a run; a word after it and SO is refused.
 0E 26 52 0F 0E 40
-# shift 0E: SO ends a run; a word behind it is refused.
+# shift 0E: SO ends a run; a word after it is refused.
 0E 26 52 0E 40
 # shift 1B 6E: Locking shift 2 ends a run.
 0E 26 52 1B 6E 40
@@ -224,17 +224,17 @@ def controls() -> Iterator[Case]:
         yield Case(f"c0 {row}", f"{byte:02X} adds nothing between two characters.", f"41 {byte:02X} 42")
         yield Case(
             f"c0 {row}",
-            f"{byte:02X} ends a run, so that a word behind it is refused.",
+            f"{byte:02X} ends a run, so that a word after it is refused.",
             f"0E 26 52 {byte:02X} 40",
         )
         yield Case(f"c0 {row}", f"{byte:02X} leaves the last character for REPEAT.", f"41 {byte:02X} 1B 46 41")
     for digits, name in LEFT.items():
         yield Case(f"c0 {digits}", f"{name} is left out.", f"41 {digits} 41")
-        yield Case(f"c0 {digits}", f"{name} behind a run: the run acts, and then it is refused.", f"0E 26 52 {digits}")
+        yield Case(f"c0 {digits}", f"{name} after a run: the run acts, and then it is refused.", f"0E 26 52 {digits}")
     for digits in ("07", "08", "09", "0A", "0B", "0C", "0D", "1E", "1C 41 41"):
         row = "1C x y" if len(digits) > 2 else digits
-        yield Case(f"c0 {row}", f"{digits} ends a run; a word behind it is refused.", f"0E 26 52 {digits} 40")
-        yield Case(f"c0 {row}", f"Behind {digits} nothing is to be repeated.", f"41 {digits} 1B 46 41")
+        yield Case(f"c0 {row}", f"{digits} ends a run; a word after it is refused.", f"0E 26 52 {digits} 40")
+        yield Case(f"c0 {row}", f"After {digits} nothing is to be repeated.", f"41 {digits} 1B 46 41")
 
 
 UNFINISHED = {
@@ -248,18 +248,18 @@ def eighth_bits() -> Iterator[Case]:
     rule = "Code sets and escapes"
     for byte in ("80", "9B", "C1", "FF"):
         yield Case(rule, f"{byte} where a code begins.", byte)
-        yield Case(rule, f"{byte} behind a character.", f"41 {byte}")
+        yield Case(rule, f"{byte} after a character.", f"41 {byte}")
         yield Case(rule, f"{byte} where a word may stand: the run acts first.", f"0E 26 52 {byte}")
     for front, where in UNFINISHED.items():
-        yield Case(rule, f"An eighth bit behind {where}.", f"{front} A1")
+        yield Case(rule, f"An eighth bit after {where}.", f"{front} A1")
 
 
 def escapes() -> Iterator[Case]:
-    """Each byte behind ESC that begins no sequence, and each that does."""
+    """Each byte after ESC that begins no sequence, and each that does."""
     yield from written(ESCAPES)
     rule = "Where an escape ends"
     for byte in NO_ESCAPE:
-        yield Case(rule, f"{byte:02X} behind ESC begins no sequence.", f"1B {byte:02X}")
+        yield Case(rule, f"{byte:02X} after ESC begins no sequence.", f"1B {byte:02X}")
 
 
 def designations() -> Iterator[Case]:
@@ -288,11 +288,11 @@ def designations() -> Iterator[Case]:
         codes = "26 52" if name == "PDI" else "41"
         yield Case(
             f"designation {final}",
-            f"{final} behind a blank is the {name} set.",
+            f"{final} after a blank is the {name} set.",
             f"1B 2B 20 {final} 1B 6F {codes}",
         )
         yield Case(f"designation {final}", f"{near}, near {final}, names no set.", f"1B 2B {near}")
-        yield Case(f"designation {final}", f"{near} behind a blank names no set.", f"1B 2B 20 {near}")
+        yield Case(f"designation {final}", f"{near} after a blank names no set.", f"1B 2B 20 {near}")
     for final in NO_SET:
         yield Case("Designations", f"{final} names no set.", f"1B 29 {final}" if final != "20" else "1B 29 20 20")
 
@@ -302,10 +302,10 @@ def shifts() -> Iterator[Case]:
     yield from written(SHIFTS)
     for shift, name in SHIFT_NAMES.items():
         for byte in ("00", "07", "0E", "1B", "1F"):
-            yield Case(f"shift {shift} x", f"{byte} behind {name} is refused.", f"{shift} {byte}")
-        yield Case(f"shift {shift} x", f"The least code behind {name}.", f"{shift} 20")
-        yield Case(f"shift {shift} x", f"The greatest code behind {name}.", f"{shift} 7F")
-        yield Case(f"shift {shift} x", f"The input ends behind {name}.", shift)
+            yield Case(f"shift {shift} x", f"{byte} after {name} is refused.", f"{shift} {byte}")
+        yield Case(f"shift {shift} x", f"The least code after {name}.", f"{shift} 20")
+        yield Case(f"shift {shift} x", f"The greatest code after {name}.", f"{shift} 7F")
+        yield Case(f"shift {shift} x", f"The input ends after {name}.", shift)
         register = SHIFT_REGISTERS[shift]
         for code in ("20", "26", "39", "3F", "40", "7F"):
             stream = f"1B {register} 57 {shift} {code}"
@@ -407,7 +407,7 @@ def c1() -> Iterator[Case]:
         yield Case(f"c1 {digits}", f"{name} between two characters.", f"41 1B {digits} 42")
         yield Case(
             f"c1 {digits}",
-            f"{name} ends a run; a word behind it is refused.",
+            f"{name} ends a run; a word after it is refused.",
             f"{front}0E 26 52 1B {digits} 40",
         )
         yield Case(f"c1 {digits}", f"{name}, and then REPEAT.", f"41 1B {digits} 1B 46 41")

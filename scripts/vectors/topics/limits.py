@@ -120,15 +120,15 @@ def escapes_in_full_stores() -> Iterator[Case]:
     yield Case(row, "ESC is counted when the next byte shows that it belongs to the body: refused at the ESC.",
                f"1B 40 21 41*{STORE} 1B 46")
     yield Case(row, "ESC begins the ending pair, and isn't counted.", f"1B 40 21 41*{STORE} 1B 45 41")
-    yield Case(row, "ESC behind ESC: the first is refused.", f"1B 40 21 41*{STORE} 1B 1B 45")
-    yield Case(row, "The input ends behind an ESC that may belong to a full store: Unended.", f"1B 40 21 41*{STORE} 1B")
+    yield Case(row, "ESC after ESC: the first is refused.", f"1B 40 21 41*{STORE} 1B 1B 45")
+    yield Case(row, "The input ends after an ESC that may belong to a full store: Unended.", f"1B 40 21 41*{STORE} 1B")
     yield Case(
         row,
-        "ESC and a byte behind it, where there is room for one: refused at the second.",
+        "ESC and a byte after it, where there is room for one: refused at the second.",
         f"1B 40 21 41*{STORE - 1} 1B 46",
     )
-    yield Case(row, "ESC and a byte behind it, where there is room for both.", f"1B 40 21 41*{STORE - 2} 1B 46 1B 45")
-    yield Case(row, "An eighth bit behind ESC where the store is full: EighthBit, since both are known at one byte.",
+    yield Case(row, "ESC and a byte after it, where there is room for both.", f"1B 40 21 41*{STORE - 2} 1B 46 1B 45")
+    yield Case(row, "An eighth bit after ESC where the store is full: EighthBit, since both are known at one byte.",
                f"1B 40 21 41*{STORE} 1B 80")
     yield Case(row, "An eighth bit where the store is full: EighthBit.", f"1B 40 21 41*{STORE} 80")
 
@@ -138,10 +138,10 @@ def shown_and_called_stores() -> Iterator[Case]:
     row = STORED
     yield Case(
         row,
-        "The pair that ends a shown body isn't counted: behind one the store can be filled.",
+        "The pair that ends a shown body isn't counted: after one the store can be filled.",
         f"1B 41 21 1B 40 22 41*{STORE} 1B 45",
     )
-    yield Case(row, "Behind a full store a call is charged as ever.", f"1B 40 21 00*{STORE} 1B 45 {CALL}")
+    yield Case(row, "After a full store a call is charged as ever.", f"1B 40 21 00*{STORE} 1B 45 {CALL}")
     yield Case(
         row,
         "A body that is shown fills the store, and its pair is charged: past the budget.",
@@ -169,10 +169,10 @@ def runs() -> Iterator[Case]:
     row = "limit run of one opcode"
     yield Case(row, "A run of 16,384 bytes: 5,462 points, of which the last is cut short.", "0E 26 40*16384")
     yield Case(row, "One byte more is refused at the opcode.", "0E 26 40*16385")
-    yield Case(row, "The same, with more behind it.", "0E 26 40*16385 0F 41")
+    yield Case(row, "The same, with more after it.", "0E 26 40*16385 0F 41")
     yield Case(row, "A RESET with a run of 16,384 bytes.", "0E 20 40*16384")
     yield Case(row, "A RESET with a run of one more, though its words aren't looked at.", "0E 20 40*16385")
-    yield Case(row, "A run that begins in a body, and is too long behind it: refused at the call.",
+    yield Case(row, "A run that begins in a body, and is too long after it: refused at the call.",
                "1B 40 21 0E 26 40*8192 1B 45 1B 2A 7A 19 21 40*8193")
     yield Case(row, "The same with one byte less.", "1B 40 21 0E 26 40*8192 1B 45 1B 2A 7A 19 21 40*8192")
     yield Case(row, "Two runs of 16,384 bytes.", "0E 3C 52 23 40*16384 23 40*16384")

@@ -1,4 +1,4 @@
-"""Macros: what a body is, how calls put it in front of the stream, and which places its bytes have."""
+"""Macros: what a body is, how calls put it before the stream, and which places its bytes have."""
 from typing import Iterator
 
 from vectors.cases import Case, written
@@ -24,7 +24,7 @@ TEXT = """
 1B 40 21 07 1B 44 41 1B 45 1B 2A 7A 19 21
 # macro Definition: ESC before a byte outside 40 to 45 belongs to the body.
 1B 40 21 1B 46 41 1B 45 41 1B 2A 7A 19 21
-# macro Definition: ESC ESC END: the first ESC belongs to the body, and the pair behind it ends it.
+# macro Definition: ESC ESC END: the first ESC belongs to the body, and the pair after it ends it.
 1B 40 21 1B 1B 45 1B 2A 7A 19 21 48 41
 # macro Definition: A bound name is bound anew.
 1B 40 21 07 1B 45 1B 40 21 08 1B 45 1B 2A 7A 19 21
@@ -32,11 +32,11 @@ TEXT = """
 1B 40 21 07 1B 45 1B 40 21 1B 45 1B 2A 7A 19 21
 # macro Definition: A body has no end: refused at the end of the input.
 1B 40 21 07
-# macro Definition: A body has only ESC behind it: refused at the end of the input.
+# macro Definition: A body has only ESC after it: refused at the end of the input.
 1B 40 21 07 1B
 # macro Definition: The body begins with the ending pair.
 1B 40 21 1B 45
-# macro Definition: The input ends behind the name.
+# macro Definition: The input ends after the name.
 1B 40 21
 # macro Definition: DEF MACRO ends an open run, which acts first.
 0E 26 52 1B 40 21 1B 45 26 49
@@ -50,11 +50,11 @@ TEXT = """
 1B 41 21 07 1B 45 1B 2A 7A 19 21
 # macro Presentation: An empty body is shown as nothing; the pair is charged.
 1B 41 21 1B 45
-# macro Presentation: The ending pair is read behind the body: a DEF DRCS opens a glyph.
+# macro Presentation: The ending pair is read after the body: a DEF DRCS opens a glyph.
 1B 41 21 07 1B 43 22 1B 45
-# macro Presentation: The ending pair is read behind the body: a DEF MACRO takes its name from the stream.
+# macro Presentation: The ending pair is read after the body: a DEF MACRO takes its name from the stream.
 1B 41 21 07 1B 40 22 08 1B 45 1B 2A 7A 19 22
-# macro Presentation: The ending pair is read behind the body: DEFT MACRO is left out.
+# macro Presentation: The ending pair is read after the body: DEFT MACRO is left out.
 1B 41 21 07 1B 42
 # macro Presentation: The name is bound before the body is shown, so a body that calls itself passes the budget.
 1B 2A 7A 1B 41 21 19 21 1B 45 | budget 9
@@ -62,7 +62,7 @@ TEXT = """
 1B 41 21 07 1B 41 22 08 1B 45
 # macro Presentation: A body that is shown leaves GL.
 1B 41 21 0E 1B 45 26 52
-# macro Presentation: A run of the body is ended by the pair, and a word behind it is refused.
+# macro Presentation: A run of the body is ended by the pair, and a word after it is refused.
 1B 41 21 0E 26 52 1B 45 40
 # macro Presentation: A run that is open before DEFP MACRO has ended there.
 0E 26 52 1B 41 21 40 1B 45
@@ -80,7 +80,7 @@ TEXT = """
 1B 40 21 1B 45 1B 2A 7A 19 21 41
 # macro Call: A body calls another.
 1B 40 21 07 1B 45 1B 40 22 19 21 19 21 1B 45 1B 2A 7A 19 22
-# macro Call: A body calls one that is bound behind it.
+# macro Call: A body calls one that is bound after it.
 1B 40 22 19 21 1B 45 1B 40 21 07 1B 45 1B 2A 7A 19 22
 # macro Call: A body calls itself, until the budget is passed.
 1B 40 21 19 21 1B 45 1B 2A 7A 19 21 | budget 7
@@ -96,13 +96,13 @@ TEXT = """
 1B 40 21 07 1B 45 1B 2B 7A 1B 6F 21
 # macro Call: A call from G1 by SO.
 1B 40 21 07 1B 45 1B 29 7A 0E 21
-# macro Call: A body changes GL, and the codes behind the call are read so.
+# macro Call: A body changes GL, and the codes after the call are read so.
 1B 40 21 0E 1B 45 1B 2A 7A 19 21 26 52
 # macro Call: A body designates another set where the calls were.
 1B 40 21 1B 28 42 1B 45 1B 28 7A 21 21
 # macro Call: A body is refused at its first byte, told at the call.
 1B 40 21 18 1B 45 1B 2A 7A 41 19 21
-# macro Only the joined bytes count: A run begins in a body, and goes on behind it.
+# macro Only the joined bytes count: A run begins in a body, and continues after it.
 1B 40 21 0E 26 52 1B 45 1B 2A 7A 19 21 40 40
 # macro Only the joined bytes count: The byte that begins a second call ends the run of the first body: refused.
 1B 40 21 0E 26 52 1B 45 1B 40 22 40 1B 45 1B 2A 7A 19 21 19 22
@@ -110,47 +110,47 @@ TEXT = """
 1B 40 21 40 40 1B 45 1B 2A 7A 0E 26 52 19 21
 # macro Only the joined bytes count: A call between two opcodes.
 1B 40 21 28 52 1B 45 1B 2A 7A 0E 26 49 19 21
-# macro Only the joined bytes count: A body is ESC, and the code ends behind the call.
+# macro Only the joined bytes count: A body is ESC, and the code ends after the call.
 1B 40 21 1B 1B 45 1B 2A 7A 19 21 48 41
-# macro Only the joined bytes count: A body is APS, and both its bytes stand behind the call.
+# macro Only the joined bytes count: A body is APS, and both its bytes stand after the call.
 1B 40 21 1C 1B 45 1B 2A 7A 19 21 41 42
 # macro Only the joined bytes count: A body is APS and its first byte.
 1B 40 21 1C 41 1B 45 1B 2A 7A 19 21 42
 # macro Only the joined bytes count: A body is half a designation.
 1B 40 21 1B 2B 1B 45 1B 2A 7A 19 21 42 1D 41
-# macro Only the joined bytes count: A body is SS3, and its code stands behind the call.
+# macro Only the joined bytes count: A body is SS3, and its code stands after the call.
 1B 40 21 1D 1B 45 1B 2A 7A 19 21 41
 # macro Only the joined bytes count: A body is REPEAT without its count.
 1B 40 21 1B 46 1B 45 1B 2A 7A 41 19 21 42
-# macro Only the joined bytes count: A body begins a definition of a macro that ends behind it.
+# macro Only the joined bytes count: A body begins a definition of a macro that ends after it.
 1B 40 21 1B 1B 45 1B 2A 7A 19 21 40 22 07 1B 45 19 22
 # macro Only the joined bytes count: A whole definition can't stand in a body, which its first pair ends.
 1B 40 21 07 1B 40 22 1B 45 1B 2A 7A 19 21
-# macro Only the joined bytes count: A body is ESC, and behind its call stands the END of a glyph.
+# macro Only the joined bytes count: A body is ESC, and after its call stands the END of a glyph.
 1B 40 21 1B 1B 45 1B 2A 7A 1B 43 22 07 19 21 45 41
 # macro Only the joined bytes count: Half a code at the end of a body, and the end of the input: Cut.
 1B 40 21 1B 1B 45 1B 2A 7A 19 21
-# macro Only the joined bytes count: A body opens a glyph, which ends behind the call.
+# macro Only the joined bytes count: A body opens a glyph, which ends after the call.
 1B 40 21 1B 1B 45 1B 2A 7A 19 21 43 22 07 1B 45
 # macro Only the joined bytes count: DEF TEXTURE ends a body, and takes ESC as its mask: refused.
 1B 40 21 1B 44 1B 45 1B 2A 7A 07
-# macro Names may change meanwhile: A body goes on where its name is bound again: it ends its own definition anew.
+# macro Names may change meanwhile: A body stays where its name is bound again: it ends its own definition anew.
 1B 40 23 1B 1B 45 1B 40 22 19 23 40 21 43 1B 1B 45 1B 40 21 19 22 45 44 1B 45 1B 2A 7A 19 21 19 21
 # macro Names may change meanwhile: The same, where the new body is as long as the one that is read.
 1B 40 23 1B 1B 45 1B 40 22 19 23 40 21 43*4 1B 1B 45 1B 40 21 19 22 45 44 1B 45 1B 2A 7A 19 21 19 21
-# macro Names may change meanwhile: RESET clears the names, and the body that is read goes on.
+# macro Names may change meanwhile: RESET clears the names, and the body that is read stays.
 1B 40 21 0E 20 40 50 26 52 1B 45 1B 2A 7A 19 21
 # macro Names may change meanwhile: RESET clears the names, and a second call does nothing.
 1B 40 21 0E 20 40 50 26 52 1B 45 1B 2A 7A 19 21 19 21
-# macro Names may change meanwhile: A body behind RESET calls a name that isn't bound any more.
+# macro Names may change meanwhile: A body after RESET calls a name that isn't bound any more.
 1B 40 21 18 1B 45 1B 40 22 0E 20 40 50 19 21 07 1B 45 1B 2A 7A 19 22
-# macro Names may change meanwhile: A body behind a RESET without the bit calls one that is refused.
+# macro Names may change meanwhile: A body after a RESET without the bit calls one that is refused.
 1B 40 21 18 1B 45 1B 40 22 0E 20 40 40 19 21 07 1B 45 1B 2A 7A 19 22
 # macro Eighth bit: In a body it is refused when it is met.
 1B 40 21 41 80 1B 45
 # macro Eighth bit: As the first byte of a body.
 1B 40 21 80
-# macro Eighth bit: Behind ESC in a body.
+# macro Eighth bit: After ESC in a body.
 1B 40 21 41 1B 80
 # macro Eighth bit: In the place of the name.
 1B 40 A1
@@ -166,13 +166,13 @@ TEXT = """
 1B 40 21 18 1B 45 1B 40 22 07 19 21 1B 45 1B 2A 7A 41 19 22
 # macro Places: In a body that is shown it has the place of the last byte of the ending pair.
 1B 41 21 07 18 1B 45
-# macro Places: An opcode in a body, whose run is ended behind the call, is refused at the call.
+# macro Places: An opcode in a body, whose run is ended after the call, is refused at the call.
 1B 40 21 0E 26 72 1B 45 1B 2A 7A 19 21 40 0F
 # macro Places: An opcode before the call, whose run the call ends, is refused at its own place.
 1B 40 21 07 1B 45 1B 2A 7A 0E 26 72 19 21
 # macro Places: An opcode in a body, refused at the end of the input, still has the place of the call.
 1B 40 21 0E 26 1B 45 1B 2A 7A 19 21
-# macro Places: A code that begins in a body and ends behind it is refused at its own last byte.
+# macro Places: A code that begins in a body and ends after it is refused at its own last byte.
 1B 40 21 1C 41 1B 45 1B 2A 7A 19 21 1F
 # macro Places: Cut has the length of the input, also where the half code came from a body.
 1B 40 21 1C 1B 45 1B 2A 7A 19 21
@@ -182,7 +182,7 @@ TEXT = """
 1B 40 21 07 07 1B 45 1B 40 22 19 21 1B 45 1B 2A 7A 19 22 | budget 3
 # macro Places: An entry comes with the last byte of the call.
 1B 40 21 07 08 09 1B 45 1B 2A 7A 19 21 41
-# macro Places: A point whose run ends behind the call comes with the byte that ends it.
+# macro Places: A point whose run ends after the call comes with the byte that ends it.
 1B 40 21 0E 26 52 1B 45 1B 2A 7A 19 21 40 0F 41
 """
 
@@ -211,7 +211,7 @@ def names() -> Iterator[Case]:
 
 
 def crossings() -> Iterator[Case]:
-    """Each code, cut between a body and what stands behind its call."""
+    """Each code, cut between a body and what stands after its call."""
     for piece, name in CROSSING:
         parts = piece.split(" ")
         ends = parts[:2] in (["1B", "43"], ["1B", "44"])
@@ -220,7 +220,7 @@ def crossings() -> Iterator[Case]:
             stream = f"1B 40 21 {front} 1B 45 1B 2A 7A 42 19 21 {back} {'1B 45' if ends else '0F 41'}"
             yield Case(
                 "macro Only the joined bytes count",
-                f"{name}, cut behind byte {cut}: it begins in a body.",
+                f"{name}, cut after byte {cut}: it begins in a body.",
                 stream,
             )
         if ends:
@@ -228,7 +228,7 @@ def crossings() -> Iterator[Case]:
         stream = f"1B 40 21 {piece} 1B 45 1B 2A 7A 42 19 21 0F 41"
         yield Case("macro Only the joined bytes count", f"{name}, whole in a body.", stream)
         stream = f"1B 40 21 {' '.join(parts[:-1])} 1B 45 1B 2A 7A 42 19 21 80"
-        yield Case("macro Places", f"{name}, whose last byte is an eighth bit behind the call: refused there.", stream)
+        yield Case("macro Places", f"{name}, whose last byte is an eighth bit after the call: refused there.", stream)
     for piece, name in CROSSING[:8]:
         parts = piece.split(" ")
         stream = f"1B 40 21 80 1B 45 {' '.join(parts[:-1])}"

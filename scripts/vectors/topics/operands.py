@@ -4,7 +4,7 @@ from typing import Iterator, List
 from vectors.cases import Case, written
 
 EXAMPLES = """
-# spelled 52 40 40: A point of three words, in the middle of the square.
+# spelled 52 40 40: A point of three words, in the middle of the unit screen.
 0E 26 52 40 40
 # spelled 52 a point: The same point, cut short: missing words are zeros on the right.
 0E 26 52
@@ -18,11 +18,11 @@ EXAMPLES = """
 0E 26 72 40 40
 # spelled 52 a point: The same, cut short.
 0E 26 72
-# spelled 7F: The same displacement where it leads out of the square.
+# spelled 7F: The same displacement where it leads out of the unit screen.
 0E 27 7F
 # spelled 44: An address without the opcode that takes it.
 0E 44
-# spelled 52 a colour: A colour with half a second one behind it.
+# spelled 52 a colour: A colour with half a second one after it.
 0E 3C 52 40 40 52
 # operand Point: A point operand lacks all its words.
 0E 26
@@ -30,12 +30,12 @@ EXAMPLES = """
 0E 3C
 # operand Address: An address without an opcode is refused.
 0E 45
-# operand Word: A word behind a run that has ended is refused.
+# operand Word: A word after a run that has ended is refused.
 0E 3D 41 00 42
 """
 
 RANGES = """
-# Operands: The corner of the square.
+# Operands: The corner of the unit screen.
 0E 26 40 40 40
 # Operands: The greatest x and y of three words.
 0E 26 5B 7F 7F
@@ -189,7 +189,7 @@ def colours() -> Iterator[Case]:
 
 
 def signs() -> Iterator[Case]:
-    """Displacements of either sign, from the middle of the square, where all of one word stay inside or not."""
+    """Displacements of either sign, from the middle of the unit screen, where all of one word stay inside or not."""
     for word in range(64):
         x, y = word >> 3, word & 7
         x, y = (n - 8 if n & 4 else n for n in (x, y))

@@ -70,13 +70,13 @@ TEXT = """
 1B 44 41 0E 21 5F 26 52 40*7 1B 45
 # Plain streams: A glyph without an opcode is plain.
 1B 43 21 41 1B 45
-# Plain streams: A glyph behind the first DOMAIN is plain.
+# Plain streams: A glyph after the first DOMAIN is plain.
 0E 21 5F 1B 43 21 26 52 40*7 1B 45
 # Plain streams: END before the first DOMAIN is plain.
 1B 45 0E 21 5F 26 52 40*7
-# Plain streams: RESET with b1 of its first word, and DOMAIN behind it.
+# Plain streams: RESET with b1 of its first word, and DOMAIN after it.
 0E 21 5F 20 41 40 21 5F 26 52 40*7
-# Plain streams: RESET with b1 of its first word, and nothing behind it.
+# Plain streams: RESET with b1 of its first word, and nothing after it.
 0E 21 5F 20 41 40
 # Plain streams: RESET with b1 of its first word, and another opcode.
 0E 21 5F 20 41 40 26 52 40*7
@@ -110,7 +110,7 @@ TEXT = """
 0E 21 5F 26 52 40*9
 # Plain streams: A code of the macro set can't come but by its designation.
 19 41
-# Plain streams: The byte 5F behind 21 as a character isn't DOMAIN.
+# Plain streams: The byte 5F after 21 as a character isn't DOMAIN.
 21 5F 26
 # Plain streams: Two registers with the PDI set.
 1B 28 57 21 5F 26 52 40*7
@@ -125,13 +125,13 @@ RUN = "49 40*7 48 40*7"
 
 
 def opcodes() -> Iterator[Case]:
-    """Each opcode behind DOMAIN, and before it."""
+    """Each opcode after DOMAIN, and before it."""
     for opcode, name in RELATIVE:
         yield Case(RULE, f"{name} isn't plain.", f"0E 21 5F {opcode} {RUN}")
         yield Case(RULE, f"{name} without operands isn't plain, and refused.", f"0E 21 5F {opcode}")
     for opcode in OTHERS:
         run = "41" if opcode == "3D" else "52 40*7" if opcode == "3C" else "40 40" if opcode in ("20", "22") else RUN
-        yield Case(RULE, f"{opcode} behind DOMAIN is plain.", f"0E 21 5F {opcode} {run}")
+        yield Case(RULE, f"{opcode} after DOMAIN is plain.", f"0E 21 5F {opcode} {run}")
         yield Case(RULE, f"{opcode} as the first opcode isn't plain.", f"0E {opcode} {run} 21 5F")
 
 

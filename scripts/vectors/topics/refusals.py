@@ -12,7 +12,7 @@ READING = """
 0E 26 52 40 40 49 40 40
 # reading 2: A byte without effect ends a run too.
 0E 26 52 00 26 49
-# reading 2: Behind a byte without effect a word is refused.
+# reading 2: After a byte without effect a word is refused.
 0E 26 52 00 40
 # reading 2: The opcode acts before the byte that ends its run.
 0E 26 52 07
@@ -20,9 +20,9 @@ READING = """
 0E 26 72 18
 # reading 2: The run acts, and then the byte is refused.
 0E 26 52 18
-# reading 3: A word behind SO is refused.
+# reading 3: A word after SO is refused.
 0E 40
-# reading 3: A word behind an opcode is its operand.
+# reading 3: A word after an opcode is its operand.
 0E 3D 40
 # reading 4: An eighth bit ends the run, and then is refused.
 0E 26 52 C0
@@ -36,7 +36,7 @@ READING = """
 18
 # reading 5: The place of the end is the length.
 41 41 1B
-# reading 5: Places count the bytes of the stream, also behind a call.
+# reading 5: Places count the bytes of the stream, also after a call.
 1B 40 21 07 07 07 1B 45 1B 2A 7A 19 21 18
 # reading 5: No refusal, no place.
 41 41
@@ -95,13 +95,13 @@ PAIRS = """
 0E 26 60 40 40
 # refusal 10: One inside, at the same first bits but the sign.
 0E 26 40 40 40
-# refusal 11: A line from the pen behind text.
+# refusal 11: A line from the pen after text.
 41 0E 28 52
-# refusal 11: A line from its own point behind text.
+# refusal 11: A line from its own point after text.
 41 0E 2A 49 40 40 52
-# refusal 12: SET COLOR behind RESET with the code 2.
+# refusal 12: SET COLOR after RESET with the code 2.
 0E 20 44 3C 52
-# refusal 12: SET COLOR behind RESET with the code 1.
+# refusal 12: SET COLOR after RESET with the code 1.
 0E 20 42 3C 52
 # refusal 13: A run of 16,385 bytes.
 0E 3D 40*16385
@@ -111,9 +111,9 @@ PAIRS = """
 0E 21 40 2C 40*2001
 # refusal 14: An arc of 2,000.
 0E 21 40 2C 40*2000
-# refusal 15: REPEAT behind a bell.
+# refusal 15: REPEAT after a bell.
 41 07 1B 46 41
-# refusal 15: REPEAT behind a character.
+# refusal 15: REPEAT after a character.
 41 1B 46 41
 # refusal 16: A word with no run open.
 0E 52

@@ -22,20 +22,20 @@ KINDS = [
     Kind("Poly", "36 49 40 40 48 40 40 41 40 40", "0E 36 49 40 40", "A polygon lacks its displacements."),
     Kind("Char", "0F 41 0E", "1D 1F", "A character of G3 is wanted."),
     Kind("Char", "19 41", "19 1F", "A character of G2 is wanted."),
-    Kind("TextMove", "08", "41 08 1B 46 41", "Behind a move of text nothing is to be repeated."),
+    Kind("TextMove", "08", "41 08 1B 46 41", "After a move of text nothing is to be repeated."),
     Kind("TextMove", "1C 41 42", "1C 41 1F", "The second byte of APS is out of its range."),
     Kind("ToEol", "0F 41 1B 47 0E", "1B 47", "REPEAT TO EOL has no character to repeat."),
     Kind("Map", "3E 44 3C 49", "0E 3E 44 3C", "SET COLOR lacks its colour."),
-    Kind("Blink", "3F 44 41 42 43", "0E 3F 44 41 42 43 00 44", "A word behind the run of BLINK."),
-    Kind("BlinkEnd", "3F", "0E 3F 00 44", "A word behind the run of BLINK."),
-    Kind("BlinkMark", "1B 4E", "41 1B 4E 1B 46 41", "Behind BLINK START nothing is to be repeated."),
-    Kind("Wait", "3D 41", "0E 3D 41 00 42", "A word behind the run of WAIT."),
-    Kind("Bell", "07", "41 07 1B 46 41", "Behind a bell nothing is to be repeated."),
-    Kind("Cursor", "1B 5B", "41 1B 5B 1B 46 41", "Behind FLASH CURSOR nothing is to be repeated."),
-    Kind("Field", "38", "0E 38 28 52", "Behind a field nobody knows where the pen is."),
+    Kind("Blink", "3F 44 41 42 43", "0E 3F 44 41 42 43 00 44", "A word after the run of BLINK."),
+    Kind("BlinkEnd", "3F", "0E 3F 00 44", "A word after the run of BLINK."),
+    Kind("BlinkMark", "1B 4E", "41 1B 4E 1B 46 41", "After BLINK START nothing is to be repeated."),
+    Kind("Wait", "3D 41", "0E 3D 41 00 42", "A word after the run of WAIT."),
+    Kind("Bell", "07", "41 07 1B 46 41", "After a bell nothing is to be repeated."),
+    Kind("Cursor", "1B 5B", "41 1B 5B 1B 46 41", "After FLASH CURSOR nothing is to be repeated."),
+    Kind("Field", "38", "0E 38 28 52", "After a field nobody knows where the pen is."),
     Kind("Field", "38 49 40 40 49 40 40", "0E 38 64 40 40 49 40 40", "A field begins outside."),
-    Kind("Reset", "20 40 40", "0E 20 40 40 28 52", "Behind RESET nobody knows where the pen is."),
-    Kind("Clear", "0C", "0C 0E 28 52", "Behind CS nobody knows where the pen is."),
+    Kind("Reset", "20 40 40", "0E 20 40 40 28 52", "After RESET nobody knows where the pen is."),
+    Kind("Clear", "0C", "0C 0E 28 52", "After CS nobody knows where the pen is."),
     Kind("GlyphStart", "1B 43 21 1B 45", "1B 43 1F", "The code of a glyph is out of its range."),
     Kind("MaskStart", "1B 44 41 1B 45", "1B 44 45", "The mask is out of its range."),
     Kind("DefEnd", "1B 43 21 26 49 40 40 1B 45", "1B 43 21 0E 26 49 40 40", "A definition is open at the end."),
@@ -67,8 +67,8 @@ def kinds() -> Iterator[Case]:
         name, leaves = f"{kind.row} by {kind.piece}", f"leaves {LEAVES.get(kind.row, OTHERS)}"
         yield Case(f"line {kind.row}", f"{name}, at the start.", f"0E {kind.piece}")
         yield Case(f"line {kind.row}", kind.why, kind.refused)
-        for bring, what in SET:
-            yield Case(f"entry {kind.row}", f"{name}, where {what} stands.", f"0E {bring} {kind.piece}")
+        for codes, what in SET:
+            yield Case(f"entry {kind.row}", f"{name}, where {what} is current.", f"0E {codes} {kind.piece}")
         for probe, what in PROBES:
             yield Case(leaves, f"{name}, and then {what}.", f"0E 3C 52 24 50 40 40 {kind.piece} {probe}")
         yield Case(f"entry {kind.row}", kind.why, kind.refused)
@@ -92,7 +92,7 @@ STARTS = """
 0E 28 52
 # state pen: After text nobody knows where it is, and a line from it is refused.
 41 0E 28 52
-# state pen: POINT SET brings it back.
+# state pen: POINT SET sets it again.
 41 0E 24 49 40 40 28 52
 # state pen: Set to (0,0) it isn't Start.
 0E 24 40 0F 41
@@ -106,11 +106,11 @@ STARTS = """
 0E 28 52
 # state texture: A line from where nobody knows is refused, whatever the texture.
 0E 23 43 38 28 52
-# state text look: At the start the words are 0, the size is normal and the flags are off.
+# state text attributes: At the start the words are 0, the size is normal and the flags are off.
 41
-# state text look: A size given by NORMAL TEXT is that of the start.
+# state text attributes: A size given by NORMAL TEXT is that of the start.
 1B 4F 41 1B 4C 41
-# state text look: A copy of a character that isn't there is refused.
+# state text attributes: A copy of a character that isn't there is refused.
 1B 4F 1B 46 41
 # state known colours: At the start none is known: SET COLOR of black adds an entry.
 0E 3E 40 3C 40
@@ -188,7 +188,7 @@ PARTS = """
 """
 
 KNOWN = """
-# known 0E 3E 44 3C 52 3C 52 26 52: A colour that stands at its address adds no entry.
+# known 0E 3E 44 3C 52 3C 52 26 52: A colour that is at its address already adds no entry.
 0E 3E 44 3C 52 3C 52 26 52
 # known 0E 3E 44 3C 52 3C 52 26 52: The same, with two colours at the second.
 0E 3E 44 3C 52 3C 52 40 40 52
@@ -228,15 +228,15 @@ KNOWN = """
 0E 3E 44 3C 52 20 42 3E 44 3C 52
 # Known colours of the map: The colour code 3 leaves none.
 0E 3E 44 3C 52 20 46 3E 44 3C 52
-# Known colours of the map: What is set in a glyph stays known behind it.
+# Known colours of the map: What is set in a glyph stays known after it.
 0E 3E 44 1B 43 21 3C 52 1B 45 3C 52
 # Known colours of the map: What was set before a glyph is known in it.
 0E 3E 44 3C 52 1B 43 21 3C 52 1B 45
-# Known colours of the map: A RESET in a glyph leaves none behind it either.
+# Known colours of the map: A RESET in a glyph leaves none after it either.
 0E 3E 44 3C 52 1B 43 21 20 42 1B 45 3E 44 3C 52
 # Known colours of the map: CS changes nothing.
 0E 3E 44 3C 52 0C 3C 52
-# Known colours of the map: Two addresses, each set again to what stands there: both are known.
+# Known colours of the map: Two addresses, each set again to what it is: both are known.
 0E 3E 44 3C 52 3E 48 3C 52 3E 44 3C 52 3E 48 3C 52
 """
 
@@ -275,7 +275,7 @@ def many() -> Iterator[Case]:
     yield Case(row, "With a seventeenth the first isn't known any more.", f"0E {sixteen} {setting(16)} {setting(0)}")
     yield Case(
         row,
-        "Behind seventeen a colour without an address is refused.",
+        "After seventeen a colour without an address is refused.",
         f"0E {sixteen} {setting(16)} 20 44 3C 52",
     )
     yield from which_pair_goes(sixteen)
@@ -295,19 +295,19 @@ def which_pair_goes(sixteen: str) -> Iterator[Case]:
 
 
 FITS = """
-# Which entries fit: Behind a point the pen is there, and behind a character it is After: never Start again.
+# Which entries fit: After a point the pen is there, and after a character it is After: never Start again.
 0E 26 49 40 40 0F 41 41
-# Which entries fit: The own colour of the start, and a direct one behind it.
+# Which entries fit: The own colour of the start, and a direct one after it.
 0E 26 49 40 40 3C 52 26 49 40 40
 # Which entries fit: The own colour after RESET, twice.
 0E 20 42 26 49 40 40 20 42 26 49 40 40
 # Which entries fit: reset-2 and then reset-3.
 0E 20 44 26 49 40 40 20 46 26 49 40 40
-# Which entries fit: No mask size behind one comes by RESET alone.
+# Which entries fit: No mask size after one comes by RESET alone.
 0E 23 40 49 40 40 28 52 20 40 48 2A 49 40 40 52 40 40
 # Which entries fit: ToEol comes straight after a Char.
 41 1B 47
-# Which entries fit: ToEol behind ToEol is refused.
+# Which entries fit: ToEol after ToEol is refused.
 41 1B 47 1B 47
 # Which entries fit: A glyph within a mask ends the mask.
 1B 44 41 1B 43 21 1B 45
