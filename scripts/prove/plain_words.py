@@ -1,8 +1,9 @@
 """The texts in which old words are looked for, the table of these words, and the places where one may stay.
 
 The table is plain-words.tsv: a name of the row, the kinds of text in which it holds, a pattern, and what to say
-instead. plain-words-stay.tsv has the places where a word stays: the row's name, files, a pattern that the place
-matches, and why. A pattern that begins with `^` minds capitals, others don't.
+instead. plain-words-stay.tsv has the places where a word stays: the row's name (or `*` for all), files, a pattern that
+the place matches, and why. A pattern that begins with `^` minds capitals, others don't. The kinds are `comments` of
+sources, definitions and edits, `lemmas` (the comments of proofs), `names`, `documents` and `scripts`.
 """
 import ast
 import csv
@@ -46,7 +47,7 @@ class Rule(NamedTuple):
 
 
 class Stay(NamedTuple):
-    """Where a row's word may stay: in these files, within what this pattern matches."""
+    """Where a row's word may stay, or any row's if the row is `*`: in these files, within what this pattern matches."""
 
     row: str
     files: Tuple[str, ...]
@@ -92,7 +93,7 @@ def rules_in(folder: Path = FOLDER) -> List[Rule]:
 
 def stays_in(folder: Path = FOLDER) -> List[Stay]:
     """The places where words may stay; one of a row that the table hasn't raises ValueError."""
-    known = {rule.row for rule in rules_in(folder)}
+    known = {"*", *(rule.row for rule in rules_in(folder))}
     found = []
     for row, files, reads, why in _rows(folder / STAYS, STAY_COLUMNS):
         if row not in known:
@@ -201,5 +202,5 @@ def findings_in(text: Text, rules: List[Rule], stays: List[Stay]) -> Iterator[Fi
     for rule in rules:
         if text.kind in rule.look:
             for found in rule.pattern.finditer(text.words):
-                allowed = (one for one in stays if one.row == rule.row and one.allows(text, *found.span()))
+                allowed = (one for one in stays if one.row in ("*", rule.row) and one.allows(text, *found.span()))
                 yield Finding(text, rule, next(allowed, None))
