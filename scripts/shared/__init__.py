@@ -1,1 +1,1 @@
-"""What scripts of several rooms use: where things stand, how tests are judged and counted."""
+"""What scripts of several folders use: where things are, how tests are judged and counted."""

@@ -137,7 +137,7 @@ LONG = (
 
 
 def test_scripts() -> List[str]:
-    """The test scripts of all rooms."""
+    """The test scripts of all folders."""
     found = [*TOP.glob("scripts/*/test-*"), *TOP.glob("library/test-*")]
     return sorted(str(path.relative_to(TOP)) for path in found)
 

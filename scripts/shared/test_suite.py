@@ -73,7 +73,7 @@ class Parts(unittest.TestCase):
     """Which scripts are parts."""
 
     def test_every_script_is_a_part(self) -> None:
-        """Each test-* of a room is a part of one list, or is named as none."""
+        """Each test-* of a folder is a part of one list, or is named as none."""
         parts = [words[0] for words in [*parts_of_sources(), *parts_of_program()]]
         scripts = [name for name in parts if name != "scripts/test-pages"]
         self.assertEqual(sorted([*scripts, *NO_PARTS]), test_scripts())
