@@ -45,7 +45,7 @@ def verdicts_in(output: str) -> Dict[str, str]:
 
 
 class Room:
-    """A copy of the repository, in which crates are checked as they stand and with edits."""
+    """A copy of the repository, in which crates are checked as they are and with edits."""
 
     def __init__(self, root: Path, path: Path) -> None:
         """Copies the crates to a folder, with what earlier checks kept of them, so that little is proved again."""
@@ -67,10 +67,10 @@ class Room:
         )
 
     def is_proved(self, name: str) -> bool:
-        """Whether a crate is proved as it stands; the prover's last words are printed where it isn't."""
+        """Whether a crate is proved as it is; the prover's last words are printed where it isn't."""
         checked = self._run(["rt", "check", "--jobs", self.jobs], self.crate(name))
         if checked.returncode != 0:
-            print(f"{name}: it isn't proved as it stands:\n{checked.stdout[-2000:]}", file=sys.stderr)
+            print(f"{name}: it isn't proved as it is:\n{checked.stdout[-2000:]}", file=sys.stderr)
         return checked.returncode == 0
 
     def check_with(self, name: str, texts: Dict[str, str]) -> str:

@@ -37,7 +37,7 @@ LINK = 0o120777
 
 class Places(NamedTuple):
     """Where a library stands under a prefix: the folders of its own files, of the header and of the file for
-    pkg-config, with slashes behind; and that prefix, as this file tells it."""
+    pkg-config, with slashes at their ends; and that prefix, as this file has it."""
 
     own: str
     header: str

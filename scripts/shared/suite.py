@@ -58,7 +58,7 @@ class Suite:
             return self._count(words, process.returncode, lines, time.monotonic() - began)
 
     def several(self, parts: Iterable[Sequence[str]], at_once: int, more: Optional[Dict[str, str]] = None) -> None:
-        """Runs scripts at the top, so many at once; the lines of each are shown when it ends."""
+        """Runs scripts at the top, a number of them at once; the lines of each are shown when it ends."""
         pool = ThreadPoolExecutor(at_once)
         try:
             for done in [pool.submit(self._quietly, words, more) for words in parts]:

@@ -1,4 +1,4 @@
-"""Vectors as they stand in the files: a line of what it shows, and a row."""
+"""Vectors as they are in the files: a line of what it shows, and a row."""
 import re
 from pathlib import Path
 from typing import Dict, Iterator, List, NamedTuple, Optional
@@ -88,7 +88,7 @@ def vectors_of(file: Path) -> Iterator[Vector]:
 
 
 def _words(text: str) -> Dict[str, str]:
-    """The words of the fourth field, and what stands behind each."""
+    """The words of the fourth field, and what comes after each."""
     words = {}
     for part in text.split(", "):
         word, _, rest = part.partition(" ")
