@@ -19,7 +19,7 @@ returns-in_err-write_all g c =
           (shape_joined w.pending.bytes w.pending.text_end c.args.code first (last_point first near) near far c.args.others.now bytes (c.as_slice.ensures ∙ c.append_shape.ensures.laid)
           c.split_at.ensures.by_index.0 refl)
           c.in_err-write_all.ensures;
-      text_end = c.append_shape.ensures.tail;
+      text_end = c.append_shape.ensures.text_end;
       kept = (refl, refl);
     })
 
@@ -37,6 +37,6 @@ returns g c =
           (shape_joined w.pending.bytes w.pending.text_end c.args.code first last near far c.args.others.now bytes (c.as_slice.ensures ∙ c.append_shape.ensures.laid)
           c.split_at.ensures.by_index.0 ends)
           c.in_ok-write_all.ensures c.write_displacements.ensures.sent;
-      text_end = c.write_displacements.ensures.tail ∙ c.append_shape.ensures.tail;
+      text_end = c.write_displacements.ensures.text_end ∙ c.append_shape.ensures.text_end;
       kept = c.write_displacements.ensures.kept;
     }
