@@ -68,7 +68,7 @@ listed_after c p seen before old new b _ h k e = absurd k
 
 module _ {O : Type 0} (o : outlet.Ghosts O) (w : O) (works : o.failed w ≡ false) (c : Command) (list : c.action ≡ action.List) (page : List ℕ) where
   abbrev begun : Printing O
-  begun = record { outlet = w; written = 0; held = []; state = start }
+  begun = record { outlet = w; written = 0; buffered = []; state = start }
 
   -- for any input that is this page
   abbrev ForPage : (List ℕ → Reading → Type 0) → Type 0
