@@ -17,7 +17,7 @@ use Rattle.nap_codes.proofs.RowLemmas.{row_found}
 use Rattle.nap_codes.proofs.FrontLaws.{whole_length}
 use Rattle.nap_codes.proofs.SpellingLaws.{whole_is_spelled}
 
--- The ranges of a code's numbers.
+-- The parameters of a code are in range.
 
 -- whether a code is of the PDI set
 abbrev is_pdi : Code → Bool
@@ -25,11 +25,11 @@ is_pdi (codes.Op op) = true
 is_pdi (codes.Operand word) = true
 is_pdi _ = false
 
--- what is said of a code by itself, where it isn't of the PDI set
+-- the range of a code's parameters, for a code that isn't of the PDI set
 abbrev IsPlain : Code → Type 0
 IsPlain code = IsInRange code × (is_pdi code ≡ false)
 
--- The codes of the tables of controls have no numbers.
+-- The codes of the tables of controls have no parameters.
 abbrev PlainRow : ℕ → Row → Type 0
 PlainRow byte (Whole code) = IsPlain code
 PlainRow byte _ = Unit {0}
@@ -51,7 +51,7 @@ unfolding non_pdi_code
 plain_code_is_plain code_sets.Pdi byte range = tt
 plain_code_is_plain _ byte range = (range, refl)
 
--- A spelling has a code with its numbers in their ranges, and one byte where the code is of the PDI set.
+-- The parameters of a code that is spelled are in range, and a code of the PDI set has one byte.
 data IsSound (sets : CodeSets) (xs : List ℕ) (code : Code) (after : CodeSets) : Type 0 where
   plain : IsPlain code → IsSound sets xs code after
   pdi : IsInRange code → length xs ≡ 1 → after ≡ sets → IsSound sets xs code after
@@ -87,7 +87,7 @@ sound_one : {sets : CodeSets} {xs : List ℕ} {code : Code} {after : CodeSets} �
 sound_one (plain is) e = let other = is.1 in let bad : ⊥ = cc in absurd bad
 sound_one (pdi range one same) e = (one, same)
 
--- the code at a front
+-- the parameters of a code at the front are in range
 front_is_sound : (sets : CodeSets) (xs : List ℕ) (code : Code) (n : ℕ) (after : CodeSets) → front sets xs ≡ whole code n after →
     IsSound sets (take n xs) code after
 front_is_sound sets xs code n after e =

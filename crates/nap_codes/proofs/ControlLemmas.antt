@@ -14,21 +14,21 @@ use Rattle.nap_codes.specs.Tables.{row_of, control0_rows, text_step_of_row}
 use Rattle.nap_codes.specs.Laws.{FormatEffectorFront, FormatEffectorKnown}
 use Rattle.nap_codes.proofs.TableLemmas.{control0_below, effector_known, shift_out_row, shift_in_row}
 
--- Controls of the C0 set that are whole codes by themselves.
+-- Controls of the C0 set that are complete codes.
 
--- the code at a byte that shifts
+-- the code of a byte that shifts is a locking shift
 pub is_shift : {byte known : ℕ} {code : Code} → row_of control0_rows known ≡ Some (Whole codes.Shifted) → byte ≡ known →
     row_of control0_rows byte ≡ Some (Whole code) → code ≡ codes.Shifted
 is_shift shifts is row = cc
 
--- A control that is no shift leaves the code sets.
+-- A control that is no shift doesn't change the code sets.
 pub no_shift_after : (sets : CodeSets) (byte : ℕ) (code : Code) → row_of control0_rows byte ≡ Some (Whole code) → code ≢ codes.Shifted →
     after_control0 sets byte ≡ sets
 unfolding after_control0
 no_shift_after sets byte code row differs =
     rw (ne_eqb byte 0x0E (λ is. differs (is_shift shift_out_row is row)), ne_eqb byte 0x0F (λ is. differs (is_shift shift_in_row is row))) refl
 
--- a move stands at the front as that move, and leaves the code sets
+-- a format effector is at the front, and doesn't change the code sets
 pub format_effector_alone : (sets : CodeSets) (byte : ℕ) (step : TextStep) → row_of control0_rows byte ≡ Some (Whole (codes.Step step)) →
     front sets (byte ∷ []) ≡ whole (codes.Step step) 1 sets
 unfolding front control0_front
@@ -48,13 +48,13 @@ format_effector_front byte step is =
 pub format_effector_known : FormatEffectorKnown
 format_effector_known byte step is = effector_known byte step (effector_row (row_of control0_rows byte) step is)
 
--- SO or SI stands at the front as a shift
+-- SO and SI are at the front as shifts
 shift_front : (sets : CodeSets) (byte : ℕ) → (byte ≡ 0x0E) ⊎ (byte ≡ 0x0F) → front sets (byte ∷ []) ≡ whole codes.Shifted 1 (after_control0 sets byte)
 unfolding front control0_front
 shift_front sets byte (inl is) = rw (is, shift_out_row) refl
 shift_front sets byte (inr is) = rw (is, shift_in_row) refl
 
--- SO and SI are taken as a step takes them
+-- the code sets after SO and SI are those after a step of the lexer
 pub shift_steps : (old new : LexerState) (byte : ℕ) → old.half ≡ [] → (byte ≡ 0x0E) ⊎ (byte ≡ 0x0F) → new ≡ record { sets = after_control0 old.sets byte; half = [] } →
     Steps old byte (steps.Code codes.Shifted) new
 shift_steps old new byte rests is same =

@@ -14,9 +14,9 @@ use Rattle.nap_codes.specs.HalfReadCodes.{half_read_bytes, IsHalfRead, rest_fron
 use Rattle.nap_codes.specs.Laws.{IsGraphic}
 use Rattle.nap_codes.proofs.TableLemmas.{graphic_test, no_control0, no_control1}
 
--- What stands at the front of a list, by what stands at the front behind its first bytes.
+-- The front of a list, by the front of the bytes after its first ones.
 
--- a front so many bytes further
+-- a front at this many bytes further
 abbrev pub further : ℕ → Front → Front
 further zero r = r
 further (suc n) r = one_byte_later (further n r)
@@ -44,7 +44,7 @@ designation_begins sets intermediate bytes range =
     rw (no_control1 intermediate (omega arith), ne_eqb intermediate 0x6E (λ e. omega arith), ne_eqb intermediate 0x6F (λ e. omega arith), le-leb 0x28 intermediate range.0, le-leb intermediate 0x2F range.1)
     refl
 
--- a half-read code and the bytes behind it
+-- the front of an incomplete code followed by these bytes
 pub front_of_half : (sets : CodeSets) (half : HalfRead) (bytes : List ℕ) → IsHalfRead half →
     front sets (half_read_bytes half ++ bytes) ≡ further (length (half_read_bytes half)) (rest_front sets half bytes)
 unfolding front row_of control0_rows control0_front more_front escape_front control1_rows control1_front argument_of designation_front position_front
@@ -58,7 +58,7 @@ front_of_half sets (SpacedDesignation intermediate) bytes is = ap one_byte_later
 front_of_half sets (PositionRow row) bytes is = rw (graphic_test row is) refl
 front_of_half sets _ bytes is = refl
 
--- a code of the set in GL
+-- the front at a code of the set in GL
 pub gl_begins : (sets : CodeSets) (byte : ℕ) → IsGraphic byte →
     front sets (byte ∷ []) ≡ gl_front sets byte (non_pdi_code (set_at sets sets.gl) byte)
 unfolding front control0_front

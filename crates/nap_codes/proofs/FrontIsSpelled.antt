@@ -29,9 +29,9 @@ use Rattle.nap_codes.proofs.RowLemmas.{row_missing}
 use Rattle.nap_codes.proofs.TableLemmas.{graphic_range, space, control0_missing, opcode_missing, no_control1, Leads, leads, shift2, escape, position, shift3, shifts_alone, shift_out_row, shift_in_row, control_of-argument_of, no_plain_code, option_pair-rows}
 use Rattle.nap_codes.proofs.ControlLemmas.{is_shift}
 
--- What stands at the front of a list is told by the spellings.
+-- The front of a list agrees with the spellings.
 
--- What is said of the bytes behind those that were read is true of the spellings.
+-- A front of the bytes after those read agrees with the spellings.
 pub data Answers (sets : CodeSets) (read xs : List ℕ) : Front → Type 0 where
   unfinished_at : (byte : ℕ) (more : List ℕ) → IsSpelling sets (read ++ (xs ++ byte ∷ more)) → Answers sets read xs unfinished
   whole_at : {code : Code} {n : ℕ} {after : CodeSets} → Spells sets (read ++ take n xs) code after →
@@ -46,7 +46,7 @@ Answers-cond : {sets : CodeSets} {read xs : List ℕ} (b : Bool) {x y : Front} �
 Answers-cond true f g = f refl
 Answers-cond false f g = g refl
 
--- one byte more was read
+-- agreement, if one more byte was read
 one_byte_later-Answers : (sets : CodeSets) (read : List ℕ) (x : ℕ) (xs : List ℕ) (r : Front) →
     Answers sets (read ++ x ∷ []) xs r → Answers sets read (x ∷ xs) (one_byte_later r)
 unfolding one_byte_later
@@ -59,13 +59,13 @@ one_byte_later-Answers sets read x xs _ (refused_at {fault = fault} {i = i} s) =
 one_byte_later-Answers sets read x xs _ (stray_at {fault = fault} {i = i} e) =
     stray_at (e ∙ ap (λ bytes. bad_byte_fault bytes (get_or xs i 0)) (append_assoc read (x ∷ []) (take i xs)))
 
--- a byte that continues no spelling
+-- agreement at a byte that continues no spelling
 bad_byte-Answers : (sets : CodeSets) (read : List ℕ) (fault : CodeFault) (byte : ℕ) (bytes : List ℕ) → place_fault read ≡ fault →
     Answers sets read (byte ∷ bytes) (bad_byte fault byte)
 unfolding bad_byte bad_byte_fault
 bad_byte-Answers sets read fault byte bytes e = stray_at (rw (append-nil read, e) refl)
 
--- the last byte of a spelling, where it passes a test
+-- agreement at the last byte of a spelling that passes a test
 passed : (sets : CodeSets) (read : List ℕ) (fault : CodeFault) (byte : ℕ) (bytes : List ℕ) (code : Code) (b : Bool) →
     place_fault read ≡ fault → (b ≡ true → Spells sets (read ++ byte ∷ []) code sets) →
     Answers sets read (byte ∷ bytes) (last_byte sets fault byte (cond b (Some code) None))
@@ -73,7 +73,7 @@ unfolding last_byte
 passed sets read fault byte bytes code true e spells = whole_at (spells refl)
 passed sets read fault byte bytes code false e spells = bad_byte-Answers sets read fault byte bytes e
 
--- what follows SS2 or SS3
+-- agreement after SS2 or SS3
 module _ (sets : CodeSets) (lead : ℕ) (set : CodeSet)
     (spells : (byte : ℕ) (code : Code) → IsGraphic byte → non_pdi_code set byte ≡ Some code → Spells sets (lead ∷ byte ∷ []) code sets)
     (refuses : (byte : ℕ) → IsGraphic byte → set ≡ code_sets.Pdi → SpellsRefused sets (lead ∷ byte ∷ []) ShiftedCode)
@@ -95,7 +95,7 @@ module _ (sets : CodeSets) (lead : ℕ) (set : CodeSet)
       Answers-cond (is_graphic byte) (λ e. shifted_found byte bytes (non_pdi_code set byte) (graphic_range byte e) refl)
       (λ _. bad_byte-Answers sets (lead ∷ []) ShiftAlone byte bytes place)
 
--- a position
+-- agreement at the position of APS
 column-Answers : (sets : CodeSets) (row : ℕ) (bytes : List ℕ) → IsGraphic row →
     Answers sets (0x1C ∷ row ∷ []) bytes (column_front sets row bytes)
 unfolding column_front place_fault
@@ -112,7 +112,7 @@ position-Answers sets (byte ∷ bytes) =
     (λ e. one_byte_later-Answers sets (0x1C ∷ []) byte bytes _ (column-Answers sets byte bytes (graphic_range byte e)))
     (λ _. bad_byte-Answers sets (0x1C ∷ []) BadArgument byte bytes refl)
 
--- the argument of a control
+-- agreement at the argument of a control
 mask_found : (sets : CodeSets) (byte : ℕ) (bytes : List ℕ) (found : Option Mask) → row_of mask_rows byte ≡ found →
     Answers sets (0x1B ∷ 0x44 ∷ []) (byte ∷ bytes) (last_byte sets BadArgument byte (option_map codes.DefMask found))
 unfolding last_byte place_fault escaped_fault escape_fault row_of control1_rows
@@ -153,7 +153,7 @@ designated_found sets read intermediate byte bytes (Some named) place spells e =
 designated_found sets read intermediate byte bytes None place spells e =
     bad_byte-Answers sets read BadEscape byte bytes place
 
--- Each byte from 28 to 2F names a G set.
+-- Each byte from 28 to 2F names a register.
 has_number : (intermediate : ℕ) → (0x28 ≤ intermediate) × (intermediate ≤ 0x2F) →
     (number : ℕ) × (row_of number_rows intermediate ≡ Some number)
 unfolding row_of number_rows
@@ -195,7 +195,7 @@ designation-Answers sets intermediate (byte ∷ bytes) range =
 intermediate_test : (byte : ℕ) → leb 0x28 byte && leb byte 0x2F ≡ true → (0x28 ≤ byte) × (byte ≤ 0x2F)
 intermediate_test byte e = grind (arith, nat_tests)
 
--- what follows ESC
+-- agreement after ESC
 sequence-Answers : (sets : CodeSets) (byte : ℕ) (bytes : List ℕ) →
     Answers sets (0x1B ∷ []) (byte ∷ bytes) (sequence_front sets byte bytes)
 unfolding sequence_front place_fault escaped_fault
@@ -224,7 +224,7 @@ unfolding escape_front row_of control1_rows
 escape-Answers sets [] = unfinished_at 0x45 [] (accepted (spelling.control1 refl))
 escape-Answers sets (byte ∷ bytes) = control1-Answers sets byte bytes _ refl
 
--- what follows a control of the C0 set that further bytes belong to
+-- agreement after a control of the C0 set that has further bytes
 more-Answers : (sets : CodeSets) (byte : ℕ) (bytes : List ℕ) → Leads byte → Answers sets (byte ∷ []) bytes (more_front sets byte bytes)
 unfolding more_front place_fault
 more-Answers sets _ bytes shift2 =
@@ -234,7 +234,7 @@ more-Answers sets _ bytes position = position-Answers sets bytes
 more-Answers sets _ bytes shift3 =
     single_shift-Answers sets 0x1D sets.g3 (λ byte code range e. spelling.single_shift3 range e) (λ byte range e. spelling.shifted3 range e) refl bytes
 
--- a code of the set in GL
+-- agreement at a code of the set in GL
 left_out_found : (sets : CodeSets) (byte : ℕ) (bytes : List ℕ) (op : Opcode) (found : Option Left) → set_at sets sets.gl ≡ code_sets.Pdi →
     row_of opcode_rows byte ≡ Some op → left_out_opcode op ≡ found → Answers sets [] (byte ∷ bytes) (opcode_front sets op found)
 unfolding opcode_front
@@ -254,7 +254,7 @@ gl_found sets byte bytes (Some code) range e = whole_at (spelling.in_gl range e)
 gl_found sets byte bytes None range e =
     pdi_found sets byte bytes (row_of opcode_rows byte) (no_plain_code (set_at sets sets.gl) byte e) range refl
 
--- a control of the C0 set with no more bytes
+-- agreement at a control of the C0 set without further bytes
 control0_whole : (sets : CodeSets) (byte : ℕ) (code : Code) → row_of control0_rows byte ≡ Some (Whole code) →
     Spells sets (byte ∷ []) code (after_control0 sets byte)
 unfolding after_control0
@@ -289,7 +289,7 @@ bell_row = refl
 bell_is_no_shift : codes.Bell ≢ codes.Shifted
 bell_is_no_shift e = cc
 
--- What stands at the front is true of the spellings.
+-- The front of a list agrees with the spellings.
 pub front-Answers : (sets : CodeSets) (xs : List ℕ) → Answers sets [] xs (front sets xs)
 unfolding front
 front-Answers sets [] = unfinished_at 0x07 [] (accepted (spelling.control0 bell_row bell_is_no_shift))

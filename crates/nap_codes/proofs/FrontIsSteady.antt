@@ -14,7 +14,7 @@ use Rattle.nap_codes.specs.Tables.{row_of, control0_rows, control1_rows, opcode_
 use Rattle.nap_codes.specs.Front.{Front, is_graphic, bad_byte, last_byte, non_pdi_code, opcode_front, pdi_front, gl_front, shifted_front, single_shift_front, column_front, position_front, argument_of, with_argument, argument_front, designated_front, final_front, designation_front, sequence_front, control1_front, escape_front, more_front, control0_front, front}
 use Rattle.nap_codes.proofs.FrontLemmas.{Steady, Opens, ends, fails, goes_on, Opens-cond, opens-Steady}
 
--- What stands at the front of a list is decided by the bytes of its answer alone.
+-- The front of a list depends only on the bytes of its code or refusal.
 
 bad_byte-Opens : (fault : CodeFault) (byte : ℕ) → Opens (λ _. bad_byte fault byte)
 unfolding bad_byte
@@ -127,7 +127,7 @@ control0_front-Opens sets byte (Some More) = goes_on _ (more_front-Steady sets b
 control0_front-Opens sets byte None =
     Opens-cond (is_graphic byte) (gl_front-Opens sets byte (non_pdi_code (set_at sets sets.gl) byte)) (fails EighthBit)
 
--- the front of a list decides by the bytes of its answer alone
+-- the front of a list depends only on the bytes of its code or refusal
 pub front-Steady : (sets : CodeSets) → Steady (front sets)
 unfolding front
 front-Steady sets =

@@ -7,9 +7,9 @@ use Rattle.nap_codes.specs.Laws.{WholeStays, RefusedStays, WholeLength, RefusedI
 use Rattle.nap_codes.proofs.FrontLemmas.{size, from_taken, earlier}
 use Rattle.nap_codes.proofs.FrontIsSteady.{front-Steady}
 
--- The public laws of what stands at the front.
+-- The public laws of fronts.
 
--- an answer, to these bytes
+-- the code or refusal at the front of these bytes
 module _ (sets : CodeSets) (xs : List ℕ) where
   pub is_whole : {code : Code} {n : ℕ} {after : CodeSets} → front sets xs ≡ whole code n after → front sets xs ≢ unfinished
   is_whole e none = cc
@@ -51,6 +51,6 @@ earlier_unfinished sets xs code n after k e less = earlier (front sets) (front-S
 pub unfinished_before : UnfinishedBefore
 unfinished_before sets xs fault i k e less = earlier (front sets) (front-Steady sets) xs k (omega (arith, ap size e, less))
 
--- What stands at the front of fewer bytes stands there.
+-- The front of a prefix, if it is a code or a refusal, is the front of the list.
 pub front_from_taken : (sets : CodeSets) (k : ℕ) (xs : List ℕ) {r : Front} → front sets (take k xs) ≡ r → r ≢ unfinished → front sets xs ≡ r
 front_from_taken sets k xs e some = from_taken (front sets) (front-Steady sets) k xs (rw e some) ∙ e

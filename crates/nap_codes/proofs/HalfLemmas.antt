@@ -17,9 +17,9 @@ use Rattle.nap_codes.specs.Lexer.{LexerState, StepsBy, Steps}
 use Rattle.nap_codes.proofs.TableLemmas.{graphic_test, Leads, leads, shift2, escape, position, shift3, control_of-argument_of}
 use Rattle.nap_codes.proofs.FrontBegins.{further, further-unfinished, further-whole, further-refused, front_of_half}
 
--- What a byte makes of a half-read code.
+-- The effect of a byte on an incomplete code.
 
--- the last byte of a code, as any byte of it
+-- the last byte of a code is a byte of it
 IsLastOutcome-IsOutcomeBy : (r : Front) (half : HalfRead) (byte : ℕ) (turn : ByteOutcome) → IsLastOutcome r turn → IsOutcomeBy r half byte turn
 IsLastOutcome-IsOutcomeBy unfinished half byte turn e = absurd e
 IsLastOutcome-IsOutcomeBy _ half byte turn e = e
@@ -60,19 +60,19 @@ unfolding front escape_front argument_front designation_front final_front single
 rest_front-nothing sets Nothing = refl
 rest_front-nothing sets _ = refl
 
--- A half-read code is unfinished.
+-- An incomplete code is unfinished.
 pub half_unfinished : (sets : CodeSets) (half : HalfRead) → IsHalfRead half → front sets (half_read_bytes half) ≡ unfinished
 half_unfinished sets half is =
     ap (front sets) (sym (append-nil (half_read_bytes half))) ∙ front_of_half sets half [] is
     ∙ ap (further (length (half_read_bytes half))) (rest_front-nothing sets half) ∙ further-unfinished (length (half_read_bytes half))
 
--- what a turn answers
+-- the step that a byte's outcome gives
 abbrev pub step_of : ByteOutcome → Step
 step_of (turns.More half) = steps.More
 step_of (turns.Code code after) = steps.Code code
 step_of (turns.Fault fault) = steps.Fault fault
 
--- the lexer after a turn
+-- the lexer after a byte's outcome
 abbrev pub after_turn : CodeSets → HalfRead → ByteOutcome → LexerState
 after_turn sets half (turns.More more) = record { sets = sets; half = half_read_bytes more }
 after_turn sets half (turns.Code code after) = record { sets = after; half = [] }
@@ -87,7 +87,7 @@ at_rest_front sets half byte turn (whole code n after) e =
 at_rest_front sets half byte turn (refused fault i) e =
     rw (further-refused (length (half_read_bytes half)) fault i, e.1) (refl, omega (arith, e.0), refl)
 
--- A turn is a step of the lexer.
+-- A byte's outcome is a step of the lexer.
 pub turn-Steps : (sets : CodeSets) (half : HalfRead) (byte : ℕ) (turn : ByteOutcome) → IsHalfRead half → IsOutcomeOf sets half byte turn →
     Steps (record { sets = sets; half = half_read_bytes half }) byte (step_of turn) (after_turn sets half turn)
 turn-Steps sets half byte turn is e =
@@ -97,6 +97,6 @@ more_at : (half : HalfRead) (byte : ℕ) (more : HalfRead) (r : Front) → IsOut
 more_at half byte more unfinished e = let same : e.0 ≡ more = cc in subst IsHalfRead same e.3
 more_at half byte more _ e = cc
 
--- What is half read after a byte is a half-read code.
+-- A code that is incomplete after a byte has its parameters in range.
 pub turn_more-IsHalfRead : (sets : CodeSets) (half : HalfRead) (byte : ℕ) (more : HalfRead) → IsOutcomeOf sets half byte (turns.More more) → IsHalfRead more
 turn_more-IsHalfRead sets half byte more e = more_at half byte more (rest_front sets half (byte ∷ [])) e

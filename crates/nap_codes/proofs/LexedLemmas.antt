@@ -11,7 +11,7 @@ use Rattle.nap_codes.proofs.FrontLaws.{whole_stays, refused_stays, whole_length}
 
 -- The steps of a lexer give the codes of a list.
 
--- a code in front of what is read later
+-- a code before the codes read after it
 abbrev with_code : Code → LexResult → LexResult
 with_code code rest = record rest { codes = code ∷ rest.codes }
 
@@ -34,7 +34,7 @@ lex_result_within-spare (suc f) (suc g) sets bytes hf hg =
         let less : length (drop n bytes) < length bytes = simp length-drop (omega arith) in
         ap (with_code code) (ih after (drop n bytes) (omega arith) (omega arith))
 
--- the codes of a list, by what stands at its front
+-- the codes of a list, by its front
 lex_result-front : (sets : CodeSets) (bytes : List ℕ) → lex_result sets bytes ≡ lex_result_by lex_result sets bytes (front sets bytes)
 unfolding lex_result lex_result_within
 lex_result-front sets bytes = at (front sets bytes) refl
@@ -48,7 +48,7 @@ lex_result-front sets bytes = at (front sets bytes) refl
         let less : length (drop n bytes) < length bytes = simp length-drop (omega arith) in
         ap (with_code code) (lex_result_within-spare (length bytes) (suc (length (drop n bytes))) after (drop n bytes) less (omega arith))
 
--- what a step says of the front
+-- the front that a step tells
 module _ (old new : LexerState) (byte : ℕ) where
   on_more : (r : Front) → StepsBy r old byte steps.More new →
       (r ≡ unfinished) × (new ≡ record { sets = old.sets; half = old.half ++ byte ∷ [] })
@@ -90,7 +90,7 @@ lex_result-fault sets half byte bytes fault e =
     (refused_stays sets (half ++ byte ∷ []) bytes fault (length half) e) in
     rw (lex_result-front sets (half ++ byte ∷ bytes), there, take-append_seam half (byte ∷ bytes)) refl
 
--- the steps of a lexer that has these bytes half read
+-- the steps of a lexer with these bytes of an incomplete code
 steps_lexed : (state end : LexerState) (bytes : List ℕ) (codes : List Code) (fault : Option CodeFault) →
     StepsThrough state bytes codes fault end → front state.sets state.half ≡ unfinished →
     record { codes = codes; fault = fault; state = end } ≡ lex_result state.sets (state.half ++ bytes)
@@ -112,7 +112,7 @@ steps_lexed state end _ _ _ (at_fault {byte = byte} {bytes = bytes} {fault = fau
     ap (λ s. record { codes = []; fault = Some fault; state = s }) is.1
     ∙ sym (lex_result-fault state.sets state.half byte bytes fault is.0)
 
--- From a lexer at rest, the steps give the codes of the list.
+-- From a lexer without an incomplete code, the steps give the codes of the list.
 pub steps_are_lexed : StepsGiveLexResult
 steps_are_lexed sets bytes codes fault end steps =
     steps_lexed (record { sets = sets; half = [] }) end bytes codes fault steps (front-nothing sets [] refl)

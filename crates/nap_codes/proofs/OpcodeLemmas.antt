@@ -6,9 +6,9 @@ use Rattle.nap_codes.specs.Lexer.{LexerState, IsOpcode}
 use Rattle.nap_codes.proofs.FrontBegins.{pdi_begins}
 use Rattle.nap_codes.proofs.TableLemmas.{no_opcode, opcode_range}
 
--- Which bytes are opcodes by themselves.
+-- Which bytes are complete codes of an opcode.
 
--- a byte that is an opcode by itself stands at the front as that opcode
+-- a byte that is an opcode is at the front as that opcode
 pub opcode_alone : (lexer : LexerState) (byte : ℕ) (op : Opcode) → IsOpcode lexer byte op → front lexer.sets (byte ∷ []) ≡ whole (codes.Op op) 1 lexer.sets
 unfolding pdi_front opcode_front
 opcode_alone lexer byte op is =
@@ -16,7 +16,7 @@ opcode_alone lexer byte op is =
     ∙ ap (pdi_front lexer.sets byte) is.2
     ∙ ap (opcode_front lexer.sets op) is.3
 
--- no other byte is one
+-- no byte outside the PDI set's opcodes is an opcode
 pub none_below : (lexer : LexerState) (byte : ℕ) (op : Opcode) → byte < 0x20 → (None ≡ Some op) ↔ IsOpcode lexer byte op
 none_below lexer byte op less = (λ e. cc, λ k. let range = opcode_range byte op k.2 in absurd (omega (arith, range.0, less)))
 

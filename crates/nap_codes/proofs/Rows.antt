@@ -12,7 +12,7 @@ use Rattle.nap_codes.specs.LexResults.{lex_result_within, lex_result}
 
 -- Worked rows of the definitions.
 
--- Worked rows: what stands at the front.
+-- Worked rows: the fronts of lists.
 fronts :
     (front start_sets [] ≡ unfinished)
     × (front start_sets (0x1B ∷ []) ≡ unfinished)
@@ -29,7 +29,7 @@ fronts :
 unfolding front row_of control0_rows control0_front non_pdi_code gl_front more_front escape_front control1_rows control1_front sequence_front argument_front designation_front final_front designation number_rows set_rows designated_front position_front column_front last_byte single_shift_front bad_byte one_byte_later after_control0
 fronts = (refl, refl, refl, refl, refl, refl, refl, refl, refl, refl, refl, refl)
 
--- Worked rows: the codes of a list. A code of the PDI set behind a single shift is refused, and so is an opcode that is
+-- Worked rows: the codes of a list. A code of the PDI set after a single shift is refused, and so is an opcode that is
 -- left out.
 lists :
     (lex_result start_sets (0x1B ∷ 0x2A ∷ 0x57 ∷ 0x19 ∷ 0x26 ∷ [])

@@ -14,7 +14,7 @@ use Rattle.nap_codes.proofs.TableLemmas.{graphic_test, no_opcode, opcode_range, 
 use Rattle.nap_codes.proofs.ControlLemmas.{no_shift_after}
 use Rattle.nap_codes.proofs.FrontBegins.{front_of_half, gl_begins, pdi_begins}
 
--- The bytes of a spelling have its code, or its fault, at the front.
+-- The front of the bytes of a spelling is its code or its fault.
 
 no_locking_row : (row_of control1_rows 0x6E ≡ None) × (row_of control1_rows 0x6F ≡ None)
 unfolding row_of control1_rows
@@ -57,7 +57,7 @@ spelled sets _ _ _ (spelling.single_shift2 {byte = byte} range e) =
 spelled sets _ _ _ (spelling.single_shift3 {byte = byte} range e) =
     rw (front_of_half sets SingleShift3 (byte ∷ []) tt, graphic_test byte range, e) refl
 
--- A spelling that is refused is refused at its last byte.
+-- A refused spelling is refused at its last byte.
 pub spelled_refused : (sets : CodeSets) (xs : List ℕ) (fault : CodeFault) → SpellsRefused sets xs fault →
     (i : ℕ) × (length xs ≡ suc i) × (front sets xs ≡ refused fault i)
 unfolding front control0_front one_byte_later escape_front control1_front single_shift_front shifted_front non_pdi_code pdi_front opcode_front

@@ -15,7 +15,7 @@ use Rattle.nap_codes.proofs.FrontLaws.{refused_stays, whole_length, refused_inde
 use Rattle.nap_codes.proofs.FrontLemmas.{size, earlier, last}
 use Rattle.nap_codes.proofs.SpelledIsFront.{spelled, spelled_refused}
 
--- What stands at the front, by the spellings.
+-- Fronts, by the spellings.
 
 whole_is_spelled_to : (sets : CodeSets) (xs : List ℕ) (code : Code) (n : ℕ) (after : CodeSets) →
     front sets xs ≡ whole code n after → Spells sets (take n xs) code after
@@ -27,7 +27,7 @@ whole_is_spelled sets xs code n after = (
   λ s. front_from_taken sets n xs (spelled sets (take n xs) code after s.1 ∙ ap (λ m. whole code m after) (length-take-le n xs s.0)) (λ e. cc),
 )
 
--- the bytes before the last ones of a spelling
+-- the number of bytes before the last ones of a spelling
 spelling_size : (sets : CodeSets) (xs : List ℕ) → IsSpelling sets xs → size (front sets xs) ≡ length xs
 spelling_size sets xs (accepted {code = code} {after = after} s) = ap size (spelled sets xs code after s)
 spelling_size sets xs (refusal {fault = fault} s) = let r = spelled_refused sets xs fault s in ap size r.2 ∙ sym r.1
@@ -61,7 +61,7 @@ SpellsRefused-no_stray sets _ _ (left_out_of_pdi pdi row e) = refl
 SpellsRefused-no_stray sets _ _ (shifted2 range pdi) = refl
 SpellsRefused-no_stray sets _ _ (shifted3 range pdi) = refl
 
--- Where a byte is refused as one that continues no spelling, none goes on with it.
+-- If a byte is refused as one that continues no spelling, none continues with it.
 no_spelling_goes_on : (sets : CodeSets) (xs : List ℕ) (fault : CodeFault) (i : ℕ) → front sets xs ≡ refused fault i → is_stray fault ≡ true →
     (more : List ℕ) → IsSpelling sets (take (suc i) xs ++ more) → ⊥
 no_spelling_goes_on sets xs fault i e stray more s = at s (refused_stays sets (take (suc i) xs) more fault i (refused_taken sets xs fault i e))
@@ -95,7 +95,7 @@ spelled_to_last sets xs fault i within s =
     let same : r.0 ≡ i = omega arith in
     front_from_taken sets (suc i) xs (r.2 ∙ ap (refused fault) same) (λ e. cc)
 
--- what stands at the front of the bytes up to one that continues no spelling
+-- the front of the bytes up to one that continues no spelling
 module _ (sets : CodeSets) (xs : List ℕ) (fault : CodeFault) (i : ℕ) (within : i < length xs) (stray : IsBadByte sets xs i fault) where
   long : length (take (suc i) xs) ≡ suc i
   long = length-take-le (suc i) xs (omega arith)

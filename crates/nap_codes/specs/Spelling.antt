@@ -77,11 +77,11 @@ pub data IsSpelling (sets : CodeSets) (bytes : List ℕ) : Type 0 where
   accepted : {code : Code} {after : CodeSets} → Spells sets bytes code after → IsSpelling sets bytes
   refusal : {fault : CodeFault} → SpellsRefused sets bytes fault → IsSpelling sets bytes
 
--- These bytes, followed by none or more, are a spelling.
+-- The list is a prefix of a spelling, or a spelling.
 abbrev pub IsPrefix : CodeSets → List ℕ → Type 0
 IsPrefix sets bytes = (more : List ℕ) × IsSpelling sets (bytes ++ more)
 
--- These bytes, followed by one or more, are a spelling.
+-- The list is a proper prefix of a spelling.
 abbrev pub IsProperPrefix : CodeSets → List ℕ → Type 0
 IsProperPrefix sets bytes = (byte : ℕ) × (more : List ℕ) × IsSpelling sets (bytes ++ byte ∷ more)
 

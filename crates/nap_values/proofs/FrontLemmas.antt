@@ -10,7 +10,7 @@ use Rattle.nap_values.proofs.PublicLaws.{missing_words_are_zero}
 abbrev pub front : ℕ → List ℕ → List ℕ
 front places run = take places run ++ replicate (places - length run) 0
 
--- words at the front, as many as there are and as have a place, with zeros in the other places
+-- the first words, as many as there are places for, with zeros in the other places
 filled : (places at left missing : ℕ) (run : List ℕ) → at ≤ places → at ≤ length run → (at < places → at < length run → ⊥) →
     left ≡ places - at → missing ≡ places - length run → take at run ++ replicate left 0 ≡ take places run ++ replicate missing 0
 filled zero zero left missing run within there whole left_is missing_is = ap (λ n. replicate n 0) (omega arith)
@@ -26,7 +26,7 @@ pub front-filled : (places at : ℕ) (run : List ℕ) → at ≤ places → at �
     take at run ++ replicate (places - at) 0 ≡ front places run
 front-filled places at run within there whole = filled places at (places - at) (places - length run) run within there whole refl refl
 
--- no words count behind them
+-- words after the last place don't count
 front-value : (base places : ℕ) (digit : ℕ → ℕ) (run : List ℕ) → value_of base places (map digit (take places run)) ≡ value_of base places (map digit run)
 front-value base places digit run =
     ap (value_of base places) (sym (take-map digit places run)) ∙ value_of-take base places places (map digit run) (omega arith)

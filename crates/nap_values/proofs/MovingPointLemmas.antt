@@ -8,7 +8,7 @@ use Rattle.nap_values.proofs.PackedLemmas.{packed_coordinates-parts, packed_coor
 use Rattle.nap_values.proofs.InsideLemmas.{sum_leads, spelled_back}
 use Rattle.nap_values.proofs.MotionLemmas.{x_added, y_added}
 
--- The digits of x without those of y, and those of y without those of x, go on by the words of a displacement.
+-- The digits of x and those of y, stored apart, each advance by the words of a displacement.
 
 x_alone : (x : ℕ) → value_of 256 8 (digits_of 8 8 x) * 8 ≡ packed_coordinates x 0
 unfolding value_of digits_of
@@ -34,7 +34,7 @@ module _ (n : ℕ) (words : HoldsWords n) where
   pub y_kept-words : HoldsWords (bit_and n 0x0707_0707_0707_0707)
   y_kept-words = subst HoldsWords (sym y_kept) (packed_coordinates-words 0 (y_in n) (omega arith) (y_in-below n words))
 
--- it goes on by that number of other words
+-- a number that holds one coordinate is advanced by the words of another number
 module _ (apart n : ℕ) (held : HoldsWords apart) (words : HoldsWords n) where
   pub x_onward : packed_coordinates (x_in apart) 0 ≡ apart →
       bit_and ((apart + (bit_and n 0x3838_3838_3838_3838 + 0xC7C7_C7C7_C7C7_C7C7)) % 18446744073709551616) 0x3838_3838_3838_3838
@@ -56,7 +56,7 @@ module _ (apart n : ℕ) (held : HoldsWords apart) (words : HoldsWords n) where
       ∙ y_added apart n held words
       ∙ y_alone ((y_in apart + y_in n) % 16777216)
 
--- the number of 24 bits that digits of x are, with no others
+-- the number of 24 bits that digits of x alone stand for
 module _ (a x : ℕ) (fits : a < 16777216) (is : x ≡ packed_coordinates a 0) where
   pub x_words : HoldsWords x
   x_words = subst HoldsWords (sym is) (packed_coordinates-words a 0 fits (omega arith))
@@ -67,7 +67,7 @@ module _ (a x : ℕ) (fits : a < 16777216) (is : x ≡ packed_coordinates a 0) w
   pub x_again : packed_coordinates (x_in x) 0 ≡ x
   x_again = ap (λ k. packed_coordinates k 0) x_value ∙ sym is
 
--- and those of y
+-- the number of 24 bits that digits of y alone stand for
 module _ (b y : ℕ) (fits : b < 16777216) (is : y ≡ packed_coordinates 0 b) where
   pub y_words : HoldsWords y
   y_words = subst HoldsWords (sym is) (packed_coordinates-words 0 b (omega arith) fits)
@@ -78,7 +78,7 @@ module _ (b y : ℕ) (fits : b < 16777216) (is : y ≡ packed_coordinates 0 b) w
   pub y_again : packed_coordinates 0 (y_in y) ≡ y
   y_again = ap (packed_coordinates 0) y_value ∙ sym is
 
--- the words of digits of x and digits of y, each apart
+-- the words of digits of x and digits of y that are stored apart
 module _ (a b x y words : ℕ) (a_fits : a < 16777216) (b_fits : b < 16777216)
     (x_is : x ≡ packed_coordinates a 0) (y_is : y ≡ packed_coordinates 0 b) (is : words ≡ packed_coordinates (x_in x) (y_in y)) where
   words_are : words ≡ packed_coordinates a b
@@ -93,7 +93,7 @@ module _ (a b x y words : ℕ) (a_fits : a < 16777216) (b_fits : b < 16777216)
   pub y_joined : y_in words ≡ b
   y_joined = ap y_in words_are ∙ y_in-packed_coordinates a b a_fits b_fits
 
-  -- where they spell a point, both stand at it
+  -- if the words spell a point, both numbers have its coordinates
   pub result_stands_at : (p : Coordinates) → point_at (multi_of (words_in words)) ≡ Some p → (x_in x ≡ p.x) × (y_in y ≡ p.y) × IsInSquare p
   result_stands_at p spelled =
       let back = spelled_back words joined_words p spelled in (
@@ -102,7 +102,7 @@ module _ (a b x y words : ℕ) (a_fits : a < 16777216) (b_fits : b < 16777216)
         back.2,
       )
 
--- where words lead that are the sums of digits apart and a displacement's words
+-- the point that words spell if they are the sums of stored digits and a displacement's words
 module _ (x y step x_on y_on words : ℕ) (x_below : x_in x < 8388608) (y_below : y_in y < 8388608) (holds : HoldsWords step)
     (x_is : x_on ≡ packed_coordinates ((x_in x + x_in step) % 16777216) 0) (y_is : y_on ≡ packed_coordinates 0 ((y_in y + y_in step) % 16777216))
     (is : words ≡ packed_coordinates (x_in x_on) (y_in y_on)) where

@@ -5,7 +5,7 @@ use Rattle.nap_values.proofs.DigitLemmas.{value_of-digits_of}
 use Rattle.nap_values.proofs.MaskLemmas.{low_bits}
 use Rattle.nap_values.proofs.GatherLemmas.{lower_of_four, lower_of_two, below_base}
 
--- what is true of each of eight numbers
+-- a statement that is true of each of eight numbers
 all_eight : (P : ℕ → Type 0) (a b c d e f g h : ℕ) → P a → P b → P c → P d → P e → P f → P g → P h → All P (a ∷ b ∷ c ∷ d ∷ e ∷ f ∷ g ∷ h ∷ [])
 all_eight P a b c d e f g h pa pb pc pd pe pf pg ph =
     All-cons P a (b ∷ c ∷ d ∷ e ∷ f ∷ g ∷ h ∷ []) pa (All-cons P b (c ∷ d ∷ e ∷ f ∷ g ∷ h ∷ []) pb

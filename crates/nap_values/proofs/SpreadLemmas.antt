@@ -5,9 +5,9 @@ use Rattle.std.proofs.lemmas.Nat.{and_block, or_block, or_lt, and_mask, and_le_r
 use Rattle.nap_values.specs.Digits.{value_of, digits_of}
 use Rattle.nap_values.proofs.DigitLemmas.{value_of-digits_of}
 
--- Eight digits in base 8 are spread from one number, a byte for each.
+-- Eight digits in base 8 are spread from one number, one to a byte.
 
--- A number beside itself so many bits higher, as far as a mask lets them through.
+-- the bits of a number and of its copy shifted up by `gap`, as far as a mask keeps them
 abbrev pub parted : ℕ → ℕ → ℕ → ℕ
 parted gap mask n = bit_and (bit_or n (n * 2 ^ gap)) mask
 
@@ -17,7 +17,7 @@ displaced_point a b u v = add-mul (a * u) b v ∙ ap (λ m. m + b * v) (mul_righ
 below_moved : (b gap width : ℕ) → b * 2 ^ gap < 2 ^ width → b < 2 ^ width
 below_moved b gap width room = omega (arith, mul-le-mul_left b (pow_pos gap), room)
 
--- two numbers side by side are parted each for itself
+-- two numbers side by side are each parted
 parted-lanes : (width gap mask a b : ℕ) → b * 2 ^ gap < 2 ^ width → mask < 2 ^ width →
     parted gap (mask * 2 ^ width + mask) (a * 2 ^ width + b) ≡ parted gap mask a * 2 ^ width + parted gap mask b
 parted-lanes width gap mask a b room mask_room =
@@ -31,7 +31,7 @@ parted-lanes width gap mask a b room mask_room =
 or_above : (k high a b : ℕ) → a < 2 ^ k → b < 2 ^ k → bit_or a (high * 2 ^ k + b) ≡ high * 2 ^ k + bit_or a b
 or_above k high a b a_room b_room = simp (zero-mul, zero-add, or_zero_l) at (or_block k 0 high a b a_room b_room)
 
--- two fields of so many bits are parted by the gap
+-- two fields of `bits` bits are parted by the gap
 module _ (bits gap high low : ℕ) (high_fits : high < 2 ^ bits) (low_fits : low < 2 ^ bits) (apart : bits ≤ gap) where
   whole : 2 ^ (bits + gap) ≡ 2 ^ bits * 2 ^ gap
   whole = pow-add 2 bits gap
@@ -91,7 +91,7 @@ spread_half a b c d a_fits b_fits c_fits d_fits =
     ∙ parted-lanes 16 5 0x0707 (a * 8 + b) (c * 8 + d) (omega arith) (omega arith)
     ∙ ap₂ (λ x y. x * 65536 + y) (parted-fields 3 5 a b a_fits b_fits (omega arith)) (parted-fields 3 5 c d c_fits d_fits (omega arith))
 
--- two numbers of 12 bits side by side are spread each for itself
+-- two numbers of 12 bits side by side are each spread
 spread_halves : (u v : ℕ) → v < 4096 → parted 5 0x0707_0707_0707_0707 (parted 10 0x003F_003F_003F_003F (u * 4294967296 + v))
     ≡ parted 5 0x0707_0707 (parted 10 0x003F_003F u) * 4294967296 + parted 5 0x0707_0707 (parted 10 0x003F_003F v)
 spread_halves u v v_fits =
@@ -126,7 +126,7 @@ spread_parts n fits =
     ∙ spread_digits _ _ _ _ _ _ _ _
     (omega arith) (omega arith) (omega arith) (omega arith) (omega arith) (omega arith) (omega arith) (omega arith)
 
--- the same with a shift in 64 bits
+-- a number parted by a shift of 64 bits
 abbrev pub shifted : ℕ → ℕ → ℕ → ℕ
 shifted gap mask n = bit_and (bit_or n (n * 2 ^ gap % 2 ^ 64)) mask
 

@@ -4,7 +4,7 @@ use Rattle.nap_values.specs.Operands.{operand_words}
 use Rattle.nap_values.proofs.FrontLemmas.{front-filled}
 use Rattle.nap_values.proofs.word_operands.padded_bytes.Goals as goal
 
--- one more byte, in the place of a zero
+-- one more byte replaces a zero
 one_byte_more : (bytes run : List ℕ) (at word : ℕ) → at < 8 → at < length run → word % 64 ≡ get_or run at 0 →
     operand_words bytes ≡ take at run ++ replicate (8 - at) 0 → operand_words (set bytes at word) ≡ take (at + 1) run ++ replicate (8 - (at + 1)) 0
 one_byte_more bytes run at word place inside is so_far =
