@@ -7,7 +7,7 @@ use Rattle.nap_codes.specs.declared.code_set.CodeSets.{CodeSets}
 use Rattle.nap_codes.specs.declared.opcode.Left.{Left}
 use Rattle.nap_codes.specs.declared.opcode.Opcode.{Opcode}
 use Rattle.nap_codes.specs.CodeSets.{char_set_of, set_at}
-use Rattle.nap_codes.specs.Front.{whole, non_pdi_code, opcode_front, pdi_front, gl_front, control0_front, front}
+use Rattle.nap_codes.specs.Front.{complete, non_pdi_code, opcode_front, pdi_front, gl_front, control0_front, front}
 use Rattle.nap_codes.specs.Laws.{IsGraphic}
 use Rattle.nap_codes.specs.Lexer.{LexerState, IsCharacter}
 use Rattle.nap_codes.specs.Tables.{row_of, opcode_rows, left_out_opcode}
@@ -18,28 +18,28 @@ use Rattle.nap_codes.proofs.CodeRanges.{code_ranges}
 
 -- an opcode is no character
 no_char_of_opcode : (sets : CodeSets) (op : Opcode) (left : Option Left) (set : CharSet) (byte : ℕ) →
-    opcode_front sets op left ≡ whole (codes.Char set byte) 1 sets → ⊥
+    opcode_front sets op left ≡ complete (codes.Char set byte) 1 sets → ⊥
 unfolding opcode_front
 no_char_of_opcode sets op None set byte e = cc
 no_char_of_opcode sets op (Some name) set byte e = cc
 
 -- a code of the PDI set is no character
 no_char_of_pdi : (sets : CodeSets) (found : Option Opcode) (set : CharSet) (byte : ℕ) →
-    pdi_front sets byte found ≡ whole (codes.Char set byte) 1 sets → ⊥
+    pdi_front sets byte found ≡ complete (codes.Char set byte) 1 sets → ⊥
 unfolding pdi_front
 no_char_of_pdi sets None set byte e = cc
 no_char_of_pdi sets (Some op) set byte e = no_char_of_opcode sets op (left_out_opcode op) set byte e
 
 -- a code of a set is a character if the set is a character set
 in_set : (sets : CodeSets) (byte : ℕ) (at : CodeSet) (set : CharSet) →
-    (char_set_of at ≡ Some set) ↔ (gl_front sets byte (non_pdi_code at byte) ≡ whole (codes.Char set byte) 1 sets)
+    (char_set_of at ≡ Some set) ↔ (gl_front sets byte (non_pdi_code at byte) ≡ complete (codes.Char set byte) 1 sets)
 unfolding non_pdi_code gl_front
 in_set sets byte code_sets.Pdi set = (λ e. cc, λ e. absurd (no_char_of_pdi sets (row_of opcode_rows byte) set byte e))
 in_set sets byte _ set = (λ e. cc, λ e. cc)
 
 -- a byte from 20 to 7F is a character if a character set is in GL
 pub in_gl : (sets : CodeSets) (byte : ℕ) (set : CharSet) → IsGraphic byte →
-    (char_set_of (set_at sets sets.gl) ≡ Some set) ↔ (front sets (byte ∷ []) ≡ whole (codes.Char set byte) 1 sets)
+    (char_set_of (set_at sets sets.gl) ≡ Some set) ↔ (front sets (byte ∷ []) ≡ complete (codes.Char set byte) 1 sets)
 unfolding front control0_front
 in_gl sets byte set range =
     rw (no_control0 byte range.0, graphic_test byte range)

@@ -9,7 +9,7 @@ use Rattle.nap_codes.specs.declared.lexer.HalfRead.{HalfRead}
 use Rattle.nap_codes.specs.declared.lexer.HalfRead.TheVariants.{Control, Designation, SpacedDesignation, PositionRow}
 use Rattle.nap_codes.specs.CodeSets.{set_at}
 use Rattle.nap_codes.specs.Tables.{row_of, control0_rows, control1_rows, opcode_rows}
-use Rattle.nap_codes.specs.Front.{Front, unfinished, whole, refused, one_byte_later, non_pdi_code, pdi_front, gl_front, position_front, argument_of, designation_front, sequence_front, control1_front, escape_front, more_front, control0_front, front}
+use Rattle.nap_codes.specs.Front.{Front, unfinished, complete, refused, one_byte_later, non_pdi_code, pdi_front, gl_front, position_front, argument_of, designation_front, sequence_front, control1_front, escape_front, more_front, control0_front, front}
 use Rattle.nap_codes.specs.HalfReadCodes.{half_read_bytes, IsHalfRead, rest_front}
 use Rattle.nap_codes.specs.Laws.{IsGraphic}
 use Rattle.nap_codes.proofs.TableLemmas.{graphic_test, no_control0, no_control1}
@@ -26,11 +26,11 @@ unfolding one_byte_later
 further-unfinished zero = refl
 further-unfinished (suc n) = ap one_byte_later (further-unfinished n)
 
-pub further-whole : (n : ℕ) (code : Code) (m : ℕ) (after : CodeSets) → further n (whole code m after) ≡ whole code (n + m) after
+pub further-complete : (n : ℕ) (code : Code) (m : ℕ) (after : CodeSets) → further n (complete code m after) ≡ complete code (n + m) after
 unfolding one_byte_later
-further-whole zero code m after = ap (λ k. whole code k after) (omega arith)
-further-whole (suc n) code m after =
-    ap one_byte_later (further-whole n code m after) ∙ ap (λ k. whole code k after) (omega arith)
+further-complete zero code m after = ap (λ k. complete code k after) (omega arith)
+further-complete (suc n) code m after =
+    ap one_byte_later (further-complete n code m after) ∙ ap (λ k. complete code k after) (omega arith)
 
 pub further-refused : (n : ℕ) (fault : CodeFault) (i : ℕ) → further n (refused fault i) ≡ refused fault (n + i)
 unfolding one_byte_later

@@ -10,12 +10,12 @@ use Rattle.nap_codes.specs.declared.lexer.HalfRead.TheVariants.{Nothing, Escape,
 use Rattle.nap_codes.specs.declared.lexer.ByteOutcome.{ByteOutcome}
 use Rattle.nap_codes.specs.declared.lexer.ByteOutcome.TheVariants as turns
 use Rattle.nap_codes.specs.Tables.{row_of, control0_rows, control1_rows}
-use Rattle.nap_codes.specs.Front.{Front, unfinished, whole, refused, one_byte_later, non_pdi_code, gl_front, argument_of, argument_front, column_front, final_front, designation_front, control1_front, escape_front, position_front, single_shift_front, more_front, control0_front, front}
+use Rattle.nap_codes.specs.Front.{Front, unfinished, complete, refused, one_byte_later, non_pdi_code, gl_front, argument_of, argument_front, column_front, final_front, designation_front, control1_front, escape_front, position_front, single_shift_front, more_front, control0_front, front}
 use Rattle.nap_codes.specs.CodeSets.{set_at}
 use Rattle.nap_codes.specs.HalfReadCodes.{control_of, half_read_bytes, half_read_after, IsHalfRead, rest_front, IsLastOutcome, IsOutcomeBy, IsOutcomeOf}
 use Rattle.nap_codes.specs.Lexer.{LexerState, StepsBy, Steps}
-use Rattle.nap_codes.proofs.TableLemmas.{graphic_test, Leads, leads, shift2, escape, position, shift3, control_of-argument_of}
-use Rattle.nap_codes.proofs.FrontBegins.{further, further-unfinished, further-whole, further-refused, front_of_half}
+use Rattle.nap_codes.proofs.TableLemmas.{graphic_test, IsLongControl, long_control, shift2, escape, position, shift3, control_of-argument_of}
+use Rattle.nap_codes.proofs.FrontBegins.{further, further-unfinished, further-complete, further-refused, front_of_half}
 
 -- The effect of a byte on an incomplete code.
 
@@ -24,7 +24,7 @@ IsLastOutcome-IsOutcomeBy : (r : Front) (half : HalfRead) (byte : ℕ) (turn : B
 IsLastOutcome-IsOutcomeBy unfinished half byte turn e = absurd e
 IsLastOutcome-IsOutcomeBy _ half byte turn e = e
 
-first_led : (sets : CodeSets) (byte : ℕ) (more : HalfRead) → Leads byte → more ≡ half_read_after byte →
+first_led : (sets : CodeSets) (byte : ℕ) (more : HalfRead) → IsLongControl byte → more ≡ half_read_after byte →
     IsOutcomeBy (one_byte_later (more_front sets byte [])) Nothing byte (turns.More more)
 unfolding one_byte_later more_front escape_front position_front single_shift_front half_read_after
 first_led sets _ more shift2 is = (more, refl, ap half_read_bytes is, subst IsHalfRead (sym is) tt)
@@ -35,7 +35,7 @@ first_led sets _ more shift3 is = (more, refl, ap half_read_bytes is, subst IsHa
 pub first_more : (sets : CodeSets) (byte : ℕ) (more : HalfRead) → row_of control0_rows byte ≡ Some More → more ≡ half_read_after byte →
     IsOutcomeOf sets Nothing byte (turns.More more)
 unfolding front control0_front
-first_more sets byte more e is = rw e (first_led sets byte more (leads byte e) is)
+first_more sets byte more e is = rw e (first_led sets byte more (long_control byte e) is)
 
 pub first_graphic : (sets : CodeSets) (byte : ℕ) (turn : ByteOutcome) → row_of control0_rows byte ≡ None → 0x20 ≤ byte → byte < 0x80 →
     IsLastOutcome (gl_front sets byte (non_pdi_code (set_at sets sets.gl) byte)) turn → IsOutcomeOf sets Nothing byte turn
@@ -82,8 +82,8 @@ at_rest_front : (sets : CodeSets) (half : HalfRead) (byte : ℕ) (turn : ByteOut
     StepsBy (further (length (half_read_bytes half)) r) (record { sets = sets; half = half_read_bytes half }) byte (step_of turn) (after_turn sets half turn)
 at_rest_front sets half byte turn unfinished e =
     rw (further-unfinished (length (half_read_bytes half)), e.1) (refl, ap (λ bytes. record { sets = sets; half = bytes }) e.2)
-at_rest_front sets half byte turn (whole code n after) e =
-    rw (further-whole (length (half_read_bytes half)) code n after, e.1) (refl, simp length-append (omega (arith, e.0)), refl)
+at_rest_front sets half byte turn (complete code n after) e =
+    rw (further-complete (length (half_read_bytes half)) code n after, e.1) (refl, simp length-append (omega (arith, e.0)), refl)
 at_rest_front sets half byte turn (refused fault i) e =
     rw (further-refused (length (half_read_bytes half)) fault i, e.1) (refl, omega (arith, e.0), refl)
 

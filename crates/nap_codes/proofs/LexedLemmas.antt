@@ -4,10 +4,10 @@ use Rattle.nap_codes.specs.declared.code.Code.{Code}
 use Rattle.nap_codes.specs.declared.code.CodeFault.{CodeFault}
 use Rattle.nap_codes.specs.declared.code.Step.TheVariants as steps
 use Rattle.nap_codes.specs.declared.code_set.CodeSets.{CodeSets}
-use Rattle.nap_codes.specs.Front.{Front, unfinished, whole, refused, front}
+use Rattle.nap_codes.specs.Front.{Front, unfinished, complete, refused, front}
 use Rattle.nap_codes.specs.Lexer.{LexerState, StepsBy}
 use Rattle.nap_codes.specs.LexResults.{LexResult, lex_result_by, lex_result_within, lex_result, StepsThrough, at_end, at_more, at_code, at_fault, StepsGiveLexResult}
-use Rattle.nap_codes.proofs.FrontLaws.{whole_stays, refused_stays, whole_length}
+use Rattle.nap_codes.proofs.FrontLaws.{code_stays, refused_stays, code_length}
 
 -- The steps of a lexer give the codes of a list.
 
@@ -29,8 +29,8 @@ lex_result_within-spare (suc f) (suc g) sets bytes hf hg =
         lex_result_by (lex_result_within f) sets bytes r ≡ lex_result_by (lex_result_within g) sets bytes r
     at unfinished e ih = refl
     at (refused fault i) e ih = refl
-    at (whole code n after) e ih =
-        let some = whole_length sets bytes code n after e in
+    at (complete code n after) e ih =
+        let some = code_length sets bytes code n after e in
         let less : length (drop n bytes) < length bytes = simp length-drop (omega arith) in
         ap (with_code code) (ih after (drop n bytes) (omega arith) (omega arith))
 
@@ -43,8 +43,8 @@ lex_result-front sets bytes = at (front sets bytes) refl
         lex_result_by (lex_result_within (length bytes)) sets bytes r ≡ lex_result_by lex_result sets bytes r
     at unfinished e = refl
     at (refused fault i) e = refl
-    at (whole code n after) e =
-        let some = whole_length sets bytes code n after e in
+    at (complete code n after) e =
+        let some = code_length sets bytes code n after e in
         let less : length (drop n bytes) < length bytes = simp length-drop (omega arith) in
         ap (with_code code) (lex_result_within-spare (length bytes) (suc (length (drop n bytes))) after (drop n bytes) less (omega arith))
 
@@ -56,8 +56,8 @@ module _ (old new : LexerState) (byte : ℕ) where
   on_more _ e = cc
 
   on_code : (r : Front) (code : Code) → StepsBy r old byte (steps.Code code) new →
-      (r ≡ whole code (length (old.half ++ byte ∷ [])) new.sets) × (new.half ≡ [])
-  on_code (whole c n after) code e =
+      (r ≡ complete code (length (old.half ++ byte ∷ [])) new.sets) × (new.half ≡ [])
+  on_code (complete c n after) code e =
       let same : c ≡ code = cc in
       let sets : after ≡ new.sets = ap (λ s. s.sets) (sym e.2) in
       (rw (same, e.1, sets) refl, ap (λ s. s.half) e.2)
@@ -75,10 +75,10 @@ unfolding front
 front-nothing sets bytes e = rw e refl
 
 -- the codes of a list that begins with the bytes of a code
-lex_result-code : (sets : CodeSets) (read bytes : List ℕ) (code : Code) (after : CodeSets) → front sets read ≡ whole code (length read) after →
+lex_result-code : (sets : CodeSets) (read bytes : List ℕ) (code : Code) (after : CodeSets) → front sets read ≡ complete code (length read) after →
     lex_result sets (read ++ bytes) ≡ with_code code (lex_result after bytes)
 lex_result-code sets read bytes code after e =
-    rw (lex_result-front sets (read ++ bytes), whole_stays sets read bytes code (length read) after e, drop-append_seam read bytes) refl
+    rw (lex_result-front sets (read ++ bytes), code_stays sets read bytes code (length read) after e, drop-append_seam read bytes) refl
 
 -- the codes of a list that begins with the bytes up to a refused one
 lex_result-fault : (sets : CodeSets) (half : List ℕ) (byte : ℕ) (bytes : List ℕ) (fault : CodeFault) →

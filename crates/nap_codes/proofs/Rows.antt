@@ -7,7 +7,7 @@ use Rattle.nap_codes.specs.declared.code_set.GSet.TheVariants.{G1}
 use Rattle.nap_codes.specs.declared.opcode.Left.TheVariants as lefts
 use Rattle.nap_codes.specs.CodeSets.{start_sets, with_set, after_control0}
 use Rattle.nap_codes.specs.Tables.{row_of, number_rows, set_rows, designation, control0_rows, control1_rows, opcode_rows, left_out_opcode}
-use Rattle.nap_codes.specs.Front.{unfinished, whole, refused, one_byte_later, bad_byte, last_byte, non_pdi_code, opcode_front, pdi_front, gl_front, shifted_front, single_shift_front, column_front, position_front, argument_front, designated_front, final_front, designation_front, sequence_front, control1_front, escape_front, more_front, control0_front, front}
+use Rattle.nap_codes.specs.Front.{unfinished, complete, refused, one_byte_later, bad_byte, last_byte, non_pdi_code, opcode_front, pdi_front, gl_front, shifted_front, single_shift_front, column_front, position_front, argument_front, designated_front, final_front, designation_front, sequence_front, control1_front, escape_front, more_front, control0_front, front}
 use Rattle.nap_codes.specs.LexResults.{lex_result_within, lex_result}
 
 -- Worked rows of the definitions.
@@ -18,7 +18,7 @@ fronts :
     × (front start_sets (0x1B ∷ []) ≡ unfinished)
     × (front start_sets (0x1D ∷ []) ≡ unfinished)
     × (front start_sets (0x1C ∷ 0x40 ∷ []) ≡ unfinished)
-    × (front start_sets (0x41 ∷ []) ≡ whole (codes.Char chars.Primary 0x41) 1 start_sets)
+    × (front start_sets (0x41 ∷ []) ≡ complete (codes.Char chars.Primary 0x41) 1 start_sets)
     × (front start_sets (0x80 ∷ []) ≡ refused faults.EighthBit 0)
     × (front start_sets (0x18 ∷ []) ≡ refused (faults.LeftOut lefts.Can) 0)
     × (front start_sets (0x1B ∷ 0x42 ∷ []) ≡ refused (faults.LeftOut lefts.Deft) 1)

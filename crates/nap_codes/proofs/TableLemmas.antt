@@ -5,7 +5,7 @@ use Rattle.nap_codes.specs.declared.code.Code.TheVariants as codes
 use Rattle.nap_codes.specs.declared.code_set.CodeSet.{CodeSet}
 use Rattle.nap_codes.specs.declared.code_set.CodeSet.TheVariants as code_sets
 use Rattle.nap_codes.specs.declared.control.Row.{Row}
-use Rattle.nap_codes.specs.declared.control.Row.TheVariants.{Whole, More}
+use Rattle.nap_codes.specs.declared.control.Row.TheVariants.{Complete, More}
 use Rattle.nap_codes.specs.declared.opcode.Opcode.{Opcode}
 use Rattle.nap_codes.specs.Tables.{row_of, number_rows, set_rows, option_pair, control0_rows, control1_rows, opcode_rows}
 use Rattle.nap_codes.specs.Front.{is_graphic, non_pdi_code, argument_of}
@@ -71,43 +71,43 @@ unfolding set_rows
 no_space byte set e = row_found (λ key _. key ≢ 0x20) set_rows byte set (omega arith) e
 
 -- the controls of the C0 set with further bytes
-pub data Leads : ℕ → Type 0 where
-  shift2 : Leads 0x19
-  escape : Leads 0x1B
-  position : Leads 0x1C
-  shift3 : Leads 0x1D
+pub data IsLongControl : ℕ → Type 0 where
+  shift2 : IsLongControl 0x19
+  escape : IsLongControl 0x1B
+  position : IsLongControl 0x1C
+  shift3 : IsLongControl 0x1D
 
-abbrev LeadsMore : ℕ → Row → Type 0
-LeadsMore byte More = Leads byte
-LeadsMore byte _ = Unit {0}
+abbrev LongRow : ℕ → Row → Type 0
+LongRow byte More = IsLongControl byte
+LongRow byte _ = Unit {0}
 
-pub leads : (byte : ℕ) → row_of control0_rows byte ≡ Some More → Leads byte
+pub long_control : (byte : ℕ) → row_of control0_rows byte ≡ Some More → IsLongControl byte
 unfolding control0_rows
-leads byte e = row_found LeadsMore control0_rows byte More (assumption (shift2, escape, position, shift3)) e
+long_control byte e = row_found LongRow control0_rows byte More (assumption (shift2, escape, position, shift3)) e
 
 -- the format effectors of the C0 set without further bytes
 abbrev MovesAlone : ℕ → Row → Type 0
-MovesAlone byte (Whole (codes.Step step)) = FormatEffector byte step
+MovesAlone byte (Complete (codes.Step step)) = FormatEffector byte step
 MovesAlone byte _ = Unit {0}
 
-pub effector_known : (byte : ℕ) (step : TextStep) → row_of control0_rows byte ≡ Some (Whole (codes.Step step)) → FormatEffector byte step
+pub effector_known : (byte : ℕ) (step : TextStep) → row_of control0_rows byte ≡ Some (Complete (codes.Step step)) → FormatEffector byte step
 unfolding control0_rows
-effector_known byte step e = row_found MovesAlone control0_rows byte (Whole (codes.Step step)) (assumption (backward, forward, down, up, return, home)) e
+effector_known byte step e = row_found MovesAlone control0_rows byte (Complete (codes.Step step)) (assumption (backward, forward, down, up, return, home)) e
 
 -- the locking shifts of the C0 set: SO and SI
 abbrev ShiftsAlone : ℕ → Row → Type 0
-ShiftsAlone byte (Whole codes.Shifted) = eqb byte 0x0E || eqb byte 0x0F ≡ true
+ShiftsAlone byte (Complete codes.Shifted) = eqb byte 0x0E || eqb byte 0x0F ≡ true
 ShiftsAlone byte _ = Unit {0}
 
-pub shifts_alone : (byte : ℕ) → row_of control0_rows byte ≡ Some (Whole codes.Shifted) → eqb byte 0x0E || eqb byte 0x0F ≡ true
+pub shifts_alone : (byte : ℕ) → row_of control0_rows byte ≡ Some (Complete codes.Shifted) → eqb byte 0x0E || eqb byte 0x0F ≡ true
 unfolding control0_rows
-shifts_alone byte e = row_found ShiftsAlone control0_rows byte (Whole codes.Shifted) (assumption) e
+shifts_alone byte e = row_found ShiftsAlone control0_rows byte (Complete codes.Shifted) (assumption) e
 
-pub shift_out_row : row_of control0_rows 0x0E ≡ Some (Whole codes.Shifted)
+pub shift_out_row : row_of control0_rows 0x0E ≡ Some (Complete codes.Shifted)
 unfolding row_of control0_rows
 shift_out_row = refl
 
-pub shift_in_row : row_of control0_rows 0x0F ≡ Some (Whole codes.Shifted)
+pub shift_in_row : row_of control0_rows 0x0F ≡ Some (Complete codes.Shifted)
 unfolding row_of control0_rows
 shift_in_row = refl
 

@@ -95,7 +95,7 @@ pub struct Taker {
     /// The bytes taken.
     pub kept: Vec<u8>,
     /// The number of bytes that it still takes.
-    pub room: usize,
+    pub space: usize,
     /// The most bytes of a write.
     pub most: usize,
     /// What it does once it is full.
@@ -113,11 +113,11 @@ pub struct Taker {
 }
 
 impl Taker {
-    /// Returns a writer that takes `room` bytes, at most `most` at a write, and then does `end`. Its flushes are done.
-    pub fn new(alloc: Global, room: usize, most: usize, end: End) -> Taker {
+    /// Returns a writer that takes `space` bytes, at most `most` at a write, and then does `end`. Its flushes are done.
+    pub fn new(alloc: Global, space: usize, most: usize, end: End) -> Taker {
         Taker {
             kept: Vec::new(alloc),
-            room,
+            space,
             most,
             end,
             good_flushes: u64::MAX,
@@ -145,9 +145,9 @@ impl Taker {
 impl Write for Taker {
     fn write(&mut self, buf: &[u8]) -> io::Result<usize> {
         self.writes = self.writes.saturating_add(1);
-        let count = buf.len().min(self.room).min(self.most);
+        let count = buf.len().min(self.space).min(self.most);
         if count > 0 && self.kept.extend_from_slice(&buf[..count]).is_ok() {
-            self.room -= count;
+            self.space -= count;
             return Ok(count);
         }
         match self.end {

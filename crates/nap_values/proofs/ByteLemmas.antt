@@ -10,7 +10,7 @@ use Rattle.nap_values.specs.PackedCoordinates.{words_in, HoldsWords, x_in, y_in}
 use Rattle.nap_values.specs.Spellings.{words_of_pairs, operand_bytes}
 use Rattle.nap_values.proofs.DigitLemmas.{value_of-below, value_of-digits_of}
 use Rattle.nap_values.proofs.CoordinateLemmas.{bits_of-signed_of}
-use Rattle.nap_values.proofs.PackedLemmas.{length-words_in, holding_fits, pair_words-values, x_in-below, y_in-below}
+use Rattle.nap_values.proofs.PackedLemmas.{length-words_in, packed_fits, pair_words-values, x_in-below, y_in-below}
 
 -- The bytes that carry words, from a number of 64 bits.
 
@@ -69,7 +69,7 @@ bytes_of_words n words =
     let below : All (λ b. b < 256) (operand_bytes ws) =
     All-map (λ b. b < 256) (λ word. 64 + word) ws (All-weaker IsWord (λ word. 64 + word < 256) (λ word fits. omega arith) ws words) in
     let len : length (operand_bytes ws) ≡ 8 = length-map ws (λ word. 64 + word) ∙ length-words_in n words in
-    let is : value_of 256 8 ws ≡ n = value_of-digits_of 256 8 n (omega arith) (omega (arith, holding_fits n words)) in
+    let is : value_of 256 8 ws ≡ n = value_of-digits_of 256 8 n (omega arith) (omega (arith, packed_fits n words)) in
     let value = value_of-operand_bytes 8 ws (length-words_in n words) in
     let number : 0x4040_4040_4040_4040 + n ≡ 0 * 256 ^ 8 + value_of 256 8 (operand_bytes ws) = omega (arith, is, value, marks) in
     let high_first : to_be_bytes w64 (0x4040_4040_4040_4040 + n) ≡ operand_bytes ws =

@@ -36,9 +36,9 @@ spelled_back n words p is =
     )
 
 -- if the low 24 bits of both sums are below 2^23, they are the coordinates of a point, and else there is no point
-pub sum_leads : (a b m n : ℕ) → a < 8388608 → b < 8388608 → m < 16777216 → n < 16777216 →
+pub sum_point : (a b m n : ℕ) → a < 8388608 → b < 8388608 → m < 16777216 → n < 16777216 →
     point_with (signed_of ((a + m) % 16777216)) (signed_of ((b + n) % 16777216)) ≡ point_with (pos a +ℤ signed_of m) (pos b +ℤ signed_of n)
-sum_leads a b m n a_below b_below m_fits n_fits = grind (arith, nat_tests, ints)
+sum_point a b m n a_below b_below m_fits n_fits = grind (arith, nat_tests, ints)
 
 -- the low 24 bits of the difference of two numbers below 2^23 stand for the displacement between them
 pub way_is : (a b : ℕ) → a < 8388608 → b < 8388608 → signed_of ((b + (16777216 - a)) % 16777216) ≡ pos b -ℤ pos a

@@ -42,7 +42,7 @@ module _ (base places i unit : ℕ) (pos : 0 < base) (within : i < places) (unit
 -- A loop has added the digits of the words before an index.
 pub record IsSumSoFar (base places : ℕ) (digit : ℕ → ℕ) (words : List ℕ) (i unit sum : ℕ) : Type 0 where
   pub unit_is : unit ≡ base ^ (places - i)
-  pub room : sum + unit ≤ base ^ places
+  pub in_limit : sum + unit ≤ base ^ places
   pub below : sum < base ^ places
   pub whole : sum + value_of base (places - i) (map digit (drop i words)) ≡ value_of base places (map digit words)
 
@@ -59,8 +59,8 @@ module _ (base places : ℕ) (digit : ℕ → ℕ) (words : List ℕ) (i unit su
       let here : digit word * (unit / base) ≡ digit (get_or words i 0) * base ^ (places - (i + 1)) = rw (is, next) refl in
       record {
         unit_is = next;
-        room = omega (arith, split, fits, so_far.room);
-        below = omega (arith, split, fits, some, so_far.room);
+        in_limit = omega (arith, split, fits, so_far.in_limit);
+        below = omega (arith, split, fits, some, so_far.in_limit);
         whole = omega (arith, rest, here, so_far.whole);
       }
 
@@ -72,7 +72,7 @@ module _ (base places : ℕ) (digit : ℕ → ℕ) (words : List ℕ) (i unit su
 pub record IsRestAt (base places i unit rest : ℕ) : Type 0 where
   pub unit_is : unit ≡ base ^ (places - i)
   pub least : i < places → base ≤ unit
-  pub room : rest < unit
+  pub in_limit : rest < unit
 
 module _ (base places i unit rest : ℕ) (at : IsRestAt base places i unit rest) (pos : 0 < base) (within : i < places) where
   pub IsRestAt-more : IsRestAt base places (i + 1) (unit / base) (rest % (unit / base))
@@ -81,7 +81,7 @@ module _ (base places i unit rest : ℕ) (at : IsRestAt base places i unit rest)
       record {
         unit_is = next;
         least = λ more. unit_least base places (i + 1) (unit / base) pos more next;
-        room = mod-lt rest (next_unit_pos base places i unit pos within at.unit_is);
+        in_limit = mod-lt rest (next_unit_pos base places i unit pos within at.unit_is);
       }
 
   pub digits_of-more : digits_of base (places - i) rest ≡ rest / (unit / base) ∷ digits_of base (places - (i + 1)) (rest % (unit / base))

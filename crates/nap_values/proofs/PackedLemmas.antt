@@ -96,15 +96,15 @@ module _ (n : ℕ) (words : HoldsWords n) where
   unfolding words_in
   length-words_in = length-digits_of 256 8 n
 
-  pub holding_fits : n < 4611686018427387904
+  pub packed_fits : n < 4611686018427387904
   unfolding words_in digits_of
-  holding_fits =
+  packed_fits =
       let top : n / 256 ^ 7 < 64 = All-head IsWord (n / 256 ^ 7) (digits_of 256 7 (n % 256 ^ 7)) words in
       omega (arith, top)
 
   pub value-words_in : value_of 256 8 (words_in n) ≡ n
   unfolding words_in
-  value-words_in = value_of-digits_of 256 8 n (omega arith) (omega (arith, holding_fits))
+  value-words_in = value_of-digits_of 256 8 n (omega arith) (omega (arith, packed_fits))
 
   pub x_in-below : x_in n < 16777216
   unfolding x_in

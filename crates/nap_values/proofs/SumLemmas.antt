@@ -11,14 +11,14 @@ module _ (n unit base top low : ℕ) (split : n ≡ top * unit + low) (fits : lo
   rearranged : n ≡ top / base * (unit * base) + (top % base * unit + low)
   rearranged = omega (arith, split, ap (λ t. t * unit) (div-add-mod' top base))
 
-  behind : top % base * unit + low < unit * base
-  behind = omega (arith, mul-add-lt (top % base) unit low base (mod_below top base pos) fits)
+  rest_below : top % base * unit + low < unit * base
+  rest_below = omega (arith, mul-add-lt (top % base) unit low base (mod_below top base pos) fits)
 
   rest_is : n % (unit * base) ≡ top % base * unit + low
-  rest_is = rw rearranged (mod-mul-add (top / base) (unit * base) (top % base * unit + low) behind)
+  rest_is = rw rearranged (mod-mul-add (top / base) (unit * base) (top % base * unit + low) rest_below)
 
   carry_is : n / (unit * base) ≡ top / base
-  carry_is = rw rearranged (div-mul-add (top / base) (unit * base) (top % base * unit + low) behind)
+  carry_is = rw rearranged (div-mul-add (top / base) (unit * base) (top % base * unit + low) rest_below)
 
   digit_is : n % (unit * base) / unit ≡ top % base
   digit_is = rw rest_is (div-mul-add (top % base) unit low fits)

@@ -86,8 +86,8 @@ module _ (a b c d e f g h : ℕ) (a_fits : a < 8) (b_fits : b < 8) (c_fits : c <
   quads_split = omega arith
 
   -- the result of the three steps for these digits
-  gathered-digits : quads_of (pairs_of bytes) - quads_of (pairs_of bytes) / 4294967296 * 4294963200 ≡ value_of 8 8 (a ∷ b ∷ c ∷ d ∷ e ∷ f ∷ g ∷ h ∷ [])
-  gathered-digits =
+  collected-digits : quads_of (pairs_of bytes) - quads_of (pairs_of bytes) / 4294967296 * 4294963200 ≡ value_of 8 8 (a ∷ b ∷ c ∷ d ∷ e ∷ f ∷ g ∷ h ∷ [])
+  collected-digits =
       let is_two : pairs_of bytes ≡ pairs = omega (arith, upper_bytes_are, bytes_split) in
       let is_four : quads_of (pairs_of bytes) ≡ quads = ap quads_of is_two ∙ omega (arith, upper_pairs_are, pairs_split) in
       ap (λ m. m - m / 4294967296 * 4294963200) is_four ∙ omega (arith, quads_split)
@@ -101,12 +101,12 @@ below_base base n fit =
 
 -- the three steps give the number with these digits
 module _ (n : ℕ) (fit : All (λ d. d < 8) (digits_of 256 8 n)) where
-  pub gathers : quads_of (pairs_of n) - quads_of (pairs_of n) / 4294967296 * 4294963200 ≡ value_of 8 8 (digits_of 256 8 n)
+  pub collects : quads_of (pairs_of n) - quads_of (pairs_of n) / 4294967296 * 4294963200 ≡ value_of 8 8 (digits_of 256 8 n)
   unfolding digits_of
-  gathers =
+  collects =
       ap (λ m. quads_of (pairs_of m) - quads_of (pairs_of m) / 4294967296 * 4294963200) (sym (value_of-digits_of 256 8 n (omega arith) (omega (arith, below_base 8 n fit))))
-      ∙ gathered-digits _ _ _ _ _ _ _ _ (fit 0 0 (omega arith)) (fit 1 0 (omega arith)) (fit 2 0 (omega arith)) (fit 3 0 (omega arith))
+      ∙ collected-digits _ _ _ _ _ _ _ _ (fit 0 0 (omega arith)) (fit 1 0 (omega arith)) (fit 2 0 (omega arith)) (fit 3 0 (omega arith))
       (fit 4 0 (omega arith)) (fit 5 0 (omega arith)) (fit 6 0 (omega arith)) (fit 7 0 (omega arith))
 
-  pub gathers-below : quads_of (pairs_of n) - quads_of (pairs_of n) / 4294967296 * 4294963200 < 4294967296
-  gathers-below = omega (arith, gathers, value_of-below 8 8 (digits_of 256 8 n) (omega arith) fit)
+  pub collects-below : quads_of (pairs_of n) - quads_of (pairs_of n) / 4294967296 * 4294963200 < 4294967296
+  collects-below = omega (arith, collects, value_of-below 8 8 (digits_of 256 8 n) (omega arith) fit)
