@@ -16,7 +16,7 @@ use Rattle.nap_codes.proofs.TableLemmas.{graphic_test, no_control0, no_control1}
 
 -- The front of a list, by the front of the bytes after its first ones.
 
--- a front at this many bytes further
+-- a front, a number of bytes further
 abbrev pub further : ℕ → Front → Front
 further zero r = r
 further (suc n) r = one_byte_later (further n r)

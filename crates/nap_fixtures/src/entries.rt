@@ -80,9 +80,9 @@ pub enum Sample {
     MaskedLine,
     /// A rectangle, filled or not.
     Rect(bool, Place, Place, Shade),
-    /// An arc of this many points: the quarter, and then the middle.
+    /// An arc of a number of points: the quarter, and then the middle.
     Arc(usize),
-    /// A filled polygon of this many points: the quarter, and then the middle.
+    /// A filled polygon of a number of points: the quarter, and then the middle.
     Poly(usize),
     /// The letter A of the primary set.
     Letter(Spot),

@@ -33,7 +33,7 @@ pub fn point(x: u32, y: u32) -> Point {
     Point::try_new(x, y).unwrap_or(Point::origin())
 }
 
-/// Returns the point this many eighths to the right and up.
+/// Returns the point at these eighths of the unit screen: to the right, and up.
 pub fn at(eighths: (u8, u8)) -> Point {
     let (x, y) = eighths;
     point(u32::from(x) * 1_048_576, u32::from(y) * 1_048_576)

@@ -11,7 +11,7 @@ made sink count = record { sink = sink; count = count }
 same : {S : Type 0} (s t : CountedSink S) → t.sink ≡ s.sink → t.count ≡ s.count → t ≡ s
 same {S = S} s t sink count = ap (λ (x : S). made x t.count) sink ∙ ap (made s.sink) count
 
--- the number of entries taken, of this many that were put
+-- the number of entries taken, of `all` that were put
 abbrev pub taken_of : ℕ → Result (Unit {0}) BatchFault → ℕ
 taken_of all (Ok x) = all
 taken_of all (Err stop) = stop.taken

@@ -210,7 +210,7 @@ module _ {S : Type 0} {g : Ghosts S} (m : Machine S g) {input : Input} {piece : 
         (omega (arith, full, slice_length room (omega (arith, less, within)))) in
         at_byte _ _ there fill.0 fill.1
 
-    -- The body has space for this many bytes.
+    -- The body has space for `count` bytes.
     module _ {new : Input} {count : ℕ} (keeps : Keeps input new piece count) (fit : (0 < count) × (count ≤ prefix_len is_of_body text)) where
       within : count ≤ length text
       within = omega (arith, fit.1, prefix_len-le-length is_of_body text)

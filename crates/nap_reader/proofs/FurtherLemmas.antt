@@ -99,7 +99,7 @@ pub held_sets : {S : Type 0} {g : Ghosts S} (m : Machine S g) (old new : Input) 
 held_sets m old new store body budget after_charge =
     held_parts m old new (ap₂ (λ (b c : ℕ). b - c) budget after_charge) (ap (λ (t : StoreState). t.names) store) (ap (λ (t : StoreState). t.stored) store) (ap (λ (t : StoreState). t.body) store) body
 
--- An input has passed this many bytes of the next slice.
+-- An input has passed `count` bytes of the next slice.
 module _ {input input' : Input} {piece : List ℕ} {count place : ℕ} {text : List ℕ} (reads : Reads input piece) (passed : Passed input input' count)
     (comes : AreNextBytes input.store.bytes input.frames.stack.items piece input.at input.fed text place) (few : count ≤ length text) where
   few_in : (length (unread_of input) ≡ 0 → input.at + count ≤ length piece) × (0 < length (unread_of input) → count ≤ length (unread_of input))
@@ -127,7 +127,7 @@ module _ {input input' : Input} {piece : List ℕ} {count place : ℕ} {text : L
         turns = omega (arith, passed.turns);
       }
 
--- The bytes before this index, and the one at it, were passed; the slice has this many.
+-- The bytes before this index, and the one at it, were passed; the slice has `many` bytes.
 pub record PassedTo (input after : Input) (piece : List ℕ) (many index : ℕ) : Type 0 where
   pub place : ℕ
   pub text : List ℕ

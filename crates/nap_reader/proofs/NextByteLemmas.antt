@@ -156,7 +156,7 @@ frames-store old new more frames e h =
 pub frames-push : (n : ℕ) (frames : List Frame) (frame : Frame) → FramesIn n frames → IsFrame n frame → FramesIn n (frames ++ frame ∷ [])
 frames-push n frames frame h is = All-append (IsFrame n) frames (frame ∷ []) h (All-cons (IsFrame n) frame [] is (All-nil (IsFrame n)))
 
--- The bytes of a slice after this many.
+-- The bytes of a slice after its first n.
 
 pub drop-placed_by_step : (place step : ℕ) (bs : List ℕ) (n : ℕ) → drop n (placed_by_step place step bs) ≡ placed_by_step (place + step * n) step (drop n bs)
 unfolding placed_by_step
@@ -307,7 +307,7 @@ module _ (input : Input) (piece text : List ℕ) (place : ℕ) (comes : AreNextB
         (λ none. absurd (omega (arith, none, some_unread input.store.bytes input.frames.stack.items input.framed some)), λ _. omega (arith, size, length-all_at place text))
   ]
 
-  -- the unread bytes after this many were passed
+  -- the unread bytes after `count` were passed
   pub passed_rest : {input' : Input} {count : ℕ} → Passed input input' count → count ≤ length text → unread input.store.bytes input'.frames.stack.items ≡ drop count (unread_of input)
   passed_rest {input'} {count} passed few = elim (none_or_some input.frames.stack.items) [
     | inl none ↦ ap (unread input.store.bytes) (passed.moves.of_piece none).0 ∙ sym (ap (λ (frames : List Frame). drop count (unread input.store.bytes frames)) none ∙ drop_all count [] (omega arith))
@@ -523,7 +523,7 @@ comes_still stored more frames framed piece at fed text place comes = record {
       };
 }
 
--- The bytes that came, this many: of bodies, or of the piece.
+-- The n bytes that came: of bodies, or of the piece.
 pub came_take : (frames : List Placed) (piece : List ℕ) (at fed n : ℕ) → at ≤ length piece → (length frames ≡ 0 → at + n ≤ length piece) → (0 < length frames → n ≤ length frames) →
     Came frames (drop n frames) piece at (at + (n - length frames)) fed (take n (frames ++ placed_from fed (drop at piece)))
 came_take [] piece at fed n within alone inside =

@@ -148,7 +148,7 @@ at_front test piece bytes is =
 
 -- ---- bytes of a text
 
--- the first bytes, this many, are of a text, and the next one isn't from 20 to 7F
+-- the first n bytes are of a text, and the next one isn't from 20 to 7F
 abbrev pub PassesGraphic : List ℕ → ℕ → Type 0
 PassesGraphic xs n = (prefix_len is_of_text xs ≡ n + prefix_len is_of_text (drop n xs)) × (prefix_len (is_from 32) (drop n xs) ≡ 0)
 

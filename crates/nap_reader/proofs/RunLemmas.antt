@@ -32,7 +32,7 @@ pub record IsOpen (h : ReadingState) (open_run : OpenRun) : Type 0 where
   pub is : h.open_run ≡ Some open_run
   pub between : h.open_body ≡ None
 
--- The first bytes, this many, are operands, for which the run has space.
+-- The first k bytes are operands, for which the run has space.
 pub record HasRoom (h : ReadingState) (all : List Placed) (k : ℕ) : Type 0 where
   pub few : k ≤ length all
   pub operands : All (λ b. is_operand_byte b ≡ true) (bytes_of (take k all))

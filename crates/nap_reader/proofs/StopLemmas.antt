@@ -120,7 +120,7 @@ module _ {S : Type 0} {g : Ghosts S} {old : Reader S g} {piece : List ℕ} {at :
   all_long : many ≤ length all
   all_long = grind (arith, fit.0, fit.1, length-append frames (placed_from (fed_of old + at) (drop at piece)), length-placed (fed_of old + at) (drop at piece), length-drop at piece)
 
-  -- this many of the next bytes came
+  -- n of the next bytes came
   module _ (n : ℕ) (few : n ≤ many) where
     abbrev until : ℕ
     until = at + (n - length frames)

@@ -203,7 +203,7 @@ module _ {S : Type 0} {g : Ghosts S} {t : S} {h : ReadingState} {u : S} {h' : Re
   takes_behind new k Stop many m (why, is, stops) = (why, is, stops_behind many m stops)
   takes_behind new k _ many m later = leads_behind m later
 
--- The machine consumed this many bytes of a slice, and continues after them.
+-- The machine consumed `count` bytes of a slice, and continues after them.
 pub record Took {S : Type 0} {g : Ghosts S} (old new : Machine S g) (xs : List Placed) (ended : Bool) (count : ℕ) : Type 0 where
   pub within : count ≤ length xs
   pub works : Works old new

@@ -10,8 +10,7 @@ pub record CountedSink (S : Type 0) : Type 0 where
   pub sink : S
   pub count : Option ℕ
 
--- A count grows by this many entries: it is the sum if the count was known, and is unknown only if 64 bits can't hold
--- it.
+-- A count grows by n entries: it is the sum if the count was known, and is unknown only if 64 bits can't hold it.
 abbrev pub GrowsBy : ℕ → Option ℕ → Option ℕ → Type 0
 GrowsBy n None None = Unit {0}
 GrowsBy n None (Some k) = ⊥

@@ -32,13 +32,13 @@ outcome_by_front next m xs (pause u) = paused m xs (Some u)
 outcome_by_front next m xs (refuse f) = refused m f
 outcome_by_front next m xs (act es m' ys) = prepend es (next m' ys)
 
--- the outcome after this many fronts at most
+-- the outcome after at most a given number of fronts
 unfoldable pub outcome_within : {M E F U B : Type 0} → (M → List B → Front M E F U B) → ℕ → M → List B → Outcome M E F U B
 outcome_within front zero m xs = paused m xs None
 outcome_within front (suc fuel) m xs = outcome_by_front (outcome_within front fuel) m xs (front m xs)
 
 -- The outcome of all fronts, until no complete code is left. Each code that acts lessens what is unread and what the
--- machine has left, taken together, so this many fronts are enough.
+-- machine has left, taken together, so as many fronts as these are enough.
 unfoldable pub outcome : {M E F U B : Type 0} → (M → List B → Front M E F U B) → (M → ℕ) → M → List B → Outcome M E F U B
 outcome front left m xs = outcome_within front (suc (length xs + left m)) m xs
 

@@ -25,7 +25,7 @@ pub record IsNext (input : Input) (piece : List ℕ) (place step : ℕ) (text : 
   pub some : 0 < length text
   pub over : ended ≡ true → IsOver (bytes_after input.store.bytes input.frames.stack.items piece input.at text)
 
--- An input can pass this many of the next bytes.
+-- An input can pass `count` of the next bytes.
 pub record CanAdvance (input : Input) (count : ℕ) : Type 0 where
   pub piece : List ℕ
   pub reads : Reads input piece
@@ -34,14 +34,14 @@ pub record CanAdvance (input : Input) (count : ℕ) : Type 0 where
   pub comes : AreNextBytes input.store.bytes input.frames.stack.items piece input.at input.fed text place
   pub few : count ≤ length text
 
--- An input has passed this many bytes, and charged nothing more.
+-- An input has passed `count` bytes, and charged nothing more.
 pub record Passed (old new : Input) (count : ℕ) : Type 0 where
   pub moves : MovesOn old.store.bytes old.frames.stack.items new.frames.stack.items old.at new.at old.fed new.fed count
   pub turns : new.turns ≡ old.turns + count
   pub budget : new.budget ≡ old.budget
   pub after_charge : new.charged ≡ old.charged
 
--- An input has passed this many bytes, and done nothing else.
+-- An input has passed `count` bytes, and done nothing else.
 pub record Advances (old new : Input) (count : ℕ) : Type 0 where
   pub passed : Passed old new count
   pub store : new.store ≡ old.store
@@ -66,7 +66,7 @@ pub record StoresBody (old new : Input) (store : StoreState) (opened : Option Op
   pub store_is : new.store ≡ store
   pub body : new.body ≡ opened
 
--- An input has passed this many of the next bytes, which belong to the open body.
+-- An input has passed `count` of the next bytes, which belong to the open body.
 pub record Keeps (old new : Input) (piece : List ℕ) (count : ℕ) : Type 0 where
   pub mid : Input
   pub sets : StoresBody old mid (store_grown old.store (take count (bytes_of (next_bytes old piece)))) old.body
@@ -90,7 +90,7 @@ pub record CannotShow (old new : Input) (bytes : List ℕ) (fault : Fault) : Typ
       ⊎ ((fault ≡ faults.Memory) × (0 < length bytes) × (length bytes ≤ old.budget - old.charged))
   pub still : KeepsNextBytes old new
 
--- An input has read on, by this many bytes at least.
+-- An input has read on, by at least `count` bytes.
 pub record HasReadOn (old new : Input) (piece : List ℕ) (count : ℕ) : Type 0 where
   pub reads : Reads new piece
   pub budget : new.budget ≡ old.budget

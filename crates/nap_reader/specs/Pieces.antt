@@ -54,7 +54,7 @@ abbrev pub GoesOn : {S : Type 0} {g : Ghosts S} → List ℕ → Machine S g →
 GoesOn {S} {g} piece machine input machine' input' =
     (old : Reader S g) → refusal_of old ≡ None → ReadsTo old piece machine input → ReadsTo old piece machine' input'
 
--- A reader that had read the piece up to some index has read at least this many bytes more.
+-- A reader that had read the piece up to some index has read at least `count` bytes more.
 pub record Goes {S : Type 0} {g : Ghosts S} (piece : List ℕ) (count : ℕ) (machine : Machine S g) (input : Input) (machine' : Machine S g) (input' : Input) : Type 0 where
   pub counts : HasReadOn input input' piece count
   pub on : GoesOn piece machine input machine' input'

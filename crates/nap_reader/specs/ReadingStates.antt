@@ -95,7 +95,7 @@ abbrev pub pending_escape : Option ℕ → List Placed
 pending_escape None = []
 pending_escape (Some place) = record { byte = 0x1B; place = place } ∷ []
 
--- what is known of a body with this many bytes before
+-- what is known of a body with n bytes before
 abbrev pub body_front_after : ℕ → BodyFront → BodyFront
 body_front_after n bodies.unfinished = bodies.unfinished
 body_front_after n (bodies.refused fault i) = bodies.refused fault (n + i)

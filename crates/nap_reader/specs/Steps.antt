@@ -202,16 +202,15 @@ pub record Calls {S : Type 0} (g : Ghosts S) (t : S) (h : ReadingState) (u : S) 
   pub still : (s : S) (o : Outcome) (pending : List Placed) → Continues g s o u holding (byte ∷ pending) → ArePending [] h'
   pub named : name < 0x80
 
--- The bytes before this index lead to a state in which the byte there is refused or breaks; or to characters, one of
--- which does, and which end within this many bytes.
+-- The bytes before this index lead to a state in which the byte there is refused or breaks; or to characters, of which
+-- one does, and which end within `many` bytes.
 pub data Stops {S : Type 0} (g : Ghosts S) (t : S) (h : ReadingState) (all : List Placed) (many index : ℕ) (u : S) (r : Refusal) : Type 0 where
   at_byte : (x : Placed) (bytes_after : List Placed) → drop index all ≡ x ∷ bytes_after → (c : LeadsThrough g t h (take index all)) → StopsByte g c.sink c.holding x u r →
       Stops g t h all many index u r
   in_text : (before taken size : ℕ) → index ≡ before + taken → taken < size → before + size ≤ many → place_at all index ≡ r.place →
       (c : LeadsThrough g t h (take before all)) → StopsText g c.sink c.holding (bytes_of (take size (drop before all))) taken u r → Stops g t h all many index u r
 
--- The machine consumed this many bytes, and their last code makes this request to the input. The slice has this many of
--- them.
+-- The machine consumed `count` bytes, and their last code makes this request to the input. The slice has `many` bytes.
 abbrev pub TakesBy : {S : Type 0} → Ghosts S → S → ReadingState → S → ReadingState → List Placed → ℕ → ℕ → Option Refusal → Request → Type 0
 TakesBy g t h u h' all many count r requests.Stop = (why : Refusal) × (r ≡ Some why) × Stops g t h all many count u why
 TakesBy g t h u h' all many count r (requests.Call name) = (index : ℕ) × (count ≡ index + 1) × Calls g t h u h' all index name
@@ -255,8 +254,8 @@ Leaves old new _ = Works old new
 abbrev pub Progresses : {S : Type 0} {g : Ghosts S} → Machine S g → Machine S g → ℕ → Request → Type 0
 Progresses old new count request = (0 < count) ⊎ (request ≡ requests.Stop) ⊎ ((new.open_run ≡ None) × (old.open_run ≢ None))
 
--- The machine consumed this many bytes of a slice that has these, after which others come: none of an operand if the
--- run has ended. If the machine requests nothing, only a run may be open after the last of them.
+-- The machine consumed `count` bytes of a slice that has these, after which others come: none of an operand if the run
+-- has ended. If the machine requests nothing, only a run may be open after the last of them.
 pub record Takes {S : Type 0} {g : Ghosts S} (old new : Machine S g) (bytes : List Placed) (ended : Bool) (count : ℕ) (request : Request) : Type 0 where
   pub within : count ≤ length bytes
   pub leaves : Leaves old new request
@@ -287,7 +286,7 @@ IsFrontCode lexer byte fronts.Shift = IsShift lexer byte
 IsFrontCode lexer byte (fronts.Effector step) = (lexer.half ≡ []) × (codes.front lexer.sets (byte ∷ []) ≡ codes.whole (code.Step step) 1 lexer.sets)
 IsFrontCode lexer byte fronts.Other = ⊤
 
--- The first bytes, this many, call a macro: the last is its name, and those before it are unfinished.
+-- The first `count` bytes call a macro: the last is its name, and those before it are unfinished.
 pub record CallsBy (lexer : LexerState) (bytes : List ℕ) (count : ℕ) : Type 0 where
   pub before : List ℕ
   pub name : ℕ

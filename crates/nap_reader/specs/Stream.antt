@@ -102,7 +102,7 @@ run_front m op place run rest =
 abbrev pub opcode_front : Machine → Opcode → ℕ → List Placed → Front
 opcode_front m op place xs = run_front m op place (take (run_length xs) xs) (drop (run_length xs) xs)
 
--- the machine after this many bytes were charged
+-- the machine after n bytes were charged
 abbrev pub after_charge : Machine → ℕ → Machine
 after_charge m n = record m { left = m.left - n }
 
@@ -142,8 +142,8 @@ front_by m xs (codes.whole code n sets) = code_front (record m { sets = sets }) 
 abbrev pub after_body : Machine → ℕ → List ℕ → Machine
 after_body m name body = record m { names = bind m.names name body; stored = m.stored + length body; mode = between }
 
--- The front if the body is complete: this many bytes, and after them the two that end the body, which are the next code
--- of the stream. A body that is presented comes next once more, with these two, before what comes after them.
+-- The front if the body is complete: n bytes, and after them the two that end the body, which are the next code of the
+-- stream. A body that is presented comes next once more, with these two, before what comes after them.
 abbrev pub bound_front : Machine → ℕ → Bool → ℕ → List Placed → Front
 bound_front m name false n xs = course.act [] (after_body m name (take n (bytes_of xs))) (drop n xs)
 bound_front m name true n xs =

@@ -9,9 +9,9 @@ use nap_list::Sink;
 /// How many bytes of a prefix of a piece add their entries in one way.
 #[derive(Clone, Copy, PartialEq, Eq, Debug, Drop)]
 pub enum Ahead {
-    /// An opcode and operands, or another byte: this many bytes, of which those after the first add no entries.
+    /// An opcode and operands, or another byte: the number of bytes, of which those after the first add no entries.
     First(usize),
-    /// Characters and format effectors: this many bytes, each of which adds one entry.
+    /// Characters and format effectors: the number of bytes, each of which adds one entry.
     Each(usize),
 }
 
