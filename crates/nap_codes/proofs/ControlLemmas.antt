@@ -54,7 +54,7 @@ unfolding front control0_front
 shift_front sets byte (inl is) = rw (is, shift_out_row) refl
 shift_front sets byte (inr is) = rw (is, shift_in_row) refl
 
--- the code sets after SO and SI are those after a step of the lexer
+-- SO and SI are a step of the lexer, to the code sets after them
 pub shift_steps : (old new : LexerState) (byte : ℕ) → old.half ≡ [] → (byte ≡ 0x0E) ⊎ (byte ≡ 0x0F) → new ≡ record { sets = after_control0 old.sets byte; half = [] } →
     Steps old byte (steps.Code codes.Shifted) new
 shift_steps old new byte rests is same =

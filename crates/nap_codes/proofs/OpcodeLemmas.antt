@@ -16,7 +16,7 @@ opcode_alone lexer byte op is =
     ∙ ap (pdi_front lexer.sets byte) is.2
     ∙ ap (opcode_front lexer.sets op) is.3
 
--- no byte outside the PDI set's opcodes is an opcode
+-- no byte below 20 or from 40 on is an opcode
 pub none_below : (lexer : LexerState) (byte : ℕ) (op : Opcode) → byte < 0x20 → (None ≡ Some op) ↔ IsOpcode lexer byte op
 none_below lexer byte op less = (λ e. cc, λ k. let range = opcode_range byte op k.2 in absurd (omega (arith, range.0, less)))
 

@@ -34,7 +34,7 @@ no_row {Entry} P (row ∷ rows) byte each none = at (eqb byte row.0) refl (no_ro
     at true is ih = absurd (none (subst P (sym (eqb-true byte row.0 is)) each.0))
     at false is ih = ih
 
--- Each of `count` bytes from one on has a row.
+-- Each of n bytes from one on has a row.
 abbrev pub Covers : {Entry : Type 0} → List (ℕ × Entry) → ℕ → ℕ → Type 0
 Covers rows from zero = Unit {0}
 Covers rows from (suc n) = (is_some (row_of rows (from + n)) ≡ true) × Covers rows from n

@@ -349,7 +349,7 @@ module _ {S : Type 0} {g : Ghosts S} {s : S} {o : Outcome} {t : S} {h : ReadingS
   pub leads_unfinished : o.unfinished ≡ Some (unfinished_of h)
   leads_unfinished = ap (λ (x : Outcome). x.unfinished) leads_paused
 
--- no more is left to charge afterwards than before
+-- no more is left to charge in the outcome than in the reading state
 pub leads_left : {S : Type 0} {g : Ghosts S} {s : S} {o : Outcome} {t : S} {h : ReadingState} {pending : List Placed} → Continues g s o t h pending → o.machine.left ≤ h.machine.left
 leads_left {h = h} {pending = pending} k =
     let there = ap (λ (x : Outcome). x.machine.left) k.leads in
@@ -374,7 +374,7 @@ leads_more {h = h} budget p q k =
 
 -- The entries of a sink, if not all entries after the known ones could be put.
 
--- a sink that has failed, and whose failures stay, had failed before
+-- a sink that has failed had failed before, if it works afterwards whenever it worked before
 pub was_failed : {S : Type 0} (g : Ghosts S) (s t : S) → (g.failed s ≡ false → g.failed t ≡ false) → g.failed t ≡ true → g.failed s ≡ true
 was_failed {S} g s t clear set = at (g.failed s) refl
   where

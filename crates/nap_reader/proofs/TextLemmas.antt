@@ -76,7 +76,7 @@ closed_still o false known is none = ap (λ (u : Option Unfinished). (with_run_b
 
 -- The entry at which the put of a text halts.
 
--- the entries were taken, and the next one wasn't, for which memory may be lacking, or broke
+-- the entries were taken, and the next one wasn't, up to which memory may be lacking, or broke
 abbrev pub Halted : {S : Type 0} → Ghosts S → List Entry → Entry → S → S → SinkFault → Type 0
 Halted g es next t u sink_faults.Memory = g.took t es u × g.wants t (es ++ next ∷ [])
 Halted g es next t u sink_faults.Write = ((g.failed t ≡ true) × (u ≡ t) × (es ≡ [])) ⊎ g.broke t es next u

@@ -35,7 +35,7 @@ spelled_back n words p is =
       back.0,
     )
 
--- if the low 24 bits of both sums are below 2^23, they are the coordinates of a point, and else there is no point
+-- the low 24 bits of the sums stand for the point at the sums, or for none outside the unit screen
 pub sum_point : (a b m n : ℕ) → a < 8388608 → b < 8388608 → m < 16777216 → n < 16777216 →
     point_with (signed_of ((a + m) % 16777216)) (signed_of ((b + n) % 16777216)) ≡ point_with (pos a +ℤ signed_of m) (pos b +ℤ signed_of n)
 sum_point a b m n a_below b_below m_fits n_fits = grind (arith, nat_tests, ints)
