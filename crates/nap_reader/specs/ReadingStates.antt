@@ -13,7 +13,7 @@ use Rattle.nap_reader.specs.Bodies.{Mode, between, in_body, BodyFront, store_lim
 use Rattle.nap_reader.specs.Framed.{unread}
 use Rattle.nap_reader.specs.Course.{prepend}
 use Rattle.nap_reader.specs.Stream as model
-use Rattle.nap_reader.specs.Stream.{Placed, Machine, Outcome, Unfinished, open_body, after_charge, refusal, bytes_of, words_of, is_operand_byte, run_length, half_read, outcome_from, begun, with_run}
+use Rattle.nap_reader.specs.Stream.{Placed, Machine, Outcome, Unfinished, open_body, refusal, bytes_of, words_of, is_operand_byte, run_length, half_read, outcome_from, begun, with_run}
 use Rattle.nap_reader.specs.Breaking.{cause_of, TookPart, BreaksInRun, BreaksFrom, Begins}
 
 -- The state of a reader between two bytes, and how it leads to the meaning of the stream. No caller sees these
