@@ -29,15 +29,15 @@ module _ {O : Type 0} (o : outlet.Ghosts O) (w : O) (s : Canonical O) (begins : 
   -- the bytes of entries are those of a text behind its header
   behind_header : (d : List Entry) → entry_bytes s d ≡ pieces_bytes text_end_after_header (pieces Two start d)
   behind_header d =
-      ap (λ (f : Form). pieces_bytes s.tail (pieces f s.state d)) begins.form_is
-      ∙ ap (λ (t : TextEnd). pieces_bytes t (pieces Two s.state d)) begins.tail
+      ap (λ (f : Form). pieces_bytes s.text_end (pieces f s.state d)) begins.form_is
+      ∙ ap (λ (t : TextEnd). pieces_bytes t (pieces Two s.state d)) begins.text_end
       ∙ ap (λ (u : State). pieces_bytes text_end_after_header (pieces Two u d)) begins.state
 
   -- the bytes of one more entry
   behind_entries : (d : List Entry) (e : Entry) → entry_bytes_after s d e ≡ pieces_bytes (text_end_after text_end_after_header (pieces Two start d)) (entry_pieces Two (walk start d) e)
   behind_entries d e =
-      ap (λ (f : Form). pieces_bytes (text_end_after s.tail (pieces f s.state d)) (entry_pieces f (walk s.state d) e)) begins.form_is
-      ∙ ap (λ (t : TextEnd). pieces_bytes (text_end_after t (pieces Two s.state d)) (entry_pieces Two (walk s.state d) e)) begins.tail
+      ap (λ (f : Form). pieces_bytes (text_end_after s.text_end (pieces f s.state d)) (entry_pieces f (walk s.state d) e)) begins.form_is
+      ∙ ap (λ (t : TextEnd). pieces_bytes (text_end_after t (pieces Two s.state d)) (entry_pieces Two (walk s.state d) e)) begins.text_end
       ∙ ap (λ (u : State). pieces_bytes (text_end_after text_end_after_header (pieces Two u d)) (entry_pieces Two (walk u d) e)) begins.state
 
   one_piece : (u : State) (e : Entry) → pieces Two u (e ∷ []) ≡ entry_pieces Two u e
@@ -48,11 +48,11 @@ module _ {O : Type 0} (o : outlet.Ghosts O) (w : O) (s : Canonical O) (begins : 
   text_more : (d : List Entry) (e : Entry) → text (d ++ e ∷ []) ≡ text d ++ entry_bytes_after s d e
   text_more d e =
       let u = walk start d in
-      let tail = text_end_after text_end_after_header (pieces Two start d) in
+      let text_end = text_end_after text_end_after_header (pieces Two start d) in
       let front = pieces_bytes text_end_after_header (pieces Two start d) in
       ap (λ (ps : List Piece). header ++ pieces_bytes text_end_after_header ps) (pieces-append Two start d (e ∷ []))
       ∙ ap (λ (bytes : List ℕ). header ++ bytes) (pieces_bytes-append text_end_after_header (pieces Two start d) (pieces Two u (e ∷ [])))
-      ∙ ap (λ (ps : List Piece). header ++ (front ++ pieces_bytes tail ps)) (one_piece u e)
+      ∙ ap (λ (ps : List Piece). header ++ (front ++ pieces_bytes text_end ps)) (one_piece u e)
       ∙ ap (λ (bytes : List ℕ). header ++ (front ++ bytes)) (sym (behind_entries d e))
       ∙ sym (append_assoc header front (entry_bytes_after s d e))
 
