@@ -2,11 +2,11 @@ use Rattle.std.proofs.Common.{◌≡◌, ◌+◌, ◌++◌, [], ◌∷◌, ℕ, 
 use Rattle.std.proofs.lemmas.List.{take_more, take_all, length-take-le}
 use Rattle.std.specs.Prelude.{slice_index}
 use Rattle.nap_canon.specs.Buffers.{with_bytes_at}
-use Rattle.nap_canon.proofs.texts.LaidLemmas.{laid_none, laid_behind}
+use Rattle.nap_canon.proofs.texts.AppendedLemmas.{appended_none, appended_after}
 use Rattle.nap_canon.proofs.byte_buffer.write_bytes_at.Goals as goal
 
 pub loop-i-init : goal.loop-i-init
-loop-i-init c = laid_none c.args.bytes.now c.args.at
+loop-i-init c = appended_none c.args.bytes.now c.args.at
 
 pub loop-i-preserved : goal.loop-i-preserved
 loop-i-preserved c =
@@ -21,7 +21,7 @@ loop-i-preserved c =
     let one : take (i + 1) more ≡ now ++ byte ∷ [] = take_more more i 0 within in
     c.write_byte_at.ensures
     ∙ ap (λ (bs : List ℕ). with_bytes_at bs (at + i) (byte ∷ [])) c.loop-i.invariant
-    ∙ laid_behind pending now (byte ∷ []) at (at + i) (omega (arith, size)) (omega (arith, within, c.requires.within))
+    ∙ appended_after pending now (byte ∷ []) at (at + i) (omega (arith, size)) (omega (arith, within, c.requires.within))
     ∙ ap (with_bytes_at pending at) (sym one)
 
 pub returns : goal.returns
