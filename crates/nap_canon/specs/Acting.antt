@@ -56,7 +56,8 @@ opcodes_of (_ ∷ rest) = opcodes_of rest
 abbrev pub ActsUnderEightAndFour : Acting → Type 0
 ActsUnderEightAndFour a = a.op ≢ opcodes.Domain → a.op ≢ opcodes.Reset → a.lengths ≡ record { multi = 8; single = 4 }
 
--- The opcodes that act in a stream are all the opcodes of the stream, and each acts so.
+-- The opcodes that act in a stream are all the opcodes of the stream, and each acts under operands of eight words and
+-- four words, unless it is DOMAIN or RESET.
 pub record AllActUnderEightAndFour (budget : ℕ) (p : List ℕ) : Type 0 where
   pub all : map (λ a. a.op) (acting budget p) ≡ opcodes_of (lex_result start_sets p).codes
   pub each : All ActsUnderEightAndFour (acting budget p)

@@ -14,7 +14,7 @@ use Rattle.nap_canon.specs.Text.{pieces_bytes, text_end_after, pieces, entry_pie
 use Rattle.nap_canon.specs.Sinking.{TakesAll, Sends, Canonical, sending_of, entry_bytes, entry_bytes_after, Took, Broke}
 use Rattle.nap_canon.specs.TextParts.{pieces_bytes-append, text_end_after-append, pieces-append}
 
--- written, and written again
+-- laws of sending: no bytes, and bytes after others
 
 pub sends_none : (s : Sending) → Sends s [] false s
 sends_none s = record { grows = grows_none s; failed = refl }
@@ -45,7 +45,7 @@ module _ {O : Type 0} (o : outlet.Ghosts O) where
   took_none s = record { bytes = sends_none (sending_of o s); form = refl; text_end = refl; state = refl }
 
   module _ (s t : Canonical O) (d : List Entry) (form : t.form ≡ s.form) (text_end : t.text_end ≡ text_end_after s.text_end (pieces s.form s.state d)) (state : t.state ≡ walk s.state d) where
-    -- what comes next, in the terms of the first
+    -- the pieces of the second list, in terms of the first sink
     next_join : (e : List Entry) → pieces t.form t.state e ≡ pieces s.form (walk s.state d) e
     next_join e = ap (λ (f : Form). pieces f t.state e) form ∙ ap (λ (u : State). pieces s.form u e) state
 

@@ -13,9 +13,9 @@ ghost use Rattle.nap_canon.specs.Buffers.{piece_limit, buffer_limit};
 
 use crate::byte_buffer::ByteBuffer;
 use crate::byte_sink::ByteSink;
+use crate::current::{step_rect, step_shape};
 use crate::form::Form;
 use crate::pending::{Path, Pending, opcodes, path_of, shape_opcode};
-use crate::current::{step_rect, step_shape};
 use crate::text_end::TextEnd;
 use nap_codes::GSet;
 use nap_list::{Entry, Ink, Shape, ShapeKind, State, line_start};

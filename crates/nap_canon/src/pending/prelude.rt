@@ -12,8 +12,8 @@ use crate::command::{
     Command, Flag, colour_prelude, flag_prelude, given_size_prelude, named_size_prelude,
     pel_prelude, pen_prelude, texture_prelude,
 };
-use crate::pending::{LENGTHS, Pending, opcodes, word_byte};
 use crate::current::ink_is_current;
+use crate::pending::{LENGTHS, Pending, opcodes, word_byte};
 use nap_codes::Size;
 use nap_list::{Colour, Drawing, Entry, Hand, Ink, TextLook};
 use nap_values::{Grb, Move, put_addr, put_grb, put_move, put_point};

@@ -10,10 +10,10 @@ ghost use Rattle.nap_canon.specs.Buffers.{buffer_limit};
 
 use crate::byte_buffer::BUFFER_SIZE;
 use crate::byte_sink::ByteSink;
+use crate::current::batch_begins_current;
 use crate::form::Form;
 use crate::parts::{item, part};
 use crate::pending::opcodes;
-use crate::current::batch_begins_current;
 use crate::text_end::TextEnd;
 use crate::writer::Writer;
 use nap_codes::{CharSet, GSet, format_effector};
