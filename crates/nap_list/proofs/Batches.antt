@@ -95,11 +95,11 @@ step_made (steps.Aps a b) range = ((range.0.0, omega (arith, range.0.1)), (range
 step_made _ range = tt
 
 pub typed_made : TextEntriesAreWellMade
-typed_made set hand code text_entry = by (format_effector code) refl
+typed_made set hand code byte = by (format_effector code) refl
   where
     by : (step : Option TextStep) → format_effector code ≡ step → WellMade (text_entry_as step set hand code)
     by (Some step) is = step_made step (code_ranges start_sets (code ∷ []) (codes.Step step) 1 start_sets ((format_effector_front code step is).1 start_sets))
-    by None is = text_entry is
+    by None is = byte is
 
 text_chain : (First : Entry → Type 0) (set : CharSet) (hand : Hand) → ((code : ℕ) → First (text_entry set hand code)) → (codes : List ℕ) → Chain First (text_entries_in set hand codes)
 unfolding Chain text_entries_in

@@ -78,11 +78,11 @@ list_plain form t saved s (e ∷ es) may =
 
 pub text_is_plain : (form : Form) → TextIsPlain form
 text_is_plain form es fits inside =
-    let spelling_pieces = list_plain form text_end_after_header start_domain start es (record { inside = inside; fits = fits; mode = start_in_mode; saves = tt }) in
-    let is = lexed_spelled start_sets (text_in form es) (with_header spelling_pieces.list) (sets_with (gl_of (text_end_after text_end_after_header (pieces form start es)))) (header_spelled form es spelling_pieces.list spelling_pieces.by) in
-    let follow = subst AllMayFollow (append-nil spelling_pieces.list) (spelling_pieces.joins [] nothing_comes) in
+    let spelled = list_plain form text_end_after_header start_domain start es (record { inside = inside; fits = fits; mode = start_in_mode; saves = tt }) in
+    let is = lexed_spelled start_sets (text_in form es) (with_header spelled.list) (sets_with (gl_of (text_end_after text_end_after_header (pieces form start es)))) (header_spelled form es spelled.list spelled.by) in
+    let follow = subst AllMayFollow (append-nil spelled.list) (spelled.joins [] nothing_comes) in
     record {
       unrefused = ap (λ (l : LexResult). l.fault) is;
       whole = ap (λ (l : LexResult). l.state.half) is;
-      plain = subst ArePlain (sym (ap (λ (l : LexResult). l.codes) is)) (header_plain spelling_pieces.list spelling_pieces.each follow);
+      plain = subst ArePlain (sym (ap (λ (l : LexResult). l.codes) is)) (header_plain spelled.list spelled.each follow);
     }

@@ -138,9 +138,9 @@ joined_none first_size size form text_end s = record { each = tt; writes = refl;
 -- other forms of the same
 joined_as : (first_size first_size' size : ℕ) (form : Form) (text_end : TextEnd) (s : State) (list : List Entry) (bytes bytes' : List ℕ) (end end' : TextEnd) → first_size ≡ first_size' → bytes ≡ bytes' → end ≡ end' →
     Joined first_size size form text_end s list bytes end → Joined first_size' size form text_end s list bytes' end'
-joined_as first_size first_size' size form text_end s list bytes bytes' end end' same spelling_pieces ends joined = record {
+joined_as first_size first_size' size form text_end s list bytes bytes' end end' same spelled ends joined = record {
   each = subst (λ (n : ℕ). EachWrites n size form text_end s list) same joined.each;
-  writes = joined.writes ∙ spelling_pieces;
+  writes = joined.writes ∙ spelled;
   ends = joined.ends ∙ ends;
 }
 
@@ -171,7 +171,7 @@ abbrev run_of : ℕ → ℕ → TextEnd
 run_of byte n = InRun (record { opcode = byte; length = n })
 
 joins_run : (byte n m : ℕ) → n + m ≤ run_limit → joins_open_run (run_of byte n) byte m ≡ true
-joins_run byte n m pending = grind (arith, nat_tests)
+joins_run byte n m space = grind (arith, nat_tests)
 
 -- each entry is written by a point after this opcode
 unfoldable EachPoint : ℕ → State → List Entry → List Coordinates → Type 0
@@ -184,26 +184,26 @@ EachPoint byte s (e ∷ es) (p ∷ ps) = (entry_pieces Two s e ≡ group byte (p
 run_joins : (byte n : ℕ) (s : State) (list : List Entry) (ps : List Coordinates) → EachPoint byte s list ps → n + 8 * length ps ≤ run_limit →
     Joined 8 8 Two (run_of byte n) s list (points_bytes ps) (run_of byte (n + 8 * length ps))
 unfolding EachPoint points_bytes
-run_joins byte n s [] [] each pending = joined_as 8 8 8 Two (run_of byte n) s [] [] [] _ _ refl refl (ap (run_of byte) (omega arith)) (joined_none 8 8 Two (run_of byte n) s)
-run_joins byte n s [] (p ∷ ps) each pending = absurd each
-run_joins byte n s (e ∷ es) [] each pending = absurd each
-run_joins byte n s (e ∷ es) (p ∷ ps) each pending =
-    let joins : joins_open_run (run_of byte n) byte (length (point_bytes p)) ≡ true = joins_run byte n (length (point_bytes p)) (omega (arith, pending, point_size p)) in
+run_joins byte n s [] [] each space = joined_as 8 8 8 Two (run_of byte n) s [] [] [] _ _ refl refl (ap (run_of byte) (omega arith)) (joined_none 8 8 Two (run_of byte n) s)
+run_joins byte n s [] (p ∷ ps) each space = absurd each
+run_joins byte n s (e ∷ es) [] each space = absurd each
+run_joins byte n s (e ∷ es) (p ∷ ps) each space =
+    let joins : joins_open_run (run_of byte n) byte (length (point_bytes p)) ≡ true = joins_run byte n (length (point_bytes p)) (omega (arith, space, point_size p)) in
     let bytes : piece_bytes (run_of byte n) (group byte (point_bytes p)) ≡ point_bytes p = rw joins refl in
     let next_end : text_end_after_piece (run_of byte n) (group byte (point_bytes p)) ≡ run_of byte (n + 8) = rw joins (ap (λ (size : ℕ). run_of byte (n + size)) (point_size p)) in
     joined_as 8 8 8 Two (run_of byte n) s (e ∷ es) _ _ _ _ refl refl (ap (run_of byte) (omega arith))
     (joined_more 8 8 Two (run_of byte n) (run_of byte (n + 8)) s e es (group byte (point_bytes p)) (point_bytes p) (points_bytes ps) _ each.0 bytes (point_size p) next_end
-    (run_joins byte (n + 8) (after s e) es ps each.1 (omega (arith, pending))))
+    (run_joins byte (n + 8) (after s e) es ps each.1 (omega (arith, space))))
 
 -- points that open a run after this end of the text
 run_opens : (text_end : TextEnd) (byte : ℕ) (s : State) (list : List Entry) (ps : List Coordinates) → EachPoint byte s list ps → 0 < length ps → 8 * length ps ≤ run_limit →
     joins_open_run text_end byte 8 ≡ false → joins_open_run text_end byte (8 * length ps) ≡ false →
     Joined (length (run_opening text_end byte (8 * length ps)) + 8) 8 Two text_end s list (run_opening text_end byte (8 * length ps) ++ points_bytes ps) (InRun (run_after text_end byte (8 * length ps)))
 unfolding EachPoint points_bytes
-run_opens text_end byte s [] [] each some pending first all = absurd (omega (arith, some))
-run_opens text_end byte s [] (p ∷ ps) each some pending first all = absurd each
-run_opens text_end byte s (e ∷ es) [] each some pending first all = absurd each
-run_opens text_end byte s (e ∷ es) (p ∷ ps) each some pending first all =
+run_opens text_end byte s [] [] each some space first all = absurd (omega (arith, some))
+run_opens text_end byte s [] (p ∷ ps) each some space first all = absurd each
+run_opens text_end byte s (e ∷ es) [] each some space first all = absurd each
+run_opens text_end byte s (e ∷ es) (p ∷ ps) each some space first all =
     let head : List ℕ = shift_to_opcodes (gl_of text_end) ++ byte ∷ [] in
     let apart : joins_open_run text_end byte (length (point_bytes p)) ≡ false = ap (joins_open_run text_end byte) (point_size p) ∙ first in
     let opens : run_opening text_end byte (8 * length (p ∷ ps)) ≡ head = rw all refl in
@@ -214,7 +214,7 @@ run_opens text_end byte s (e ∷ es) (p ∷ ps) each some pending first all =
     (length-append head (point_bytes p) ∙ ap (λ (n : ℕ). length head + n) (point_size p) ∙ ap (λ (bs : List ℕ). length bs + 8) (sym opens))
     (append_assoc head (point_bytes p) (points_bytes ps) ∙ ap (λ (bs : List ℕ). bs ++ points_bytes (p ∷ ps)) (sym opens)) ends
     (joined_more (length (head ++ point_bytes p)) 8 Two text_end (run_of byte 8) s e es (group byte (point_bytes p)) (head ++ point_bytes p) (points_bytes ps) _ each.0 bytes refl next_end
-    (run_joins byte 8 (after s e) es ps each.1 (omega (arith, pending))))
+    (run_joins byte 8 (after s e) es ps each.1 (omega (arith, space))))
 
 points_each : (s : State) (d : Drawing) (ps : List Coordinates) → EachIsCurrent s (map (point_entry d) ps) → EachPoint 0x26 s (map (point_entry d) ps) ps
 unfolding EachPoint EachIsCurrent
@@ -289,7 +289,7 @@ text_opens form text_end s hand (c ∷ cs) (suc n) some few character all_curren
 record Run (text_end : TextEnd) (byte m : ℕ) : Type 0 where
   pub length : ℕ
   pub is : text_end ≡ run_of byte length
-  pub pending : length + m ≤ run_limit
+  pub space : length + m ≤ run_limit
 
 run_joined : (text_end : TextEnd) (byte m : ℕ) → joins_open_run text_end byte m ≡ true → Run text_end byte m
 run_joined (NoRun gl) byte m joins = absurd (false≢true joins)
@@ -298,7 +298,7 @@ run_joined (InRun run) byte m joins =
     record {
       length = run.length;
       is = ap (λ (opcode : ℕ). InRun (record { opcode = opcode; length = run.length })) (sym same);
-      pending = space_for byte run.length m (subst (λ (opcode : ℕ). joins_open_run (run_of opcode run.length) byte m ≡ true) (sym same) joins);
+      space = space_for byte run.length m (subst (λ (opcode : ℕ). joins_open_run (run_of opcode run.length) byte m ≡ true) (sym same) joins);
     }
 
 -- entries of a batch from one on
@@ -330,12 +330,12 @@ points_after form text_end s list qs byte count joins some size each = by (joins
         let run = run_joined text_end byte (8 * count) all in
         let n = run.length in
         let ends : run_of byte (n + 8 * length qs) ≡ InRun (run_after text_end byte (8 * count)) =
-        ap (λ (m : ℕ). run_of byte (n + 8 * m)) size ∙ (let here : run_of byte (n + 8 * count) ≡ InRun (run_after (run_of byte n) byte (8 * count)) = rw (joins_run byte n (8 * count) run.pending) refl in here)
+        ap (λ (m : ℕ). run_of byte (n + 8 * m)) size ∙ (let here : run_of byte (n + 8 * count) ≡ InRun (run_after (run_of byte n) byte (8 * count)) = rw (joins_run byte n (8 * count) run.space) refl in here)
         ∙ ap (λ (t : TextEnd). InRun (run_after t byte (8 * count))) (sym run.is) in
         let opens : [] ≡ run_opening text_end byte (8 * count) = rw all refl in
         let here : Joined 8 8 Two text_end s list (points_bytes qs) (run_of byte (n + 8 * length qs)) =
         subst (λ (t : TextEnd). Joined 8 8 Two t s list (points_bytes qs) (run_of byte (n + 8 * length qs))) (sym run.is)
-        (run_joins byte n s list qs each (omega (arith, run.pending, size))) in
+        (run_joins byte n s list qs each (omega (arith, run.space, size))) in
         subst (λ (f : Form). goal f count) (sym joins.1)
         (joined_as 8 _ 8 Two text_end s list _ _ _ _ (ap (λ (bs : List ℕ). length bs + 8) opens) (ap (λ (bs : List ℕ). bs ++ points_bytes qs) opens) ends here)
     by false is =

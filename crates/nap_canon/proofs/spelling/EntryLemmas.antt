@@ -88,37 +88,37 @@ module _ (saved : OperandLengths) (s : State) (e : Entry) (es : List Entry) (may
   pub first_kind : (form : Form) → Kind form saved s e
   first_kind form = kind form saved s e (All-head InRange e es may.inside) first_fits may.mode.drawing may.saves
 
-  abbrev option_commands : List Command
-  option_commands = prelude s.drawing (attributes e)
+  abbrev own_commands : List Command
+  own_commands = prelude s.drawing (attributes e)
 
-  pub led : Leads (AttributesInRange (attributes e)) option_commands s.drawing (with_attributes s.drawing (attributes e))
+  pub led : Leads (AttributesInRange (attributes e)) own_commands s.drawing (with_attributes s.drawing (attributes e))
   led = prelude_leads s.drawing (attributes e) may.mode.drawing first_fits.values
 
   -- the prelude, and what comes after it
-  pub prelude_after : (qs : List Piece) (ds : List Entry) (left : Work) → ConveyAll (work_with_attributes saved s e) qs ds left → ConveyAll (work_at saved s) (map command_piece option_commands ++ qs) ds left
+  pub prelude_after : (qs : List Piece) (ds : List Entry) (left : Work) → ConveyAll (work_with_attributes saved s e) qs ds left → ConveyAll (work_at saved s) (map command_piece own_commands ++ qs) ds left
   prelude_after qs ds left conveyed =
-      commands_after saved s option_commands qs ds left (led.inside (attributes_are_in_range e (All-head InRange e es may.inside))) led.takes
+      commands_after saved s own_commands qs ds left (led.inside (attributes_are_in_range e (All-head InRange e es may.inside))) led.takes
       (subst (λ (d : Drawing). ConveyAll (work_at saved (record s { drawing = d })) qs ds left) (sym led.there) conveyed)
 
-  pub prelude_conveys : ConveyAll (work_at saved s) (map command_piece option_commands) [] (work_with_attributes saved s e)
+  pub prelude_conveys : ConveyAll (work_at saved s) (map command_piece own_commands) [] (work_with_attributes saved s e)
   prelude_conveys =
-      subst (λ (ps : List Piece). ConveyAll (work_at saved s) ps [] (work_with_attributes saved s e)) (append-nil (map command_piece option_commands))
+      subst (λ (ps : List Piece). ConveyAll (work_at saved s) ps [] (work_with_attributes saved s e)) (append-nil (map command_piece own_commands))
       (prelude_after [] [] (work_with_attributes saved s e) nothing)
 
   -- a group after the prelude
   pub group_parts : (form : Form) (byte : ℕ) (operands : List ℕ) (rest : List Piece) → spelling_pieces form (with_attributes s.drawing (attributes e)) e ≡ group byte operands ∷ [] →
-      map command_piece option_commands ++ (group byte operands ∷ rest) ≡ entry_pieces form s e ++ rest
+      map command_piece own_commands ++ (group byte operands ∷ rest) ≡ entry_pieces form s e ++ rest
   group_parts form byte operands rest is =
-      sym (append_assoc (map command_piece option_commands) (group byte operands ∷ []) rest) ∙ ap (λ (qs : List Piece). (map command_piece option_commands ++ qs) ++ rest) (sym is)
+      sym (append_assoc (map command_piece own_commands) (group byte operands ∷ []) rest) ∙ ap (λ (qs : List Piece). (map command_piece own_commands ++ qs) ++ rest) (sym is)
 
   -- the first of the bytes of an entry, whatever comes after it
 
   module _ (form : Form) (t : TextEnd) (rest : List Piece) where
-    pub entry_begins : (option_commands ≡ [] → Begins t (spelling_pieces form (with_attributes s.drawing (attributes e)) e ++ rest)) → Begins t (entry_pieces form s e ++ rest)
+    pub entry_begins : (own_commands ≡ [] → Begins t (spelling_pieces form (with_attributes s.drawing (attributes e)) e ++ rest)) → Begins t (entry_pieces form s e ++ rest)
     entry_begins begins =
         let qs : List Piece = spelling_pieces form (with_attributes s.drawing (attributes e)) e in
-        subst (Begins t) (sym (append_assoc (map command_piece option_commands) qs rest))
-        (convey_begin t (qs ++ rest) (work_at saved s) (map command_piece option_commands) [] (work_with_attributes saved s e) prelude_conveys (λ none. begins (unmapped option_commands none)))
+        subst (Begins t) (sym (append_assoc (map command_piece own_commands) qs rest))
+        (convey_begin t (qs ++ rest) (work_at saved s) (map command_piece own_commands) [] (work_with_attributes saved s e) prelude_conveys (λ none. begins (unmapped own_commands none)))
       where
         unmapped : (cs : List Command) → map command_piece cs ≡ [] → cs ≡ []
         unmapped [] none = refl

@@ -7,7 +7,7 @@ use Rattle.nap_values.specs.Digits.{digits_of}
 use Rattle.nap_values.specs.Spellings.{move_bytes, point_bytes, words_of_pairs}
 use Rattle.nap_canon.specs.declared.text_end.TextEnd.{TextEnd}
 use Rattle.nap_list.specs.Batches.{last_point}
-use Rattle.nap_canon.specs.Spelling.{displacement_bytes, opcode, shape_bytes, spelling_pieces}
+use Rattle.nap_canon.specs.Spelling.{displacement_bytes, opcode, shape_bytes}
 use Rattle.nap_canon.specs.Text.{gl_of, shift_to_opcodes, piece_bytes}
 
 -- one displacement more of a shape
@@ -15,14 +15,14 @@ pub displacements_more : (now next piece whole : List ℕ) (from to : Coordinate
     next ≡ now ++ piece → piece ≡ move_bytes (displacement_to from to) → now ++ displacement_bytes from (drop i others) ≡ whole →
     next ++ displacement_bytes to (drop (i + 1) others) ≡ whole
 unfolding displacement_bytes
-displacements_more now next piece whole from to others i within is step spelling_pieces so_far =
+displacements_more now next piece whole from to others i within is step spelled so_far =
     let bytes : List ℕ = move_bytes (displacement_to from to) in
     let one : suc i ≡ i + 1 = omega arith in
     let left : drop i others ≡ to ∷ drop (i + 1) others =
     drop-cons others i to within
     ∙ ap (λ (q : Coordinates). q ∷ drop (suc i) others) (sym is)
     ∙ ap (λ (k : ℕ). to ∷ drop k others) one in
-    ap (λ (bs : List ℕ). bs ++ displacement_bytes to (drop (i + 1) others)) (step ∙ ap (λ (bs : List ℕ). now ++ bs) spelling_pieces)
+    ap (λ (bs : List ℕ). bs ++ displacement_bytes to (drop (i + 1) others)) (step ∙ ap (λ (bs : List ℕ). now ++ bs) spelled)
     ∙ append_assoc now bytes (displacement_bytes to (drop (i + 1) others))
     ∙ ap (λ (qs : List Coordinates). now ++ displacement_bytes from qs) (sym left)
     ∙ so_far
@@ -50,8 +50,8 @@ displacements_parts from (p ∷ ps) qs =
 -- one part more of them
 pub displacements_part : (now piece whole : List ℕ) (from to : Coordinates) (left part rest : List Coordinates) → left ≡ part ++ rest → piece ≡ displacement_bytes from part → to ≡ last_point from part →
     now ++ displacement_bytes from left ≡ whole → (now ++ piece) ++ displacement_bytes to rest ≡ whole
-displacements_part now piece whole from to left part rest parts spelling_pieces last so_far =
-    ap (λ (bs : List ℕ). (now ++ bs) ++ displacement_bytes to rest) spelling_pieces
+displacements_part now piece whole from to left part rest parts spelled last so_far =
+    ap (λ (bs : List ℕ). (now ++ bs) ++ displacement_bytes to rest) spelled
     ∙ ap (λ (p : Coordinates). (now ++ displacement_bytes from part) ++ displacement_bytes p rest) last
     ∙ append_assoc now (displacement_bytes from part) (displacement_bytes (last_point from part) rest)
     ∙ ap (λ (bs : List ℕ). now ++ bs) (sym (displacements_parts from part rest))

@@ -23,7 +23,7 @@ write_bytes_at-requires c = record {
 
 pub loop-i-preserved : goal.loop-i-preserved
 loop-i-preserved c =
-    let pending = c.args.bytes.now in
+    let buffer = c.args.bytes.now in
     let others = c.args.others.now in
     let i = c.loop-i.i in
     let at = c.args.at in
@@ -37,7 +37,7 @@ loop-i-preserved c =
       c.write_bytes_at.ensures
           ∙ ap (λ (bs : List ℕ). with_bytes_at c.loop-i.bytes (at + 8 * i) bs) spelled
           ∙ ap (λ (bs : List ℕ). with_bytes_at bs (at + 8 * i) step) bytes
-          ∙ appended_after pending done step at (at + 8 * i) (omega (arith, size)) (omega (arith, c.loop-i-test.true, c.requires.within)),
+          ∙ appended_after buffer done step at (at + 8 * i) (omega (arith, size)) (omega (arith, c.loop-i-test.true, c.requires.within)),
       omega (arith, length-append done step, size, long),
       displacements_more done (done ++ step) step (displacement_bytes c.args.first others) from to others i c.loop-i-test.true c.index-others-i.is refl refl all,
     )

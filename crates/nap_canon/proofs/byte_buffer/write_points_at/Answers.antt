@@ -28,7 +28,7 @@ pub loop-point-preserved : goal.loop-point-preserved
 loop-point-preserved c =
     let p = c.point-item.result in
     let i = c.loop-point.point-index in
-    let pending = c.args.bytes.now in
+    let buffer = c.args.bytes.now in
     let inv = c.loop-point.invariant in
     let at = c.loop-point.until in
     let now : List ℕ = points_bytes (take i c.args.points.now) in
@@ -38,8 +38,8 @@ loop-point-preserved c =
           c.write_bytes_at.ensures
           ∙ ap (λ (bs : List ℕ). with_bytes_at c.loop-point.bytes at bs) (c.deref.ensures.0 ∙ c.put_point-operand.ensures.bytes)
           ∙ ap (λ (bs : List ℕ). with_bytes_at bs at (point_bytes p)) inv.bytes
-          ∙ appended_after pending now (point_bytes p) c.args.at at (omega (arith, inv.size, inv.until)) (omega (arith, inv.until, c.loop-point-test.true, c.requires.within))
-          ∙ ap (with_bytes_at pending c.args.at) (sym more);
+          ∙ appended_after buffer now (point_bytes p) c.args.at at (omega (arith, inv.size, inv.until)) (omega (arith, inv.until, c.loop-point-test.true, c.requires.within))
+          ∙ ap (with_bytes_at buffer c.args.at) (sym more);
       until = omega (arith, inv.until);
       size = omega (arith, ap length more, length-append now (point_bytes p), point_size p, inv.size);
     }
