@@ -277,7 +277,7 @@ module _ {T F : Type 0} (sends : T → List ℕ → Bool → T → Type 0) (w : 
   enough = omega (arith, few, length-drop index (batch_entries batch))
 
   pub puts_whole : (to : T) → sends w.target u.bytes false to → (s : State) → s ≡ walk w.state (take (more + 1) list) →
-      WritesPrefix sends list w (record { to = to; form = w.form; pending = u; state = s }) (more + 1)
+      WritesPrefix sends list w (record { target = to; form = w.form; pending = u; state = s }) (more + 1)
   puts_whole to sent s is = record {
     some = omega arith;
     few = enough;
@@ -291,7 +291,7 @@ module _ {T F : Type 0} (sends : T → List ℕ → Bool → T → Type 0) (w : 
   }
 
   module _ (to : T) (n : ℕ) (cut : CutAfter sends w.target u.bytes n to) where
-    pub puts_none : n < length r.bytes → CutsPrefix sends list w (record { to = to; form = w.form; pending = u; state = w.state }) 0
+    pub puts_none : n < length r.bytes → CutsPrefix sends list w (record { target = to; form = w.form; pending = u; state = w.state }) 0
     unfolding walk
     puts_none less = record {
       count = more + 1;
@@ -316,7 +316,7 @@ module _ {T F : Type 0} (sends : T → List ℕ → Bool → T → Type 0) (w : 
       pub puts_less : k < more
       puts_less = prefix_less w.form w.pending.text_end w.state batch index more begins_with.first begins_with.rest begins_with.is all_current few joins_own n k low_own within_all counted
 
-      pub puts_cut : (s : State) → s ≡ walk w.state (take (k + 1) list) → CutsPrefix sends list w (record { to = to; form = w.form; pending = u; state = s }) (k + 1)
+      pub puts_cut : (s : State) → s ≡ walk w.state (take (k + 1) list) → CutsPrefix sends list w (record { target = to; form = w.form; pending = u; state = s }) (k + 1)
       puts_cut s state = record {
         count = more + 1;
         few = enough;
