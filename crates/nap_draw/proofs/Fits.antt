@@ -249,9 +249,9 @@ ColourIsMapped (colours.Pair a b) = Unit {0}
 ColourIsMapped _ = ⊥
 
 mapped_agrees : (colour shown : Colour) → ColourIsMapped colour → ColourAgrees colour shown
-mapped_agrees (colours.Front a) shown with_map_colour = tt
-mapped_agrees (colours.Pair a b) shown with_map_colour = tt
-mapped_agrees _ shown with_map_colour = absurd with_map_colour
+mapped_agrees (colours.Front a) shown mapped = tt
+mapped_agrees (colours.Pair a b) shown mapped = tt
+mapped_agrees _ shown mapped = absurd mapped
 
 attribute_fits : (work w : Work) → ((shown : State) → StatesAgree work.state shown → StatesAgree w.state shown) → IsFitting work (Ok (rule_result w []))
 unfolding IsFitting
