@@ -1,4 +1,4 @@
--- One more entry, behind those of the lines before.
+-- One more entry, after those of earlier lines.
 
 use Rattle.std.proofs.Common.{ℕ, ◌≡◌, ◌≢◌, ◌+◌, ◌∙◌, List, [], ◌∷◌, ◌++◌, Option, Some, None, IsSome, is_some, true, length, refl, ap, sym, subst, append-nil, append_assoc, length-append}
 use Rattle.std.proofs.lemmas.List.Elements.{All-nil, All-push}
@@ -14,7 +14,7 @@ use Rattle.nap_lines.specs.Listing.{lines}
 use Rattle.nap_make.specs.Entries.{IsProper}
 use Rattle.nap_line_reader.specs.Lists.{LinesSoFar, OpenedAt}
 
--- a walk, one entry further
+-- a walk over one more entry
 pub walk_more : (es : List Entry) (e : Entry) → walk start (es ++ e ∷ []) ≡ after (walk start es) e
 unfolding walk
 walk_more es e = walks_join start es (e ∷ [])
@@ -26,7 +26,7 @@ fit_more es e fit fits = (fits_join start es (e ∷ [])).1 (fit, (fits, tt))
 pub length_more : (es : List Entry) (e : Entry) → length (es ++ e ∷ []) ≡ length es + 1
 length_more es e = length-append es (e ∷ [])
 
--- lines, one further
+-- the lines of one more entry
 pub lines_more : (es : List Entry) (e : Entry) (rest : List ℕ) → lines (es ++ e ∷ []) ++ rest ≡ lines es ++ (line e ++ 10 ∷ rest)
 lines_more [] e rest = ap (λ (bytes : List ℕ). bytes ++ rest) (append-nil (line e ++ 10 ∷ [])) ∙ append_assoc (line e) (10 ∷ []) rest
 lines_more (x ∷ es) e rest =
@@ -41,7 +41,7 @@ so_far_more p es e rest h proper fits = record {
   parts = h.parts ∙ sym (lines_more es e rest);
 }
 
--- The definition that is open behind an entry.
+-- The definition that is open after an entry.
 
 -- the end of a definition leaves none open
 ended : (s : State) (e : Entry) → e ≡ entries.DefEnd → IsSome (after s e).definition → ⊥

@@ -1,4 +1,4 @@
--- A maker that puts one entry more.
+-- A maker that puts one more entry.
 
 use Rattle.std.proofs.Common.{ℕ, ◌≡◌, ◌+◌, ◌∙◌, Bool, true, false, List, [], ◌∷◌, ◌++◌, IsSome, length, refl, ap, sym, subst}
 use Rattle.std.proofs.lemmas.Bool.{false≢true}

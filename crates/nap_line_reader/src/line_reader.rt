@@ -50,7 +50,7 @@ impl<S: Sink> LineReader<S> {
         let kept = min(buffer, bytes.len());
         self.part.extend_from_slice(&bytes[..kept])?;
         if self.part.len() > LONGEST_LINE {
-            // No entry has a line as long.
+            // No line of an entry is as long.
             return self.maker.take_line(alloc, self.part.as_slice());
         }
         Ok(())

@@ -13,14 +13,14 @@ use Rattle.nap_lines.proofs.BatchLemmas.{char_start, letter_typed}
 
 -- Blocks of lines.
 
--- lines of characters with these codes: each starts so, and ends so behind its digits
+-- lines of characters with these codes, with this beginning and this end
 abbrev pub coded : List ℕ → List ℕ → List ℕ → List ℕ
 coded start end codes = flat_map (λ code. start ++ (code_text code ++ end)) codes
 
 line_size : (start end : List ℕ) (code : ℕ) → length (start ++ (code_text code ++ end)) ≡ length start + 2 + length end
 line_size start end code = omega (arith, length-append start (code_text code ++ end), length-append (code_text code) end)
 
--- bytes that are put behind a front
+-- bytes that are copied to an index after a prefix
 laid_behind : (front bytes more : List ℕ) (at n : ℕ) → at ≡ length front + n → laid (front ++ bytes) at more ≡ front ++ laid bytes n more
 laid_behind front bytes more at n is =
     let ends : at + length more ≡ length front + (n + length more) = omega (arith, is) in
@@ -30,7 +30,7 @@ laid_behind front bytes more at n is =
     ∙ ap (λ (rest : List ℕ). (front ++ take n bytes) ++ (more ++ rest)) (drop-append-add front bytes (n + length more))
     ∙ append_assoc front (take n bytes) (more ++ drop (n + length more) bytes)
 
--- a line is put behind those that stand
+-- one more copy of a line
 pub one_more_line : (line block : List ℕ) (i at : ℕ) → at ≡ length (repeated i line) → at + length line ≤ length block →
     laid (repeated i line ++ drop at block) at line ≡ repeated (i + 1) line ++ drop (at + length line) block
 unfolding repeated
@@ -52,7 +52,7 @@ unfolding repeated
 repeated_size line zero = omega arith
 repeated_size line (suc n) = omega (arith, length-append (repeated n line) line, repeated_size line n, suc-mul n (length line))
 
--- a line of some code, so many times
+-- copies of a line are lines of some codes
 pub repeated_coded : (start end : List ℕ) (n : ℕ) → (codes : List ℕ) × ((length codes ≡ n) × (repeated n (start ++ (code_text 0 ++ end)) ≡ coded start end codes))
 unfolding repeated
 repeated_coded start end zero = ([], (refl, refl))
@@ -68,7 +68,7 @@ repeated_coded start end (suc n) =
       ),
     )
 
--- a block that was filled with a line of some code
+-- a block filled with copies of a line
 pub filled : (start end line left block : List ℕ) (n : ℕ) → block ≡ repeated n line ++ left → line ≡ start ++ (code_text 0 ++ end) →
     (codes : List ℕ) × ((rest : List ℕ) × ((length codes ≡ n) × (block ≡ coded start end codes ++ rest)))
 filled start end line left block n is one =
@@ -83,7 +83,7 @@ coded_size start end (c ∷ cs) size is =
 regroup : (a t d r : List ℕ) → a ++ (t ++ (d ++ r)) ≡ (a ++ (t ++ d)) ++ r
 regroup a t d r = simp append_assoc
 
--- a line with other digits
+-- a line with the digits of another code
 recoded_line : ℕ → ℕ → ℕ → List ℕ → List ℕ
 recoded_line size place code lines = take place lines ++ (code_text code ++ drop (place + 2) (take size lines))
 
@@ -99,7 +99,7 @@ recoded_line_size size place code lines within long =
       length-take-le size lines long,
     )
 
--- the digits of one code more
+-- the digits of one more code
 pub recoded_next : (size place code : ℕ) (codes lines : List ℕ) (at : ℕ) → place + 2 ≤ size → length codes * size + size ≤ length lines → at ≡ length codes * size + place →
     laid (recoded size place codes lines) at (code_text code) ≡ recoded size place (codes ++ code ∷ []) lines
 unfolding recoded recoded_line
@@ -136,7 +136,7 @@ recoded_size size place (c ∷ cs) lines within long =
       more,
     )
 
--- other digits in lines of characters
+-- lines of characters with the digits of other codes
 pub coded_again : (start end codes others rest : List ℕ) (size place : ℕ) → place ≡ length start → size ≡ length start + 2 + length end → length codes ≤ length others →
     recoded size place codes (coded start end others ++ rest) ≡ coded start end codes ++ (coded start end (drop (length codes) others) ++ rest)
 unfolding recoded
@@ -163,7 +163,7 @@ coded_again start end (c ∷ cs) (o ∷ os) rest size place at is few =
     ∙ ap (λ (bytes : List ℕ). now ++ bytes) (coded_again start end cs os rest size place at is (omega (arith, few)))
     ∙ sym (append_assoc now (coded start end cs) (coded start end (drop (length cs) os) ++ rest))
 
--- lines of codes of characters are those of bytes of a text
+-- lines of characters' codes are those of the bytes of a text
 pub coded_typed : (set : CharSet) (end codes : List ℕ) → All (λ code. 0x20 ≤ code) codes → coded (char_start set) end codes ≡ flat_map (λ code. text_byte_front set code ++ end) codes
 coded_typed set end [] all = refl
 coded_typed set end (c ∷ cs) all =
@@ -173,7 +173,7 @@ coded_typed set end (c ∷ cs) all =
     ap (λ (bytes : List ℕ). bytes ++ coded (char_start set) end cs) one
     ∙ ap (λ (bytes : List ℕ). (text_byte_front set c ++ end) ++ bytes) (coded_typed set end cs (All-tail (λ code. 0x20 ≤ code) c cs all))
 
--- a block of lines of characters, with other digits in the first ones
+-- a block of lines of characters, the first ones with the digits of other codes
 pub block_again : (start end now others rest block : List ℕ) (size place : ℕ) → place ≡ length start → size ≡ length start + 2 + length end → length now ≤ length others → block ≡ coded start end others ++ rest →
     recoded size place now block ≡ coded start end (now ++ drop (length now) others) ++ rest
 block_again start end now others rest block size place at long few is =
@@ -193,7 +193,7 @@ first_lines start end now others rest size n long is =
     let many : n ≡ length first = is ∙ sym (coded_size start end now size long) in
     ap (take n) apart ∙ ap (λ (n : ℕ). take n (first ++ (coded start end others ++ rest))) many ∙ take-append_seam first (coded start end others ++ rest)
 
--- lines of so many bytes of a part behind those of the bytes before it
+-- lines of n more bytes are those of a part
 pub more_lines : (f : ℕ → List ℕ) (all few : List ℕ) (i m n : ℕ) → few ≡ take m (drop i all) → n ≤ m → flat_map f (take (i + n) all) ≡ flat_map f (take i all) ++ flat_map f (take n few)
 more_lines f all few i m n is less =
     let same : take n few ≡ take n (drop i all) = ap (take n) is ∙ take-take n m (drop i all) less in

@@ -16,7 +16,7 @@ use Rattle.nap_lines.specs.Writing.{Writes}
 
 -- The line of a shape, part by part.
 
--- one part was written, and then another
+-- a text keeps what was before two parts, where the second wasn't written
 pub goes_on : (old mid new a b : List ℕ) → mid ≡ old ++ a → new ≡ mid ++ b → new ≡ old ++ (a ++ b)
 goes_on old mid new a b first second = second ∙ ap (λ (bytes : List ℕ). bytes ++ b) first ∙ append_assoc old a b
 
@@ -31,7 +31,7 @@ stands old mid new a bytes (Err fault) is kept fails =
 points_join : (xs ys : List Coordinates) → points_text (xs ++ ys) ≡ points_text xs ++ points_text ys
 points_join xs ys = flat_map-append (λ (p : Coordinates). codes " " ++ point_text p) xs ys
 
--- the points of a shape are those that it goes through, and its start again where it goes back there
+-- the points of a shape are those that it goes through, and its start again if it returns there
 way_is : (kind : ShapeKind) (p : Coordinates) (points : List Coordinates) → outline kind (p ∷ points) ≡ p ∷ (points ++ closing_points kind p points)
 way_is kinds.Arc p [] = refl
 way_is kinds.Arc p (q ∷ []) = refl

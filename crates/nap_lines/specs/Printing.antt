@@ -10,7 +10,7 @@ use Rattle.nap_list.specs.Sending.{Sending, sending, Grows}
 use Rattle.nap_list.specs.State.{walk}
 use Rattle.nap_lines.specs.Listing.{lines}
 
--- Lines that are printed as their entries come.
+-- Lines that are printed as entries are taken.
 
 -- A prefix of the buffered bytes and these was sent, and the rest is left.
 pub record SendsPart (s : Sending) (buffered bytes left : List ℕ) (t : Sending) : Type 0 where

@@ -22,7 +22,7 @@ use Rattle.nap_make.proofs.LookLemmas.{look_visible}
 use Rattle.nap_make.proofs.PlaceLemmas.{move_visible, point_visible}
 use Rattle.nap_make.proofs.SpellLemmas.{IsVisible, Spells, above, both_spell, decimal_spells, key_spells, spaceless}
 
--- a number has bytes that are seen
+-- the digits of a number are visible
 pub number_visible : (n : ℕ) → n < 16777216 → All IsVisible (decimal n)
 number_visible n fits = decimal_spells IsVisible (λ d low high. omega (arith, low)) n (omega (arith, fits))
 
@@ -46,7 +46,7 @@ texture_visible : Spells IsVisible TextureInRange texture_text
 texture_visible t fits = rw (append_assoc (decimal t.word) (codes "/") (mask_size_text t.mask))
     (both_spell IsVisible IsWord decimal 47 MaskInRange mask_size_text (λ n less. number_visible n (omega (arith, less))) (omega arith) mask_visible (t.word, t.mask) (fits.word, fits.mask))
 
--- Bytes of fields.
+-- Visible bytes of fields.
 
 pub grb_visible : Spells IsVisible HasSixteenBitParts grb_text
 grb_visible c fits = rw (from_right (decimal c.g) (codes ",") (decimal c.r) (codes ",") (decimal c.b))
@@ -89,7 +89,7 @@ pen_field_visible = key_spells PenInRange pen_text (codes "pen=") (omega arith) 
 pub look_field_visible : Spells IsVisible TextInRange look_field
 look_field_visible = key_spells TextInRange look_text (codes "text=") (omega arith) look_visible
 
--- What lines, areas and characters are drawn with.
+-- The parts INK and HAND.
 
 pub ink_end : Layout ColourInRange colour_field 32 TextureInRange texture_field
 ink_end = record { apart = spaceless ColourInRange colour_field colour_field_visible }

@@ -42,9 +42,9 @@ use Rattle.nap_make.proofs.LookLemmas.{look_parts, look_triple, modes_bytes, siz
 use Rattle.nap_make.proofs.PlaceLemmas.{coordinates, move_pair, point_pair, signs, word_pair, word_triple}
 use Rattle.nap_make.proofs.SpellLemmas.{low_neg, low_pos}
 
--- How long texts are.
+-- The greatest lengths of texts.
 
--- the texts of values that fit have at most so many bytes
+-- the texts of values that fit have at most this many bytes
 abbrev pub AtMost : {V : Type 0} → ℕ → (V → Type 0) → (V → List ℕ) → Type 0
 AtMost {V = V} n P f = (v : V) → P v → length (f v) ≤ n
 

@@ -20,7 +20,7 @@ two_bytes (x ∷ []) two = absurd (omega (arith, two))
 two_bytes (x ∷ y ∷ []) two = refl
 two_bytes (x ∷ y ∷ z ∷ more) two = absurd (omega (arith, two))
 
--- a byte that no digit is isn't the first or the second of a code
+-- two bytes of which one is no hexadecimal digit are no code's
 pub no_high : (xs : List ℕ) → ((d : ℕ) → IsNibble d → get_or xs 0 0 ≢ digit_char d) → WritesNone IsCode code_text xs
 no_high xs none n fits is = none (n / 16) (omega (arith, fits)) (ap (λ (s : List ℕ). get_or s 0 0) is)
 

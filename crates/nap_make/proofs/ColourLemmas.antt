@@ -15,7 +15,7 @@ use Rattle.nap_make.proofs.CutLemmas.{cut_text}
 use Rattle.nap_make.proofs.LayoutLemmas.{Alike, Layout}
 use Rattle.nap_make.proofs.SpellLemmas.{above, apart_below, decimal_spells}
 
--- lists that are pair_text from the left, from the right
+-- lists joined from the left, and from the right
 pub from_right : (a b c d e : List ℕ) → a ++ b ++ c ++ d ++ e ≡ a ++ (b ++ (c ++ (d ++ e)))
 from_right a b c d e = append_assoc (a ++ b ++ c) d e ∙ append_assoc (a ++ b) c (d ++ e) ∙ append_assoc a b (c ++ (d ++ e))
 
@@ -42,7 +42,7 @@ NoNumbers kinds.Direct more = WritesNone HasSixteenBitParts grb_text more
 NoNumbers kinds.Front more = WritesNone IsAddress decimal more
 NoNumbers kinds.Pair more = WritesNone (BothFit IsAddress IsAddress) (pair_text decimal 44 decimal) more
 
--- a text is that of a colour by its numbers, before and behind its colon
+-- a text is that of a colour with numbers: what is before its colon, and what is after it
 abbrev pub HasKind : Colour → List ℕ → List ℕ → Type 0
 HasKind (colours.Direct grb) name more = (name ≡ codes "direct") × (more ≡ grb_text grb)
 HasKind (colours.Front addr) name more = (name ≡ codes "front") × (more ≡ decimal addr)
@@ -80,7 +80,7 @@ no_kind bytes name more cut none c fits is = by c (has_kind bytes name more c cu
     by (colours.Front addr) has = none kinds.Front has.0
     by (colours.Pair front back) has = none kinds.Pair has.0
 
--- the names of the kinds tell them
+-- kinds with equal names are equal
 kinds_tell : (j k : ColourKind) → kind_name j ≡ kind_name k → j ≡ k
 kinds_tell kinds.Direct kinds.Direct is = refl
 kinds_tell kinds.Front kinds.Front is = refl

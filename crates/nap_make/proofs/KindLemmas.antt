@@ -21,7 +21,7 @@ use Rattle.nap_make.proofs.CutLemmas.{no_cut, one_cut}
 use Rattle.nap_make.proofs.NameLemmas.{name_apart, names_tell}
 use Rattle.nap_make.proofs.SpellLemmas.{above, apart_below}
 
--- What a line has behind its name and a space.
+-- What a line has after its name and a space.
 
 abbrev pub times_text : ℕ × (ℕ × ℕ) → List ℕ
 times_text = pair_text decimal 44 (pair_text decimal 44 decimal)
@@ -92,7 +92,7 @@ line_named (entry.GlyphStart code) has = refl
 line_named (entry.MaskStart mask) has = refl
 line_named entry.DefEnd has = absurd has
 
--- Which bytes no line has behind its name.
+-- Bytes that no line has after its name.
 
 abbrev pub ArcFits : List Coordinates × Ink → Type 0
 ArcFits s = ShapeFits s × (3 ≤ length s.0)
@@ -127,7 +127,7 @@ NoneBehind names.Glyph rest = WritesNone IsCode code_text rest
 NoneBehind names.Mask rest = WritesNone AnyValue mask_text rest
 NoneBehind names.End rest = Unit {0}
 
--- what an entry's line has behind its name is some entry's
+-- what a line has after its name is no such text
 refuted : (e : Entry) → IsProper e → HasRest e → NoneBehind (name_of e) (rest_of e) → ⊥
 refuted (entry.Point at pel colour) proper has none = none (at, (pel, colour)) (proper.in_range.0, (proper.in_range.1, proper.in_range.2)) refl
 refuted (entry.Line from to ink) proper has none = none (from, (to, ink)) (proper.in_range.0, (proper.in_range.1, proper.in_range.2)) refl
@@ -156,7 +156,7 @@ refuted (entry.GlyphStart code) proper has none = none code proper.well_made ref
 refuted (entry.MaskStart mask) proper has none = none mask tt refl
 refuted entry.DefEnd proper has none = has
 
--- a line has something behind its name, or no space
+-- a line has something after its name, or no space
 pub rest_or_none : (e : Entry) → HasRest e ⊎ All (λ x. x ≢ 32) (line e)
 rest_or_none entry.Bell = inr (apart_below 32 32 (codes "BELL") (omega arith) (above 32 (codes "BELL") (omega arith)))
 rest_or_none entry.DefEnd = inr (apart_below 32 32 (codes "END") (omega arith) (above 32 (codes "END") (omega arith)))
@@ -167,16 +167,16 @@ with_rest n rest e none proper has is =
     let same = one_cut 32 (name_text n) rest (name_text (name_of e)) (rest_of e) (name_apart n) (name_apart (name_of e)) (is ∙ line_named e has) in
     refuted e proper has (subst (λ m. NoneBehind m (rest_of e)) (names_tell n (name_of e) same.0) (subst (λ r. NoneBehind n r) same.1 none))
 
--- no entry has a line whose name has such bytes behind it
+-- no entry has a line with this name and these bytes after it
 pub none_named : (n : Name) (rest : List ℕ) → NoneBehind n rest → WritesNone IsProper line (line_from n rest)
 none_named n rest none e proper is =
     elim (rest_or_none e) [ inl has ↦ with_rest n rest e none proper has is | inr whole ↦ no_cut 32 (line e) (name_text n) rest whole (sym is) ]
 
--- and an entry has the line of its name and what is behind it
+-- an entry has the line of its name and what follows it
 pub written_named : (e : Entry) (rest : List ℕ) → IsProper e → HasRest e → rest ≡ rest_of e → IsWritten IsProper line (line_from (name_of e) rest) e
 written_named e rest proper has is = record { fitting = proper; written = ap (λ (r : List ℕ). line_from (name_of e) r) is ∙ sym (line_named e has) }
 
--- Names that depend on a choice.
+-- Names for two kinds of entries.
 
 pub none_rect : (filled : Bool) (rest : List ℕ) → NoneBehind names.Line rest → WritesNone IsProper line (line_from (rect_name filled) rest)
 none_rect true rest none = none_named names.RectFilled rest none

@@ -13,16 +13,16 @@ use Rattle.nap_make.proofs.KindLayouts.{other_start, point_without}
 use Rattle.nap_make.proofs.PlaceLemmas.{point_tells, point_visible}
 use Rattle.nap_make.proofs.SpellLemmas.{spaceless}
 
--- no text of a point begins what a shape is drawn with
+-- no text of a point and a space begins the part INK
 pub no_point : (p : Coordinates) (more : List ℕ) (ink : Ink) → IsInSquare p → point_text p ++ 32 ∷ more ≡ ink_text ink → ⊥
 no_point p more ink fits is = other_start 112 (point_text p) more _ (omega arith) (point_without 112 (omega arith) p fits) is
 
--- one more point before what is left
+-- one more point is read
 pub one_more : (points : List Coordinates) (p : Coordinates) (more : List ℕ) → points_before (points ++ p ∷ []) more ≡ points_before points (point_text p ++ 32 ∷ more)
 one_more [] p more = refl
 one_more (q ∷ points) p more = ap (λ (s : List ℕ). point_text q ++ 32 ∷ s) (one_more points p more)
 
--- points of a text are the first of the points that it has, and the others are in what is left
+-- the points read so far are the first of a text's points, and the others are in its rest
 pub points_go_on : (done points : List Coordinates) (rest : List ℕ) (ink : Ink) → All IsInSquare done → All IsInSquare points → points_before done rest ≡ points_before points (ink_text ink) →
     (others : List Coordinates) × (points ≡ done ++ others) × (rest ≡ points_before others (ink_text ink))
 points_go_on [] points rest ink done_fit fit is = (points, refl, is)
@@ -35,7 +35,7 @@ points_go_on (p ∷ done) (q ∷ points) rest ink done_fit fit is =
     let more = points_go_on done points rest ink (All-tail IsInSquare p done done_fit) (All-tail IsInSquare q points fit) same.1 in
     (more.0, ap₂ (λ (x : Coordinates) (xs : List Coordinates). x ∷ xs) (sym (point_tells p q p_fits q_fits same.0)) more.1, more.2)
 
--- the last of a list's points are in the square
+-- the last points of a list are in the unit screen
 others_fit : (done points others : List Coordinates) → points ≡ done ++ others → All IsInSquare points → All IsInSquare others
 others_fit done points others is fit = behind done (subst (λ (xs : List Coordinates). All IsInSquare xs) is fit)
   where
@@ -43,13 +43,13 @@ others_fit done points others is fit = behind done (subst (λ (xs : List Coordin
     behind [] fit = fit
     behind (p ∷ done) fit = behind done (All-tail IsInSquare p (done ++ others) fit)
 
--- what reading points has come to
+-- these points were read, and this is the rest
 pub record HasPoints (bytes : List ℕ) (done : List Coordinates) (rest : List ℕ) : Type 0 where
   pub so_far : bytes ≡ points_before done rest
   pub fit : All IsInSquare done
   pub few : length done ≤ points_limit
 
--- a point more than a shape has
+-- a shape doesn't have a further point above its limit
 pub too_many : (bytes : List ℕ) (done : List Coordinates) (rest : List ℕ) (p : Coordinates) (more : List ℕ) → HasPoints bytes done rest → length done ≡ points_limit →
     IsInSquare p → rest ≡ point_text p ++ 32 ∷ more → WritesNone ShapeFits shape_text bytes
 too_many bytes done rest p more has full fits next s shape is =
@@ -62,7 +62,7 @@ too_many bytes done rest p more has full fits next s shape is =
         let size : length s.0 ≡ length done + length (q ∷ others) = ap (λ (xs : List Coordinates). length xs) joins ∙ length-append done (q ∷ others) in
         omega (arith, size, full, shape.few)
 
--- no point more, and nothing that a shape is drawn with
+-- no point follows, and no part INK
 pub no_shape : (bytes : List ℕ) (done : List Coordinates) (rest : List ℕ) → HasPoints bytes done rest → ((p : Coordinates) (more : List ℕ) → IsInSquare p → rest ≢ point_text p ++ 32 ∷ more) →
     WritesNone InkInRange ink_text rest → WritesNone ShapeFits shape_text bytes
 no_shape bytes done rest has last none s shape is =
@@ -73,7 +73,7 @@ no_shape bytes done rest has last none s shape is =
     by [] fit also = none s.1 shape.ink also
     by (q ∷ others) fit also = last q (points_before others (ink_text s.1)) (All-head IsInSquare q others fit) also
 
--- all points, and what the shape is drawn with
+-- all points were read, and the part INK
 pub shape_written : (bytes : List ℕ) (done : List Coordinates) (rest : List ℕ) (ink : Ink) → HasPoints bytes done rest → IsWritten InkInRange ink_text rest ink → IsWritten ShapeFits shape_text bytes (done, ink)
 shape_written bytes done rest ink has told = record {
   fitting = record { points = has.fit; few = has.few; ink = told.fitting };
@@ -91,7 +91,7 @@ point_read bytes done rest p more has room fits next = record {
       omega (arith, size, room, has.few);
 }
 
--- a shape that has its points and what it is drawn with has them alone
+-- shapes with equal texts have the same points
 pub shape_tells : (s t : List Coordinates × Ink) → All IsInSquare s.0 → InkInRange s.1 → All IsInSquare t.0 → InkInRange t.1 → shape_text s ≡ shape_text t → s.0 ≡ t.0
 shape_tells s t s_fit s_ink t_fit t_ink is = by s.0 t.0 s_fit t_fit is
   where
@@ -106,7 +106,7 @@ shape_tells s t s_fit s_ink t_fit t_ink is = by s.0 t.0 s_fit t_fit is
         (spaceless IsInSquare point_text point_visible p p_fits) (spaceless IsInSquare point_text point_visible q q_fits) also in
         ap₂ (λ (x : Coordinates) (xs : List Coordinates). x ∷ xs) (point_tells p q p_fits q_fits same.0) (by ps qs (All-tail IsInSquare p ps ps_fit) (All-tail IsInSquare q qs qs_fit) same.1)
 
--- where a text has fewer points, it is that of no shape with so many
+-- a text with fewer points is that of no shape with this many
 pub other_count : (least : ℕ) (bytes : List ℕ) (done : List Coordinates) (ink : Ink) → IsWritten ShapeFits shape_text bytes (done, ink) → length done < least →
     WritesNone (λ s. ShapeFits s × (least ≤ length s.0)) shape_text bytes
 other_count least bytes done ink told less s fits is =
@@ -114,6 +114,6 @@ other_count least bytes done ink told less s fits is =
     let size : length done ≡ length s.0 = ap (λ (ps : List Coordinates). length ps) same in
     omega (arith, size, less, fits.1)
 
--- and where it is that of none, of none with so many
+-- a text of no shape is that of no shape with this many points
 pub no_more : (least : ℕ) (bytes : List ℕ) → WritesNone ShapeFits shape_text bytes → WritesNone (λ s. ShapeFits s × (least ≤ length s.0)) shape_text bytes
 no_more least bytes none s fits is = none s fits.0 is

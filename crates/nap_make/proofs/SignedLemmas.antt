@@ -39,7 +39,7 @@ without_minus bytes None other told = none
     none (negsuc n) fits is = other (ap (λ (xs : List ℕ). get_or xs 0 0) is)
 without_minus bytes (Some z) other told = record { fitting = told.0; written = told.1 }
 
--- what is behind a minus
+-- what follows a minus
 pub after_minus : (bytes : List ℕ) → 0 < length bytes → get_or bytes 0 0 ≡ 45 → bytes ≡ 45 ∷ take (length bytes - 1) (drop 1 bytes)
 after_minus [] some first = absurd (omega (arith, some))
 after_minus (x ∷ xs) some first = let all : take (length (x ∷ xs) - 1) xs ≡ xs = take_all (length (x ∷ xs) - 1) xs (omega arith) in rw (first, all) refl

@@ -1,4 +1,4 @@
-//! Streams whose canonical text goes into outlets with little room.
+//! Streams whose canonical text is written to outlets with little room.
 use crate::answer::{Cut, read_into, same_end};
 use crate::report::Report;
 use crate::row::{Row, Stop, stops_of};
@@ -8,11 +8,11 @@ use nap_list::Target;
 use nap_reader::{Fault, Reader, Refusal};
 use std::alloc::AllocError;
 
-/// A longer text is written where there is room for all of it alone.
+/// Longer texts are written only to outlets with room for all of it.
 const LONG: usize = 1_024;
 
-/// Into an outlet with so much room, which takes so many bytes at a write, goes as much of the text as there is room for. Where the
-/// row says so, the reading stops at a place.
+/// Writes the text to an outlet with room for `room` bytes, which takes at most `most` bytes at a write, and checks
+/// that it took all that it has room for, and where the reading stops.
 fn check_outlet(
     report: &mut Report,
     row: &Row<'_>,
@@ -42,7 +42,7 @@ fn check_outlet(
     same_end(report, wanted, answer.refusal)
 }
 
-/// An outlet with any room takes the text, or as much of it as there is room for.
+/// Checks that outlets with any room take the text, or as much of it as they have room for.
 pub fn check_outlets(report: &mut Report, row: &Row<'_>, text: &[u8]) -> Result<(), AllocError> {
     for most in [1, 2, 3, 5, 64, 4_096] {
         report.try_now("into an outlet that takes at a write", most);

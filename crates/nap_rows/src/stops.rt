@@ -7,7 +7,7 @@ use nap_list::{Entry, SinkFault};
 use nap_reader::{Fault, Reader, Refusal};
 use std::alloc::AllocError;
 
-/// Where the refusal of a sink is told.
+/// Returns the refusal for a fault of a sink at this place.
 fn refusal_at(fault: SinkFault, place: u64) -> Refusal {
     let fault = match fault {
         SinkFault::Memory => Fault::Memory,
@@ -16,7 +16,7 @@ fn refusal_at(fault: SinkFault, place: u64) -> Refusal {
     Refusal { fault, place }
 }
 
-/// A sink that has room for so many entries, and how it fails then, or that has failed before.
+/// A sink with room for this many entries, and how it fails then; or one that has failed before.
 #[derive(Clone, Copy, Drop)]
 struct Limit {
     room: usize,
@@ -24,7 +24,7 @@ struct Limit {
     failed: bool,
 }
 
-/// A stream in these pieces stops there, or nowhere, over a sink with this limit, which takes these entries.
+/// Checks that a sink with this limit stops the reading of a stream in these pieces as wanted, and has these entries.
 #[tactic(auto, unfolding(nap_list::specs::State::walk))]
 fn check_stop(
     report: &mut Report,
@@ -55,7 +55,7 @@ fn check_stop(
     Ok(())
 }
 
-/// A sink with this limit stops the reading there, or nowhere, whole and byte by byte.
+/// Checks that a sink with this limit stops the reading as wanted, of the stream in one piece and byte by byte.
 fn check_limit(
     report: &mut Report,
     row: &Row<'_>,
@@ -69,8 +69,9 @@ fn check_limit(
     Ok(())
 }
 
-/// A sink that takes no entry, one, two and so on stops the reading where the row says so, for want of memory and at its device.
-/// One that has failed does as one that takes none, and a stream without entries passes it.
+/// Checks that sinks for no entry, for one, for two and so on stop the reading as the row says, for lack of memory and
+/// at their device. A sink that has failed stops it as one for no entry does, and a stream without entries isn't
+/// stopped.
 pub fn check_stops(report: &mut Report, row: &Row<'_>, answer: &Answer) -> Result<(), AllocError> {
     let stops = stops_of(report, row.item("stops").unwrap_or(""))?;
     if !stops.is_empty() || (answer.list.is_empty() && answer.refusal.is_none()) {

@@ -6,7 +6,8 @@ use nap_list::{Entry, SinkFault, State, Target};
 use std::alloc::Global;
 use std::test::Fail;
 
-/// Whether a sink over an outlet with so much room, which takes so many bytes at a write, fails at an entry, and then again.
+/// Whether a sink over an outlet with room for `room` bytes, which takes at most `most` bytes at a write, fails at an
+/// entry, and then again.
 fn fails_twice(alloc: Global, entry: &Entry, room: usize, most: usize) -> bool {
     if !State::start().fits(entry) {
         return false;

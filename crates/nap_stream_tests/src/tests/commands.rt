@@ -22,26 +22,26 @@ struct Row {
     stream: bool,
     budget: Option<u32>,
     input: &'static [u8],
-    /// How many bytes a read gives, and which read fails.
+    /// The number of bytes of a read, and which read fails.
     gives: (usize, u64),
-    /// How much the output has room for, and how many bytes a write takes.
+    /// The room of the output, and the number of bytes of a write.
     takes: (usize, usize),
     end: End,
     good_flushes: u64,
-    /// How much standard error has room for. It takes a byte at a write, unless it takes all.
+    /// The room of standard error. It takes a byte at a write, unless it takes all.
     error_room: usize,
-    /// What goes out.
+    /// What is printed.
     out: &'static [u8],
-    /// What is told.
+    /// What is reported.
     told: &'static [u8],
     status: u8,
-    /// How many reads there are, where the row says so.
+    /// The number of reads, if the row says so.
     reads: Option<u64>,
-    /// How often the output and standard error are flushed, where the row says so.
+    /// The number of flushes of the output and of standard error, if the row says so.
     flushes: Option<(u64, u64)>,
 }
 
-/// `check_answer` of nothing.
+/// `check` of nothing.
 const USUAL: Row = Row {
     action: Action::Check,
     hex: false,
@@ -72,11 +72,11 @@ const CANON: Row = Row {
 
 const POINT_LINE: &[u8] = b"POINT 4194304,4194304 pel=0,0 colour=own-start\n";
 
-/// The point, and characters behind it.
+/// The point, and characters after it.
 const PAGE: &[u8] = b"\x0E\x26\x52\x40\x40\x00\x00\x00";
 
 const ROWS: &[Row] = &[
-    // A failing output is a write fault.
+    // A failed output is a write fault.
     Row {
         input: POINT,
         takes: (5, 1),
@@ -141,7 +141,7 @@ const ROWS: &[Row] = &[
         status: 3,
         ..CANON
     },
-    // One that fails later takes all.
+    // An output that fails only later takes all.
     Row {
         input: POINT,
         takes: (12, 1),
@@ -160,7 +160,7 @@ const ROWS: &[Row] = &[
         status: 1,
         ..LIST
     },
-    // A read that failed isn't tried again, wherever it comes, although the bytes behind it would make a page.
+    // A failed read isn't repeated, wherever it comes, although the bytes after it would make a page.
     Row {
         input: POINT,
         gives: (1, 1),
@@ -257,7 +257,7 @@ const ROWS: &[Row] = &[
         reads: Some(4),
         ..CANON
     },
-    // Behind a refusal the rest is read all the same, and a read that fails there comes first.
+    // After a refusal the rest is read all the same, and a read that fails there is reported instead.
     Row {
         input: b"\x80\x0E\x26",
         gives: (1, 3),
@@ -330,7 +330,7 @@ const ROWS: &[Row] = &[
         reads: Some(4),
         ..CANON
     },
-    // A failing standard error changes no status. It takes three bytes. The last input gives a byte and then fails.
+    // A failed standard error changes no status. It takes three bytes. The last input gives a byte and then fails.
     Row {
         hex: true,
         takes: (100, 1),
@@ -393,7 +393,7 @@ const ROWS: &[Row] = &[
         status: 3,
         ..LIST
     },
-    // Answers are sent on.
+    // Answers are flushed.
     Row {
         hex: true,
         input: b"0E2652",
@@ -434,7 +434,7 @@ const ROWS: &[Row] = &[
         flushes: Some((1, 0)),
         ..CANON
     },
-    // So are failures, behind nothing.
+    // Reports of failures are flushed, and the empty output.
     Row {
         hex: true,
         input: b"80",
@@ -475,7 +475,7 @@ const ROWS: &[Row] = &[
         flushes: Some((1, 1)),
         ..CANON
     },
-    // An output that failed to take is not flushed any more; that it failed is sent on.
+    // An output whose write failed isn't flushed any more; the report of that is.
     Row {
         hex: true,
         input: b"0E2652",
@@ -503,8 +503,8 @@ const ROWS: &[Row] = &[
         flushes: Some((0, 1)),
         ..CANON
     },
-    // Faults leave what went out: of the whole page, of one whose read fails in the open run of the point and behind it,
-    // and of one whose write fails, where nothing more is read.
+    // Failures leave what was printed: of the whole page, of one whose read fails in the open run of the point and
+    // after it, and of one whose write fails, where nothing more is read.
     Row {
         stream: true,
         input: PAGE,
@@ -575,7 +575,7 @@ const ROWS: &[Row] = &[
         flushes: Some((0, 1)),
         ..CANON
     },
-    // Hexadecimal text is not streamed.
+    // Hexadecimal text isn't streamed.
     Row {
         hex: true,
         stream: true,
@@ -598,7 +598,7 @@ struct Ended<R> {
 }
 
 impl<R> Ended<R> {
-    /// Whether this went out, was told, and is the status.
+    /// Whether this was printed and reported, with this status.
     fn is(&self, row: &Row) -> bool {
         let Ended { output, errors, .. } = self;
         let flushes = (output.flushes, errors.flushes);
@@ -659,7 +659,7 @@ fn commands_end_as_their_devices_let_them(rt: HostRuntime) {
     }
 }
 
-// The read that finds the end is the last, also of an input of more bytes than a command may make reads.
+// The read that finds the end is the last, also of an input with more bytes than a command may make reads.
 #[test]
 fn a_long_input_is_read_once_past_its_bytes(rt: HostRuntime) {
     let row = Row {
@@ -670,7 +670,8 @@ fn a_long_input_is_read_once_past_its_bytes(rt: HostRuntime) {
     assert!(rt; ended.is(&row) && ended.input.reads == 18);
 }
 
-/// The room of an output, its good flushes, how much is taken, its flushes and what the last found, and the answer.
+/// The room of an output, its good flushes, the number of bytes taken, the number of flushes and what the last found,
+/// and the result.
 const TEXTS: &[(usize, u64, usize, (u64, usize), Option<Failure>)] = &[
     (ALL, 1, 12, (1, 12), None),
     (ALL, 0, 12, (1, 12), Some(Failure::Write(12))),
@@ -678,7 +679,7 @@ const TEXTS: &[(usize, u64, usize, (u64, usize), Option<Failure>)] = &[
     (0, 1, 0, (0, 0), Some(Failure::Write(0))),
 ];
 
-// So help is printed, and so wrong words are told. An output that failed to take is not flushed any more.
+// Help and wrong words are printed and reported in this way. An output whose write failed isn't flushed any more.
 #[test]
 fn a_text_is_taken_whole_and_sent_on(rt: HostRuntime) {
     for (room, good_flushes, kept, flushed, fault) in TEXTS {

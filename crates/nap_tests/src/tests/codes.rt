@@ -1,4 +1,4 @@
-//! A lexer behind a fault, the texts of faults, and the ends of the tables.
+//! A lexer after a fault, the texts of faults, and the ends of the tables.
 use nap_codes::{
     Code, CodeFault, CodeSet, FIRST_OPCODE, Left, Lexer, Opcode, Row, Step, control0, control1,
     designate, opcode_of,

@@ -5,7 +5,7 @@ use Rattle.std.proofs.Math.Bool.{or-false, or-true}
 use Rattle.std.proofs.lemmas.Result.{err_from_is_err_and}
 use Rattle.nap_line_reader.proofs.making.feed_from.Goals as goal
 
--- a call that doesn't fail leaves the flag
+-- a call that doesn't fail keeps the flag
 flag_stays : (first before after : Bool) → before ≡ first → after ≡ (before || false) → after ≡ first
 flag_stays first before after h k = k ∙ or-false before ∙ h
 

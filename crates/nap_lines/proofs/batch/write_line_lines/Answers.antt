@@ -5,7 +5,7 @@ use Rattle.nap_lines.specs.Batches.{line_front, lines_with}
 use Rattle.nap_lines.proofs.BatchLemmas.{appended, kept, text_goes, goes_first, goes_line, goes_on}
 use Rattle.nap_lines.proofs.batch.write_line_lines.Goals as goal
 
--- the front of a line, made from the back
+-- the beginning of a Line's line, pushed part by part
 made_front : (from to : Coordinates) (end pointed spaced started named kept : List ℕ) → pointed ≡ point_text to ++ end → spaced ≡ codes " " ++ pointed → started ≡ kept ++ spaced →
     named ≡ codes "LINE " ++ started → kept ≡ point_text from → named ≡ line_front from to ++ end
 made_front from to end pointed spaced started named kept point space start name is =

@@ -4,7 +4,7 @@ use Rattle.nap_lines.specs.Batches.{text_byte_front, hand_text_without_pen}
 use Rattle.nap_lines.proofs.BatchLemmas.{appended, ended, kept, text_written}
 use Rattle.nap_lines.proofs.batch.write_text_lines.Goals as goal
 
--- the room as it holds the first line
+-- the buffer with the first line
 first_room : (front pen shared buffer penned pushed : List ℕ) → buffer ≡ front ++ pushed → pushed ≡ codes " pen=" ++ penned → penned ≡ pen ++ shared → buffer ≡ front ++ (codes " pen=" ++ (pen ++ shared))
 first_room front pen shared buffer penned pushed is push pens =
     is ∙ ap (λ (bytes : List ℕ). front ++ bytes) (push ∙ ap (λ (bytes : List ℕ). codes " pen=" ++ bytes) pens)

@@ -8,7 +8,7 @@ use Rattle.std.proofs.lemmas.Str.Ascii.{IsAscii-nil, IsAscii-cons}
 use borrow.Rule.Slice.PartMut.{put_mid}
 use Rattle.nap_lines.proofs.backward_buffer.BackwardBuffer.replace_code.Goals as goal
 
--- what stands behind a place once two bytes were put there
+-- the bytes before and after two replaced ones
 made : (bytes two : List ℕ) (a place p k : ℕ) → p ≡ a + place → k ≡ 2 → p + 2 ≤ length bytes →
     drop a (put_mid p k bytes two) ≡ take place (drop a bytes) ++ (two ++ drop (place + 2) (drop a bytes))
 made bytes two a place p k at size within =
