@@ -9,7 +9,7 @@ from dataclasses import dataclass
 from typing import ClassVar, Iterable, Optional, Tuple, Union
 
 Position = Tuple[int, int]
-# "start", where nothing has set it yet; "after", where nobody knows, as behind text; or a position.
+# "start", where nothing has set it yet; "after", where nobody knows, as after text; or a position.
 Pen = Union[str, Position]
 # The side of the square, in steps.
 ONE = 1 << 23
@@ -182,7 +182,7 @@ class Poly:
 class Char:
     """A character: its set, "primary", "supplementary", "mosaic" or "drcs", and its code in that.
 
-    `pen` is a position; or "start", where nothing has set it yet, or "after", where nobody knows, as behind text.
+    `pen` is a position; or "start", where nothing has set it yet, or "after", where nobody knows, as after text.
     """
 
     kind: ClassVar[str] = "CHAR"

@@ -16,7 +16,7 @@ TOO_MUCH = "it and the pages before it have too many entries to be told apart"
 
 @dataclass(frozen=True)
 class Earlier:
-    """Pages that come before another one: their bytes one behind the other, their names, and where each ends."""
+    """Pages that come before another one: their bytes one after the other, their names, and where each ends."""
 
     data: bytes = b""
     names: Tuple[str, ...] = ()
@@ -41,7 +41,7 @@ class Heard(NamedTuple):
 
 
 def read_earlier(names: List[str], seconds: float) -> Earlier:
-    """Reads the pages of these names, each in so many seconds. Raises Unread, with the name of the page."""
+    """Reads the pages of these names, each within a number of seconds. Raises Unread, with the name of the page."""
     pieces: List[bytes] = []
     ends: List[int] = []
     for name in names:
@@ -82,7 +82,7 @@ def heard(program: Client, earlier: Earlier, page: Page) -> Heard:
 
 
 def _behind(every: List[Row], before: List[Row], start: int) -> List[Row]:
-    """The entries that came with bytes from the start on, with the offsets behind it.
+    """The entries that came with bytes from the start on, with the offsets after it.
 
     At the start itself an opcode may act whose operands end there: these entries are of the page before, and come
     first.

@@ -124,7 +124,7 @@ class Browser:
             raise
 
     def tells_error(self, part, number):
-        """Waits until so many errors with this part are told."""
+        """Waits until a number of errors with this part are told."""
         self.wait(lambda: self.run("true") and sum(part in each for each in self.errors) >= number,
                   "%d errors: %s" % (number, part))
 

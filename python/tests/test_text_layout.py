@@ -22,7 +22,7 @@ def place(x, y):
 
 
 def field(x, y, columns, rows):
-    """A field for so many columns and rows, by its lower left corner."""
+    """A field for a number of columns and rows, by its lower left corner."""
     return ["FIELD %s %s pen=after" % (place(x, y), place(x + columns * WIDE, y + rows * HIGH))]
 
 

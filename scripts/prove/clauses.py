@@ -43,7 +43,7 @@ class Source(NamedTuple):
         return " ".join(self.kept[start:end].split())
 
     def closing(self, opening: int) -> int:
-        """The place behind the brace that closes the one at a place."""
+        """The place after the brace that closes the one at a place."""
         depth = 0
         for found in re.compile(r"[{}]").finditer(self.shape, opening):
             depth += 1 if found[0] == "{" else -1
@@ -52,7 +52,7 @@ class Source(NamedTuple):
         return len(self.shape)
 
     def end_of_head(self, start: int) -> int:
-        """The place of the brace or the semicolon behind a function's signature and clauses."""
+        """The place of the brace or the semicolon after a function's signature and clauses."""
         at, depth = start, 0
         while at < len(self.shape):
             clause = CLAUSE.match(self.shape, at)
@@ -79,7 +79,7 @@ class Source(NamedTuple):
 
 
 def clauses_of(text: str) -> List[str]:
-    """The clauses of a source: ghost items, constants, and signatures with clauses, each behind its owner's name."""
+    """The clauses of a source: ghost items, constants, and signatures with clauses, each after its owner's name."""
     source = Source.of(text)
     found: List[str] = []
     owner, owned, at = "", 0, 0

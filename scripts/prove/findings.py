@@ -50,7 +50,7 @@ def findings(crate: str, output: str) -> Optional[Findings]:
 
 
 def _without_parameters(text: str) -> str:
-    """A text behind the parameters in angle brackets with which it begins."""
+    """A text after the parameters in angle brackets with which it begins."""
     depth = 0
     for at, sign in enumerate(text):
         depth += (sign == "<") - (sign == ">" and text[at - 1 : at] != "-")

@@ -54,7 +54,7 @@ def _between_commas(text: str) -> Iterator[str]:
 
 
 class Part(NamedTuple):
-    """A part of a file: the names that stand for it, the names behind a dot that do, and what it says."""
+    """A part of a file: the names that stand for it, the names after a dot that do, and what it says."""
 
     crate: str
     file: str
@@ -128,7 +128,7 @@ class _Cut:
         return part
 
     def end_of(self, start: int) -> int:
-        """The place behind an item that ends with a semicolon or a pair of braces."""
+        """The place after an item that ends with a semicolon or a pair of braces."""
         at = self.source.end_of_head(start)
         return self.source.closing(at) if self.source.shape[at : at + 1] == "{" else at + 1
 
@@ -214,7 +214,7 @@ class _Cut:
         self.drop_held()
 
     def item(self, at: int, owner: str, ghosts: List[Tuple[str, str]]) -> int:
-        """Takes the item at a place, and gives the place behind it."""
+        """Takes the item at a place, and gives the place after it."""
         shape = self.source.shape
         found = ATTRIBUTE.match(shape, at)
         if found:
@@ -276,7 +276,7 @@ class _Chunk:
         self.name, self.has_members, self.lines = name, has_members, [line]
 
     def part(self, crate: str, path: str) -> Part:
-        """The part that the lines are. What a record, a `data` or a module names in it can stand behind a dot."""
+        """The part that the lines are. What a record, a `data` or a module names in it can stand after a dot."""
         text = "\n".join(self.lines)
         inside = {name for found in FIELDS.findall(text) for name in found.split()} if self.has_members else set()
         members = frozenset(inside - NO_NAMES)

@@ -1,6 +1,6 @@
 """What the parts of sources and definitions reach by the names in them, in their crate and in those below it.
 
-A name alone is what its file has or imports by it; else it is a variable. A name behind a dot or two colons is whatever
+A name alone is what its file has or imports by it; else it is a variable. A name after a dot or two colons is whatever
 has it, in any file. What has a type is reached with the type, since each value's type is named where the value comes
 from. A path that isn't understood stands for all of its crate. Of the kit and of proofs only the paths are known.
 """
@@ -206,7 +206,7 @@ class Names:
         return bool(owners & types) or not any(self.sources.parts[at].kind == "type" for at in owners)
 
     def _functions(self, use: Use, place: Place) -> Iterator[int]:
-        """The functions that a name behind a dot or two colons can call, by what stands before these."""
+        """The functions that a name after a dot or two colons can call, by what stands before these."""
         parts = self.sources.parts
         found = self.sources.items(use.name, place[0], ("function",))
         if use.sign == ".":
@@ -221,7 +221,7 @@ class Names:
                 yield at
 
     def _member(self, use: Use, place: Place, may_call: bool, is_opened: bool) -> Iterator[int]:
-        """What a name behind a dot can be: of the module before it, or a field, a variant, a constant or a function."""
+        """What a name after a dot can be: of the module before it, or a field, a variant, a constant or a function."""
         sources, crate = self.sources, place[0]
         for target in self.scope(place).get(use.before, ()):
             for module in target.modules:

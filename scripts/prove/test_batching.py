@@ -74,7 +74,7 @@ class Planning(unittest.TestCase):
         return [*([wrong.name for wrong in batch] for batch in self.plan.together), self.plan.alone]
 
     def test_edits_of_different_functions_stand_in_one_check(self) -> None:
-        """Each is in the file with all of its text, though the places behind another move."""
+        """Each is in the file with all of its text, though the places after another move."""
         self.assertEqual(self.planned({"a": ONE_IS_TWO, "b": TWO_IS_FOUR, "c": THREE_IS_FIVE}), [["a", "b", "c"], []])
         wanted = SOURCE.replace("        self.one\n", "        self.one().max(2)\n")
         wanted = wanted.replace("self.one().max(2)\n    }\n}", "self.one().max(2) + 2\n    }\n}")

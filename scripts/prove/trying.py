@@ -67,7 +67,7 @@ class Room:
         )
 
     def is_proved(self, name: str) -> bool:
-        """Whether a crate is proved as it stands; the prover's last words are printed where it isn't."""
+        """Whether a crate is proved as it is; the prover's last words are printed where it isn't."""
         checked = self._run(["rt", "check", "--jobs", self.jobs], self.crate(name))
         if checked.returncode != 0:
             print(f"{name}: it isn't proved as it stands:\n{checked.stdout[-2000:]}", file=sys.stderr)

@@ -116,11 +116,11 @@ PAGES = [
         refusal="refused 18 Store at 1048579",
     ),
 ]
-# a run has 2,048 points, of which the first comes behind the opcode
+# a run has 2,048 points, of which the first comes after the opcode
 POINTS = [CENTRE if number % 2048 == 0 else CENTRE[1:] for number in range(30000)]
 LONG = Page("thirty thousand points", b"\x0e" + b"&R@@" * 30000, POINTS, [CENTRE_LINE] * 30000)
 # more lines than a write has, and then more points, more bytes of bodies and more open bodies than before: of twelve
-# macros each calls the next, and has a shift behind that
+# macros each calls the next, and has a shift after that
 NAMES = range(0x21, 0x21 + 12)
 BODIES = [bytes([name, 0x0F]) for name in NAMES[1:]] + [b"\x0e&R@@\x0f"]
 LATE = Page(
@@ -199,7 +199,7 @@ def run_with(words: List[str], source: Union[int, BinaryIO], faults: Dict[str, i
 
 
 def is_want(page: Page, words: List[str], got: Answer) -> bool:
-    """Whether an answer says that memory was wanting, as it should."""
+    """Whether an answer says that memory ran out, as it should."""
     streams = "--stream" in words
     if got.status == 3:
         outputs = [b""] + page.beginnings() if streams else [b""]
@@ -246,13 +246,13 @@ def test_all_memory() -> None:
 
 
 def test_late_memory() -> None:
-    """Growths that are refused of `list` on a page that wants more behind its first lines: none of these is out."""
+    """Growths that are refused of `list` on a page that wants more after its first lines: none of these is out."""
     for words in (["list"], ["list", "--hex"]):
         wants = test_memory(LATE, words, 1)[0] + test_memory(LATE, words, 0)[0]
         judge.close(f"memory: {' '.join(words)}: growths refused, wanted behind the first lines: {wants} told")
 
 
-# Tests that take want of memory for an answer, and judge all else.
+# Tests that take lack of memory for an answer, and judge all else.
 LIBRARY = [
     "short_pages_survive_want_of_memory",
     "a_large_shape_survives_want_of_memory",
@@ -305,12 +305,12 @@ def test_words() -> None:
     judge.close(f"memory: help and wrong command lines: {wants} told, {without} done without")
 
 
-# How many entries stand written when so many bytes were read, and no end.
+# How many entries were written when a number of bytes were read, and no end.
 WRITTEN = {"point": [0], "glyph": [0] * 8 + [1] * 5 + [2] + [3]}
 
 
 def read_text(page: Page, count: int) -> bytes:
-    """What stands written once so many bytes were read."""
+    """What was written once a number of bytes were read."""
     if isinstance(page, Lines):
         return b"".join(page.pieces[: 1 + page.stream[:count].count(b"\n")])
     written = WRITTEN[page.name]
@@ -347,7 +347,7 @@ def test_all_reads() -> None:
 
 
 def write_fault(count: int) -> bytes:
-    """The line of a write that failed behind so many bytes."""
+    """The line of a write that failed after a number of bytes."""
     return b"write fault after %d bytes" % count
 
 
@@ -368,7 +368,7 @@ def test_writes(page: Page, words: List[str], ample: Answer, most: int, error: i
 
 
 def test_interrupted(page: Page, words: List[str], most: int) -> None:
-    """Gathered output goes on behind a signal."""
+    """Buffered output continues after a signal."""
     ample = page.answer(words)
     for number in range(1, -(-len(ample.out) // most) + 1):
         got, letters = run_faulty(page, words, write=number, write_most=most, errno=errno.EINTR, once=1)
@@ -500,7 +500,7 @@ class Requests(Page):
         return Answer(0, b"".join(self.answered))
 
     def answered_to(self, count: int) -> bytes:
-        """The answers to the requests that stand whole in so many bytes."""
+        """The answers to the requests that are complete in a number of bytes."""
         out = b""
         for asked, answered in zip(self.asked, self.answered):
             count -= len(asked)
@@ -523,7 +523,7 @@ REQUESTS = Requests(
 
 
 def is_answered(out: bytes, whole: bool) -> bool:
-    """Whether each request has its own answer, or one that says that memory was wanting; if not whole, the first
+    """Whether each request has its own answer, or one that says that memory ran out; if not whole, the first
     ones."""
     for answered in REQUESTS.answered:
         want = re.match(rb"(refused 21 Memory at (0|[1-9][0-9]*)|no memory)\n0\n", out)
@@ -600,7 +600,7 @@ def test_make() -> None:
     """Memory that is refused, reads and writes that fail, and short ones, where lines make a page."""
     made = [Lines(POINT), Lines(GLYPH)]
     wrong = Lines(GLYPH, b"WAIT 64\n", "line 5: no line of a list, at column 6")
-    # Where memory is wanting to find the column, it is 1.
+    # Where memory runs out to find the column, it is 1.
     unknown = Lines(GLYPH, b"wait 64\n", "line 5: no line of a list, at column 1")
     polygon = Lines(next(page for page in PAGES if page.name == "polygon"))
     before = runs["faulty"]
@@ -626,7 +626,7 @@ FAULT_LINES = {"read": b"read fault\n", "write": rb"write fault after (0|[1-9][0
 
 
 def test_lines() -> None:
-    """A read or a write that fails is told as that, whatever growth is refused, and all behind it."""
+    """A read or a write that fails is told as that, whatever growth is refused, and all after it."""
     told = 0
     pages: List[Tuple[List[str], Page]] = [*((words, POINT) for words in COMMANDS), (["batch"], REQUESTS)]
     for words, page in pages:

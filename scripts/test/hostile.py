@@ -37,7 +37,7 @@ def path_of(name: str) -> str:
 
 
 def centres(count: int) -> bytes:
-    """The canonical text of so many points in the middle: runs as long as they may be."""
+    """The canonical text of a number of points in the middle: runs as long as they may be."""
     runs, rest = divmod(count, RUN_POINTS)
     return RUN * runs + (RUN[: 1 + 8 * rest] if rest else b"")
 
@@ -50,7 +50,7 @@ def put(name: str, pieces: Iterable[bytes]) -> None:
 
 
 def answer_of(words: List[str], refused: bool) -> Answer:
-    """What a command answers to the point, or to the point with a line behind it that leads outside."""
+    """What a command answers to the point, or to the point with a line after it that leads outside."""
     if words == ["check"]:
         return Answer(1, REFUSAL) if refused else Answer(0, b"accepted 1 entries\n")
     out = {"list": CENTRE_LINE, "canon": HEADER + CENTRE}[words[0]]
@@ -60,7 +60,7 @@ def answer_of(words: List[str], refused: bool) -> Answer:
 
 
 def write_fault(count: int) -> Answer:
-    """The answer where a write failed behind so many bytes."""
+    """The answer where a write failed after a number of bytes."""
     return fault(b"write fault after %d bytes" % count)
 
 
@@ -170,7 +170,7 @@ def test_terminal() -> None:
 
 
 def pieces_of(piece: bytes, size: int) -> Iterator[bytes]:
-    """So many bytes of equal pieces, in blocks."""
+    """A number of bytes of equal pieces, in blocks."""
     count = size // len(piece)
     block = piece * 65536
     for _ in range(count // 65536):
@@ -189,7 +189,7 @@ def put_long() -> None:
 
 
 class Comparer(threading.Thread):
-    """Reads a pipe to its end, and compares what comes with equal pieces behind a header, of which none is kept."""
+    """Reads a pipe to its end, and compares what comes with equal pieces after a header, of which none is kept."""
 
     def __init__(self, source: int, header: bytes, piece: bytes) -> None:
         super().__init__()
@@ -277,7 +277,7 @@ LONG_ANSWERS = [
 
 
 def test_long(limit: Optional[int]) -> None:
-    """Long pages, in so much memory."""
+    """Long pages, in little memory."""
     for words, name, header, piece, more in LONG_ANSWERS:
         status, told, comparer, peak, seconds = run_long(words, name, header, piece, limit)
         room = f", in {limit // MEBIBYTE} MiB" if limit else ""
@@ -298,7 +298,7 @@ def test_long(limit: Optional[int]) -> None:
 
 
 def test_limit() -> None:
-    """Pages and texts that don't fit: want of memory, with nothing printed."""
+    """Pages and texts that don't fit: lack of memory, with nothing printed."""
     texts = ((["list"], CENTRE_LINE, POINTS * len(CENTRE_LINE)), (["canon"], RUN, len(centres(POINTS))))
     for words, piece, size in texts:
         header = HEADER if words == ["canon"] else b""
@@ -320,7 +320,7 @@ def is_unloaded(got: Answer, lessen: Callable[[], None]) -> bool:
 
 
 def test_little() -> None:
-    """From no room for data to enough of it: each answer is right, or want of memory."""
+    """From no room for data to enough of it: each answer is right, or lack of memory."""
     count = 3000
     put("middle.nap", [b"\x0e" + b"&R@@" * count])
     ample = {
@@ -358,7 +358,7 @@ def test_little() -> None:
 
 
 def start(number: int) -> Tuple[int, Answer, Answer]:
-    """A start with a page of its own: so many points, and behind some a byte that is refused."""
+    """A start with a page of its own: a number of points, and after some a byte that is refused."""
     words = COMMANDS[number % 4]
     count = number // 4 % 97
     bad = number % 5 == 0

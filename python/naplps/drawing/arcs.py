@@ -98,7 +98,7 @@ def _turn(centre: Place, start: Place, to: Place, sweep: bool) -> float:
 
 
 def _on_circle(centre: Place, start: Place, turn: float) -> List[Place]:
-    """Places along the circle, behind the start."""
+    """Places along the circle, after the start."""
     x, y = start[0] - centre[0], start[1] - centre[1]
     out = []
     for piece in range(1, PIECES + 1):
@@ -112,7 +112,7 @@ def _on_circle(centre: Place, start: Place, turn: float) -> List[Place]:
 
 
 def _curve(points: Sequence[Place]) -> List[Piece]:
-    """A smooth curve through all points: at each the direction is that from the one before to the one behind."""
+    """A smooth curve through all points: at each the direction is that from the one before to the one after."""
     out: List[Piece] = []
     last = len(points) - 1
     for i in range(last):

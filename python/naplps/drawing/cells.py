@@ -11,7 +11,7 @@ SIZES = {"small": (1 / 80, 5 / 128), "medium": (1 / 32, 3 / 64), "normal": (1 / 
 SPACINGS = (1.0, 1.25, 1.5, 1.0)
 RIGHT, LEFT, UP, DOWN = range(4)
 TOP = HEIGHT / WIDTH
-# A cell may go out of its field by so much.
+# How far a cell may go out of its field.
 DOT = THIN / WIDTH
 # Numbers of rows and columns that APS names are offset by this.
 FIRST_OF_APS = 0x20
@@ -85,7 +85,7 @@ class TextCursor:
         self.known = False
 
     def set_field(self, corners: Optional[Tuple[Position, Position]]) -> None:
-        """Takes the field that text is laid out in; None is the whole screen."""
+        """Sets the field in which text is arranged; None is the whole screen."""
         if corners is None:
             self.field = (0.0, 0.0, 1.0, TOP)
         else:
@@ -94,7 +94,7 @@ class TextCursor:
         self.lose()
 
     def fits(self, wide: float) -> bool:
-        """Whether so much still has room in the line."""
+        """Whether the line has space for this width."""
         return self.x + wide <= self.field[2] + DOT
 
     def go_on(self, wide: float, most: int) -> int:
@@ -130,7 +130,7 @@ class TextCursor:
                 self.y = self.field[3] - abs(size.high)
 
     def step(self, size: Cell) -> None:
-        """Goes on by a cell along the path."""
+        """Advances by a cell along the path."""
         wide, high = size.wide * size.spacing, size.high * size.spacing
         if size.path == RIGHT:
             self.x += wide

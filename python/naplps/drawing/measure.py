@@ -18,14 +18,14 @@ THIN_IN_GLYPH = 64.0
 
 @lru_cache(maxsize=1 << 14)
 def num(value: float) -> str:
-    """The number with at most two digits behind the point."""
+    """The number with at most two digits after the point."""
     text = (f"{value:.2f}").rstrip("0").rstrip(".")
     return "0" if text == "-0" else text
 
 
 @lru_cache(maxsize=1 << 10)
 def fine(value: float) -> str:
-    """The number with at most five digits behind the point, for factors."""
+    """The number with at most five digits after the point, for factors."""
     text = (f"{value:.5f}").rstrip("0").rstrip(".")
     return "0" if text == "-0" else text
 

@@ -9,7 +9,7 @@ BLANK = 0x20
 
 
 def is_blank(entry: Char) -> bool:
-    """Whether a character is a blank, behind which another word begins."""
+    """Whether a character is a blank, after which another word begins."""
     return entry.code == BLANK and entry.set in ("primary", "supplementary")
 
 

@@ -33,7 +33,7 @@ Kept = TypeVar("Kept")
 
 
 def _split(text: str, between: str, count: int, what: str) -> List[Tuple[int, str]]:
-    """So many parts, each behind its offset."""
+    """A number of parts, each after its offset."""
     parts, at = [], 0
     for part in text.split(between):
         parts.append((at, part))

@@ -19,11 +19,11 @@ from .sources import Source, Sources, lacking, require_apart
 from .stopping import Stopping
 from .store import StoreFailed, open_to_write
 
-# Behind the name of the store, while it is made.
+# After the name of the store, while it is made.
 ENDING = ".new"
 # No log is needed: what isn't whole is thrown away.
 FAST = "PRAGMA journal_mode = OFF; PRAGMA synchronous = OFF;"
-# So many steps of SQLite come between two looks at the clock. And so many differences are told one by one.
+# The steps of SQLite between two looks at the clock, and the number of differences that are reported one by one.
 OFTEN, MOST_TOLD = 100_000, 10
 LACKING = "isn't made; with --unfinished it is, of what is there"
 DIFFERENT = "isn't made: %s with two answers under one budget and version"
