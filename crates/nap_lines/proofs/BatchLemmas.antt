@@ -24,7 +24,7 @@ use Rattle.nap_list.specs.BatchLaws.{points_front, lines_front, text_front, poin
 use Rattle.nap_list.specs.Putting.{SinkModel, sink_model}
 use Rattle.nap_lines.specs.Lines.{line, ink_text, pen_text, move_text, colour_text, look_text, hand_text, set_text}
 use Rattle.nap_lines.specs.Listing.{LineSinkState, TakesLinesOf, lines}
-use Rattle.nap_lines.specs.Batches.{point_front, point_end, line_front, char_front, move_front, text_byte_front_as, text_byte_front, hand_text_without_pen, lines_with, pen_at, LinesGoOn}
+use Rattle.nap_lines.specs.Batches.{point_front, point_end, line_front, char_front, move_front, text_byte_front_as, text_byte_front, hand_text_without_pen, lines_with, pen_at, LinesContinue}
 
 -- The lines of a batch.
 
@@ -38,8 +38,8 @@ kept buffer front end n is size =
 pub around : (front two end buffer : List ℕ) (place : ℕ) → buffer ≡ (front ++ two) ++ end → length two ≡ 2 → place ≡ length front → (take place buffer ≡ front) × (drop (place + 2) buffer ≡ end)
 around front two end buffer place is size at = (
   rw (at, is, append_assoc) (take-append_seam front (two ++ end)),
-  let behind : place + 2 ≡ length (front ++ two) = omega (arith, length-append front two) in
-      rw (behind, is) (drop-append_seam (front ++ two) end),
+  let after_code : place + 2 ≡ length (front ++ two) = omega (arith, length-append front two) in
+      rw (after_code, is) (drop-append_seam (front ++ two) end),
 )
 
 -- the line of a character as far as its set
@@ -75,21 +75,21 @@ text_goes first now next before after bytes is more goes =
 
 -- lines from each point to the next
 
-pub goes_first : (end : List ℕ) (from : Coordinates) → LinesGoOn end from [] from
+pub goes_first : (end : List ℕ) (from : Coordinates) → LinesContinue end from [] from
 unfolding lines_with
 goes_first end from rest = refl
 
-pub goes_line : (end : List ℕ) (from at to : Coordinates) (points : List Coordinates) (i : ℕ) → i < length points → to ≡ get_or points i to → LinesGoOn end from (take i points) at →
+pub goes_line : (end : List ℕ) (from at to : Coordinates) (points : List Coordinates) (i : ℕ) → i < length points → to ≡ get_or points i to → LinesContinue end from (take i points) at →
     lines_with end from (take (i + 1) points) ≡ lines_with end from (take i points) ++ (line_front at to ++ end)
 unfolding lines_with
 goes_line end from at to points i less is goes =
     let more : take (i + 1) points ≡ take i points ++ to ∷ [] = take_more points i to less ∙ ap (λ (p : Coordinates). take i points ++ p ∷ []) (sym is) in
     ap (lines_with end from) more ∙ goes (to ∷ []) ∙ ap (λ (bytes : List ℕ). lines_with end from (take i points) ++ bytes) (append-nil (line_front at to ++ end))
 
-pub goes_on : (end : List ℕ) (from at to : Coordinates) (points : List Coordinates) (i : ℕ) → i < length points → to ≡ get_or points i to → LinesGoOn end from (take i points) at →
-    LinesGoOn end from (take (i + 1) points) to
+pub continues : (end : List ℕ) (from at to : Coordinates) (points : List Coordinates) (i : ℕ) → i < length points → to ≡ get_or points i to → LinesContinue end from (take i points) at →
+    LinesContinue end from (take (i + 1) points) to
 unfolding lines_with
-goes_on end from at to points i less is goes rest =
+continues end from at to points i less is goes rest =
     let more : take (i + 1) points ≡ take i points ++ to ∷ [] = take_more points i to less ∙ ap (λ (p : Coordinates). take i points ++ p ∷ []) (sym is) in
     let here = lines_with end from (take i points) in
     ap (λ (done : List Coordinates). lines_with end from (done ++ rest)) more
@@ -204,11 +204,11 @@ text_rest set hand codes zero = refl
 text_rest set hand [] (suc n) = refl
 text_rest set hand (c ∷ cs) (suc n) = text_rest set hand cs n
 
-text_behind : (set : CharSet) (hand : Hand) (codes : List ℕ) (n : ℕ) → text_entries_in set (record hand { pen = pen_at hand.pen n }) (drop n codes) ≡ drop n (text_entries_in set hand codes)
+text_from_index : (set : CharSet) (hand : Hand) (codes : List ℕ) (n : ℕ) → text_entries_in set (record hand { pen = pen_at hand.pen n }) (drop n codes) ≡ drop n (text_entries_in set hand codes)
 unfolding text_entries_in
-text_behind set hand codes zero = refl
-text_behind set hand [] (suc n) = refl
-text_behind set hand (c ∷ cs) (suc n) = text_rest set hand cs n
+text_from_index set hand codes zero = refl
+text_from_index set hand [] (suc n) = refl
+text_from_index set hand (c ∷ cs) (suc n) = text_rest set hand cs n
 
 pub part_written : (b : Batch) (set : CharSet) (bytes : _) (pen : Pen) (d : _) (first m n : ℕ) (hand : Hand) (old new few : List ℕ) → b ≡ batches.Text set bytes pen d → n ≤ m →
     hand ≡ record (hand_of d.now) { pen = pen_at pen first } → few ≡ take m (drop first bytes.now) →
@@ -221,7 +221,7 @@ part_written b set bytes pen d first m n hand old new few is less in_hand slice 
     ∙ ap (λ (few : List ℕ). old ++ lines (take n (text_entries_in set (record whole { pen = pen_at pen first }) few))) slice
     ∙ ap (λ (list : List Entry). old ++ lines (take n list)) (text_front set (record whole { pen = pen_at pen first }) (drop first bytes.now) m)
     ∙ ap (λ (list : List Entry). old ++ lines list) (take-take n m (text_entries_in set (record whole { pen = pen_at pen first }) (drop first bytes.now)) less)
-    ∙ ap (λ (list : List Entry). old ++ lines (take n list)) (text_behind set whole bytes.now first) in
+    ∙ ap (λ (list : List Entry). old ++ lines (take n list)) (text_from_index set whole bytes.now first) in
     rw is all
 
 -- the lines of a text, the first with its own pen

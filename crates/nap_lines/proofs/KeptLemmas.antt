@@ -23,20 +23,20 @@ pub last_put : (bytes kept : List ℕ) (end start size at from : ℕ) → end �
     drop at (put_mid start size bytes kept) ≡ drop from kept ++ drop end bytes
 last_put bytes kept end start size at from within ends few less is =
     let long : length (take start bytes) ≡ start = length-take-le start bytes (omega (arith, within, ends)) in
-    let behind : drop size (drop start bytes) ≡ drop end bytes = drop-drop size start bytes ∙ ap (λ (n : ℕ). drop n bytes) ends in
+    let rest_is : drop size (drop start bytes) ≡ drop end bytes = drop-drop size start bytes ∙ ap (λ (n : ℕ). drop n bytes) ends in
     ap (λ (n : ℕ). drop n (put_mid start size bytes kept)) is
     ∙ skip start from (take start bytes) (kept ++ drop size (drop start bytes)) long
     ∙ drop-append-le from kept (drop size (drop start bytes)) (omega (arith, few, less))
-    ∙ ap (λ (rest : List ℕ). drop from kept ++ rest) behind
+    ∙ ap (λ (rest : List ℕ). drop from kept ++ rest) rest_is
   where
     skip : (n m : ℕ) (xs ys : List ℕ) → length xs ≡ n → drop (n + m) (xs ++ ys) ≡ drop m ys
     skip n m xs ys is = ap (λ (n : ℕ). drop (n + m) (xs ++ ys)) (sym is) ∙ drop-append-add xs ys m
 
 -- the bytes that were pushed last
-pub front_is : (front old now : List ℕ) (count : ℕ) → now ≡ front ++ old → count ≡ length now - length old → take count now ≡ front
-front_is front old now count is size =
-    let many : count ≡ length front = omega (arith, size, ap length is, length-append front old) in
-    rw (many, is) (take-append_seam front old)
+pub last_pushed : (prefix old now : List ℕ) (count : ℕ) → now ≡ prefix ++ old → count ≡ length now - length old → take count now ≡ prefix
+last_pushed prefix old now count is size =
+    let many : count ≡ length prefix = omega (arith, size, ap length is, length-append prefix old) in
+    rw (many, is) (take-append_seam prefix old)
 
 -- the text of a point is UTF-8: digits and a comma
 pub point_utf8 : (x y : ℕ) → x < 2 ^ 64 → y < 2 ^ 64 → IsUtf8 (decimal x ++ codes "," ++ decimal y)

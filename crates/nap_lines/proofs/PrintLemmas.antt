@@ -28,8 +28,8 @@ rest_of i xs = take_all (length xs - i) (drop i xs) (omega (arith, length-drop i
 -- The buffered bytes are sent.
 
 -- the first bytes sent are the buffered ones
-held_first : (s t : Sending) (buffered left : List ℕ) → SendsPart s [] buffered left t → SendsPart s buffered [] left t
-held_first s t buffered left h = record { sent = h.sent; parts = append-nil buffered ∙ h.parts; grows = h.grows }
+buffered_first : (s t : Sending) (buffered left : List ℕ) → SendsPart s [] buffered left t → SendsPart s buffered [] left t
+buffered_first s t buffered left h = record { sent = h.sent; parts = append-nil buffered ∙ h.parts; grows = h.grows }
 
 module _ {O : Type 0} (o : outlet.Ghosts O) (w u : O) (m n : ℕ) (buffered bytes : List ℕ) (v : State) (is : bytes ≡ buffered) where
   abbrev before : Printing O
@@ -45,7 +45,7 @@ module _ {O : Type 0} (o : outlet.Ghosts O) (w u : O) (m n : ℕ) (buffered byte
   pub sent_part : (f : DeviceFault) → ((left : List ℕ) × SendsPart (sending o w m) [] bytes left (sending o u n)) × (o.failed u ≡ true) →
       SendsBuffered o before (record { outlet = u; written = n; buffered = buffered; state = v }) (Err f)
   sent_part f sent = (
-    (sent.0.0, held_first (sending o w m) (sending o u n) buffered sent.0.0 (subst (λ (bytes : List ℕ). SendsPart (sending o w m) [] bytes sent.0.0 (sending o u n)) is sent.0.1)),
+    (sent.0.0, buffered_first (sending o w m) (sending o u n) buffered sent.0.0 (subst (λ (bytes : List ℕ). SendsPart (sending o w m) [] bytes sent.0.0 (sending o u n)) is sent.0.1)),
     sent.1,
     refl,
   )
@@ -81,8 +81,8 @@ pub one_line : (e : Entry) → line e ++ 10 ∷ [] ≡ lines (e ∷ [])
 one_line e = sym (append-nil (line e ++ 10 ∷ []))
 
 -- bytes were buffered too, and then the buffer was sent
-pub held_on : (s t : Sending) (buffered now bytes left : List ℕ) → now ≡ buffered ++ bytes → SendsPart s now [] left t → SendsPart s buffered bytes left t
-held_on s t buffered now bytes left is h = record { sent = h.sent; parts = sym is ∙ sym (append-nil now) ∙ h.parts; grows = h.grows }
+pub buffered_too : (s t : Sending) (buffered now bytes left : List ℕ) → now ≡ buffered ++ bytes → SendsPart s now [] left t → SendsPart s buffered bytes left t
+buffered_too s t buffered now bytes left is h = record { sent = h.sent; parts = sym is ∙ sym (append-nil now) ∙ h.parts; grows = h.grows }
 
 -- the lines of more entries are buffered
 pub lines_on : (s t : Sending) (buffered left now : List ℕ) (list : List Entry) (n more : ℕ) → SendsPart s buffered (lines (take n list)) left t →
@@ -168,11 +168,11 @@ module _ {O : Type 0} (o : outlet.Ghosts O) where
     put_at w m buffered r outlet written same prints is = rw (outlet, written, same) (put_by r prints is)
 
   -- One entry's line was buffered too, and then the buffer was sent if it was large.
-  module _ (s m t : Printing O) (e : Entry) (shown_is : sending_of o m ≡ sending_of o s) (held_is : m.buffered ≡ s.buffered ++ lines (e ∷ [])) where
+  module _ (s m t : Printing O) (e : Entry) (shown_is : sending_of o m ≡ sending_of o s) (buffered_is : m.buffered ≡ s.buffered ++ lines (e ∷ [])) where
     pub took_one : (w : O) (n : ℕ) (buffered : List ℕ) (v : State) (f : Unit {0}) → SendsBuffered o m t (Ok f) → o.failed m.outlet ≡ o.failed s.outlet → w ≡ t.outlet → n ≡ t.written → buffered ≡ t.buffered →
         v ≡ walk s.state (e ∷ []) → Took o s (e ∷ []) (record { outlet = w; written = n; buffered = buffered; state = v })
     took_one w n buffered v f sent same outlet written left state = rw (outlet, written, left) (record {
-      passes = held_on (sending_of o s) (sending_of o t) s.buffered m.buffered (lines (e ∷ [])) t.buffered held_is (subst (λ (x : Sending). SendsPart x m.buffered [] t.buffered (sending_of o t)) shown_is sent.0);
+      passes = buffered_too (sending_of o s) (sending_of o t) s.buffered m.buffered (lines (e ∷ [])) t.buffered buffered_is (subst (λ (x : Sending). SendsPart x m.buffered [] t.buffered (sending_of o t)) shown_is sent.0);
       failed = sent.1 ∙ same;
       state = state;
     })
@@ -181,7 +181,7 @@ module _ {O : Type 0} (o : outlet.Ghosts O) where
     unfolding walk
     broke_one f sent state = record {
       left = sent.0.0;
-      passes = held_on (sending_of o s) (sending_of o t) s.buffered m.buffered (lines (e ∷ [])) sent.0.0 held_is (subst (λ (x : Sending). SendsPart x m.buffered [] sent.0.0 (sending_of o t)) shown_is sent.0.1);
+      passes = buffered_too (sending_of o s) (sending_of o t) s.buffered m.buffered (lines (e ∷ [])) sent.0.0 buffered_is (subst (λ (x : Sending). SendsPart x m.buffered [] sent.0.0 (sending_of o t)) shown_is sent.0.1);
       failed = sent.1;
       state = state;
     }

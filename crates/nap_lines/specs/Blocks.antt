@@ -4,10 +4,10 @@ use Rattle.nap_lines.specs.Lines.{code_text}
 -- Blocks of lines, which differ only in the digits of a code.
 
 -- a block with these bytes at an index
-abbrev pub laid : List ℕ → ℕ → List ℕ → List ℕ
-laid block at bytes = take at block ++ (bytes ++ drop (at + length bytes) block)
+abbrev pub with_bytes_at : List ℕ → ℕ → List ℕ → List ℕ
+with_bytes_at block at bytes = take at block ++ (bytes ++ drop (at + length bytes) block)
 
--- copies of a line, this many
+-- n copies of a line
 unfoldable pub repeated : ℕ → List ℕ → List ℕ
 repeated zero line = []
 repeated (suc n) line = repeated n line ++ line

@@ -1,6 +1,6 @@
 //! Blocks of lines of characters, which differ only in the digits of their codes.
 ghost use Rattle.std.specs.Prelude.{◌≡◌, ◌+◌, ◌*◌, ◌≤◌, ◌++◌, All, drop, length, take};
-ghost use Rattle.nap_lines.specs.Blocks.{laid, recoded, repeated};
+ghost use Rattle.nap_lines.specs.Blocks.{with_bytes_at, recoded, repeated};
 
 use crate::backward_buffer::digit;
 
@@ -9,9 +9,9 @@ pub(crate) const BLOCK: usize = 1_024;
 
 /// Copies bytes to an index of the block.
 #[inline(always)]
-fn lay(block: &mut [u8], at: usize, bytes: &[u8])
+fn copy_at(block: &mut [u8], at: usize, bytes: &[u8])
     requires within { at + length bytes.now ≤ length block.old }
-    ensures { block.new ≡ laid block.old at bytes.now }
+    ensures { block.new ≡ with_bytes_at block.old at bytes.now }
 {
     block[at..at + bytes.len()].copy_from_slice(bytes);
 }
@@ -23,7 +23,7 @@ pub(crate) fn fill_lines(block: &mut [u8], line: &[u8], count: usize)
 {
     let size = line.len();
     for i in 0..count {
-        lay(block, i * size, line);
+        copy_at(block, i * size, line);
     }
 }
 
@@ -42,7 +42,7 @@ pub(crate) fn recode_lines(block: &mut [u8], size: usize, place: usize, codes: &
         if code < 0x20 {
             return i;
         }
-        lay(
+        copy_at(
             block,
             i * size + place,
             &[digit(code / 16), digit(code % 16)],

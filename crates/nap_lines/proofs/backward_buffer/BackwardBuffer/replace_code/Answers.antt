@@ -15,10 +15,10 @@ made bytes two a place p k at size within =
     let long : length (take p bytes) ≡ p = length-take-le p bytes (omega arith) in
     let front : drop a (take p bytes) ≡ take place (drop a bytes) = ap (λ n. drop a (take n bytes)) at ∙ drop-take a place bytes in
     let places : p + k ≡ a + (place + 2) = omega arith in
-    let behind : drop k (drop p bytes) ≡ drop (place + 2) (drop a bytes) = drop-drop k p bytes ∙ ap (λ n. drop n bytes) places ∙ sym (drop-drop (place + 2) a bytes) in
+    let rest_is : drop k (drop p bytes) ≡ drop (place + 2) (drop a bytes) = drop-drop k p bytes ∙ ap (λ n. drop n bytes) places ∙ sym (drop-drop (place + 2) a bytes) in
     drop-append-le a (take p bytes) (two ++ drop k (drop p bytes)) (omega arith)
     ∙ ap (λ (here : List ℕ). here ++ (two ++ drop k (drop p bytes))) front
-    ∙ ap (λ (rest : List ℕ). take place (drop a bytes) ++ (two ++ rest)) behind
+    ∙ ap (λ (rest : List ℕ). take place (drop a bytes) ++ (two ++ rest)) rest_is
 
 pub copy_from_slice-requires : goal.copy_from_slice-requires
 copy_from_slice-requires c =
