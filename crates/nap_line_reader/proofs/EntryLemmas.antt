@@ -52,8 +52,8 @@ pub opened_more : (es : List Entry) (e : Entry) (before now : ℕ) → (IsSome (
     IsSome (walk start (es ++ e ∷ [])).definition → OpenedAt (es ++ e ∷ []) now
 opened_more es e before now opened same new opens = by (walk start es).definition refl
   where
-    goes_on : IsSome (after (walk start es) e).definition
-    goes_on = subst (λ (s : State). IsSome s.definition) (walk_more es e) opens
+    still_open : IsSome (after (walk start es) e).definition
+    still_open = subst (λ (s : State). IsSome s.definition) (walk_more es e) opens
 
     by : (o : Option OpenDefinition) → (walk start es).definition ≡ o → OpenedAt (es ++ e ∷ []) now
     by (Some o) is =
@@ -67,7 +67,7 @@ opened_more es e before now opened same new opens = by (walk start es).definitio
           place = same some ∙ h.place;
           closed = h.closed;
           opens = h.opens;
-          unended = All-push (λ x. x ≢ entries.DefEnd) h.inside e h.unended (λ end. ended (walk start es) e end goes_on);
+          unended = All-push (λ x. x ≢ entries.DefEnd) h.inside e h.unended (λ end. ended (walk start es) e end still_open);
         }
     by None is =
         let none : IsSome (walk start es).definition → ⊥ = λ some. false≢true (sym (ap is_some is) ∙ some) in

@@ -31,8 +31,8 @@ no_short (x ∷ a) b [] d none less is = All-head (λ z. z ≢ 10) x a none (cc)
 no_short (x ∷ a) b (y ∷ c) d none less is = no_short a b c d (All-tail (λ z. z ≢ 10) x a none) (omega (arith, less)) (cc)
 
 -- more bytes than a line may have, without LF, begin no line
-pub long_begins_none : (front more : List ℕ) → All (λ x. x ≢ 10) front → longest_line < length front → BeginsNoLine (front ++ more)
-long_begins_none front more none long e rest proper is = no_short front more (line e) rest none (omega (arith, lines_are_bounded e proper, long)) is
+pub long_begins_none : (prefix more : List ℕ) → All (λ x. x ≢ 10) prefix → longest_line < length prefix → BeginsNoLine (prefix ++ more)
+long_begins_none prefix more none long e rest proper is = no_short prefix more (line e) rest none (omega (arith, lines_are_bounded e proper, long)) is
 
 -- bytes that are no line, and then LF, begin no line
 pub whole_begins_none : (bytes more : List ℕ) → All (λ x. x ≢ 10) bytes → WritesNone IsProper line bytes → BeginsNoLine (bytes ++ 10 ∷ more)
@@ -43,11 +43,11 @@ pub part_begins_none : (bytes : List ℕ) → All (λ x. x ≢ 10) bytes → Beg
 part_begins_none bytes none e rest proper is = no_cut bytes (line e) rest none is
 
 -- a column of a prefix is one of all bytes
-pub column_stays : (front more : List ℕ) (column : ℕ) → TellsColumn front column → TellsColumn (front ++ more) column
-column_stays front more column h = record {
+pub column_stays : (prefix more : List ℕ) (column : ℕ) → TellsColumn prefix column → TellsColumn (prefix ++ more) column
+column_stays prefix more column h = record {
   low = h.low;
-  high = omega (arith, h.high, length-append front more);
-  before = subst BeginsLine (sym (take-append-le (column - 1) front more (omega (arith, h.high)))) h.before;
+  high = omega (arith, h.high, length-append prefix more);
+  before = subst BeginsLine (sym (take-append-le (column - 1) prefix more (omega (arith, h.high)))) h.before;
 }
 
 -- no entry's line is longer than the longest line
@@ -55,8 +55,8 @@ pub no_long_line : (bytes : List ℕ) (e : Entry) → IsWritten IsProper line by
 no_long_line bytes e h long = let same = ap (λ (xs : List ℕ). length xs) h.written in omega (arith, same, lines_are_bounded e h.fitting, long)
 
 -- a complete line without LF has its fault in the column after it
-pub column_behind : (bytes : List ℕ) (e : Entry) → IsWritten IsProper line bytes e → TellsColumn bytes (length bytes + 1)
-column_behind bytes e h = record {
+pub column_after : (bytes : List ℕ) (e : Entry) → IsWritten IsProper line bytes e → TellsColumn bytes (length bytes + 1)
+column_after bytes e h = record {
   low = omega arith;
   high = omega arith;
   before = record { entry = e; more = []; proper = h.fitting; begins = sym h.written ∙ sym (append-nil bytes) ∙ ap (λ (xs : List ℕ). xs ++ []) (sym (take_all (length bytes + 1 - 1) bytes (omega arith))) };

@@ -29,7 +29,7 @@ impl<S: Sink> LineReader<S> {
     pub(crate) fn new(alloc: Global, sink: S) -> LineReader<S>
         requires start { S.state sink ≡ start }
         requires works { S.failed sink ≡ false }
-        ensures stands { HasRead S.Sink sink [] result }
+        ensures has_read { HasRead S.Sink sink [] result }
         ensures ready { IsReady S.Sink result }
     {
         LineReader {
@@ -77,8 +77,8 @@ impl<S: Sink> LineReader<S> {
     {
         let mut rest = piece;
         while let Some(next) = split_at_byte(rest, b'\n') {
-            let (front, more) = next;
-            self.end_line(alloc, front)?;
+            let (prefix, more) = next;
+            self.end_line(alloc, prefix)?;
             rest = more;
         }
         self.keep_part(alloc, rest)

@@ -45,17 +45,17 @@ none_alike {to = to} alike none v fits is = none (to v) (alike.there v fits) (is
 
 pub written_alike : {V W : Type 0} {to : V → W} {P : V → Type 0} {f : V → List ℕ} {Q : W → Type 0} {g : W → List ℕ} {xs : List ℕ} → Alike to P f Q g → (v : V) →
     IsWritten Q g xs (to v) → IsWritten P f xs v
-written_alike alike v told = record { fitting = alike.back v told.fitting; written = told.written ∙ sym (alike.same v) }
+written_alike alike v ensured = record { fitting = alike.back v ensured.fitting; written = ensured.written ∙ sym (alike.same v) }
 
 -- a value with this text, tried whether it is in range
 pub reads_tried : {V : Type 0} (P : V → Type 0) (f : V → List ℕ) (xs : List ℕ) (v : V) (r : Option V) → IsWritten P f xs v → (IsSome r ↔ P v) → IfSome r (λ w. w ≡ v) → Reads P f xs r
-reads_tried P f xs v None told found value = let bad = found.1 told.fitting in let no : ⊥ = cc (bad) in absurd no
-reads_tried P f xs v (Some w) told found value = subst (λ u. IsWritten P f xs u) (sym value) told
+reads_tried P f xs v None ensured found value = let bad = found.1 ensured.fitting in let no : ⊥ = cc (bad) in absurd no
+reads_tried P f xs v (Some w) ensured found value = subst (λ u. IsWritten P f xs u) (sym value) ensured
 
 -- the value after a key
 pub reads_keyed : {V : Type 0} (P : V → Type 0) (f : V → List ℕ) (key xs rest : List ℕ) (r : Option V) → xs ≡ key ++ rest → Reads P f rest r → Reads P (λ v. key ++ f v) xs r
-reads_keyed P f key xs rest None is told = λ v fits also. told v fits (append_cancel_left key rest (f v) (sym is ∙ also))
-reads_keyed P f key xs rest (Some v) is told = record { fitting = told.fitting; written = is ∙ ap (λ (s : List ℕ). key ++ s) told.written }
+reads_keyed P f key xs rest None is ensured = λ v fits also. ensured v fits (append_cancel_left key rest (f v) (sym is ∙ also))
+reads_keyed P f key xs rest (Some v) is ensured = record { fitting = ensured.fitting; written = is ∙ ap (λ (s : List ℕ). key ++ s) ensured.written }
 
 -- Values in range with equal texts are equal.
 abbrev pub Tells : {V : Type 0} → (V → Type 0) → (V → List ℕ) → Type 0

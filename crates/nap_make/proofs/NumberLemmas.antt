@@ -55,12 +55,12 @@ short_value ds all few =
 
 -- digits have one value
 pub numeral_tells : (ds : List ℕ) (m n : ℕ) → IsNumeralOf ds m → IsShort n → ds ≡ decimal n → m ≡ n
-numeral_tells ds m n told short is = sym told.value ∙ ap (λ (xs : List ℕ). digits_value 10 xs) is ∙ (decimal_is_IsNumeral n (fits64 n short)).1
+numeral_tells ds m n ensured short is = sym ensured.value ∙ ap (λ (xs : List ℕ). digits_value 10 xs) is ∙ (decimal_is_IsNumeral n (fits64 n short)).1
 
 -- digits without leading zeros are the decimal digits of their value
 pub no_zero : (ds : List ℕ) (n : ℕ) → IsNumeralOf ds n → (get_or ds 0 0 ≡ 48 → length ds ≡ 1) → ds ≡ decimal n
-no_zero ds n told lone =
-    sym (ap decimal (sym told.value) ∙ decimal-digits_value (numerals_by_value (AllDigits 10) tells_digits) ds told.numeral.1 told.numeral.0 lone (subst (λ (m : ℕ). m < 2 ^ 64) (sym told.value) (fits64 n told.short)))
+no_zero ds n ensured lone =
+    sym (ap decimal (sym ensured.value) ∙ decimal-digits_value (numerals_by_value (AllDigits 10) tells_digits) ds ensured.numeral.1 ensured.numeral.0 lone (subst (λ (m : ℕ). m < 2 ^ 64) (sym ensured.value) (fits64 n ensured.short)))
 
 -- digits with a leading zero are the decimal digits of no number
 pub zero_first : (ds : List ℕ) (n : ℕ) → IsShort n → ds ≡ decimal n → get_or ds 0 0 ≡ 48 → length ds ≢ 1 → ⊥

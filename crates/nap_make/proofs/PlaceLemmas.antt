@@ -44,7 +44,7 @@ move_pair = record {
 -- a displacement that equals one with this text, tried whether it is in range
 pub move_tried : (xs : List ℕ) (m n : Displacement) (r : Option Displacement) → n ≡ m → IsWritten IsInRange move_text xs m → (IsSome r ↔ IsInRange n) → IfSome r (λ d. d ≡ n) →
     Reads IsInRange move_text xs r
-move_tried xs m n r same told found value = reads_tried IsInRange move_text xs n r (subst (λ (d : Displacement). IsWritten IsInRange move_text xs d) (sym same) told) found value
+move_tried xs m n r same ensured found value = reads_tried IsInRange move_text xs n r (subst (λ (d : Displacement). IsWritten IsInRange move_text xs d) (sym same) ensured) found value
 
 -- Bytes of points and displacements.
 

@@ -41,8 +41,8 @@ use Rattle.nap_make.proofs.PlaceLemmas.{addr_pair, move_spells, move_tells, poin
 -- Values with equal texts are equal, field by field.
 
 -- texts that can be read back are those of one value
-pub told_by : {V : Type 0} (P : V → Type 0) (f : V → List ℕ) (read : List ℕ → V) → ((v : V) → P v → read (f v) ≡ v) → Tells P f
-told_by P f read again v w v_fits w_fits is = sym (again v v_fits) ∙ ap read is ∙ again w w_fits
+pub tells_if_read : {V : Type 0} (P : V → Type 0) (f : V → List ℕ) (read : List ℕ → V) → ((v : V) → P v → read (f v) ≡ v) → Tells P f
+tells_if_read P f read again v w v_fits w_fits is = sym (again v v_fits) ∙ ap read is ∙ again w w_fits
 
 -- texts after a key
 key_tells : {V : Type 0} (P : V → Type 0) (f : V → List ℕ) (key : List ℕ) → Tells P f → Tells P (λ v. key ++ f v)
@@ -85,7 +85,7 @@ code_tells m n m_fits n_fits is =
 -- Values with names.
 
 pub set_tells : Tells AnyValue set_text
-set_tells = told_by AnyValue set_text (value_in_table ((codes "primary", char_sets.Primary) ∷ (codes "supplementary", char_sets.Supplementary) ∷ (codes "mosaic", char_sets.Mosaic) ∷ []) char_sets.Drcs) again
+set_tells = tells_if_read AnyValue set_text (value_in_table ((codes "primary", char_sets.Primary) ∷ (codes "supplementary", char_sets.Supplementary) ∷ (codes "mosaic", char_sets.Mosaic) ∷ []) char_sets.Drcs) again
   where
     again : (set : CharSet) → AnyValue set → value_in_table ((codes "primary", char_sets.Primary) ∷ (codes "supplementary", char_sets.Supplementary) ∷ (codes "mosaic", char_sets.Mosaic) ∷ []) char_sets.Drcs (set_text set) ≡ set
     again char_sets.Primary any = refl
@@ -94,7 +94,7 @@ set_tells = told_by AnyValue set_text (value_in_table ((codes "primary", char_se
     again char_sets.Drcs any = refl
 
 pub cursor_tells : Tells AnyValue cursor_text
-cursor_tells = told_by AnyValue cursor_text (value_in_table ((codes "flash", cursors.Flash) ∷ (codes "steady", cursors.Steady) ∷ []) cursors.Off) again
+cursor_tells = tells_if_read AnyValue cursor_text (value_in_table ((codes "flash", cursors.Flash) ∷ (codes "steady", cursors.Steady) ∷ []) cursors.Off) again
   where
     again : (kind : CursorKind) → AnyValue kind → value_in_table ((codes "flash", cursors.Flash) ∷ (codes "steady", cursors.Steady) ∷ []) cursors.Off (cursor_text kind) ≡ kind
     again cursors.Flash any = refl
@@ -102,7 +102,7 @@ cursor_tells = told_by AnyValue cursor_text (value_in_table ((codes "flash", cur
     again cursors.Off any = refl
 
 pub mask_tells : Tells AnyValue mask_text
-mask_tells = told_by AnyValue mask_text (value_in_table ((codes "A", masks.A) ∷ (codes "B", masks.B) ∷ (codes "C", masks.C) ∷ []) masks.D) again
+mask_tells = tells_if_read AnyValue mask_text (value_in_table ((codes "A", masks.A) ∷ (codes "B", masks.B) ∷ (codes "C", masks.C) ∷ []) masks.D) again
   where
     again : (mask : Mask) → AnyValue mask → value_in_table ((codes "A", masks.A) ∷ (codes "B", masks.B) ∷ (codes "C", masks.C) ∷ []) masks.D (mask_text mask) ≡ mask
     again masks.A any = refl
@@ -111,7 +111,7 @@ mask_tells = told_by AnyValue mask_text (value_in_table ((codes "A", masks.A) �
     again masks.D any = refl
 
 named_tells : Tells AnyValue (λ (n : Size). size_text (sizes.Named n))
-named_tells = told_by AnyValue (λ (n : Size). size_text (sizes.Named n)) (value_in_table ((codes "small", named_sizes.Small) ∷ (codes "medium", named_sizes.Medium) ∷ (codes "normal", named_sizes.Normal) ∷ (codes "tall", named_sizes.Tall) ∷ []) named_sizes.Double) again
+named_tells = tells_if_read AnyValue (λ (n : Size). size_text (sizes.Named n)) (value_in_table ((codes "small", named_sizes.Small) ∷ (codes "medium", named_sizes.Medium) ∷ (codes "normal", named_sizes.Normal) ∷ (codes "tall", named_sizes.Tall) ∷ []) named_sizes.Double) again
   where
     again : (n : Size) → AnyValue n → value_in_table ((codes "small", named_sizes.Small) ∷ (codes "medium", named_sizes.Medium) ∷ (codes "normal", named_sizes.Normal) ∷ (codes "tall", named_sizes.Tall) ∷ []) named_sizes.Double (size_text (sizes.Named n)) ≡ n
     again named_sizes.Small any = refl
@@ -158,7 +158,7 @@ abbrev letter_of : Colour → ℕ
 letter_of (colours.Own origin) = 111
 letter_of (colours.Direct grb) = 100
 letter_of (colours.Front addr) = 102
-letter_of (colours.Pair front back) = 112
+letter_of (colours.Pair prefix back) = 112
 letter_of (colours.ByReset preset) = 114
 
 first_letter : (c : Colour) → get_or (colour_text c) 0 0 ≡ letter_of c
@@ -166,7 +166,7 @@ first_letter (colours.Own origins.AtStart) = refl
 first_letter (colours.Own origins.AfterReset) = refl
 first_letter (colours.Direct grb) = refl
 first_letter (colours.Front addr) = refl
-first_letter (colours.Pair front back) = refl
+first_letter (colours.Pair prefix back) = refl
 first_letter (colours.ByReset presets.Two) = refl
 first_letter (colours.ByReset presets.Three) = refl
 

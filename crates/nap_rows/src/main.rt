@@ -10,7 +10,7 @@
 //! A fourth field has more, with `,` between: `budget N` (else the usual one), `charged N` (else 0), `turns N` (else as many as
 //! bytes, if nothing is charged), `fed N` bytes read, `places N ..` (the index of the byte that adds each entry), `form1 BYTES` (the
 //! text in form 1), `plain` and `not plain`. `charged -` and `turns -` are any number. `stops` and `breaks` say where sinks
-//! and outlets with little room stop the reading.
+//! and outlets with little space stop the reading.
 #![tactic(auto)]
 
 mod answer;

@@ -47,8 +47,8 @@ impl Report {
     }
 
     /// Keeps a fault, unless one was reported before.
-    fn take(&mut self, told: Result<String, AllocError>) {
-        match told {
+    fn take(&mut self, found: Result<String, AllocError>) {
+        match found {
             Ok(text) if self.is_well() => self.text = text,
             Ok(_) => {}
             Err(AllocError) => self.lacks_memory = true,

@@ -219,7 +219,7 @@ impl<'a> Row<'a> {
         }
     }
 
-    /// Returns the wanted number of turns for this many bytes, if there is one.
+    /// Returns the wanted number of turns for `fed` bytes, if there is one.
     pub fn turns(&self, report: &mut Report, fed: u64) -> Option<u64> {
         match self.item("turns") {
             Some(text) => count(report, text),

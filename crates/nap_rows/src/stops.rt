@@ -1,4 +1,4 @@
-//! Streams that are read into sinks with little room.
+//! Streams that are read into sinks with little space.
 use crate::answer::{Answer, Cut, read_into, same_end};
 use crate::report::Report;
 use crate::row::{Row, Stop, stops_of};
@@ -16,10 +16,10 @@ fn refusal_at(fault: SinkFault, place: u64) -> Refusal {
     Refusal { fault, place }
 }
 
-/// A sink with room for this many entries, and how it fails then; or one that has failed before.
+/// The number of entries that a sink has space for, and how it fails then; or a sink that has failed before.
 #[derive(Clone, Copy, Drop)]
 struct Limit {
-    room: usize,
+    space: usize,
     fault: SinkFault,
     failed: bool,
 }
@@ -37,7 +37,7 @@ fn check_stop(
     let fault = limit.fault;
     let sink = Faltering {
         failed: limit.failed,
-        ..Faltering::new(report.alloc, limit.room, fault)
+        ..Faltering::new(report.alloc, limit.space, fault)
     };
     let reader = Reader::new(report.alloc, row.budget, sink);
     let (sink, answer) = read_into(report, reader, &row.stream, cut);
@@ -77,18 +77,18 @@ pub fn check_stops(report: &mut Report, row: &Row<'_>, answer: &Answer) -> Resul
     if !stops.is_empty() || (answer.list.is_empty() && answer.refusal.is_none()) {
         report.try_now("over a sink that has failed", 1);
         let limit = Limit {
-            room: 1,
+            space: 1,
             fault: SinkFault::Write,
             failed: true,
         };
         check_limit(report, row, limit, stops.first().copied(), &[])?;
     }
-    for (room, stop) in stops.iter().enumerate() {
-        report.try_now("over a sink that takes", room);
-        let list = answer.list.get(..room).unwrap_or(&[]);
+    for (space, stop) in stops.iter().enumerate() {
+        report.try_now("over a sink that takes", space);
+        let list = answer.list.get(..space).unwrap_or(&[]);
         for fault in [SinkFault::Write, SinkFault::Memory] {
             let limit = Limit {
-                room,
+                space,
                 fault,
                 failed: false,
             };

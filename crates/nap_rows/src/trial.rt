@@ -42,8 +42,8 @@ fn check_counts(report: &mut Report, row: &Row<'_>, answer: &Answer) {
         report.same_count("fed", all, answer.fed);
     }
     if let Some(refusal) = answer.refusal {
-        let behind = refusal.place.saturating_add(1);
-        let least = if answer.early { behind } else { all };
+        let past = refusal.place.saturating_add(1);
+        let least = if answer.early { past } else { all };
         let is_in_range = least <= answer.fed && answer.fed <= all;
         report.check(
             is_in_range,
@@ -156,7 +156,7 @@ fn check_plain(report: &mut Report, list: &[Entry], stream: &[u8]) {
 }
 
 /// Checks that each call that makes the canonical stream gives the one wanted, which has the same list and is its own
-/// canonical stream, and that outlets with any room take it.
+/// canonical stream, and that outlets with any space take it.
 fn check_canonical(report: &mut Report, row: &Row<'_>, answer: &Answer) -> Result<(), AllocError> {
     let alloc = report.alloc;
     let Ok(text) = canon(alloc, &answer.list) else {

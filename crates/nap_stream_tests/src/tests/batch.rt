@@ -17,7 +17,7 @@ const ANSWERS: &[u8] = b"accepted 1 entries\n0\n\
     refused 1 EighthBit at 0\n0\n\
     accepted 1 entries\n49\n5 POINT 4194304,4194304 pel=0,0 colour=own-start\n";
 
-/// An input, the number of bytes of a read, and which read fails; the room of the output; the number of answer bytes
+/// An input, the number of bytes of a read, and which read fails; the space of the output; the number of answer bytes
 /// written, the report, and the status.
 type Row = (&'static [u8], (usize, u64), usize, usize, &'static [u8], u8);
 
@@ -103,12 +103,12 @@ const ROWS: &[Row] = &[
     (b"convert 0 0\n", (ALL, 0), ALL, 0, b"request fault\n", 3),
 ];
 
-/// Returns the output and standard error after requests, and the status. An output without room for all takes three
+/// Returns the output and standard error after requests, and the status. An output without space for all takes three
 /// bytes at a write.
-fn run(alloc: Global, input: Giver<'_>, room: usize) -> (Taker, Taker, u8) {
-    let most = if room == ALL { ALL } else { 3 };
+fn run(alloc: Global, input: Giver<'_>, space: usize) -> (Taker, Taker, u8) {
+    let most = if space == ALL { ALL } else { 3 };
     let mut input = Source::new(input);
-    let mut output = Target::new(Taker::new(alloc, room, most, End::Fails));
+    let mut output = Target::new(Taker::new(alloc, space, most, End::Fails));
     let mut errors = Target::new(Taker::wide(alloc));
     let status = batch(alloc, &mut input, &mut output, &mut errors);
     (output.into_inner(), errors.into_inner(), status)
@@ -116,14 +116,14 @@ fn run(alloc: Global, input: Giver<'_>, room: usize) -> (Taker, Taker, u8) {
 
 #[test]
 fn requests_are_answered_in_turn(rt: HostRuntime) {
-    for (input, gives, room, out, told, status) in ROWS {
+    for (input, gives, space, out, reported, status) in ROWS {
         let giver = Giver::new(input, gives.0, gives.1);
-        let (output, errors, ended) = run(rt.alloc(), giver, *room);
+        let (output, errors, ended) = run(rt.alloc(), giver, *space);
         let is_sent = ended != 0 || (output.flushes, output.sent) == (3, *out);
         let found = ANSWERS.get(..*out) == Some(output.kept.as_slice())
-            && errors.kept.as_slice() == *told
+            && errors.kept.as_slice() == *reported
             && ended == *status;
-        assert!(rt; found && is_sent, "{input:?} by {gives:?} into {room}");
+        assert!(rt; found && is_sent, "{input:?} by {gives:?} into {space}");
     }
 }
 
@@ -145,7 +145,7 @@ fn a_line_says_a_question_a_budget_and_a_length(rt: HostRuntime) -> Result<(), F
 }
 
 #[test]
-fn places_before_a_refusal_stand(rt: HostRuntime) -> Result<(), Fail> {
+fn places_before_a_refusal_stay(rt: HostRuntime) -> Result<(), Fail> {
     let page = b"\x0E\x26\x52\x28\x7F";
     let answer = answer_page(rt.alloc(), Question::Places, Budget::usual(), page)?;
     let line: &[u8] = b"refused 10 Outside at 3\n";

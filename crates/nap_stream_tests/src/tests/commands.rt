@@ -24,16 +24,16 @@ struct Row {
     input: &'static [u8],
     /// The number of bytes of a read, and which read fails.
     gives: (usize, u64),
-    /// The room of the output, and the number of bytes of a write.
+    /// The space of the output, and the number of bytes of a write.
     takes: (usize, usize),
     end: End,
     good_flushes: u64,
-    /// The room of standard error. It takes a byte at a write, unless it takes all.
-    error_room: usize,
+    /// The space of standard error. It takes a byte at a write, unless it takes all.
+    error_space: usize,
     /// What is printed.
     out: &'static [u8],
     /// What is reported.
-    told: &'static [u8],
+    reported: &'static [u8],
     status: u8,
     /// The number of reads, if the row says so.
     reads: Option<u64>,
@@ -52,9 +52,9 @@ const USUAL: Row = Row {
     takes: (ALL, ALL),
     end: End::Fails,
     good_flushes: u64::MAX,
-    error_room: ALL,
+    error_space: ALL,
     out: b"",
-    told: b"",
+    reported: b"",
     status: 0,
     reads: None,
     flushes: None,
@@ -81,7 +81,7 @@ const ROWS: &[Row] = &[
         input: POINT,
         takes: (5, 1),
         out: b"\x0E\x21\x5F\x26\x52",
-        told: b"write fault after 5 bytes\n",
+        reported: b"write fault after 5 bytes\n",
         status: 3,
         ..CANON
     },
@@ -89,7 +89,7 @@ const ROWS: &[Row] = &[
         input: POINT,
         takes: (0, 1),
         end: End::Closes,
-        told: b"write fault after 0 bytes\n",
+        reported: b"write fault after 0 bytes\n",
         status: 3,
         ..CANON
     },
@@ -98,14 +98,14 @@ const ROWS: &[Row] = &[
         takes: (5, 1),
         end: End::Closes,
         out: b"POINT",
-        told: b"write fault after 5 bytes\n",
+        reported: b"write fault after 5 bytes\n",
         status: 3,
         ..LIST
     },
     Row {
         takes: (5, 1),
         good_flushes: 0,
-        told: b"write fault after 0 bytes\n",
+        reported: b"write fault after 0 bytes\n",
         status: 3,
         ..LIST
     },
@@ -113,7 +113,7 @@ const ROWS: &[Row] = &[
         input: POINT,
         takes: (8, 1),
         out: b"accepted",
-        told: b"write fault after 8 bytes\n",
+        reported: b"write fault after 8 bytes\n",
         status: 3,
         ..USUAL
     },
@@ -121,7 +121,7 @@ const ROWS: &[Row] = &[
         input: b"\x80",
         takes: (7, 1),
         out: b"refused",
-        told: b"write fault after 7 bytes\n",
+        reported: b"write fault after 7 bytes\n",
         status: 3,
         ..USUAL
     },
@@ -129,7 +129,7 @@ const ROWS: &[Row] = &[
         input: b"\x80",
         takes: (7, 1),
         good_flushes: 0,
-        told: b"write fault after 0 bytes\n",
+        reported: b"write fault after 0 bytes\n",
         status: 3,
         ..LIST
     },
@@ -137,7 +137,7 @@ const ROWS: &[Row] = &[
         input: b"\x80",
         takes: (7, 1),
         good_flushes: 0,
-        told: b"write fault after 0 bytes\n",
+        reported: b"write fault after 0 bytes\n",
         status: 3,
         ..CANON
     },
@@ -156,7 +156,7 @@ const ROWS: &[Row] = &[
     Row {
         input: b"\x80",
         takes: (0, 1),
-        told: REFUSED,
+        reported: REFUSED,
         status: 1,
         ..LIST
     },
@@ -164,7 +164,7 @@ const ROWS: &[Row] = &[
     Row {
         input: POINT,
         gives: (1, 1),
-        told: b"read fault\n",
+        reported: b"read fault\n",
         status: 3,
         reads: Some(1),
         ..LIST
@@ -172,7 +172,7 @@ const ROWS: &[Row] = &[
     Row {
         input: POINT,
         gives: (1, 2),
-        told: b"read fault\n",
+        reported: b"read fault\n",
         status: 3,
         reads: Some(2),
         ..LIST
@@ -180,7 +180,7 @@ const ROWS: &[Row] = &[
     Row {
         input: POINT,
         gives: (1, 3),
-        told: b"read fault\n",
+        reported: b"read fault\n",
         status: 3,
         reads: Some(3),
         ..LIST
@@ -188,7 +188,7 @@ const ROWS: &[Row] = &[
     Row {
         input: POINT,
         gives: (1, 4),
-        told: b"read fault\n",
+        reported: b"read fault\n",
         status: 3,
         reads: Some(4),
         ..LIST
@@ -196,7 +196,7 @@ const ROWS: &[Row] = &[
     Row {
         input: POINT,
         gives: (1, 1),
-        told: b"read fault\n",
+        reported: b"read fault\n",
         status: 3,
         reads: Some(1),
         ..USUAL
@@ -204,7 +204,7 @@ const ROWS: &[Row] = &[
     Row {
         input: POINT,
         gives: (1, 2),
-        told: b"read fault\n",
+        reported: b"read fault\n",
         status: 3,
         reads: Some(2),
         ..USUAL
@@ -212,7 +212,7 @@ const ROWS: &[Row] = &[
     Row {
         input: POINT,
         gives: (1, 3),
-        told: b"read fault\n",
+        reported: b"read fault\n",
         status: 3,
         reads: Some(3),
         ..USUAL
@@ -220,7 +220,7 @@ const ROWS: &[Row] = &[
     Row {
         input: POINT,
         gives: (1, 4),
-        told: b"read fault\n",
+        reported: b"read fault\n",
         status: 3,
         reads: Some(4),
         ..USUAL
@@ -228,7 +228,7 @@ const ROWS: &[Row] = &[
     Row {
         input: POINT,
         gives: (1, 1),
-        told: b"read fault\n",
+        reported: b"read fault\n",
         status: 3,
         reads: Some(1),
         ..CANON
@@ -236,7 +236,7 @@ const ROWS: &[Row] = &[
     Row {
         input: POINT,
         gives: (1, 2),
-        told: b"read fault\n",
+        reported: b"read fault\n",
         status: 3,
         reads: Some(2),
         ..CANON
@@ -244,7 +244,7 @@ const ROWS: &[Row] = &[
     Row {
         input: POINT,
         gives: (1, 3),
-        told: b"read fault\n",
+        reported: b"read fault\n",
         status: 3,
         reads: Some(3),
         ..CANON
@@ -252,7 +252,7 @@ const ROWS: &[Row] = &[
     Row {
         input: POINT,
         gives: (1, 4),
-        told: b"read fault\n",
+        reported: b"read fault\n",
         status: 3,
         reads: Some(4),
         ..CANON
@@ -261,7 +261,7 @@ const ROWS: &[Row] = &[
     Row {
         input: b"\x80\x0E\x26",
         gives: (1, 3),
-        told: b"read fault\n",
+        reported: b"read fault\n",
         status: 3,
         reads: Some(3),
         ..LIST
@@ -269,7 +269,7 @@ const ROWS: &[Row] = &[
     Row {
         input: b"\x80\x0E\x26",
         gives: (1, 4),
-        told: b"read fault\n",
+        reported: b"read fault\n",
         status: 3,
         reads: Some(4),
         ..LIST
@@ -277,7 +277,7 @@ const ROWS: &[Row] = &[
     Row {
         input: b"\x80\x0E\x26",
         gives: (1, 100),
-        told: REFUSED,
+        reported: REFUSED,
         status: 1,
         reads: Some(4),
         ..LIST
@@ -285,7 +285,7 @@ const ROWS: &[Row] = &[
     Row {
         input: b"\x80\x0E\x26",
         gives: (1, 3),
-        told: b"read fault\n",
+        reported: b"read fault\n",
         status: 3,
         reads: Some(3),
         ..USUAL
@@ -293,7 +293,7 @@ const ROWS: &[Row] = &[
     Row {
         input: b"\x80\x0E\x26",
         gives: (1, 4),
-        told: b"read fault\n",
+        reported: b"read fault\n",
         status: 3,
         reads: Some(4),
         ..USUAL
@@ -309,7 +309,7 @@ const ROWS: &[Row] = &[
     Row {
         input: b"\x80\x0E\x26",
         gives: (1, 3),
-        told: b"read fault\n",
+        reported: b"read fault\n",
         status: 3,
         reads: Some(3),
         ..CANON
@@ -317,7 +317,7 @@ const ROWS: &[Row] = &[
     Row {
         input: b"\x80\x0E\x26",
         gives: (1, 4),
-        told: b"read fault\n",
+        reported: b"read fault\n",
         status: 3,
         reads: Some(4),
         ..CANON
@@ -325,7 +325,7 @@ const ROWS: &[Row] = &[
     Row {
         input: b"\x80\x0E\x26",
         gives: (1, 100),
-        told: REFUSED,
+        reported: REFUSED,
         status: 1,
         reads: Some(4),
         ..CANON
@@ -334,7 +334,7 @@ const ROWS: &[Row] = &[
     Row {
         hex: true,
         takes: (100, 1),
-        error_room: 3,
+        error_space: 3,
         out: b"accepted 0 entries\n",
         status: 0,
         ..USUAL
@@ -343,7 +343,7 @@ const ROWS: &[Row] = &[
         hex: true,
         input: b"80",
         takes: (100, 1),
-        error_room: 3,
+        error_space: 3,
         out: REFUSED,
         status: 1,
         ..USUAL
@@ -352,8 +352,8 @@ const ROWS: &[Row] = &[
         hex: true,
         input: b"80",
         takes: (100, 1),
-        error_room: 3,
-        told: b"ref",
+        error_space: 3,
+        reported: b"ref",
         status: 1,
         ..LIST
     },
@@ -361,8 +361,8 @@ const ROWS: &[Row] = &[
         hex: true,
         input: b"80",
         takes: (100, 1),
-        error_room: 3,
-        told: b"ref",
+        error_space: 3,
+        reported: b"ref",
         status: 1,
         ..CANON
     },
@@ -370,17 +370,17 @@ const ROWS: &[Row] = &[
         hex: true,
         input: b"8",
         takes: (100, 1),
-        error_room: 3,
-        told: b"hex",
+        error_space: 3,
+        reported: b"hex",
         status: 3,
         ..CANON
     },
     Row {
         hex: true,
         takes: (2, 1),
-        error_room: 3,
+        error_space: 3,
         out: b"0e",
-        told: b"wri",
+        reported: b"wri",
         status: 3,
         ..CANON
     },
@@ -388,8 +388,8 @@ const ROWS: &[Row] = &[
         input: b"\x0E",
         gives: (ALL, 2),
         takes: (100, 1),
-        error_room: 3,
-        told: b"rea",
+        error_space: 3,
+        reported: b"rea",
         status: 3,
         ..LIST
     },
@@ -438,7 +438,7 @@ const ROWS: &[Row] = &[
     Row {
         hex: true,
         input: b"80",
-        told: REFUSED,
+        reported: REFUSED,
         status: 1,
         flushes: Some((1, 1)),
         ..LIST
@@ -446,7 +446,7 @@ const ROWS: &[Row] = &[
     Row {
         hex: true,
         input: b"80",
-        told: REFUSED,
+        reported: REFUSED,
         status: 1,
         flushes: Some((1, 1)),
         ..CANON
@@ -454,7 +454,7 @@ const ROWS: &[Row] = &[
     Row {
         hex: true,
         input: b"8",
-        told: b"hex fault\n",
+        reported: b"hex fault\n",
         status: 3,
         flushes: Some((1, 1)),
         ..LIST
@@ -462,7 +462,7 @@ const ROWS: &[Row] = &[
     Row {
         hex: true,
         input: b"8",
-        told: b"hex fault\n",
+        reported: b"hex fault\n",
         status: 3,
         flushes: Some((1, 1)),
         ..USUAL
@@ -470,7 +470,7 @@ const ROWS: &[Row] = &[
     Row {
         hex: true,
         input: b"8",
-        told: b"hex fault\n",
+        reported: b"hex fault\n",
         status: 3,
         flushes: Some((1, 1)),
         ..CANON
@@ -480,7 +480,7 @@ const ROWS: &[Row] = &[
         hex: true,
         input: b"0E2652",
         takes: (0, ALL),
-        told: b"write fault after 0 bytes\n",
+        reported: b"write fault after 0 bytes\n",
         status: 3,
         flushes: Some((0, 1)),
         ..LIST
@@ -489,7 +489,7 @@ const ROWS: &[Row] = &[
         hex: true,
         input: b"0E2652",
         takes: (0, ALL),
-        told: b"write fault after 0 bytes\n",
+        reported: b"write fault after 0 bytes\n",
         status: 3,
         flushes: Some((0, 1)),
         ..USUAL
@@ -498,7 +498,7 @@ const ROWS: &[Row] = &[
         hex: true,
         input: b"0E2652",
         takes: (0, ALL),
-        told: b"write fault after 0 bytes\n",
+        reported: b"write fault after 0 bytes\n",
         status: 3,
         flushes: Some((0, 1)),
         ..CANON
@@ -521,7 +521,7 @@ const ROWS: &[Row] = &[
         gives: (1, 5),
         takes: (100, ALL),
         out: b"\x0E\x21\x5F",
-        told: b"read fault\n",
+        reported: b"read fault\n",
         status: 3,
         reads: Some(5),
         flushes: Some((1, 1)),
@@ -533,7 +533,7 @@ const ROWS: &[Row] = &[
         gives: (1, 8),
         takes: (100, ALL),
         out: POINT_TEXT,
-        told: b"read fault\n",
+        reported: b"read fault\n",
         status: 3,
         reads: Some(8),
         flushes: Some((1, 1)),
@@ -545,7 +545,7 @@ const ROWS: &[Row] = &[
         gives: (1, 0),
         takes: (5, ALL),
         out: b"\x0E\x21\x5F\x26\x52",
-        told: b"write fault after 5 bytes\n",
+        reported: b"write fault after 5 bytes\n",
         status: 3,
         reads: Some(6),
         flushes: Some((0, 1)),
@@ -557,7 +557,7 @@ const ROWS: &[Row] = &[
         gives: (1, 0),
         takes: (3, ALL),
         out: b"\x0E\x21\x5F",
-        told: b"write fault after 3 bytes\n",
+        reported: b"write fault after 3 bytes\n",
         status: 3,
         reads: Some(6),
         flushes: Some((0, 1)),
@@ -569,7 +569,7 @@ const ROWS: &[Row] = &[
         gives: (1, 0),
         takes: (2, ALL),
         out: b"\x0E\x21",
-        told: b"write fault after 2 bytes\n",
+        reported: b"write fault after 2 bytes\n",
         status: 3,
         reads: Some(0),
         flushes: Some((0, 1)),
@@ -580,7 +580,7 @@ const ROWS: &[Row] = &[
         hex: true,
         stream: true,
         input: b"0E",
-        told: b"--hex and --stream exclude each other\n",
+        reported: b"--hex and --stream exclude each other\n",
         status: 2,
         reads: Some(0),
         flushes: Some((0, 1)),
@@ -603,7 +603,7 @@ impl<R> Ended<R> {
         let Ended { output, errors, .. } = self;
         let flushes = (output.flushes, errors.flushes);
         output.kept.as_slice() == row.out
-            && errors.kept.as_slice() == row.told
+            && errors.kept.as_slice() == row.reported
             && self.status == row.status
             && row.flushes.unwrap_or(flushes) == flushes
     }
@@ -629,8 +629,8 @@ fn run<R: Read + Drop>(alloc: Global, row: &Row, input: R) -> Ended<R> {
         ..Taker::new(alloc, row.takes.0, row.takes.1, row.end)
     };
     let mut input = Source::new(input);
-    let most = if row.error_room == ALL { ALL } else { 1 };
-    let mut errors = Target::new(Taker::new(alloc, row.error_room, most, End::Fails));
+    let most = if row.error_space == ALL { ALL } else { 1 };
+    let mut errors = Target::new(Taker::new(alloc, row.error_space, most, End::Fails));
     let (output, status) = execute(
         alloc,
         &command,
@@ -670,7 +670,7 @@ fn a_long_input_is_read_once_past_its_bytes(rt: HostRuntime) {
     assert!(rt; ended.is(&row) && ended.input.reads == 18);
 }
 
-/// The room of an output, its good flushes, the number of bytes taken, the number of flushes and what the last found,
+/// The space of an output, its good flushes, the number of bytes taken, the number of flushes and what the last found,
 /// and the result.
 const TEXTS: &[(usize, u64, usize, (u64, usize), Option<Failure>)] = &[
     (ALL, 1, 12, (1, 12), None),
@@ -682,16 +682,16 @@ const TEXTS: &[(usize, u64, usize, (u64, usize), Option<Failure>)] = &[
 // Help and wrong words are printed and reported in this way. An output whose write failed isn't flushed any more.
 #[test]
 fn a_text_is_taken_whole_and_sent_on(rt: HostRuntime) {
-    for (room, good_flushes, kept, flushed, fault) in TEXTS {
+    for (space, good_flushes, kept, flushed, fault) in TEXTS {
         let mut output = Target::new(Taker {
             good_flushes: *good_flushes,
-            ..Taker::new(rt.alloc(), *room, ALL, End::Fails)
+            ..Taker::new(rt.alloc(), *space, ALL, End::Fails)
         });
         let written = write_whole(&mut output, POINT_TEXT).err();
         let taker = output.into_inner();
         let found = written == *fault
             && taker.kept.as_slice() == &POINT_TEXT[..*kept]
             && (taker.flushes, taker.sent) == *flushed;
-        assert!(rt; found, "with room for {room}");
+        assert!(rt; found, "with space for {space}");
     }
 }

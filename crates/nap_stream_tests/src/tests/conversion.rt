@@ -56,7 +56,7 @@ struct Row {
     budget: u32,
     /// The number of bytes of a read, and which read fails.
     gives: (usize, u64),
-    /// The room of the output, and the number of bytes of a write.
+    /// The space of the output, and the number of bytes of a write.
     takes: (usize, usize),
     end: End,
     /// The number of flushes that are done.
@@ -355,19 +355,19 @@ fn any_write_may_fail(rt: HostRuntime) {
         (MISSING, End::Fails),
         (MISSING, End::Closes),
     ] {
-        for room in 0..12_u8 {
-            let written = u64::from(room);
+        for space in 0..12_u8 {
+            let written = u64::from(space);
             let row = Row {
-                takes: (usize::from(room), 1),
+                takes: (usize::from(space), 1),
                 end,
                 answer: Err(ConvertFault::Write { written }),
-                kept: usize::from(room),
+                kept: usize::from(space),
                 flushes: 0,
                 writes: Some(written.saturating_add(1)),
                 ..USUAL
             };
             let giver = Giver::new(input, 64, 0);
-            assert!(rt; leaves(rt.alloc(), &row, giver), "with room for {room}");
+            assert!(rt; leaves(rt.alloc(), &row, giver), "with space for {space}");
         }
     }
 }
@@ -395,11 +395,11 @@ fn an_endless_input_is_a_read_fault(rt: HostRuntime) {
 /// Returns the bytes, and then `count` copies of a piece.
 fn repeated(
     alloc: Global,
-    front: &[u8],
+    prefix: &[u8],
     piece: &[u8],
     count: usize,
 ) -> Result<Vec<u8>, AllocError> {
-    let mut bytes = Vec::from_slice(alloc, front)?;
+    let mut bytes = Vec::from_slice(alloc, prefix)?;
     for _ in 0..count {
         bytes.extend_from_slice(piece)?;
     }

@@ -37,7 +37,7 @@ fn lacks(bytes: &[u8], refusal: Refusal) -> bool {
     refusal.fault == Fault::Memory && refusal.place <= bytes.len() as u64
 }
 
-// Whether the page has this many entries, or lacks memory.
+// Whether the page has `entries` entries, or lacks memory.
 fn reads_whole(alloc: Global, bytes: &[u8], entries: usize) -> bool {
     match read_all(alloc, Budget::usual(), bytes) {
         Ok(list) => list.len() == entries,
@@ -45,7 +45,7 @@ fn reads_whole(alloc: Global, bytes: &[u8], entries: usize) -> bool {
     }
 }
 
-// Whether the page has this many entries, or the first of them and a lasting refusal.
+// Whether the page has `entries` entries, or the first of them and a lasting refusal.
 #[tactic(auto, unfolding(nap_list::specs::State::walk))]
 fn reads(alloc: Global, bytes: &[u8], entries: usize) -> bool {
     if bytes.len() >= 1 << 32 {

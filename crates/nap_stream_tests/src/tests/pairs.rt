@@ -143,7 +143,7 @@ fn pairs_of_bytes_alone(rt: HostRuntime) -> Result<(), Fail> {
 }
 
 #[test]
-fn pairs_of_bytes_behind_so(rt: HostRuntime) -> Result<(), Fail> {
+fn pairs_of_bytes_after_so(rt: HostRuntime) -> Result<(), Fail> {
     let alloc = rt.alloc();
     let mut tallies = Vec::new(alloc);
     for pair in 0..=u16::MAX {
@@ -155,7 +155,7 @@ fn pairs_of_bytes_behind_so(rt: HostRuntime) -> Result<(), Fail> {
         answer.agrees_in(&rt, alloc, &[&[0x0E, first], &[second]]);
         count(&mut tallies, pair, &answer)?;
     }
-    are_all(&rt, alloc, &tallies, BEHIND)?;
+    are_all(&rt, alloc, &tallies, AFTER_SO)?;
     Ok(())
 }
 
@@ -188,7 +188,7 @@ Stray at 1 | 64 0 235488\n\
 Cut at 2 | 593 416 8927999";
 
 /// The refusals of pairs after `0E`, as above.
-const BEHIND: &str = "\
+const AFTER_SO: &str = "\
 accepted | 2015 1362 15567246\n\
 EighthBit at 1 | 32768 0 1610596352\n\
 EighthBit at 2 | 4608 1408 25720576\n\

@@ -39,7 +39,7 @@ const ROWS: &str = "\
 1c40 | Primary false None";
 
 /// Returns a lexer that has read these bytes.
-fn behind(bytes: &[u8]) -> Lexer {
+fn lexer_after(bytes: &[u8]) -> Lexer {
     let mut lexer = Lexer::new();
     for byte in bytes {
         lexer.step(*byte);
@@ -67,7 +67,7 @@ fn characters_are_those_of_the_set_in_gl(rt: HostRuntime) -> Result<(), Fail> {
     let alloc = rt.alloc();
     for row in ROWS.lines() {
         let (bytes, want) = parted(row);
-        let lexer = behind(&bytes_of(alloc, bytes));
+        let lexer = lexer_after(&bytes_of(alloc, bytes));
         let sets = lexer.sets();
         let (set, rest, characters) = (sets.set_at(sets.gl), lexer.at_rest(), lexer.char_set());
         let came = format!(in alloc; "{set:?} {rest} {characters:?}")?;

@@ -48,16 +48,16 @@ pub fn is_made(code: &Code) -> bool
 #[tactic(auto, unfolding(nap_list::specs::State::walk))]
 fn lengths_after_a_reset(alloc: Global, reset: &[u8]) -> [u8; 4] {
     let domain = b"_".as_slice();
-    let mut room = Vec::new(alloc);
+    let mut scratch = Vec::new(alloc);
     let mut sink = ListSink::new(alloc);
     let mut work = Work::start();
     if domain.len() > RUN_LIMIT || reset.len() > RUN_LIMIT {
         return [0; 4];
     }
-    let Ok(_) = work.act(alloc, &mut room, Opcode::Domain, domain, &mut sink) else {
+    let Ok(_) = work.act(alloc, &mut scratch, Opcode::Domain, domain, &mut sink) else {
         return [0; 4];
     };
-    let Ok(_) = work.act(alloc, &mut room, Opcode::Reset, reset, &mut sink) else {
+    let Ok(_) = work.act(alloc, &mut scratch, Opcode::Reset, reset, &mut sink) else {
         return [0; 4];
     };
     let Work { domain, saved, .. } = work;
@@ -102,10 +102,10 @@ fn does_the_same_to_a_copy(alloc: Global) -> Result<bool, AllocError> {
     let Ok(effects) = apply(alloc, &start, Opcode::Reset, &run, &mut sink) else {
         return Ok(false);
     };
-    let mut room = Vec::new(alloc);
+    let mut scratch = Vec::new(alloc);
     let mut other_sink = ListSink::new(alloc);
     let mut work = Work::start();
-    let Ok(clears) = work.act(alloc, &mut room, Opcode::Reset, bytes, &mut other_sink) else {
+    let Ok(clears) = work.act(alloc, &mut scratch, Opcode::Reset, bytes, &mut other_sink) else {
         return Ok(false);
     };
     Ok(

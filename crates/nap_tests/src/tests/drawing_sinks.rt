@@ -70,14 +70,14 @@ const OPCODES: &[(Opcode, &[u8], &[Sample])] = &[
 ];
 
 #[test]
-fn sinks_fail_behind_any_entry_of_an_opcode(rt: HostRuntime) -> Result<(), Fail> {
+fn sinks_fail_after_any_entry_of_an_opcode(rt: HostRuntime) -> Result<(), Fail> {
     let alloc = rt.alloc();
     for (op, bytes, samples) in OPCODES {
         let list = entries_of(alloc, samples)?;
         for why in FAULTS {
             for count in 0..=list.len() {
                 let falters = falters(alloc, (*op, bytes), &list[..count], why)?;
-                assert!(rt; falters, "{op:?} behind {count}");
+                assert!(rt; falters, "{op:?} after {count}");
             }
         }
     }

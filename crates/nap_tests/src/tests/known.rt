@@ -61,7 +61,7 @@ fn colours_are_known_until_they_are_forgotten(rt: HostRuntime) -> Result<(), Fai
     let alloc = rt.alloc();
     for (colours, samples, want) in ROWS {
         let count = fitting(with_colours(alloc, *colours)?, alloc, samples)?;
-        assert!(rt; count == *want, "{count} of {want} behind {colours}");
+        assert!(rt; count == *want, "{count} of {want} after {colours}");
     }
     Ok(())
 }

@@ -172,7 +172,7 @@ fn lines_are_read_back(rt: HostRuntime) -> Result<(), Fail> {
 }
 
 #[test]
-fn other_lines_are_told_by_a_column(rt: HostRuntime) -> Result<(), Fail> {
+fn other_lines_have_a_column(rt: HostRuntime) -> Result<(), Fail> {
     for row in WRONG.lines() {
         let Some((line, column)) = row.rsplit_once("| ") else {
             assert!(rt; false, "{row}");
@@ -185,7 +185,7 @@ fn other_lines_are_told_by_a_column(rt: HostRuntime) -> Result<(), Fail> {
     Ok(())
 }
 
-/// Returns the line of a polygon with this many points.
+/// Returns the line of a polygon with `count` points.
 fn polygon(alloc: Global, count: usize) -> Result<Vec<u8>, AllocError> {
     let mut line = Vec::new(alloc);
     line.extend_from_slice(b"POLY-OUTLINED ")?;

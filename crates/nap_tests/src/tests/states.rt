@@ -193,7 +193,7 @@ fn a_reset_chooses_colours_by_its_code(rt: HostRuntime) {
 }
 
 /// Whether the attributes of an entry are those of the start.
-const STANDING: &[(Sample, bool)] = &[
+const CURRENT: &[(Sample, bool)] = &[
     (DOT, true),
     (LINE, true),
     (Letter(Start), true),
@@ -205,8 +205,8 @@ const STANDING: &[(Sample, bool)] = &[
 ];
 
 #[test]
-fn values_stand_where_each_is_the_same(rt: HostRuntime) -> Result<(), Fail> {
-    for (sample, want) in STANDING {
+fn attributes_are_current_if_each_is_equal(rt: HostRuntime) -> Result<(), Fail> {
+    for (sample, want) in CURRENT {
         let entry = entry_of(rt.alloc(), *sample)?;
         assert!(rt; Drawing::start().is_current(&entry) == *want, "{entry:?}");
     }
