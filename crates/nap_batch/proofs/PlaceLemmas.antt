@@ -11,7 +11,7 @@ use Rattle.nap_reader.specs.declared.reader.Reader.{Reader}
 use Rattle.std.specs.Prelude.{IfOk}
 use Rattle.std.specs.declared.alloc.AllocError.{AllocError}
 use Rattle.nap_reader.specs.Breaking.{BreaksInRun, BreaksWithin, cause_of}
-use Rattle.nap_reader.specs.Standing.{Answers, AnswersBy, HasRead, StopsAt, StopsBy, budget_of, left_of, refusal_of, sink_of}
+use Rattle.nap_reader.specs.ReaderAnswers.{Answers, AnswersBy, HasRead, StopsAt, StopsBy, budget_of, left_of, refusal_of, sink_of}
 use Rattle.nap_reader.specs.Stream.{Outcome, begun, ended_by, means}
 use Rattle.nap_reader.proofs.PublicLaws.{begun_comes_first, fed_breaks_among, more_bytes_keep_entries, more_bytes_keep_refusal}
 use Rattle.nap_batch.specs.declared.places.PlacesText.{PlacesText}

@@ -12,7 +12,7 @@ use Rattle.nap_reader.specs.declared.reader.Reader.{Reader}
 use Rattle.nap_reader.specs.declared.reader.Stopped.{Stopped}
 use Rattle.nap_reader.specs.Breaking.{BreaksInRun, cause_of}
 use Rattle.nap_reader.specs.Laws.{BreaksAmong, WantsSome}
-use Rattle.nap_reader.specs.Standing.{Answers, AnswersBy, IsBroken, IsTaken, HasRead, StopsBy, budget_of, left_of, refusal_of, sink_of}
+use Rattle.nap_reader.specs.ReaderAnswers.{Answers, AnswersBy, IsBroken, IsTaken, HasRead, StopsBy, budget_of, left_of, refusal_of, sink_of}
 use Rattle.nap_reader.specs.Stream.{Outcome, begun, ended_by, means}
 use Rattle.nap_reader.proofs.PublicLaws.{begun_comes_first, end_breaks_among, fed_breaks_among, more_bytes_keep_refusal}
 use Rattle.nap_c.specs.Checks.{uncounted}
@@ -47,7 +47,7 @@ refused_on budget p more r is =
 
 -- Why a page that is checked in pieces is refused, under this budget.
 module _ {g : Ghosts CountSink} (wants_is : (d : List Entry) → g.wants uncounted d → Uncounted uncounted d) (reader : Reader CountSink g) (budget : ℕ) (same : budget_of reader ≡ budget)
-    (p : List ℕ) (stands : HasRead reader uncounted p) (r : Refusal) where
+    (p : List ℕ) (has_read : HasRead reader uncounted p) (r : Refusal) where
   -- a count exceeds 64 bits for all entries if it does for a prefix
   uncountable : (known more all : List Entry) → all ≡ known ++ more → WantsSome g uncounted known → 2 ^ 64 ≤ length all
   uncountable known more all joins (first, rest, parts, wants) =
@@ -74,7 +74,7 @@ module _ {g : Ghosts CountSink} (wants_is : (d : List Entry) → g.wants uncount
     known : AnswersBy g uncounted budget p (sink_of reader) (left_of reader) r (cause_of r.fault)
     known =
         subst (λ (b : ℕ). AnswersBy g uncounted b p (sink_of reader) (left_of reader) r (cause_of r.fault)) same
-        (subst (Answers g uncounted (budget_of reader) p (sink_of reader) (left_of reader)) some stands.answers)
+        (subst (Answers g uncounted (budget_of reader) p (sink_of reader) (left_of reader)) some has_read.answers)
 
     among : (i : ℕ) → i < length p → cause_of r.fault ≡ memory → IsBroken g uncounted budget (take i p) (get_or p i 0) (sink_of reader) (left_of reader) r →
         BreaksAmong g uncounted budget (p ++ more) (begun budget []).entries (begun budget (p ++ more)) (sink_of reader) r
@@ -101,7 +101,7 @@ module _ {g : Ghosts CountSink} (wants_is : (d : List Entry) → g.wants uncount
   module _ (t : CountSink) (unrefused : refusal_of reader ≡ None) (refused : cause_of r.fault ≡ stream → IsTaken g uncounted (means (budget_of reader) p) t (Some r))
       (breaks : cause_of r.fault ≢ stream → BreaksInRun g uncounted (budget_of reader) p t r) (sound : r.fault ≢ fault.Sink) where
     before : (begun budget p).refusal ≡ None
-    before = subst (λ (b : ℕ). (begun b p).refusal ≡ None) same (subst (Answers g uncounted (budget_of reader) p (sink_of reader) (left_of reader)) unrefused stands.answers).refusal
+    before = subst (λ (b : ℕ). (begun b p).refusal ≡ None) same (subst (Answers g uncounted (budget_of reader) p (sink_of reader) (left_of reader)) unrefused has_read.answers).refusal
 
     why_at_end : (cause : Cause) → cause_of r.fault ≡ cause → IsRefusal budget p (LacksToCount budget p) r
     why_at_end stream is = own p is (subst (λ (b : ℕ). (means b p).refusal ≡ Some r) same (refused is).0)

@@ -3,7 +3,7 @@ use Rattle.nap_list.specs.declared.count_sink.CountSink.{CountSink}
 use Rattle.nap_list.specs.State.{start}
 use Rattle.nap_reader.specs.declared.fault.Fault.TheVariants as fault
 use Rattle.nap_reader.specs.declared.fault.Refusal.{Refusal}
-use Rattle.nap_reader.specs.Standing.{HasRead, budget_of, fed_of, refusal_of}
+use Rattle.nap_reader.specs.ReaderAnswers.{HasRead, budget_of, fed_of, refusal_of}
 use Rattle.nap_reader.specs.Stream.{begun}
 use Rattle.nap_c.specs.declared.answer.Answer.{Answer}
 use Rattle.nap_c.specs.declared.check.Check.{Check}
@@ -21,7 +21,7 @@ fed check = fed_of check.reader
 
 -- The check has read these bytes under this budget. Its counting sink has no device that can fail.
 pub record HasChecked (check : Check) (budget : ℕ) (p : List ℕ) : Type 0 where
-  pub stands : HasRead check.reader uncounted p
+  pub has_read : HasRead check.reader uncounted p
   pub budget_is : budget_of check.reader ≡ budget
   pub sound : (r : Refusal) → refusal_of check.reader ≡ Some r → r.fault ≢ fault.Sink
 

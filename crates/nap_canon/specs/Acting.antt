@@ -18,7 +18,7 @@ pub record Acting : Type 0 where
 
 -- the opcode at a front between two codes, if there is one
 abbrev pub acting_at : Machine → codes.Front → List Acting
-acting_at m (codes.whole (code.Op op) n sets) = record { op = op; lengths = m.work.domain } ∷ []
+acting_at m (codes.complete (code.Op op) n sets) = record { op = op; lengths = m.work.domain } ∷ []
 acting_at m _ = []
 
 -- the opcode at the front of a list; none acts in a body

@@ -18,7 +18,7 @@ use Rattle.nap_lines.specs.PrintingLaws.{passes_more}
 use Rattle.nap_reader.specs.declared.fault.Fault.{Fault}
 use Rattle.nap_reader.specs.declared.fault.Fault.TheVariants as fault
 use Rattle.nap_reader.specs.declared.fault.Refusal.{Refusal}
-use Rattle.nap_reader.specs.Breaking.{cause_of, BreaksWithin, TookFront}
+use Rattle.nap_reader.specs.Breaking.{cause_of, BreaksWithin, TookPrefix}
 use Rattle.nap_reader.specs.Collecting.{RefusedBy}
 use Rattle.nap_reader.specs.Stream.{means}
 use Rattle.nap_reader.specs.Twice.{IsReadTwice, ReadsTwice}
@@ -139,7 +139,7 @@ module _ {O : Type 0} (o : outlet.Ghosts O) (w : O) (works : o.failed w ≡ fals
       (took_is : (t : Printing O) (d : List Entry) → k.took begun d t → Took o begun d t) (broke_is : (t : Printing O) (d : List Entry) (e : Entry) → k.broke begun d e t → Broke o begun d e t)
       (u : O) (n : ℕ) (v : Printing O) where
     breaks : (accepted : (means c.budget page).refusal ≡ None) (r : Refusal) (cause : Cause) → cause_of r.fault ≡ cause → BreaksWithin c.budget page r.place →
-        TookFront k begun [] (means c.budget page).entries v cause → u ≡ v.outlet → n ≡ v.written → Leaves u n (Err r)
+        TookPrefix k begun [] (means c.budget page).entries v cause → u ≡ v.outlet → n ≡ v.written → Leaves u n (Err r)
     breaks accepted r stream is place part output written = absurd part
     breaks accepted r memory is place (first, rest, entries, took) output written =
         some_printed accepted u n v r place output written first rest v.buffered entries (took_is v first took).passes (λ _. memory_fault r.fault is)

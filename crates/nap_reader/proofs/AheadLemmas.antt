@@ -34,7 +34,7 @@ operands_run n (suc j) (b ∷ bs) few = at (is_operand_byte b) refl few (operand
     at true is few others = rw (is, others (omega (arith, few))) (omega arith)
     at false is few others = absurd (omega (arith, few))
 
-opens_nothing : (m : Machine) (op : Opcode) (x : Placed) (ys : List Placed) → m.mode ≡ between → codes.front m.sets (x.byte ∷ []) ≡ codes.whole (code.Op op) 1 m.sets →
+opens_nothing : (m : Machine) (op : Opcode) (x : Placed) (ys : List Placed) → m.mode ≡ between → codes.front m.sets (x.byte ∷ []) ≡ codes.complete (code.Op op) 1 m.sets →
     run_length ys ≡ length ys → (outcome_from m (x ∷ ys)).entries ≡ []
 opens_nothing m op x ys mode names all =
     ap (λ (o : Outcome). o.entries) (outcome_from-front m (x ∷ ys) ∙ ap (outcome_by_front outcome_from m (x ∷ ys)) (front_code m [] x ys mode refl names refl))
@@ -50,7 +50,7 @@ opens_nothing m op x ys mode names all =
 
 -- The next byte is an opcode.
 module _ {S : Type 0} {g : Ghosts S} {s t : S} {h : ReadingState} (budget : ℕ) (p : List ℕ) (k : Continues g s (begun budget p) t h []) (no_body : h.open_body ≡ None) (rested : h.half ≡ []) (b : ℕ) (op : Opcode)
-    (names : codes.front h.machine.sets (b ∷ []) ≡ codes.whole (code.Op op) 1 h.machine.sets) (other : is_operand_byte b ≡ false) where
+    (names : codes.front h.machine.sets (b ∷ []) ≡ codes.complete (code.Op op) 1 h.machine.sets) (other : is_operand_byte b ≡ false) where
   abbrev bytes_after : List ℕ → List Placed
   bytes_after bs = placed_from (suc (length p)) bs
 
@@ -74,10 +74,10 @@ module _ {S : Type 0} {g : Ghosts S} {s t : S} {h : ReadingState} (budget : ℕ)
     where
       none : Alike (k.done ++ [])
       none bs all =
-          let empty : k.rest ≡ [] = rest_of_nothing k.rest ((is_half h k.rest no_body closed k.held).0 ∙ rested) in
+          let empty : k.rest ≡ [] = rest_of_nothing k.rest ((is_half h k.rest no_body closed k.retained).0 ∙ rested) in
           ap (λ (o : Outcome). o.entries) (leads_more budget p (b ∷ bs) k).leads
           ∙ ap (λ (xs : List Placed). k.done ++ (outcome_from h.machine (xs ++ opcode ∷ bytes_after bs)).entries) empty
-          ∙ ap (λ (es : List Entry). k.done ++ es) (opens_nothing h.machine op opcode (bytes_after bs) (is_between h k.rest no_body k.held).mode names all)
+          ∙ ap (λ (es : List Entry). k.done ++ es) (opens_nothing h.machine op opcode (bytes_after bs) (is_between h k.rest no_body k.retained).mode names all)
   by_run (Some open_run) is = at (rule h.machine.work open_run.op h.run) refl
     where
       front_is : (by : Result RuleResult DrawFault) → rule h.machine.work open_run.op h.run ≡ by → (bs : List ℕ) →
@@ -92,20 +92,20 @@ module _ {S : Type 0} {g : Ghosts S} {s t : S} {h : ReadingState} (budget : ℕ)
         k.done ++ (drawn.entries ++ []),
         λ bs all.
             front_is (Ok drawn) e bs
-            ∙ ap (λ (es : List Entry). k.done ++ (drawn.entries ++ es)) (opens_nothing (after_drawing h.machine drawn) op opcode (bytes_after bs) (is_between h k.rest no_body k.held).mode names all),
+            ∙ ap (λ (es : List Entry). k.done ++ (drawn.entries ++ es)) (opens_nothing (after_drawing h.machine drawn) op opcode (bytes_after bs) (is_between h k.rest no_body k.retained).mode names all),
       )
 
-  pub opcode_brings : (rest : List ℕ) (n : ℕ) → n ≡ prefix_len is_operand_byte rest → (j : ℕ) → 1 ≤ j → j ≤ 1 + n →
+  pub opcode_adds : (rest : List ℕ) (n : ℕ) → n ≡ prefix_len is_operand_byte rest → (j : ℕ) → 1 ≤ j → j ≤ 1 + n →
       (begun budget (p ++ take j (b ∷ rest))).entries ≡ (begun budget (p ++ b ∷ [])).entries
   unfolding placed_from
-  opcode_brings rest n counted zero some few = absurd (omega (arith, some))
-  opcode_brings rest n counted (suc j) some few =
+  opcode_adds rest n counted zero some few = absurd (omega (arith, some))
+  opcode_adds rest n counted (suc j) some few =
       let (es, alike) = by_run h.open_run refl in
       alike (take j rest) (operands_run (suc (length p)) j rest (omega (arith, few, counted))) ∙ sym (alike [] refl)
 
 -- the bytes after the first one
-pub behind_first : (piece rest : List ℕ) (b : ℕ) → piece ≡ b ∷ rest → take (length piece - 1) (drop 1 piece) ≡ rest
-behind_first piece rest b parts = ap (λ (bs : List ℕ). take (length bs - 1) (drop 1 bs)) parts ∙ take_all (length (b ∷ rest) - 1) rest (omega arith)
+pub following_first : (piece rest : List ℕ) (b : ℕ) → piece ≡ b ∷ rest → take (length piece - 1) (drop 1 piece) ≡ rest
+following_first piece rest b parts = ap (λ (bs : List ℕ). take (length bs - 1) (drop 1 bs)) parts ∙ take_all (length (b ∷ rest) - 1) rest (omega arith)
 
 -- a byte below 40 is no operand
 pub no_operand : (b : ℕ) → b < 0x40 → is_operand_byte b ≡ false
@@ -123,9 +123,9 @@ pub closed_by_characters : (lexer : LexerState) (set : CharSet) (open_run : Opti
 closed_by_characters lexer set None never chars = refl
 closed_by_characters lexer set (Some open_run) never chars = absurd (never set chars)
 
-pub text_brings : {S : Type 0} {g : Ghosts S} {s t : S} {h : ReadingState} {set : CharSet} (budget : ℕ) (p piece q : List ℕ) → Continues g s (begun budget p) t h [] → IsText h set q → take (length q) piece ≡ q →
+pub text_adds : {S : Type 0} {g : Ghosts S} {s t : S} {h : ReadingState} {set : CharSet} (budget : ℕ) (p piece q : List ℕ) → Continues g s (begun budget p) t h [] → IsText h set q → take (length q) piece ≡ q →
     (j : ℕ) → j ≤ length q → length (begun budget (p ++ take j piece)).entries ≡ length (begun budget p).entries + j
-text_brings {h = h} {set = set} budget p piece q k in_text front j few =
+text_adds {h = h} {set = set} budget p piece q k in_text front j few =
     let part = take j q in
     let same : take j piece ≡ part = sym (take-take j (length q) piece few) ∙ ap (take j) front in
     let there = comes budget p k in_text part (All-take IsTextByte j q in_text.typed) in

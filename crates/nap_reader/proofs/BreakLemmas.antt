@@ -1,10 +1,10 @@
-use Rattle.nap_reader.proofs.Common.{ActsRun, BeginsAll, Bool, Breaks, BreaksAt, BreaksBetween, BreaksFrom, BreaksInBody, BreaksInRun, BreaksNext, BreaksPast, BreaksSome, BreaksWith, CanBreakAt, CanLackAt, Cause, ClosesInto, Continues, ContinuesPast, DrawFault, RuleResult, Ends, Entry, Err, Executes, Ghosts, ReadingState, Input, IsCharged, ArePendingIn, IsLive, IsOpenBody, IsSome, IsTaken, List, Machine, Memory, None, Ok, OpenBody, OpenRun, Option, Outcome, Placed, Refusal, Result, RunAt, Some, StopsRun, TookPart, Unended, Unfinished, WantsMemory, Works, [], act, after_drawing, ap, append-nil, append_assoc, arith, state_after_request, clear_request_if, at_word, begun, behind_run, body_broke, cause_of, charged_broke, closed_by, cond, draw_fault, ended_by, false, half_read, reading_state_by, in_code, in_run, inl, inr, is_operand_byte, length, length-append, means, memory, next_broke, open_place, outcome_from, placed_at, placed_from, refl, refusal, rule, run_broke, run_limit, run_place, run_refused, some_broke, stream, subst, sym, true, unfinished_by, with_code, with_drawn, with_run, ℕ, ◌++◌, ◌<◌, ◌∙◌, ◌∷◌, ◌≡◌, ◌≢◌, ◌≤◌, ◌⊎◌}
+use Rattle.nap_reader.proofs.Common.{ActsRun, BeginsAll, Bool, Breaks, BreaksAt, BreaksBetween, BreaksFrom, BreaksInBody, BreaksInRun, BreaksNext, BreaksPast, BreaksSome, BreaksWith, CanBreakAt, CanLackAt, Cause, ClosesInto, Continues, ContinuesPast, DrawFault, RuleResult, Ends, Entry, Err, Executes, Ghosts, ReadingState, Input, IsCharged, ArePendingIn, IsLive, IsOpenBody, IsSome, IsTaken, List, Machine, Memory, None, Ok, OpenBody, OpenRun, Option, Outcome, Placed, Refusal, Result, RunAt, Some, StopsRun, TookPart, Unended, Unfinished, WantsMemory, Works, [], act, after_drawing, ap, append-nil, append_assoc, arith, state_after_request, clear_request_if, at_word, begun, after_run, body_broke, cause_of, charged_broke, closed_by, cond, draw_fault, ended_by, false, half_read, reading_state_by, in_code, in_run, inl, inr, is_operand_byte, length, length-append, means, memory, next_broke, open_place, outcome_from, placed_at, placed_from, refl, refusal, rule, run_broke, run_limit, run_place, run_refused, some_broke, stream, subst, sym, true, unfinished_by, with_code, with_drawn, with_run, ℕ, ◌++◌, ◌<◌, ◌∙◌, ◌∷◌, ◌≡◌, ◌≢◌, ◌≤◌, ◌⊎◌}
 use Rattle.nap_draw.specs.Draws as draws
 use Rattle.nap_draw.specs.declared.fault.DrawFault.TheVariants as draw_faults
 use Rattle.nap_reader.specs.Stream as model
 use Rattle.nap_reader.specs.declared.machine.Machine as struct
 use Rattle.nap_reader.specs.Steps.{in_body}
-use Rattle.nap_reader.proofs.ReadingLemmas.{Lawful, TookMore, by_front, is_open_run, leads_entries, leads_machine, leads_more, leads_on, leads_taken, leads_unfinished, leads_unrefused, none_held, over, rule_part, word_joins}
+use Rattle.nap_reader.proofs.ReadingLemmas.{Lawful, TookMore, by_front, is_open_run, leads_entries, leads_machine, leads_more, leads_on, leads_taken, leads_unfinished, leads_unrefused, none_pending, over, rule_part, word_joins}
 use Rattle.nap_reader.proofs.LawLemmas.{more_bytes_keep_entries}
 use Rattle.nap_reader.proofs.PartLemmas.{body_breaks_from, breaks_longer, rule_breaks, some_in_body, wants_from}
 use Rattle.nap_reader.proofs.StepLemmas.{passes_run}
@@ -36,7 +36,7 @@ module _ {S : Type 0} {g : Ghosts S} {s : S} {o : Outcome} {t : S} {h : ReadingS
 
   -- a body is open, so no run is
   pub still_run : (body : OpenBody) → h.open_body ≡ Some body → h.open_run ≡ None
-  still_run body opened = let held : IsOpenBody k.rest body h = subst (ArePendingIn k.rest h) opened k.held in held.at.still
+  still_run body opened = let retained : IsOpenBody k.rest body h = subst (ArePendingIn k.rest h) opened k.retained in retained.at.still
 
   pub body_still : (body : OpenBody) → h.open_body ≡ Some body → with_run o ≡ o
   body_still body opened = run_still (still_run body opened)
@@ -109,7 +109,7 @@ past_run {g = g} {s = s} {t = t} {u = u} {h = h} {h' = h'} budget p k more acts 
     let m = after_drawing h.machine acts.drawn in
     let k' : Continues g s (begun budget (p ++ b ∷ [])) t h (x ∷ []) = leads_more budget p (b ∷ []) k in
     subst (λ (h' : ReadingState). ContinuesPast g s (with_run (begun budget p)).entries (begun budget (p ++ b ∷ [])) u h' (x ∷ [])) (sym acts.holds) (record {
-      continues = leads_on k' u acts.drawn.entries (record h { machine = m; open_run = None; run = [] }) (x ∷ []) more (none_held acts.between acts.is k' m refl) (over acts.between acts.is k' other _ acts.by) acts.took acts.clear;
+      continues = leads_on k' u acts.drawn.entries (record h { machine = m; open_run = None; run = [] }) (x ∷ []) more (none_pending acts.between acts.is k' m refl) (over acts.between acts.is k' other _ acts.by) acts.took acts.clear;
       done = sym (run_entries budget p acts.between acts.is k acts.drawn acts.by);
     })
 
@@ -118,7 +118,7 @@ module _ {S : Type 0} {g : Ghosts S} {s : S} {t : S} {h : ReadingState} (budget 
   pub acts_at_end : {u : S} {h' : ReadingState} → ActsRun g t h u h' → Ends g s (with_run (begun budget p)) u h'
   acts_at_end {u} {h'} acts =
       let at = run_at_end budget p acts.between acts.is k ∙ ap (with_drawn (begun budget p) acts.open_run.place) acts.by in
-      let none = ap (λ (h : ReadingState). h.half) acts.holds ∙ (is_open_run h k.rest acts.open_run acts.between acts.is k.held).1 in
+      let none = ap (λ (h : ReadingState). h.half) acts.holds ∙ (is_open_run h k.rest acts.open_run acts.between acts.is k.retained).1 in
       record {
         refusal = ap (λ (x : Outcome). x.refusal) at;
         taken = subst (λ (es : List Entry). g.took s es u) (sym (ap (λ (x : Outcome). x.entries) at)) (laws.more s t u (begun budget p).entries acts.drawn.entries (leads_taken k) acts.took);
@@ -226,18 +226,18 @@ module _ {S : Type 0} {g : Ghosts S} {s : S} {u : S} (budget : ℕ) (p : List �
   }
 
   -- the byte adds entries itself
-  pub brings_breaks : {known : List Entry} (r : Refusal) → known ≡ (closed_by (begun budget p) b).entries → r.place ≡ length p → BreaksPast g s known (begun budget (p ++ b ∷ [])) u (cause_of r.fault) → BreaksAt g s budget p b u r
-  brings_breaks {known} r same place h =
+  pub adding_breaks : {known : List Entry} (r : Refusal) → known ≡ (closed_by (begun budget p) b).entries → r.place ≡ length p → BreaksPast g s known (begun budget (p ++ b ∷ [])) u (cause_of r.fault) → BreaksAt g s budget p b u r
+  adding_breaks {known} r same place h =
       inr (record {
         place = place;
-        brings = inr (inl (λ none. h.some (nothing_more known h.next.more (sym h.next.adds ∙ none ∙ sym same))));
+        adds_entries = inr (inl (λ none. h.some (nothing_more known h.next.more (sym h.next.adds ∙ none ∙ sym same))));
         wants = λ is. inr (subst (g.wants s) (sym h.next.adds) (h.wants is));
         part = inl (between same h.next);
       })
 
   -- a body is charged
   pub uses_breaks : (r : Refusal) → r.place ≡ length p → IsCharged budget p b → BreaksFrom g s (begun budget p).entries (begun budget (p ++ b ∷ [])) u (cause_of r.fault) → BreaksAt g s budget p b u r
-  uses_breaks r place after_charge h = inr (record { place = place; brings = inr (inr (inr after_charge)); wants = λ _. inl (inr (inr after_charge)); part = inr (after_charge, h) })
+  uses_breaks r place after_charge h = inr (record { place = place; adds_entries = inr (inr (inr after_charge)); wants = λ _. inl (inr (inr after_charge)); part = inr (after_charge, h) })
 
   -- the opcode whose run the byte ends breaks
   pub run_breaks : {r : Refusal} → is_operand_byte b ≡ false → cause_of r.fault ≢ stream → ClosesInto g s budget p u r → BreaksAt g s budget p b u r
@@ -246,7 +246,7 @@ module _ {S : Type 0} {g : Ghosts S} {s : S} {u : S} (budget : ℕ) (p : List �
 
   -- a run that was open is over
   pub past_breaks : {left : ℕ} (r : Refusal) → is_operand_byte b ≡ false → r.place ≡ length p → left ≤ (begun budget p).machine.left → BreaksSome g s (with_run (begun budget p)).entries (begun budget (p ++ b ∷ [])) u left (cause_of r.fault) → BreaksAt g s budget p b u r
-  past_breaks r other place few (some_broke past) = brings_breaks r (rw other refl) place past
+  past_breaks r other place few (some_broke past) = adding_breaks r (rw other refl) place past
   past_breaks r other place few (charged_broke less from) =
       let more = run_first (begun budget p) (begun budget p).unfinished in
       uses_breaks r place (omega arith) (breaks_longer (begun budget p).entries more.0 (subst (λ (es : List Entry). BreaksFrom g s es (begun budget (p ++ b ∷ [])) u (cause_of r.fault)) more.1 from))
@@ -261,7 +261,7 @@ module _ {S : Type 0} {g : Ghosts S} {s : S} {t : S} {h : ReadingState} (budget 
   unfolding placed_from leads_more
   past_still = record { continues = leads_more budget p (b ∷ []) k; done = sym (leads_entries k) }
 
-  -- no run is open
+  -- no run is open, so the outcome with the run is the outcome
   still_same : h.open_run ≡ None → (begun budget p).entries ≡ (closed_by (begun budget p) b).entries
   still_same is = ap (λ (o : Outcome). o.entries) (at (is_operand_byte b))
     where
@@ -270,14 +270,14 @@ module _ {S : Type 0} {g : Ghosts S} {s : S} {t : S} {h : ReadingState} (budget 
       at false = sym (run_still k is)
 
   pub still_breaks : {u : S} (r : Refusal) → h.open_run ≡ None → r.place ≡ length p → BreaksSome g s (begun budget p).entries (begun budget (p ++ b ∷ [])) u h.machine.left (cause_of r.fault) → BreaksAt g s budget p b u r
-  still_breaks r is place (some_broke past) = brings_breaks budget p b r (still_same is) place past
+  still_breaks r is place (some_broke past) = adding_breaks budget p b r (still_same is) place past
   still_breaks r is place (charged_broke less from) = uses_breaks budget p b r place (after_charge less) from
 
-  -- a body is open
+  -- a body is open, so no run is
   pub in_body_breaks : {u : S} {body : OpenBody} (r : Refusal) → h.open_body ≡ Some body → r.place ≡ length p → BreaksInBody g s (begun budget p).entries (begun budget (p ++ b ∷ [])) u h.machine.left (cause_of r.fault) → BreaksAt g s budget p b u r
   in_body_breaks r opened place (next_broke next) =
       let uses = body_open k _ opened in
-      inr (record { place = place; brings = inr (inr (inl uses)); wants = λ _. inl (inr (inl uses)); part = inl (between budget p b (still_same (still_run k _ opened)) next) })
+      inr (record { place = place; adds_entries = inr (inr (inl uses)); wants = λ _. inl (inr (inl uses)); part = inl (between budget p b (still_same (still_run k _ opened)) next) })
   in_body_breaks r opened place (body_broke less from) = uses_breaks budget p b r place (after_charge less) from
 
   -- the run that the byte joins couldn't grow
@@ -289,7 +289,7 @@ module _ {S : Type 0} {g : Ghosts S} {s : S} {t : S} {h : ReadingState} (budget 
       let there : IsSome (open_place (begun budget p)) = rw (open_place_is k open_run no_body is) refl in
       inr (record {
         place = refl;
-        brings = inl (word, there);
+        adds_entries = inl (word, there);
         wants = λ _. inl (inl (word, there));
         part = inl (between budget p b (ap (λ (o : Outcome). o.entries) (let same : begun budget p ≡ closed_by (begun budget p) b = rw word refl in same)) (record { more = more.0; adds = more.1; unrefused = leads_unrefused joined; part = inl (leads_taken k) }));
       })
@@ -302,7 +302,7 @@ module _ {S : Type 0} (g : Ghosts S) (s : S) (budget : ℕ) (p : List ℕ) (b : 
 
   pub breaks_there : BreaksAt g s budget p b t r → CanBreakAt budget p b r.place
   breaks_there (inl (other, first, h)) = inl (other, h.place, h.part.unrefused)
-  breaks_there (inr h) = inr (h.place, h.brings, charged_or h.part)
+  breaks_there (inr h) = inr (h.place, h.adds_entries, charged_or h.part)
 
   -- whether the reader itself lacked memory, and where, or its sink did
   pub lacks_there : BreaksAt g s budget p b t r → cause_of r.fault ≡ memory → CanLackAt budget p b r.place ⊎ g.wants s (begun budget (p ++ b ∷ [])).entries
@@ -325,7 +325,7 @@ module _ {S : Type 0} {g : Ghosts S} {s : S} {t : S} {h : ReadingState} (budget 
   breaks_byte broke (at_word lacks) = rw (lacks.sink, lacks.why) (growth_breaks budget p b k lacks.between lacks.is lacks.word lacks.few)
   breaks_byte broke (in_run other stops) = run_breaks budget p b other broke (stops_at_end budget p k laws stops)
   breaks_byte {u} {r} broke (in_code closed code) = still_breaks budget p b k r closed code.place (code.part s _ _ (past_still budget p b k))
-  breaks_byte {u} {r} broke (behind_run v h' other acts code) =
+  breaks_byte {u} {r} broke (after_run v h' other acts code) =
       let before = ap (λ (m : Machine). m.left) (leads_machine k) in
       past_breaks budget p b r other code.place (omega (arith, before, ap (λ (h : ReadingState). h.machine.left) acts.holds))
       (code.part s (with_run (begun budget p)).entries (begun budget (p ++ b ∷ [])) (past_run budget p k laws.more acts b other))
@@ -340,7 +340,7 @@ module _ {S : Type 0} {g : Ghosts S} {s : S} {o : Outcome} {t : S} {h : ReadingS
       (rule_breaks k h.machine stops.open_run.place (x ∷ []) (rule h.machine.work stops.open_run.op h.run)
       (over stops.between stops.is k other _ refl) laws stops.fault stops.drew (λ own. broke (ap (λ (r : Refusal). cause_of r.fault) stops.why ∙ own)))
   breaks_inside broke (in_code closed code) = breaks_longer [] k.done (body_breaks_from (some_in_body (code.part s k.done o (record { continues = k; done = refl }))))
-  breaks_inside broke (behind_run v h' other acts code) =
+  breaks_inside broke (after_run v h' other acts code) =
       let k' = passes_run laws.more acts other k in
       breaks_longer [] k'.done (body_breaks_from (some_in_body (code.part s k'.done o (record { continues = k'; done = refl }))))
   breaks_inside broke (in_body body) = breaks_longer [] k.done (body_breaks_from (body.part s k.done o (record { continues = k; done = refl })))
@@ -350,5 +350,5 @@ pub breaks_place : {S : Type 0} {g : Ghosts S} {t : S} {h : ReadingState} {x : P
 breaks_place n here run (at_word lacks) = ap (λ (r : Refusal). r.place) lacks.why ∙ here
 breaks_place n here run (in_run other stops) = ap (λ (r : Refusal). r.place) stops.why ∙ subst (RunAt n) stops.is run
 breaks_place n here run (in_code closed code) = code.place ∙ here
-breaks_place n here run (behind_run v h' other acts code) = code.place ∙ here
+breaks_place n here run (after_run v h' other acts code) = code.place ∙ here
 breaks_place n here run (in_body body) = body.place ∙ here

@@ -27,7 +27,7 @@ module _ {I S : Type 0} {i : inlet.Ghosts I} {g : Ghosts S} {start mid end : I} 
       Consumes (i.left mid) (i.left end) [] → EndsBy p (reading i start end) None answer → StopsInLast g s (budget_of old) p [] (sink_of new) (left_of new) answer →
       Feeds i old new s p start end answer
   feeds_on {new} answer h same none gives ends stops = record {
-    stands = h;
+    has_read = h;
     last = record {
       mid = mid;
       before = p;
@@ -48,7 +48,7 @@ module _ {I S : Type 0} {i : inlet.Ghosts I} {g : Ghosts S} {start mid end : I} 
       HasRead new s (p ++ piece) → refusal_of new ≡ Some r → StopsAt reader new piece r n → NoneFailed (reading i start end) →
       Consumes (i.left mid) (i.left end) piece → Feeds i old new s (p ++ piece) start end (Err (feed_fault.Refused r))
   feeds_refused {reader} {new} {piece} {r} {n} h same none after refused stops none_failed gives = record {
-    stands = after;
+    has_read = after;
     last = record {
       mid = mid;
       before = p;
@@ -85,7 +85,7 @@ pub record RefusedIn {S : Type 0} {g : Ghosts S} (reader : Reader S g) (s : S) (
   pub within : i < length last
   pub budget_is : budget_of reader ≡ budget
   pub refused : refusal_of reader ≡ Some r
-  pub stands : HasRead reader s (before ++ last)
+  pub has_read : HasRead reader s (before ++ last)
   pub stops : StopsBy g s budget (before ++ take i last) (get_or last i 0) (sink_of reader) (left_of reader) r (cause_of r.fault)
   pub fails : cause_of r.fault ≡ device → g.failed (sink_of reader) ≡ true
 
@@ -94,7 +94,7 @@ module _ {S : Type 0} {g : Ghosts S} {reader : Reader S g} {s : S} {budget : ℕ
   known : AnswersBy g s budget (before ++ last) (sink_of reader) (left_of reader) r (cause_of r.fault)
   known =
       subst (λ (b : ℕ). AnswersBy g s b (before ++ last) (sink_of reader) (left_of reader) r (cause_of r.fault)) k.budget_is
-      (subst (Answers g s (budget_of reader) (before ++ last) (sink_of reader) (left_of reader)) k.refused k.stands.answers)
+      (subst (Answers g s (budget_of reader) (before ++ last) (sink_of reader) (left_of reader)) k.refused k.has_read.answers)
 
   among : cause_of r.fault ≢ stream → BreaksAmong g s budget (before ++ (last ++ more)) (begun budget before).entries (begun budget (before ++ (last ++ more))) (sink_of reader) r
   among broke =
@@ -111,8 +111,8 @@ module _ {S : Type 0} {g : Ghosts S} {reader : Reader S g} {s : S} {budget : ℕ
       subst (λ (bytes : List ℕ). LacksMemoryFor g s budget bytes r.place) (sym (append_assoc before last more))
       (lacks_in_whole g s budget (before ++ (last ++ more)) r.place ((among (λ own. let bad = sym is ∙ own in cc)).wants is))
 
-  pub refused_behind : RefusedBy g s budget ((before ++ last) ++ more) r (cause_of r.fault)
-  refused_behind = at (cause_of r.fault) refl known
+  pub refused_after : RefusedBy g s budget ((before ++ last) ++ more) r (cause_of r.fault)
+  refused_after = at (cause_of r.fault) refl known
     where
       at : (cause : Cause) → cause_of r.fault ≡ cause → AnswersBy g s budget (before ++ last) (sink_of reader) (left_of reader) r cause → RefusedBy g s budget ((before ++ last) ++ more) r cause
       at stream is here = still_refused budget (before ++ last) more r here.refusal
@@ -130,7 +130,7 @@ module _ {I S : Type 0} {i : inlet.Ghosts I} {g : Ghosts S} {old new : Reader S 
   refused_whole same fails more =
       let (n, within, stops) = h.stops in
       subst (λ (bytes : List ℕ). RefusedBy g s (budget_of old) (bytes ++ more) r (cause_of r.fault)) (sym h.last.parts)
-      (refused_behind more (record { within = within; budget_is = same; refused = h.ends.1; stands = subst (HasRead new s) h.last.parts h.stands; stops = stops; fails = λ is. fails (device_fault r.fault is) }))
+      (refused_after more (record { within = within; budget_is = same; refused = h.ends.1; has_read = subst (HasRead new s) h.last.parts h.has_read; stops = stops; fails = λ is. fails (device_fault r.fault is) }))
 
   -- each read of a refused stream gave a byte
   pub reads_few : (reading i initial final).reads ≤ length p

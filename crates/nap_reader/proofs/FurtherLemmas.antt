@@ -1,10 +1,10 @@
-use Rattle.nap_reader.proofs.Common.{Acted, Advances, All-map, Bool, Budget, Call, Calls, Came, CanAdvance, CannotShow, Clear, AreNextBytes, Continues, HasReadOn, Define, Err, Fault, Frame, Ghosts, Goes, GoesOn, ReadingState, Input, ArePending, IsLive, IsNext, IsNextByte, IsOver, IsSome, Latches, LeadsOn, Leaves, List, MatchResult, Memory, None, Nothing, Ok, OnOk, OpenBody, Option, Outcome, Passed, Passes, Placed, Reaches, Reader, Reads, ReadsPiece, ReadsTo, Refusal, RefusesPiece, Request, Result, StoresBody, Shows, Sink, Some, KeepsNextBytes, Stop, Stops, StopsAt, StopsByte, StopsFrom, StopsPiece, StoreState, Takes, TakesBy, TakesPiece, TakesSlice, Works, [], ahead, all_at, all_next, ap, append-nil, ap₂, arith, as_it_was, state_after_request, at_byte, begun, bytes_after, body_of, bound, budget_of, bytes_of, after_charge, next_bytes, drop, drop-drop, drop_at, false, fed_of, front, reading_state_by, reading_state, in_code, in_text, inl, inr, is_some, length, length-append, length-drop, length-take-le, machine_of, mode_of, nil_from_length, place_at, placed_at, placed_from, refl, refusal, refusal_of, shown_front, sink_of, placed_by_step, subst, sym, take, take-append-drop, take_all, true, unread, unread_of, ℕ, ◌*◌, ◌++◌, ◌+◌, ◌-◌, ◌<◌, ◌^◌, ◌∙◌, ◌∷◌, ◌≡◌, ◌≢◌, ◌≤◌, ◌⊎◌}
-use Rattle.nap_reader.proofs.Base.{Lawful, TookMore, byte_comes, bytes_of-append, bytes_of-placed, bytes_of-placed_by_step, call_breaks, came_coming, came_next, came_take, came_within, can_pass, cannot_stops, comes_still, conveys_nothing, fits, frames-unread, holds_nothing, is_between, is_half, leads_shown, length-all_at, length-placed, length-placed_by_step, passed_rest, passed_to, place_at-append, place_at-placed_by_step, stands_behind_stop, stands_by, text_next}
+use Rattle.nap_reader.proofs.Common.{Acted, Advances, All-map, Bool, Budget, Call, Calls, Came, CanAdvance, CannotShow, Clear, AreNextBytes, Continues, HasReadOn, Define, Err, Fault, Frame, Ghosts, Goes, ReadsFurther, ReadingState, Input, ArePending, IsLive, IsNext, IsNextByte, IsOver, IsSome, Latches, LeadsOn, Leaves, List, MatchResult, Memory, None, Nothing, Ok, OnOk, OpenBody, Option, Outcome, Passed, Passes, Placed, Reaches, Reader, Reads, ReadsPiece, ReadsTo, Refusal, RefusesPiece, Request, Result, StoresBody, Shows, Sink, Some, KeepsNextBytes, Stop, Stops, StopsAt, StopsByte, StopsFrom, StopsPiece, StoreState, Takes, TakesBy, TakesPiece, TakesSlice, Works, [], ahead, all_at, all_next, ap, append-nil, ap₂, arith, as_it_was, state_after_request, at_byte, begun, bytes_after, body_of, bound, budget_of, bytes_of, after_charge, next_bytes, drop, drop-drop, drop_at, false, fed_of, front, reading_state_by, reading_state, in_code, in_text, inl, inr, is_some, length, length-append, length-drop, length-take-le, machine_of, mode_of, nil_from_length, place_at, placed_at, placed_from, refl, refusal, refusal_of, shown_front, sink_of, placed_by_step, subst, sym, take, take-append-drop, take_all, true, unread, unread_of, ℕ, ◌*◌, ◌++◌, ◌+◌, ◌-◌, ◌<◌, ◌^◌, ◌∙◌, ◌∷◌, ◌≡◌, ◌≢◌, ◌≤◌, ◌⊎◌}
+use Rattle.nap_reader.proofs.Base.{Lawful, TookMore, byte_comes, bytes_of-append, bytes_of-placed, bytes_of-placed_by_step, call_breaks, came_coming, came_next, came_take, came_within, can_pass, cannot_stops, comes_still, conveys_nothing, fits, frames-unread, holds_nothing, is_between, is_half, leads_shown, length-all_at, length-placed, length-placed_by_step, passed_rest, passed_to, place_at-append, place_at-placed_by_step, has_read_past_stop, has_read_by, text_next}
 use Rattle.nap_reader.specs.declared.machine.Machine.{Machine}
 use Rattle.nap_reader.specs.NextBytes.{Stays}
 use Rattle.nap_reader.proofs.PieceLemmas.{reaches_called, reaches_on}
 use Rattle.nap_reader.proofs.StopLemmas.{stops_reached}
-use Rattle.nap_reader.proofs.TakingLemmas.{place_at-drop, stops_behind}
+use Rattle.nap_reader.proofs.TakingLemmas.{place_at-drop, stops_after}
 
 -- How a reader advances in a piece, and where it stops.
 
@@ -90,14 +90,14 @@ sets_then sets more = record {
 }
 
 -- the reading state depends on these fields of the input alone
-pub held_parts : {S : Type 0} {g : Ghosts S} (m : Machine S g) (old new : Input) {left stored : ℕ} {names : List (List ℕ)} {body : List ℕ} {opened : Option OpenBody} → new.budget - new.charged ≡ left → new.store.names ≡ names → new.store.stored ≡ stored →
+pub state_parts : {S : Type 0} {g : Ghosts S} (m : Machine S g) (old new : Input) {left stored : ℕ} {names : List (List ℕ)} {body : List ℕ} {opened : Option OpenBody} → new.budget - new.charged ≡ left → new.store.names ≡ names → new.store.stored ≡ stored →
     new.store.body ≡ body → new.body ≡ opened → reading_state_by m new ≡ record (reading_state_by m old) { machine = record (machine_of m old) { left = left; names = names; stored = stored; mode = mode_of opened }; open_body = opened; body = body }
-held_parts m old new is_left is_names is_stored is_body is_opened = rw (is_left, is_names, is_stored, is_body, is_opened) refl
+state_parts m old new is_left is_names is_stored is_body is_opened = rw (is_left, is_names, is_stored, is_body, is_opened) refl
 
-pub held_sets : {S : Type 0} {g : Ghosts S} (m : Machine S g) (old new : Input) {store : StoreState} {opened : Option OpenBody} → new.store ≡ store → new.body ≡ opened → new.budget ≡ old.budget → new.charged ≡ old.charged →
+pub state_sets : {S : Type 0} {g : Ghosts S} (m : Machine S g) (old new : Input) {store : StoreState} {opened : Option OpenBody} → new.store ≡ store → new.body ≡ opened → new.budget ≡ old.budget → new.charged ≡ old.charged →
     reading_state_by m new ≡ record (reading_state_by m old) { machine = record (machine_of m old) { names = store.names; stored = store.stored; mode = mode_of opened }; open_body = opened; body = store.body }
-held_sets m old new store body budget after_charge =
-    held_parts m old new (ap₂ (λ (b c : ℕ). b - c) budget after_charge) (ap (λ (t : StoreState). t.names) store) (ap (λ (t : StoreState). t.stored) store) (ap (λ (t : StoreState). t.body) store) body
+state_sets m old new store body budget after_charge =
+    state_parts m old new (ap₂ (λ (b c : ℕ). b - c) budget after_charge) (ap (λ (t : StoreState). t.names) store) (ap (λ (t : StoreState). t.stored) store) (ap (λ (t : StoreState). t.body) store) body
 
 -- An input has passed `count` bytes of the next slice.
 module _ {input input' : Input} {piece : List ℕ} {count place : ℕ} {text : List ℕ} (reads : Reads input piece) (passed : Passed input input' count)
@@ -286,7 +286,7 @@ stops_from {S} {g} {m} {m'} {input} {after} {piece} {many} {index} {r} laws latc
         why = r;
         is = refused;
         budget = budget;
-        stands = stands_behind_stop refused budget stopped.1;
+        has_read = has_read_past_stop refused budget stopped.1;
         stops = stopped;
         failed = λ device. subst (λ (m : Machine S g). g.failed m.sink ≡ true) (sym is_machine) (latches.tells.0 (ap (λ (r : Refusal). r.fault) why ∙ device));
         kept = λ working fails. ap (λ (r : Refusal). r.fault) (sym why) ∙ latches.tells.1 (by.clear working) (subst (λ (m : Machine S g). g.failed m.sink ≡ true) is_machine fails);
@@ -314,10 +314,10 @@ takes_piece {S} {g} old new piece before by empty =
     record {
       live = by.live;
       budget = by.budget;
-      stands = λ s p stood.
-          stands_by new s (p ++ piece) by.live (omega (arith, fed, stood.fed before, length-append p piece))
+      has_read = λ s p had_read.
+          has_read_by new s (p ++ piece) by.live (omega (arith, fed, had_read.fed before, length-append p piece))
           (subst (λ (n : ℕ). Continues g s (begun n (p ++ piece)) (sink_of new) (reading_state new) []) (sym by.budget)
-          (still_there by.reaches.acted last (subst (λ (q : List ℕ). Continues g s (begun (budget_of old) (p ++ q)) by.reaches.sink by.reaches.holding []) (ap (λ (n : ℕ). take n piece) all ∙ take_all (length piece) piece (omega arith)) (by.reaches.leads.alone none s p stood))));
+          (still_there by.reaches.acted last (subst (λ (q : List ℕ). Continues g s (begun (budget_of old) (p ++ q)) by.reaches.sink by.reaches.holding []) (ap (λ (n : ℕ). take n piece) all ∙ take_all (length piece) piece (omega arith)) (by.reaches.leads.alone none s p had_read))));
       clear = by.clear;
       fed = fed;
       turns = λ counted. let turned = input.turned in omega (arith, turned, ap (λ (xs : List Placed). length xs) none);
@@ -325,7 +325,7 @@ takes_piece {S} {g} old new piece before by empty =
     }
   where
     still_there : {s : S} {o : Outcome} {t u : S} {h h' : ReadingState} {next : List ℕ} → Acted g t h u h' next → next ≡ [] → Continues g s o t h [] → Continues g s o u h' []
-    still_there {s} {o} {t} {u} {h} {h'} (as_it_was sink holding) none k = subst (λ (held : ReadingState). Continues g s o u held []) (sym holding) (subst (λ (w : S). Continues g s o w h []) (sym sink) k)
+    still_there {s} {o} {t} {u} {h} {h'} (as_it_was sink holding) none k = subst (λ (retained : ReadingState). Continues g s o u retained []) (sym holding) (subst (λ (w : S). Continues g s o w h []) (sym sink) k)
     still_there (ahead b bs is other acts) none k = let bad : b ∷ bs ≡ [] = sym is ∙ none in cc
     still_there (bound b bs is ends sink binds) none k = let bad : b ∷ bs ≡ [] = sym is ∙ none in cc
 
@@ -351,8 +351,8 @@ module _ {S : Type 0} {g : Ghosts S} {m : Machine S g} {input begin : Input} {pi
           leads = record {
             live = ap (λ (m : Machine S g). m.refusal) is_machine ∙ before;
             within = omega arith;
-            alone = λ empty s p stood.
-                subst (λ (q : List ℕ). Continues g s (begun (budget_of old) q) (sink_of old) (reading_state old) []) (sym (append-nil p)) (stood.continues (ap (λ (m : Machine S g). m.refusal) is_machine ∙ before));
+            alone = λ empty s p had_read.
+                subst (λ (q : List ℕ). Continues g s (begun (budget_of old) q) (sink_of old) (reading_state old) []) (sym (append-nil p)) (had_read.continues (ap (λ (m : Machine S g). m.refusal) is_machine ∙ before));
             amid = λ some. absurd (omega (arith, some, ap (λ (frames : List Frame). length (unread old.input.store.bytes frames)) (ap (λ (i : Input). i.frames.stack.items) is_input ∙ none)));
           };
           acted = as_it_was refl refl;
@@ -360,7 +360,7 @@ module _ {S : Type 0} {g : Ghosts S} {m : Machine S g} {input begin : Input} {pi
       }))
 
   -- A piece is read.
-  pub reads_piece : {m' : Machine S g} {after : Input} → GoesOn piece m begin m' after → next_bytes after piece ≡ [] → ReadsPiece piece m input m' after
+  pub reads_piece : {m' : Machine S g} {after : Input} → ReadsFurther piece m begin m' after → next_bytes after piece ≡ [] → ReadsPiece piece m input m' after
   reads_piece {m'} {after} goes empty old new is_machine is_input is_new is_after =
       let unrefused = ap (λ (m : Machine S g). m.refusal) is_machine ∙ before in
       takes_piece old new piece unrefused
@@ -375,7 +375,7 @@ module _ {S : Type 0} {g : Ghosts S} {m : Machine S g} {input begin : Input} {pi
   )
 
 -- A reader had advanced before it was refused.
-pub stops_then : {S : Type 0} {g : Ghosts S} {m m' m'' : Machine S g} {input input' input'' : Input} {piece : List ℕ} → GoesOn piece m input m' input' → StopsFrom piece m' input' m'' input'' → StopsFrom piece m input m'' input''
+pub stops_then : {S : Type 0} {g : Ghosts S} {m m' m'' : Machine S g} {input input' input'' : Input} {piece : List ℕ} → ReadsFurther piece m input m' input' → StopsFrom piece m' input' m'' input'' → StopsFrom piece m input m'' input''
 stops_then goes stops = (stops.0, λ old new before by is_machine is_input. stops.1 old new before (goes old before by) is_machine is_input)
 
 -- Fewer bytes may still be read; or as many, and what was open has ended.
@@ -484,11 +484,11 @@ module _ {S : Type 0} {g : Ghosts S} {from now : Machine S g} {input : Input} {p
     -- The reader has advanced.
     pub turn_goes : {after : Input} → TookMore g → LeadsOn g from.sink (reading_state_by from input) now.sink (state_after_request (reading_state_by now input) request) (take count (next_bytes input piece)) (bytes_of (drop count (next_bytes input piece))) →
         reading_state_by now after ≡ state_after_request (reading_state_by now input) request → SameComes input' after → Works from now → Goes piece count from input now after
-    turn_goes {after} more leads held same works = goes_by {xs = take count (next_bytes input piece)} more (record {
+    turn_goes {after} more leads retained same works = goes_by {xs = take count (next_bytes input piece)} more (record {
       counts = counts_then count (omega arith) turn_counts (counts_still turn_counts.reads same.same);
       works = works;
       came = rw (same.frames, same.same.at) turn_came;
-      leads = rw (held, sym (ap bytes_of (turn_leaves ∙ sym (coming_same piece same)) ∙ coming_bytes after piece)) leads;
+      leads = rw (retained, sym (ap bytes_of (turn_leaves ∙ sym (coming_same piece same)) ∙ coming_bytes after piece)) leads;
     })
 
     -- The stream is refused at the byte after the consumed ones, or reading breaks there.
@@ -512,10 +512,10 @@ module _ {S : Type 0} {g : Ghosts S} {from now : Machine S g} {input : Input} {p
 -- A macro is called.
 
 -- nothing is pending, whatever the budget left
-still_held : (h : ReadingState) (n : ℕ) → h.open_body ≡ None → h.open_run ≡ None → ArePending [] h → ArePending [] (record h { machine = record h.machine { left = n } })
-still_held h n between closed held =
-    let half = is_between h [] between held in
-    let rest = is_half h [] between closed held in
+still_pending : (h : ReadingState) (n : ℕ) → h.open_body ≡ None → h.open_run ≡ None → ArePending [] h → ArePending [] (record h { machine = record h.machine { left = n } })
+still_pending h n between closed retained =
+    let half = is_between h [] between retained in
+    let rest = is_half h [] between closed retained in
     holds_nothing (record h { machine = record h.machine { left = n } }) between half.mode half.body closed (sym rest.0)
 
 module _ {S : Type 0} {g : Ghosts S} {from now : Machine S g} {input input' : Input} {piece : List ℕ} {count place : ℕ} {request : Request} (turn : TakesSlice from now input piece count request place) (adv : Advances input input' count)
@@ -564,7 +564,7 @@ module _ {S : Type 0} {g : Ghosts S} {from now : Machine S g} {input input' : In
       subst (λ (ns : List (List ℕ)). front calls.holding.machine (c.rest ++ x ∷ pending) ≡ shown_front (reading_state_by now input).machine x.place (body_of ns name) pending) (sym names) (calls.front_is s o pending c)
 
   -- The body of the call comes next.
-  call_on : {after : Input} → TookMore g → Works from now → Shows input' after input'.store input'.body bytes place → GoesOn piece from input now after
+  call_on : {after : Input} → TookMore g → Works from now → Shows input' after input'.store input'.body bytes place → ReadsFurther piece from input now after
   call_on {after} more works shows old before by =
       let m = (reading_state_by now input).machine in
       let fed = fed_of old + until in
@@ -579,7 +579,7 @@ module _ {S : Type 0} {g : Ghosts S} {from now : Machine S g} {input input' : In
       ∙ ap (λ (store : StoreState). unread store.bytes input'.frames.stack.items) (sym adv.store) in
       let moved : input'.at ≡ until + (1 - length rest) = omega (arith, counted, passed.0, length-drop index (unread_of input)) in
       let last : Came rest (unread_of input') piece until input'.at fed (x ∷ []) =
-      rw (sym left, moved) (came_next rest piece until fed x calls.behind before_is.1 (sym then_is ∙ calls.is)) in
+      rw (sym left, moved) (came_next rest piece until fed x calls.following before_is.1 (sym then_is ∙ calls.is)) in
       let next_then : bytes_of (drop index all) ≡ bytes_of rest ++ drop until piece =
       ap bytes_of then_is ∙ bytes_of-append rest (placed_from fed (drop until piece)) ∙ ap (λ (bs : List ℕ). bytes_of rest ++ bs) (bytes_of-placed fed (drop until piece)) in
       let whole : bytes_of (unread_of input) ++ drop input.at piece ≡ bytes_of (take index all) ++ (bytes_of rest ++ drop until piece) =
@@ -588,19 +588,19 @@ module _ {S : Type 0} {g : Ghosts S} {from now : Machine S g} {input input' : In
       reaches_on more by.reaches (take index all) (subst (λ (n : ℕ). Came (unread_of input) rest piece input.at until n (take index all)) by.fed came_before)
       (subst (LeadsOn g from.sink (reading_state_by from input) now.sink calls.holding (take index all)) next_then calls.leads) whole in
       let few : length bytes ≤ m.left = omega (arith, shows.few, adv.passed.budget, adv.passed.charged) in
-      let held : reading_state_by now after ≡ record (reading_state_by now input) { machine = after_charge m (length bytes) } =
-      held_parts now input after (omega (arith, shows.same.budget, adv.passed.budget, shows.charged, adv.passed.charged)) (shows.names ∙ names) (shows.stored ∙ ap (λ (store : StoreState). store.stored) adv.store)
+      let retained : reading_state_by now after ≡ record (reading_state_by now input) { machine = after_charge m (length bytes) } =
+      state_parts now input after (omega (arith, shows.same.budget, adv.passed.budget, shows.charged, adv.passed.charged)) (shows.names ∙ names) (shows.stored ∙ ap (λ (store : StoreState). store.stored) adv.store)
       (shows.open_bytes ∙ ap (λ (store : StoreState). store.body) adv.store) (shows.body ∙ adv.body) in
       let passes : Passes g now.sink calls.holding (x ∷ []) now.sink (reading_state_by now after) (all_at x.place bytes) =
       λ s o pending c.
-      leads_shown c m x.place bytes pending (calls_it s o pending c) few (reading_state_by now after) (ap (λ (h : ReadingState). h.machine) held)
-      (subst (ArePending []) (sym held) (still_held (reading_state_by now input) (m.left - length bytes) turn.between calls.rested (calls.still s o pending c))) in
+      leads_shown c m x.place bytes pending (calls_it s o pending c) few (reading_state_by now after) (ap (λ (h : ReadingState). h.machine) retained)
+      (subst (ArePending []) (sym retained) (still_pending (reading_state_by now input) (m.left - length bytes) turn.between calls.rested (calls.still s o pending c))) in
       let counts = turn_counts turn adv in
       reads_at old by (counts_then count (omega arith) counts (counts_still counts.reads shows.same)) works
       (rw (shows.same.at, shows.unread, place_is)
-      (reaches_called more there (all_at x.place bytes) last passes (bytes_of calls.behind) (sym next_then ∙ ap bytes_of calls.is)
-      (omega (arith, calls.left, few, ap (λ (h : ReadingState). h.machine.left) held, length-all_at x.place bytes))
-      (λ n here. All-map (λ (y : Placed). y.place ≡ n) (λ (b : ℕ). record { byte = b; place = x.place }) bytes (λ i d less. here)) (ap (λ (h : ReadingState). h.open_run) held ∙ calls.rested)))
+      (reaches_called more there (all_at x.place bytes) last passes (bytes_of calls.following) (sym next_then ∙ ap bytes_of calls.is)
+      (omega (arith, calls.left, few, ap (λ (h : ReadingState). h.machine.left) retained, length-all_at x.place bytes))
+      (λ n here. All-map (λ (y : Placed). y.place ≡ n) (λ (b : ℕ). record { byte = b; place = x.place }) bytes (λ i d less. here)) (ap (λ (h : ReadingState). h.open_run) retained ∙ calls.rested)))
 
   pub call_goes : {after : Input} → TookMore g → Works from now → Shows input' after input'.store input'.body bytes place → Goes piece count from input now after
   call_goes more works shows = let counts = turn_counts turn adv in record { counts = counts_then count (omega arith) counts (counts_still counts.reads shows.same); on = call_on more works shows }
@@ -616,7 +616,7 @@ module _ {S : Type 0} {g : Ghosts S} {from now : Machine S g} {input input' : In
       (λ some few. in_code calls.closed (record { place = refl; part = λ s known o k. call_breaks k m x.place bytes [] (calls_it s o [] k.continues) (sym calls.left) some few })) cannot.reason) in
       let stopped : Stops g from.sink (reading_state_by from input) all (length turn.text) index now.sink (refusal fault place) =
       subst (λ (n : ℕ). Stops g from.sink (reading_state_by from input) all (length turn.text) n now.sink (refusal fault place)) (let e : index + 0 ≡ index = omega arith in e)
-      (stops_behind all index laws.more calls.leads {v = now.sink} {r = refusal fault place} (length turn.text) 0 (at_byte x calls.behind calls.is (conveys_nothing g now.sink calls.holding) stops)) in
+      (stops_after all index laws.more calls.leads {v = now.sink} {r = refusal fault place} (length turn.text) 0 (at_byte x calls.following calls.is (conveys_nothing g now.sink calls.holding) stops)) in
       stops_from laws
       (record {
         why = refusal fault place;

@@ -1,5 +1,5 @@
 use Rattle.nap_reader.proofs.Common.{AcceptedIsLegal, All, All-append, All-nil, AllFit, BegunComesFirst, Bool, BreaksAmong, BreaksAt, BreaksBetween, BreaksFrom, BreaksWith, CanLackAt, Cause, DrawFault, RuleResult, EndBreaksAmong, Entry, Err, FedBreaksAmong, Front, Ghosts, IfSome, IsBroken, IsWord, LacksWithin, Legal, List, Machine, None, Ok, Opcode, Option, Outcome, Placed, ReadValuesAreInRange, Refusal, Result, Some, State, StopsBy, Unfinished, WantsSome, Work, [], act, ap, append-nil, arith, begun, cause_of, closed_by, code_fits, code_values_are_in_range, device, drawn_values_are_in_range, drop, ended_by, false, front, get_or, get_or-append-add, outcome_within, half_code, if◌then◌else◌, inl, inr, is_operand_byte, length, length-append, means, memory, nothing, outcome_by_front, open_body, open_run, outcome, pause, placed_from, refl, refuse, rule, rule_fits, start, start_machine, stream, subst, suc, sym, take, take-append-add, true, walk, with_code, with_definition, with_drawn, with_end, with_run, with_run_by, zero, ℕ, ◌++◌, ◌+◌, ◌<◌, ◌∙◌, ◌∷◌, ◌≡◌, ◌≢◌, ◌⊎◌}
-use Rattle.nap_reader.proofs.Base.{First, Fronts, IsOfWords, Puts, acts, breaks_longer, breaks_more, breaks_there, by_code, by_rule, front_fronts, lacks_there, more_bytes_keep_entries, pauses, puts_nothing, refuses, run_first, same_first, taken_all, took_front}
+use Rattle.nap_reader.proofs.Base.{First, Fronts, IsOfWords, Puts, acts, breaks_longer, breaks_more, breaks_there, by_code, by_rule, front_fronts, lacks_there, more_bytes_keep_entries, pauses, puts_nothing, refuses, run_first, same_first, taken_all, took_prefix}
 use Rattle.nap_list.specs.declared.state.OpenDefinition.{OpenDefinition}
 use Rattle.nap_list.specs.Agreement.{DefinitionsAgree, StatesAgree}
 use Rattle.nap_list.specs.Range.{AllInRange, InRange, MapColourInRange, StateInRange}
@@ -32,7 +32,7 @@ pub begun_comes_first : BegunComesFirst
 begun_comes_first budget p = ended_first (begun budget p) (length p) (begun budget p).refusal
 
 between_from : {S : Type 0} {g : Ghosts S} {s : S} {before after : Outcome} {t : S} {cause : Cause} → BreaksBetween g s before after t cause → BreaksFrom g s before.entries after t cause
-between_from {g = g} {s = s} {before = before} {t = t} {cause = cause} h = record { more = h.more; adds = h.adds; part = took_front g s before.entries h.more t cause h.part }
+between_from {g = g} {s = s} {before = before} {t = t} {cause = cause} h = record { more = h.more; adds = h.adds; part = took_prefix g s before.entries h.more t cause h.part }
 
 closed_first : (o : Outcome) (b : ℕ) → First o (closed_by o b)
 closed_first o b = at (is_operand_byte b)
@@ -113,14 +113,14 @@ record HasRead (work : Work) (shown : State) : Type 0 where
   pub ranged : StateInRange work.state
 
 -- the entries that a front puts fit and are in range
-puts_stand : {work after : Work} {es : List Entry} (shown : State) → Puts work es after → HasRead work shown → AllFit shown es × AllInRange es × HasRead after (walk shown es)
+puts_fit : {work after : Work} {es : List Entry} (shown : State) → Puts work es after → HasRead work shown → AllFit shown es × AllInRange es × HasRead after (walk shown es)
 unfolding walk AllFit
-puts_stand shown puts_nothing so = (tt, All-nil InRange, so)
-puts_stand {work} shown (by_rule op run d words is) so =
+puts_fit shown puts_nothing so = (tt, All-nil InRange, so)
+puts_fit {work} shown (by_rule op run d words is) so =
     let fits = rule_fits work op run shown d is so.agrees in
     let ranged = drawn_values_are_in_range work op run d is so.ranged words in
     (fits.0, ranged.0, record { agrees = fits.1; ranged = ranged.1 })
-puts_stand {work} shown (by_code c d made is) so =
+puts_fit {work} shown (by_code c d made is) so =
     let fits = code_fits work c shown d is made so.agrees in
     let ranged = code_values_are_in_range work c d is made so.ranged in
     (fits.0, ranged.0, record { agrees = fits.1; ranged = ranged.1 })
@@ -131,27 +131,27 @@ record Sound (shown : State) (o : Outcome) : Type 0 where
   pub fit : AllFit shown o.entries
   pub entries : AllInRange o.entries
   pub unfinished : IfSome o.unfinished IsOfWords
-  pub stands : o.refusal ≡ None → HasRead o.machine.work (walk shown o.entries)
+  pub has_read : o.refusal ≡ None → HasRead o.machine.work (walk shown o.entries)
 
-onward_sound : (next : Machine → List Placed → Outcome) → ((m : Machine) (xs : List Placed) (shown : State) → HasRead m.work shown → Sound shown (next m xs)) →
+further_sound : (next : Machine → List Placed → Outcome) → ((m : Machine) (xs : List Placed) (shown : State) → HasRead m.work shown → Sound shown (next m xs)) →
     (m : Machine) (xs : List Placed) (shown : State) (f : Front) {k : ℕ} {f' : Front} → HasRead m.work shown → Fronts [] m.work m.left k f f' → Sound shown (outcome_by_front next m xs f)
 unfolding walk AllFit
-onward_sound next ih m xs shown (pause u) so (pauses words) = record { fit = tt; entries = All-nil InRange; unfinished = words; stands = λ _. so }
-onward_sound next ih m xs shown (refuse r) so refuses = record { fit = tt; entries = All-nil InRange; unfinished = tt; stands = λ e. cc }
-onward_sound next ih m xs shown (act es m' ys) so (acts same less few puts) =
-    let (fit, ranged, after) = puts_stand shown puts so in
+further_sound next ih m xs shown (pause u) so (pauses words) = record { fit = tt; entries = All-nil InRange; unfinished = words; has_read = λ _. so }
+further_sound next ih m xs shown (refuse r) so refuses = record { fit = tt; entries = All-nil InRange; unfinished = tt; has_read = λ e. cc }
+further_sound next ih m xs shown (act es m' ys) so (acts same less few puts) =
+    let (fit, ranged, after) = puts_fit shown puts so in
     let rest = ih m' ys (walk shown es) after in
     record {
       fit = (fits_join shown es (next m' ys).entries).1 (fit, rest.fit);
       entries = All-append InRange es (next m' ys).entries ranged rest.entries;
       unfinished = rest.unfinished;
-      stands = λ e. subst (HasRead (next m' ys).machine.work) (sym (walks_join shown es (next m' ys).entries)) (rest.stands e);
+      has_read = λ e. subst (HasRead (next m' ys).machine.work) (sym (walks_join shown es (next m' ys).entries)) (rest.has_read e);
     }
 
 go_sound : (fuel : ℕ) (m : Machine) (xs : List Placed) (shown : State) → HasRead m.work shown → Sound shown (outcome_within front fuel m xs)
 unfolding outcome_within walk AllFit
-go_sound zero m xs shown so = record { fit = tt; entries = All-nil InRange; unfinished = tt; stands = λ _. so }
-go_sound (suc fuel) m xs shown so = onward_sound (outcome_within front fuel) (go_sound fuel) m xs shown (front m xs) so (front_fronts m xs [])
+go_sound zero m xs shown so = record { fit = tt; entries = All-nil InRange; unfinished = tt; has_read = λ _. so }
+go_sound (suc fuel) m xs shown so = further_sound (outcome_within front fuel) (go_sound fuel) m xs shown (front m xs) so (front_fronts m xs [])
 
 start_ranged : StateInRange start
 start_ranged = record {
@@ -176,14 +176,14 @@ begun_sound budget p = go_sound _ (start_machine budget) (placed_from 0 p) start
 
 with_drawn_sound : (o : Outcome) (place : ℕ) (op : Opcode) (run : List ℕ) (by : Result RuleResult DrawFault) → rule o.machine.work op run ≡ by → All IsWord run → o.refusal ≡ None → Sound start o → Sound start (with_drawn o place by)
 with_drawn_sound o place op run (Ok drawn) e words none h =
-    let (fit, ranged, after) = puts_stand (walk start o.entries) (by_rule op run drawn words e) (h.stands none) in
+    let (fit, ranged, after) = puts_fit (walk start o.entries) (by_rule op run drawn words e) (h.has_read none) in
     record {
       fit = (fits_join start o.entries drawn.entries).1 (h.fit, fit);
       entries = All-append InRange o.entries drawn.entries h.entries ranged;
       unfinished = tt;
-      stands = λ _. subst (HasRead drawn.work) (sym (walks_join start o.entries drawn.entries)) after;
+      has_read = λ _. subst (HasRead drawn.work) (sym (walks_join start o.entries drawn.entries)) after;
     }
-with_drawn_sound o place op run (Err fault) e words none h = record { fit = h.fit; entries = h.entries; unfinished = tt; stands = λ e. cc }
+with_drawn_sound o place op run (Err fault) e words none h = record { fit = h.fit; entries = h.entries; unfinished = tt; has_read = λ e. cc }
 
 with_run_sound : (o : Outcome) (u : Option Unfinished) → IfSome u IsOfWords → o.refusal ≡ None → Sound start o → Sound start (with_run_by o u)
 with_run_sound o (Some (open_run op place run)) words none h = with_drawn_sound o place op run _ refl words none h
@@ -198,7 +198,7 @@ legal_at_end : (o : Outcome) (n : ℕ) (opened : Option OpenDefinition) → o.ma
     (with_definition o n opened).refusal ≡ None → Legal (with_definition o n opened).entries
 legal_at_end o n None e none h accepted = record {
   fit = h.fit;
-  ended = nothing_shown o.machine.work.state.definition (walk start o.entries).definition e (h.stands none).agrees.definition;
+  ended = nothing_shown o.machine.work.state.definition (walk start o.entries).definition e (h.has_read none).agrees.definition;
 }
 legal_at_end o n (Some opened) e none h accepted = cc
 

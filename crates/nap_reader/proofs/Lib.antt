@@ -9,7 +9,7 @@ pub mod RunLemmas
 pub mod OpenBodyLemmas
 pub mod LawLemmas
 pub mod PartLemmas
-pub mod StandingLemmas
+pub mod HasReadLemmas
 pub mod CountingLemmas
 pub mod PublicLaws
 pub mod TwiceLemmas

@@ -100,9 +100,9 @@ same-frame frames before before' frame frame' is is' =
     ∙ get_or-append_seam before' frame' [] frame
 
 -- the bytes that the innermost body gives are a prefix of its bytes
-pub same-front : (bytes : List ℕ) (frames before : List Frame) (frame : Frame) (text : List ℕ) (place count : ℕ) → frames ≡ before ++ frame ∷ [] → Innermost bytes frames text place →
+pub same-prefix : (bytes : List ℕ) (frames before : List Frame) (frame : Frame) (text : List ℕ) (place count : ℕ) → frames ≡ before ++ frame ∷ [] → Innermost bytes frames text place →
     all_at frame.place (take count (sublist bytes frame.next frame.end)) ≡ all_at place (take count text)
-same-front bytes frames before frame text place count is inner =
+same-prefix bytes frames before frame text place count is inner =
     let same = same-frame frames before inner.before frame inner.frame is inner.last in
     ap (λ (f : Frame). all_at f.place (take count (sublist bytes f.next f.end))) same
     ∙ ap₂ (λ (n : ℕ) (xs : List ℕ). all_at n (take count xs)) (sym inner.place_is) (sym inner.text_is)
@@ -322,9 +322,9 @@ last_parts first [] = ([], first, refl)
 last_parts first (next ∷ others) = let parts = last_parts next others in (first ∷ parts.0, parts.1, ap (λ (frames : List Frame). first ∷ frames) parts.2)
 
 -- The byte after the innermost body.
-behind_body : (stored : List ℕ) (frames : List Frame) (piece text : List ℕ) (at place : ℕ) (inner : Innermost stored frames text place) →
+following_body : (stored : List ℕ) (frames : List Frame) (piece text : List ℕ) (at place : ℕ) (inner : Innermost stored frames text place) →
     bytes_after stored frames piece at text ≡ bytes_of (unread stored inner.before) ++ drop at piece
-behind_body stored frames piece text at place inner =
+following_body stored frames piece text at place inner =
     let outer = unread stored inner.before in
     ap (λ (xs : List Placed). drop (length text) (bytes_of xs ++ drop at piece))
     (body_next inner)
@@ -339,9 +339,9 @@ first_of_part stored next end some within =
     ap (λ (n : ℕ). take n (drop next stored)) one_more ∙ ap (take (suc (end - next - 1))) (drop_more stored next 0 (omega (arith, some, within)))
 
 -- the byte after the innermost body is the next byte of the body outside it
-pub behind_in_body : (stored : List ℕ) (frames : List Frame) → FramesIn (length stored) frames → (piece text : List ℕ) (at place : ℕ) → Innermost stored frames text place → (d : Frame) → 1 < length frames →
+pub following_in_body : (stored : List ℕ) (frames : List Frame) → FramesIn (length stored) frames → (piece text : List ℕ) (at place : ℕ) → Innermost stored frames text place → (d : Frame) → 1 < length frames →
     (rest : List ℕ) × (bytes_after stored frames piece at text ≡ get_or stored (get_or frames (length frames - 2) d).next 0 ∷ rest)
-behind_in_body stored frames framed piece text at place inner d more = by inner.before refl
+following_in_body stored frames framed piece text at place inner d more = by inner.before refl
   where
     by : (before : List Frame) → inner.before ≡ before → (rest : List ℕ) × (bytes_after stored frames piece at text ≡ get_or stored (get_or frames (length frames - 2) d).next 0 ∷ rest)
     by [] none = absurd (omega (arith, more, ap length inner.last, ap (λ (fs : List Frame). length (fs ++ inner.frame ∷ [])) none))
@@ -359,31 +359,31 @@ behind_in_body stored frames framed piece text at place inner d more = by inner.
         ∙ bytes_of-append (all_at outer.place (sublist stored outer.next outer.end)) (unread stored parts.0)
         ∙ ap (λ (bs : List ℕ). bs ++ bytes_of (unread stored parts.0)) (bytes_of-all_at outer.place (sublist stored outer.next outer.end) ∙ first_of_part stored outer.next outer.end framed'.0 framed'.1) in (
           (bytes ++ bytes_of (unread stored parts.0)) ++ drop at piece,
-          behind_body stored frames piece text at place inner ∙ ap (λ (bs : List ℕ). bs ++ drop at piece) front
+          following_body stored frames piece text at place inner ∙ ap (λ (bs : List ℕ). bs ++ drop at piece) front
               ∙ ap (λ (f : Frame). get_or stored f.next 0 ∷ ((bytes ++ bytes_of (unread stored parts.0)) ++ drop at piece)) (sym second),
         )
 
 -- without a body outside it, the byte after the innermost body is the next byte of the piece
-pub behind_in_piece : (stored : List ℕ) (frames : List Frame) (piece text : List ℕ) (at place : ℕ) → Innermost stored frames text place → length frames ≤ 1 → at < length piece →
+pub following_in_piece : (stored : List ℕ) (frames : List Frame) (piece text : List ℕ) (at place : ℕ) → Innermost stored frames text place → length frames ≤ 1 → at < length piece →
     (rest : List ℕ) × (bytes_after stored frames piece at text ≡ get_or piece at 0 ∷ rest)
-behind_in_piece stored frames piece text at place inner one within =
+following_in_piece stored frames piece text at place inner one within =
     let none : inner.before ≡ [] = nil_from_length inner.before (omega (arith, one, ap length inner.last, length-append inner.before (inner.frame ∷ []))) in (
       drop (at + 1) piece,
-      behind_body stored frames piece text at place inner ∙ ap (λ (fs : List Frame). bytes_of (unread stored fs) ++ drop at piece) none ∙ drop_more piece at 0 within,
+      following_body stored frames piece text at place inner ∙ ap (λ (fs : List Frame). bytes_of (unread stored fs) ++ drop at piece) none ∙ drop_more piece at 0 within,
     )
 
 -- no byte comes after the innermost body
-pub none_behind : (stored : List ℕ) (frames : List Frame) (piece text : List ℕ) (at fed place : ℕ) → length frames ≤ 1 → (frames ≡ []) ⊎ (length piece ≤ at) → AreNextBytes stored frames piece at fed text place →
+pub none_following : (stored : List ℕ) (frames : List Frame) (piece text : List ℕ) (at fed place : ℕ) → length frames ≤ 1 → (frames ≡ []) ⊎ (length piece ≤ at) → AreNextBytes stored frames piece at fed text place →
     bytes_after stored frames piece at text ≡ []
-none_behind stored [] piece text at fed place one none comes =
+none_following stored [] piece text at fed place one none comes =
     let front = (comes.of_piece refl).0 in
     ap (λ (bs : List ℕ). drop (length bs) (drop at piece)) front ∙ drop_all (length (drop at piece)) (drop at piece) (omega arith)
-none_behind stored (first ∷ others) piece text at fed place one (inl none) comes = let bad : ⊥ = cc in absurd bad
-none_behind stored (first ∷ others) piece text at fed place one (inr all) comes =
+none_following stored (first ∷ others) piece text at fed place one (inl none) comes = let bad : ⊥ = cc in absurd bad
+none_following stored (first ∷ others) piece text at fed place one (inr all) comes =
     let frames = first ∷ others in
     let inner = comes.of_body (λ none. let bad : ⊥ = cc in bad) in
     let none : inner.before ≡ [] = nil_from_length inner.before (omega (arith, one, ap length inner.last, length-append inner.before (inner.frame ∷ []))) in
-    behind_body stored frames piece text at place inner ∙ ap (λ (fs : List Frame). bytes_of (unread stored fs) ++ drop at piece) none ∙ drop_all at piece all
+    following_body stored frames piece text at place inner ∙ ap (λ (fs : List Frame). bytes_of (unread stored fs) ++ drop at piece) none ∙ drop_all at piece all
 
 -- The bytes that came, and the next bytes then.
 pub came_coming : (frames rest : List Placed) (piece : List ℕ) (at until fed counted : ℕ) (xs : List Placed) → Came frames rest piece at until fed xs → counted + at ≡ fed + until →

@@ -5,49 +5,49 @@ use lib.Lanes.{Each1, chunk, mask_l, top, zip2}
 -- Operand bytes of a prefix, and their words. Bytes of a range in a prefix, counted in blocks by the mask of the
 -- others.
 
-pub operands_in_front : (bytes : List ℕ) (n : ℕ) → n ≤ prefix_len is_operand_byte bytes → All (λ b. is_operand_byte b ≡ true) (take n bytes)
-operands_in_front bytes n few = λ k d within.
+pub operands_prefix : (bytes : List ℕ) (n : ℕ) → n ≤ prefix_len is_operand_byte bytes → All (λ b. is_operand_byte b ≡ true) (take n bytes)
+operands_prefix bytes n few = λ k d within.
     let k_few : k < n = omega (arith, within, length-take-le n bytes (omega (arith, few, prefix_len-le-length is_operand_byte bytes))) in
     ap is_operand_byte (get_or-take n bytes k d k_few) ∙ prefix_len_passes is_operand_byte bytes k d (omega (arith, k_few, few))
 
 -- no operand comes after the operand bytes of a prefix
-pub run_over : (piece behind : List ℕ) (n : ℕ) → n ≡ prefix_len is_operand_byte piece → (n ≡ length piece → IsOver behind) → IsOver (drop n piece ++ behind)
-run_over piece behind n counted over = by (drop n piece) refl
+pub run_over : (piece following : List ℕ) (n : ℕ) → n ≡ prefix_len is_operand_byte piece → (n ≡ length piece → IsOver following) → IsOver (drop n piece ++ following)
+run_over piece following n counted over = by (drop n piece) refl
   where
     least : n ≤ length piece
     least = omega (arith, counted, prefix_len-le-length is_operand_byte piece)
 
-    by : (bs : List ℕ) → drop n piece ≡ bs → IsOver (drop n piece ++ behind)
-    by [] none = subst IsOver (ap (λ (bs : List ℕ). bs ++ behind) (sym none)) (over (omega (arith, least, ap length none, length-drop n piece)))
+    by : (bs : List ℕ) → drop n piece ≡ bs → IsOver (drop n piece ++ following)
+    by [] none = subst IsOver (ap (λ (bs : List ℕ). bs ++ following) (sym none)) (over (omega (arith, least, ap length none, length-drop n piece)))
     by (b ∷ bs) some = record {
       byte = b;
-      rest = bs ++ behind;
-      is = ap (λ (bs : List ℕ). bs ++ behind) some;
+      rest = bs ++ following;
+      is = ap (λ (bs : List ℕ). bs ++ following) some;
       other =
           ap is_operand_byte (ap (λ (bs : List ℕ). get_or bs 0 0) (sym some) ∙ get_or-drop n piece 0 0 ∙ ap (λ (i : ℕ). get_or piece i 0) (omega (arith, counted)))
           ∙ prefix_len_stops is_operand_byte piece 0 (omega (arith, counted, ap length some, length-drop n piece));
     }
 
 -- the operand bytes of a prefix are a complete run if another byte comes after them
-pub whole_run_is : (piece behind : List ℕ) (n : ℕ) → n ≡ prefix_len is_operand_byte piece → (n ≡ length piece → IsOver behind) → IsWholeRun piece behind (take n piece)
-whole_run_is piece behind n counted over = record {
+pub whole_run_is : (piece following : List ℕ) (n : ℕ) → n ≡ prefix_len is_operand_byte piece → (n ≡ length piece → IsOver following) → IsWholeRun piece following (take n piece)
+whole_run_is piece following n counted over = record {
   within = let least = prefix_len-le-length is_operand_byte piece in omega (arith, length-take-le n piece (omega (arith, counted, least)), counted, least);
-  operands = operands_in_front piece n (omega (arith, counted));
-  rest = drop n piece ++ behind;
-  front = ap (λ (bs : List ℕ). bs ++ behind) (sym (take-append-drop n piece)) ∙ append_assoc (take n piece) (drop n piece) behind;
-  over = run_over piece behind n counted over;
+  operands = operands_prefix piece n (omega (arith, counted));
+  rest = drop n piece ++ following;
+  front = ap (λ (bs : List ℕ). bs ++ following) (sym (take-append-drop n piece)) ∙ append_assoc (take n piece) (drop n piece) following;
+  over = run_over piece following n counted over;
 }
 
 -- the last run, if all bytes of the piece are operand bytes: their number, that the run is complete, and why there is
 -- none
 pub last_run_is : {R : Type 0} (now : R → List ℕ) (piece : List ℕ) (n : ℕ) → n ≡ prefix_len is_operand_byte piece → n ≤ run_limit → n ≡ length piece → (ended : Bool) (result : Option R) →
     MatchOption result (ended ≡ false) (λ run. (ended ≡ true) × (now run ≡ piece)) →
-    IfSome result (λ run. length (now run) ≤ run_limit) × IfSome result (λ run. (behind : List ℕ) → (ended ≡ true → IsOver behind) → IsWholeRun piece behind (now run))
+    IfSome result (λ run. length (now run) ≤ run_limit) × IfSome result (λ run. (following : List ℕ) → (ended ≡ true → IsOver following) → IsWholeRun piece following (now run))
     × (result ≡ None → (run_limit < prefix_len is_operand_byte piece) ⊎ ((ended ≡ false) × (prefix_len is_operand_byte piece ≡ length piece)))
 last_run_is now piece n counted few all ended None none = (tt, tt, λ is. inr (none, sym counted ∙ all))
 last_run_is now piece n counted few all ended (Some run) some = (
   omega (arith, few, all, ap length some.1),
-  λ behind over. subst (IsWholeRun piece behind) (take_all n piece (omega (arith, all)) ∙ sym some.1) (whole_run_is piece behind n counted (λ _. over some.0)),
+  λ following over. subst (IsWholeRun piece following) (take_all n piece (omega (arith, all)) ∙ sym some.1) (whole_run_is piece following n counted (λ _. over some.0)),
   λ is. let bad : ⊥ = cc in absurd bad,
 )
 
@@ -127,22 +127,22 @@ by_block least piece i n = ap (prefix_len (is_from least)) (chunk-drop i n piece
 
 -- a block with bytes of the range alone
 pub past_block : (least : ℕ) (piece : List ℕ) (i n : ℕ) → i + n ≤ length piece → mask_l (map (is_other least) (chunk i n piece)) ≡ 0 → prefix_len (is_from least) (drop i piece) ≡ n + prefix_len (is_from least) (drop (i + n) piece)
-past_block least piece i n room none =
+past_block least piece i n space none =
     let block = chunk i n piece in
     by_block least piece i n ∙ ap (λ x. cond x (length block + prefix_len (is_from least) (drop (i + n) piece)) (prefix_len (is_from least) block)) (eq-eqb _ _ (same_run least block ∙ leading_from_mask_l (is_other least) block none))
-    ∙ ap (λ k. k + prefix_len (is_from least) (drop (i + n) piece)) (length-chunk i n piece room)
+    ∙ ap (λ k. k + prefix_len (is_from least) (drop (i + n) piece)) (length-chunk i n piece space)
 
 -- a block in which the bytes of the range end
 pub in_block : (least : ℕ) (piece : List ℕ) (i n : ℕ) → i + n ≤ length piece → n ≤ 64 → 0 < mask_l (map (is_other least) (chunk i n piece)) → prefix_len (is_from least) (drop i piece) ≡ count_trailing_zeros 64 (mask_l (map (is_other least) (chunk i n piece)))
-in_block least piece i n room short some =
+in_block least piece i n space short some =
     let block = chunk i n piece in
     by_block least piece i n ∙ ap (λ x. cond x (length block + prefix_len (is_from least) (drop (i + n) piece)) (prefix_len (is_from least) block)) (ne_eqb _ _ (λ (e : prefix_len (is_from least) block ≡ length block). omega (arith, all_pass least block (sym (same_run least block) ∙ e))))
-    ∙ same_run least block ∙ sym (trailing_mask_l (is_other least) 64 block (omega (arith, length-chunk i n piece room)) some)
+    ∙ same_run least block ∙ sym (trailing_mask_l (is_other least) 64 block (omega (arith, length-chunk i n piece space)) some)
 
 -- ---- the first bytes
 
-pub at_front : (test : ℕ → Bool) (piece bytes : List ℕ) → bytes ≡ take (prefix_len test piece) piece → (length bytes ≤ length piece) × (take (length bytes) piece ≡ bytes)
-at_front test piece bytes is =
+pub at_prefix : (test : ℕ → Bool) (piece bytes : List ℕ) → bytes ≡ take (prefix_len test piece) piece → (length bytes ≤ length piece) × (take (length bytes) piece ≡ bytes)
+at_prefix test piece bytes is =
     let counted : length bytes ≡ prefix_len test piece = ap (λ (xs : List ℕ). length xs) is ∙ length-prefix_len test piece in
     (omega (arith, counted, prefix_len-le-length test piece), ap (λ (n : ℕ). take n piece) counted ∙ sym is)
 

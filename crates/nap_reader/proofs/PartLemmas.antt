@@ -1,4 +1,4 @@
-use Rattle.nap_reader.proofs.Common.{BreaksFrom, BreaksInBody, BreaksNext, BreaksPast, BreaksSome, Cause, Continues, ContinuesPast, DrawFault, RuleResult, Entry, Ghosts, GivesSome, ReadingState, List, Machine, Mode, None, Ok, Option, Outcome, Placed, Refusal, Result, Some, TakesPart, TookFront, TookPart, Unfinished, WantsBy, [], act, after_drawing, all_at, ap, append-nil, append_assoc, arith, between, body_broke, body_front, cause_of, after_charge, charged_broke, cond-false, continue_by, device, draw_fault, drawn_front, front, front_in, in_body, inl, inr, le-ltb, length, length-append, ltb, memory, next_broke, nothing, outcome_by_front, open_body, outcome_from, pause, paused, prepend, refl, shown_front, some_broke, stream, subst, sym, true, ℕ, ◌++◌, ◌<◌, ◌∙◌, ◌∷◌, ◌≡◌, ◌≢◌, ◌≤◌}
+use Rattle.nap_reader.proofs.Common.{BreaksFrom, BreaksInBody, BreaksNext, BreaksPast, BreaksSome, Cause, Continues, ContinuesPast, DrawFault, RuleResult, Entry, Ghosts, GivesSome, ReadingState, List, Machine, Mode, None, Ok, Option, Outcome, Placed, Refusal, Result, Some, TakesPart, TookPrefix, TookPart, Unfinished, WantsBy, [], act, after_drawing, all_at, ap, append-nil, append_assoc, arith, between, body_broke, body_front, cause_of, after_charge, charged_broke, cond-false, continue_by, device, draw_fault, drawn_front, front, front_in, in_body, inl, inr, le-ltb, length, length-append, ltb, memory, next_broke, nothing, outcome_by_front, open_body, outcome_from, pause, paused, prepend, refl, shown_front, some_broke, stream, subst, sym, true, ℕ, ◌++◌, ◌<◌, ◌∙◌, ◌∷◌, ◌≡◌, ◌≢◌, ◌≤◌}
 use Rattle.nap_draw.specs.declared.fault.DrawFault.TheVariants as draw_faults
 use Rattle.nap_draw.specs.Draws as draws
 use Rattle.nap_reader.proofs.ReadingLemmas.{half_read_pauses, Known, Lawful, by_front, rule_part, was_failed}
@@ -20,13 +20,13 @@ nothing_comes m = in_mode m.mode refl
     in_mode (in_body name show) mode = (open_body, waits open_body (ap (λ (mode : Mode). front_in mode m []) mode))
 
 -- the entries that a sink took of the outcome's further ones
-pub took_front : {S : Type 0} (g : Ghosts S) (s : S) (known more : List Entry) (t : S) (cause : Cause) → TookPart g s known more t cause → TookFront g s known more t cause
-took_front {S} g s known more t cause part = at cause part
+pub took_prefix : {S : Type 0} (g : Ghosts S) (s : S) (known more : List Entry) (t : S) (cause : Cause) → TookPart g s known more t cause → TookPrefix g s known more t cause
+took_prefix {S} g s known more t cause part = at cause part
   where
     none : g.took s known t → TakesPart g s known more t
     none took = ([], more, refl, subst (λ (es : List Entry). g.took s es t) (sym (append-nil known)) took)
 
-    at : (cause : Cause) → TookPart g s known more t cause → TookFront g s known more t cause
+    at : (cause : Cause) → TookPart g s known more t cause → TookPrefix g s known more t cause
     at stream part = part
     at memory (inl took) = none took
     at memory (inr (first, next, rest, parts, took)) = (first, next ∷ rest, parts, took)
@@ -93,7 +93,7 @@ module _ {S : Type 0} {g : Ghosts S} {s : S} {known : List Entry} {o : Outcome} 
       record {
         more = more;
         adds = ap (λ (o : Outcome). o.entries) k.continues.leads ∙ ap (λ (es : List Entry). es ++ more) k.done;
-        part = took_front g s known more t memory (inl past_taken);
+        part = took_prefix g s known more t memory (inl past_taken);
       }
 
   -- A body could be charged, and couldn't be read for lack of memory.
@@ -113,27 +113,27 @@ some_in_body (some_broke past) = next_broke past.next
 -- the sink has a part of the further entries if reading breaks in a body
 pub body_breaks_from : {S : Type 0} {g : Ghosts S} {s : S} {known : List Entry} {o : Outcome} {t : S} {left : ℕ} {cause : Cause} → BreaksInBody g s known o t left cause → BreaksFrom g s known o t cause
 body_breaks_from (body_broke less from) = from
-body_breaks_from {g = g} {s = s} {known = known} {t = t} {cause = cause} (next_broke next) = record { more = next.more; adds = next.adds; part = took_front g s known next.more t cause next.part }
+body_breaks_from {g = g} {s = s} {known = known} {t = t} {cause = cause} (next_broke next) = record { more = next.more; adds = next.adds; part = took_prefix g s known next.more t cause next.part }
 
 -- The further entries that a sink has if reading breaks.
 
 -- a break is also one of an outcome with other entries before or after, and of a sink with the same model
-breaks_as : {S : Type 0} {g : Ghosts S} {s t u : S} {known : List Entry} {o whole : Outcome} {cause : Cause} (known' before behind : List Entry) → (g.failed t ≡ true → g.failed s ≡ true) →
+breaks_as : {S : Type 0} {g : Ghosts S} {s t u : S} {known : List Entry} {o whole : Outcome} {cause : Cause} (known' before following : List Entry) → (g.failed t ≡ true → g.failed s ≡ true) →
     ((first : List Entry) → g.took t (known ++ first) u → g.took s (known' ++ (before ++ first)) u) → ((first : List Entry) (next : Entry) → g.broke t (known ++ first) next u → g.broke s (known' ++ (before ++ first)) next u) →
-    (h : BreaksFrom g t known o u cause) → whole.entries ≡ known' ++ (before ++ (h.more ++ behind)) → BreaksFrom g s known' whole u cause
-breaks_as {S} {g} {s} {t} {u} {known} {o} {whole} {cause} known' before behind failed took broke h adds = record { more = before ++ (h.more ++ behind); adds = adds; part = at cause h.part }
+    (h : BreaksFrom g t known o u cause) → whole.entries ≡ known' ++ (before ++ (h.more ++ following)) → BreaksFrom g s known' whole u cause
+breaks_as {S} {g} {s} {t} {u} {known} {o} {whole} {cause} known' before following failed took broke h adds = record { more = before ++ (h.more ++ following); adds = adds; part = at cause h.part }
   where
-    all : (first rest : List Entry) → h.more ≡ first ++ rest → before ++ (h.more ++ behind) ≡ (before ++ first) ++ (rest ++ behind)
-    all first rest parts = ap (λ (es : List Entry). before ++ (es ++ behind)) parts ∙ ap (λ (es : List Entry). before ++ es) (append_assoc first rest behind) ∙ sym (append_assoc before first (rest ++ behind))
+    all : (first rest : List Entry) → h.more ≡ first ++ rest → before ++ (h.more ++ following) ≡ (before ++ first) ++ (rest ++ following)
+    all first rest parts = ap (λ (es : List Entry). before ++ (es ++ following)) parts ∙ ap (λ (es : List Entry). before ++ es) (append_assoc first rest following) ∙ sym (append_assoc before first (rest ++ following))
 
-    takes : TakesPart g t known h.more u → TakesPart g s known' (before ++ (h.more ++ behind)) u
-    takes (first, rest, parts, taken) = (before ++ first, rest ++ behind, all first rest parts, took first taken)
+    takes : TakesPart g t known h.more u → TakesPart g s known' (before ++ (h.more ++ following)) u
+    takes (first, rest, parts, taken) = (before ++ first, rest ++ following, all first rest parts, took first taken)
 
-    at : (cause : Cause) → TookFront g t known h.more u cause → TookFront g s known' (before ++ (h.more ++ behind)) u cause
+    at : (cause : Cause) → TookPrefix g t known h.more u cause → TookPrefix g s known' (before ++ (h.more ++ following)) u cause
     at stream part = part
     at memory part = takes part
     at device (inl (set, part)) = inl (failed set, takes part)
-    at device (inr (first, next, rest, parts, broken)) = inr (before ++ first, next, rest ++ behind, all first (next ∷ rest) parts, broke first next broken)
+    at device (inr (first, next, rest, parts, broken)) = inr (before ++ first, next, rest ++ following, all first (next ∷ rest) parts, broke first next broken)
 
 -- a break with fewer known entries
 pub breaks_longer : {S : Type 0} {g : Ghosts S} {s : S} {o : Outcome} {t : S} {cause : Cause} (known es : List Entry) → BreaksFrom g s (known ++ es) o t cause → BreaksFrom g s known o t cause
@@ -147,8 +147,8 @@ breaks_more {known = known} es more h =
     breaks_as known [] es (λ set. set) (λ first took. took) (λ first next broke. broke) h (more ∙ ap (λ (xs : List Entry). xs ++ es) h.adds ∙ append_assoc known h.more es)
 
 -- a break after a list that was taken
-pub breaks_behind : {S : Type 0} {g : Ghosts S} {s t u : S} {known : List Entry} {o whole : Outcome} {cause : Cause} → Lawful g → Known g s known t → whole.entries ≡ known ++ o.entries → BreaksFrom g t [] o u cause → BreaksFrom g s known whole u cause
-breaks_behind {g = g} {s = s} {t = t} {u = u} {known = known} laws k is h =
+pub breaks_after : {S : Type 0} {g : Ghosts S} {s t u : S} {known : List Entry} {o whole : Outcome} {cause : Cause} → Lawful g → Known g s known t → whole.entries ≡ known ++ o.entries → BreaksFrom g t [] o u cause → BreaksFrom g s known whole u cause
+breaks_after {g = g} {s = s} {t = t} {u = u} {known = known} laws k is h =
     breaks_as known [] [] (was_failed g s t k.clear) (λ first. laws.more s t u known first k.taken) (λ first next. laws.broken s t u known first next k.taken) h (is ∙ ap (λ (xs : List Entry). known ++ xs) (h.adds ∙ sym (append-nil h.more)))
 
 -- the entries of a list are a prefix of those of a longer one
@@ -167,10 +167,10 @@ pub rule_breaks : {S : Type 0} {g : Ghosts S} {s : S} {o : Outcome} {t : S} {h :
 rule_breaks {g = g} {s = s} {o = o} k m place ys by acts laws {u} fault drew broke =
     let (drawn, is, part) = rule_part u by laws (record { taken = k.taken; clear = k.clear }) fault drew broke in
     let there = by_front k (act drawn.entries (after_drawing m drawn) ys) (acts ∙ ap (drawn_front m place ys) is) in
-    let behind = (outcome_from (after_drawing m drawn) ys).entries in
+    let following = (outcome_from (after_drawing m drawn) ys).entries in
     let drew : BreaksFrom g s k.done (record o { entries = k.done ++ drawn.entries }) u (cause_of (draw_fault fault)) =
-    record { more = drawn.entries; adds = refl; part = took_front g s k.done drawn.entries u (cause_of (draw_fault fault)) part } in
-    breaks_longer [] k.done (breaks_more behind (ap (λ (o : Outcome). o.entries) there ∙ sym (append_assoc k.done drawn.entries behind)) drew)
+    record { more = drawn.entries; adds = refl; part = took_prefix g s k.done drawn.entries u (cause_of (draw_fault fault)) part } in
+    breaks_longer [] k.done (breaks_more following (ap (λ (o : Outcome). o.entries) there ∙ sym (append_assoc k.done drawn.entries following)) drew)
 
 -- the outcome with fewer bytes pending
 pub cut : {S : Type 0} {g : Ghosts S} {s : S} {o : Outcome} {t : S} {h : ReadingState} (xs ys : List Placed) → (k : Continues g s o t h (xs ++ ys)) →
@@ -183,5 +183,5 @@ cut {h = h} xs ys k =
       ap (λ (o : Outcome). o.entries) (k.leads ∙ ap (λ (zs : List Placed). prepend k.done (outcome_from h.machine zs)) (sym (append_assoc k.rest xs ys)))
           ∙ ap (λ (es : List Entry). k.done ++ es) first.1
           ∙ sym (append_assoc k.done (outcome_from h.machine (k.rest ++ xs)).entries first.0),
-      record { done = k.done; taken = k.taken; clear = k.clear; rest = k.rest; held = k.held; leads = refl },
+      record { done = k.done; taken = k.taken; clear = k.clear; rest = k.rest; retained = k.retained; leads = refl },
     )

@@ -1,5 +1,5 @@
 use Rattle.nap_reader.proofs.Common.{Acted, All, All-append, All-cons, All-head, All-nil, AmidCall, BreaksFrom, Came, Cause, Continues, LeadsThrough, Entry, Ghosts, ReadingState, IsBroken, IsKnown, IsOwn, LeadsOn, LeadsTo, List, Machine, None, Outcome, Passes, Placed, Reaches, Reader, Refusal, RunAt, Some, HasRead, StopsBy, [], ap, append-nil, append_assoc, arith, as_it_was, begun, budget_of, bytes_of, cause_of, device, drop, drop_more, fed_of, get_or, length, length-append, length-drop, length-take-le, memory, of_body, of_piece, outcome_from, placed_at, placed_from, refl, refusal_of, stream, subst, sym, take, take-add, ℕ, ◌++◌, ◌+◌, ◌<◌, ◌∙◌, ◌∷◌, ◌≡◌, ◌≢◌, ◌≤◌}
-use Rattle.nap_reader.proofs.Base.{IsAt, Lawful, TookMore, acted_then, all_front, all_rest, breaks_behind, came_none, leads_entries, leads_left, leads_machine, leads_more, leads_unrefused, left_acted, passes_acted, run_acted, taken_more, uses_breaks}
+use Rattle.nap_reader.proofs.Base.{IsAt, Lawful, TookMore, acted_then, all_prefix, all_rest, breaks_after, came_none, leads_entries, leads_left, leads_machine, leads_more, leads_unrefused, left_acted, passes_acted, run_acted, taken_more, uses_breaks}
 
 -- How a piece is consumed.
 
@@ -20,7 +20,7 @@ first_placed piece at n less = ap (λ (bs : List ℕ). placed_from n (take 1 bs)
 
 -- A byte of the piece is read in part, with the body that it called or presented.
 module _ {S : Type 0} {g : Ghosts S} {old : Reader S g} {piece : List ℕ} {i : ℕ} {t : S} {h : ReadingState} {frames : List Placed} {s : S} {p : List ℕ} (live : refusal_of old ≡ None) (within : i < length piece)
-    (amid : AmidCall old piece i t h frames) (stood : HasRead old s p) where
+    (amid : AmidCall old piece i t h frames) (had_read : HasRead old s p) where
   -- the stream up to the byte, and with it
   abbrev q : List ℕ
   q = p ++ take i piece
@@ -32,13 +32,13 @@ module _ {S : Type 0} {g : Ghosts S} {old : Reader S g} {piece : List ℕ} {i : 
   o = begun (budget_of old) (q ++ b ∷ [])
 
   place_is : length q ≡ fed_of old + i
-  place_is = length_taken p piece i (omega (arith, within)) ∙ ap (λ (n : ℕ). n + i) (sym (stood.fed live))
+  place_is = length_taken p piece i (omega (arith, within)) ∙ ap (λ (n : ℕ). n + i) (sym (had_read.fed live))
 
   begun_there : Continues g s o amid.sink amid.holding (placed_at b (fed_of old + i) ∷ [])
   unfolding placed_from
   begun_there =
       subst (λ (n : ℕ). Continues g s o amid.sink amid.holding (placed_at b n ∷ [])) place_is
-      (leads_more (budget_of old) q (b ∷ []) (amid.before s p stood))
+      (leads_more (budget_of old) q (b ∷ []) (amid.before s p had_read))
 
   -- the outcome that is known with the byte
   pub known_amid : Continues g s o t h frames
@@ -49,11 +49,11 @@ module _ {S : Type 0} {g : Ghosts S} {old : Reader S g} {piece : List ℕ} {i : 
       ((s : S) (o : Outcome) → Continues g s o t h frames → BreaksFrom g s [] o u (cause_of r.fault)) → IsBroken g s (budget_of old) q b u left r
   unfolding leads_more placed_from
   broken_amid {u} {left} {r} laws same place breaks =
-      let k = amid.before s p stood in
+      let k = amid.before s p had_read in
       let x : Placed = placed_at b (fed_of old + i) in
       let rest : Outcome = outcome_from amid.holding.machine (k.rest ++ x ∷ []) in
       let relative : Continues g amid.sink rest amid.sink amid.holding (x ∷ []) =
-      record { done = []; taken = laws.none amid.sink; clear = λ before. before; rest = k.rest; held = k.held; leads = refl } in
+      record { done = []; taken = laws.none amid.sink; clear = λ before. before; rest = k.rest; retained = k.retained; leads = refl } in
       let there = breaks amid.sink rest (subst (Continues g amid.sink rest t h) (append-nil frames) (amid.since amid.sink rest [] relative)) in
       let before = ap (λ (m : Machine). m.left) (leads_machine k) in
       let after = leads_left known_amid in
@@ -62,7 +62,7 @@ module _ {S : Type 0} {g : Ghosts S} {old : Reader S g} {piece : List ℕ} {i : 
         breaks =
             uses_breaks (budget_of old) q b r (place ∙ sym place_is) (omega (arith, before, after, amid.less))
             (subst (λ (es : List Entry). BreaksFrom g s es o u (cause_of r.fault)) (sym (leads_entries k))
-            (breaks_behind laws (record { taken = k.taken; clear = k.clear })
+            (breaks_after laws (record { taken = k.taken; clear = k.clear })
             (ap (λ (o : Outcome). o.entries) (leads_more (budget_of old) q (b ∷ []) k).leads
             ∙ ap (λ (n : ℕ). k.done ++ (outcome_from amid.holding.machine (k.rest ++ placed_at b n ∷ [])).entries) place_is) there));
         left = omega (arith, same, before, amid.less);
@@ -83,9 +83,9 @@ stops_by {S} {g} s budget p b t left r own broken = at (cause_of r.fault) refl
 -- Bytes of the piece come next, and no body is being read.
 pub known_with : {S : Type 0} {g : Ghosts S} {old : Reader S g} {piece : List ℕ} {at : ℕ} {t : S} {h : ReadingState} {frames : List Placed} {s : S} {p : List ℕ} → LeadsTo old piece at t h frames → frames ≡ [] → (bytes : List ℕ) → HasRead old s p →
     Continues g s (begun (budget_of old) ((p ++ take at piece) ++ bytes)) t h (placed_from (fed_of old + at) bytes)
-known_with {g = g} {old = old} {piece = piece} {at = at} {t = t} {h = h} {s = s} {p = p} leads empty bytes stood =
-    subst (λ (n : ℕ). Continues g s (begun (budget_of old) ((p ++ take at piece) ++ bytes)) t h (placed_from n bytes)) (length_taken p piece at leads.within ∙ ap (λ (n : ℕ). n + at) (sym (stood.fed leads.live)))
-    (leads_more (budget_of old) (p ++ take at piece) bytes (leads.alone empty s p stood))
+known_with {g = g} {old = old} {piece = piece} {at = at} {t = t} {h = h} {s = s} {p = p} leads empty bytes had_read =
+    subst (λ (n : ℕ). Continues g s (begun (budget_of old) ((p ++ take at piece) ++ bytes)) t h (placed_from n bytes)) (length_taken p piece at leads.within ∙ ap (λ (n : ℕ). n + at) (sym (had_read.fed leads.live)))
+    (leads_more (budget_of old) (p ++ take at piece) bytes (leads.alone empty s p had_read))
 
 -- The next bytes were consumed, and these bytes of bodies come next by them.
 record AddsEntries {S : Type 0} (g : Ghosts S) (t : S) (h : ReadingState) (xs : List Placed) (u : S) (h' : ReadingState) (came : List Placed) : Type 0 where
@@ -95,31 +95,31 @@ record AddsEntries {S : Type 0} (g : Ghosts S) (t : S) (h : ReadingState) (xs : 
   called : 0 < length came → (x : Placed) × (xs ≡ x ∷ []) × RunAt x.place h'.open_run
   passes : Passes g t h xs u h' came
 
-module _ {S : Type 0} {g : Ghosts S} {old : Reader S g} {piece : List ℕ} {at : ℕ} {t u : S} {h h' : ReadingState} {frames came xs : List Placed} (leads : LeadsTo old piece at t h frames) (brings : AddsEntries g t h xs u h' came) where
+module _ {S : Type 0} {g : Ghosts S} {old : Reader S g} {piece : List ℕ} {at : ℕ} {t u : S} {h h' : ReadingState} {frames came xs : List Placed} (leads : LeadsTo old piece at t h frames) (adds_entries : AddsEntries g t h xs u h' came) where
   -- the bytes belong to a body
   module _ {i : ℕ} (rest : List Placed) (amid : AmidCall old piece i t h frames) (front : frames ≡ xs ++ rest) where
     further : AmidCall old piece i u h' (came ++ rest)
     further =
         let all = subst (All (IsAt (fed_of old + i))) front amid.there in
-        let here = all_front (fed_of old + i) xs rest all in
+        let here = all_prefix (fed_of old + i) xs rest all in
         record {
           sink = amid.sink;
           holding = amid.holding;
           before = amid.before;
           since = λ s o pending k.
               subst (Continues g s o u h') (sym (append_assoc came rest pending))
-              (brings.passes s o (rest ++ pending) (subst (Continues g s o t h) (ap (λ (ys : List Placed). ys ++ pending) front ∙ append_assoc xs rest pending) (amid.since s o pending k)));
-          less = omega (arith, amid.less, brings.left);
-          there = All-append (IsAt (fed_of old + i)) came rest (brings.there (fed_of old + i) here) (all_rest (fed_of old + i) xs rest all);
-          run = brings.run (fed_of old + i) here amid.run;
+              (adds_entries.passes s o (rest ++ pending) (subst (Continues g s o t h) (ap (λ (ys : List Placed). ys ++ pending) front ∙ append_assoc xs rest pending) (amid.since s o pending k)));
+          less = omega (arith, amid.less, adds_entries.left);
+          there = All-append (IsAt (fed_of old + i)) came rest (adds_entries.there (fed_of old + i) here) (all_rest (fed_of old + i) xs rest all);
+          run = adds_entries.run (fed_of old + i) here amid.run;
         }
 
     ends_amid : at ≡ i + 1 → came ++ rest ≡ [] → (s : S) (p : List ℕ) → HasRead old s p → Continues g s (begun (budget_of old) (p ++ take at piece)) u h' []
-    ends_amid last empty s p stood =
+    ends_amid last empty s p had_read =
         let inside : i < length piece = omega (arith, last, leads.within) in
         let all : (p ++ take i piece) ++ get_or piece i 0 ∷ [] ≡ p ++ take at piece = taken_more p piece i inside ∙ ap (λ (n : ℕ). p ++ take n piece) (sym last) in
         subst (λ (q : List ℕ). Continues g s (begun (budget_of old) q) u h' []) all
-        (subst (Continues g s (begun (budget_of old) ((p ++ take i piece) ++ get_or piece i 0 ∷ [])) u h') empty (known_amid leads.live inside further stood))
+        (subst (Continues g s (begun (budget_of old) ((p ++ take i piece) ++ get_or piece i 0 ∷ [])) u h') empty (known_amid leads.live inside further had_read))
 
   -- the bytes belong to the piece
   module _ {until : ℕ} (empty : frames ≡ []) (is : xs ≡ placed_from (fed_of old + at) (take (length xs) (drop at piece))) (moved : until ≡ at + length xs) (inside : until ≤ length piece) where
@@ -130,16 +130,16 @@ module _ {S : Type 0} {g : Ghosts S} {old : Reader S g} {piece : List ℕ} {at :
     counted = length-take-le (length xs) (drop at piece) (omega (arith, moved, inside, length-drop at piece))
 
     ends_alone : came ≡ [] → (s : S) (p : List ℕ) → HasRead old s p → Continues g s (begun (budget_of old) (p ++ take until piece)) u h' []
-    ends_alone gone s p stood =
+    ends_alone gone s p had_read =
         let o : Outcome = begun (budget_of old) ((p ++ take at piece) ++ bytes) in
         subst (λ (q : List ℕ). Continues g s (begun (budget_of old) q) u h' [])
         (taken_further p piece bytes at (ap (λ (n : ℕ). take n (drop at piece)) counted) ∙ ap (λ (n : ℕ). p ++ take n piece) (let e : at + length bytes ≡ until = omega (arith, moved, counted) in e))
-        (subst (Continues g s o u h') (append-nil came ∙ gone) (brings.passes s o [] (subst (Continues g s o t h) (sym (append-nil xs ∙ is)) (known_with leads empty bytes stood))))
+        (subst (Continues g s o u h') (append-nil came ∙ gone) (adds_entries.passes s o [] (subst (Continues g s o t h) (sym (append-nil xs ∙ is)) (known_with leads empty bytes had_read))))
 
     called_by : 0 < length came → (i : ℕ) × (until ≡ i + 1) × AmidCall old piece i u h' came
     unfolding placed_from
     called_by more =
-        let by = brings.called more in
+        let by = adds_entries.called more in
         let x = by.0 in
         let one : length xs ≡ 1 = ap length by.1 in
         let y = placed_at (get_or piece at 0) (fed_of old + at) in
@@ -151,9 +151,9 @@ module _ {S : Type 0} {g : Ghosts S} {old : Reader S g} {piece : List ℕ} {at :
             sink = t;
             holding = h;
             before = leads.alone empty;
-            since = λ s o pending k. brings.passes s o pending (subst (λ (ys : List Placed). Continues g s o t h (ys ++ pending)) (sym placed) k);
-            less = omega (arith, brings.left, more);
-            there = brings.there (fed_of old + at) (subst (All (IsAt (fed_of old + at))) (sym placed) (All-cons (IsAt (fed_of old + at)) y [] refl (All-nil (IsAt (fed_of old + at)))));
+            since = λ s o pending k. adds_entries.passes s o pending (subst (λ (ys : List Placed). Continues g s o t h (ys ++ pending)) (sym placed) k);
+            less = omega (arith, adds_entries.left, more);
+            there = adds_entries.there (fed_of old + at) (subst (All (IsAt (fed_of old + at))) (sym placed) (All-cons (IsAt (fed_of old + at)) y [] refl (All-nil (IsAt (fed_of old + at)))));
             run = subst (λ (x : Placed). RunAt x.place h'.open_run) same by.2;
           },
         )
@@ -164,7 +164,7 @@ module _ {S : Type 0} {g : Ghosts S} {old : Reader S g} {piece : List ℕ} {at :
       record {
         live = leads.live;
         within = omega (arith, same, leads.within);
-        alone = λ empty s p stood. subst (λ (n : ℕ). Continues g s (begun (budget_of old) (p ++ take n piece)) u h' []) (sym same) (ends_amid rest at_it.2 front at_it.1 empty s p stood);
+        alone = λ empty s p had_read. subst (λ (n : ℕ). Continues g s (begun (budget_of old) (p ++ take n piece)) u h' []) (sym same) (ends_amid rest at_it.2 front at_it.1 empty s p had_read);
         amid = λ more. (at_it.0, same ∙ at_it.1, further rest at_it.2 front);
       }
   advances {rest} {until} (of_piece empty none is moved inside) =
@@ -194,7 +194,7 @@ module _ {S : Type 0} {g : Ghosts S} {old : Reader S g} {piece : List ℕ} {at :
       let still = came_none frames rest piece at until (fed_of old + at) [] refl came in
       let acted : Acted g t h u h' next =
       subst (Acted g t h u h') (sym first)
-      (subst (λ (held : ReadingState). Acted g t held u h' (bytes_of rest ++ drop until piece)) same.1 (subst (λ (w : S). Acted g w then.conveys.holding u h' (bytes_of rest ++ drop until piece)) same.0 then.acted)) in
+      (subst (λ (retained : ReadingState). Acted g t retained u h' (bytes_of rest ++ drop until piece)) same.1 (subst (λ (w : S). Acted g w then.conveys.holding u h' (bytes_of rest ++ drop until piece)) same.0 then.acted)) in
       subst (λ (n : ℕ). Reaches old piece n u h' rest) (sym still.1)
       (subst (Reaches old piece at u h') (sym still.0) (record {
         sink = by.sink;

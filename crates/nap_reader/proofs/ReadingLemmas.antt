@@ -1,4 +1,4 @@
-use Rattle.nap_reader.proofs.Common.{Bool, Budget, Code, CodeFault, CodeSets, Continues, DrawFault, RuleResult, Entry, Err, Front, Ghosts, ReadingState, IfErr, IsDrawn, ArePendingBetweenCodes, ArePending, ArePendingBy, ArePendingIn, IsInRange, IsOpenBody, IsOpenRun, IsRefused, LexerState, List, LongRun, Machine, MatchResult, Mode, None, Ok, OnOk, Opcode, OpenBody, OpenRun, Option, Outcome, Placed, Refusal, Result, Some, StepsBy, TookPart, [], act, all_at, ap, append-nil, append_assoc, arith, begun, between, body_front, body_front_by, bytes_of, cause_of, after_charge, code_fault, code_front, code_ranges, cond, cond-false, cond-true, continue, device, draw_fault, drawn_front, drop, drop_at, eq-eqb, false, front, front_by, front_in, half_read, pending_escape, in_body, inl, inr, is_operand, kind_of, le-ltb, length, length-append, length-map, length-prefix_len, lt-ltb, ltb, nat_lt, nat_tests, outcome_by_front, opcode_front, opcodes_are_drawn, outcome_from, body_front_after, pause, paused, place_at, placed_from, prefix_len-append, prepend, refl, refusal, refuse, refused_stays, rule, run_length, run_limit, shown_front, start_machine, start_sets, store_limit, stream, subst, suc, sym, take, take_at, true, unfinished_by, unfinished_of, whole_stays, words_of, ℕ, ◌++◌, ◌+◌, ◌-◌, ◌<◌, ◌∙◌, ◌∷◌, ◌≡◌, ◌≢◌, ◌≤◌, ◌⊎◌}
+use Rattle.nap_reader.proofs.Common.{Bool, Budget, Code, CodeFault, CodeSets, Continues, DrawFault, RuleResult, Entry, Err, Front, Ghosts, ReadingState, IfErr, IsDrawn, ArePendingBetweenCodes, ArePending, ArePendingBy, ArePendingIn, IsInRange, IsOpenBody, IsOpenRun, IsRefused, LexerState, List, LongRun, Machine, MatchResult, Mode, None, Ok, OnOk, Opcode, OpenBody, OpenRun, Option, Outcome, Placed, Refusal, Result, Some, StepsBy, TookPart, [], act, all_at, ap, append-nil, append_assoc, arith, begun, between, body_front, body_front_by, bytes_of, cause_of, after_charge, code_fault, code_front, code_ranges, cond, cond-false, cond-true, continue, device, draw_fault, drawn_front, drop, drop_at, eq-eqb, false, front, front_by, front_in, half_read, pending_escape, in_body, inl, inr, is_operand, kind_of, le-ltb, length, length-append, length-map, length-prefix_len, lt-ltb, ltb, nat_lt, nat_tests, outcome_by_front, opcode_front, opcodes_are_drawn, outcome_from, body_front_after, pause, paused, place_at, placed_from, prefix_len-append, prepend, refl, refusal, refuse, refused_stays, rule, run_length, run_limit, shown_front, start_machine, start_sets, store_limit, stream, subst, suc, sym, take, take_at, true, unfinished_by, unfinished_of, code_stays, words_of, ℕ, ◌++◌, ◌+◌, ◌-◌, ◌<◌, ◌∙◌, ◌∷◌, ◌≡◌, ◌≢◌, ◌≤◌, ◌⊎◌}
 use Rattle.nap_codes.specs.declared.code.Code.TheVariants as code
 use Rattle.nap_codes.specs.Front as codes
 use Rattle.nap_reader.specs.Stream as model
@@ -16,9 +16,9 @@ use Rattle.nap_reader.proofs.SpelledLemmas.{nothing_yet}
 drop_past : (rest : List Placed) (x : Placed) (pending : List Placed) (n : ℕ) → n ≡ suc (length rest) → drop n (rest ++ x ∷ pending) ≡ pending
 drop_past rest x pending n e = ap (drop n) (sym (append_assoc rest (x ∷ []) pending)) ∙ drop_at (rest ++ x ∷ []) pending n (omega (arith, e, length-append rest (x ∷ [])))
 
-pub place_at-behind : (rest : List Placed) (x : Placed) (pending : List Placed) (n : ℕ) → n ≡ length rest → place_at (rest ++ x ∷ pending) n ≡ x.place
-place_at-behind [] x pending n e = rw e refl
-place_at-behind (y ∷ rest) x pending n e = rw e (place_at-behind rest x pending (length rest) refl)
+pub place_at-following : (rest : List Placed) (x : Placed) (pending : List Placed) (n : ℕ) → n ≡ length rest → place_at (rest ++ x ∷ pending) n ≡ x.place
+place_at-following [] x pending n e = rw e refl
+place_at-following (y ∷ rest) x pending n e = rw e (place_at-following rest x pending (length rest) refl)
 
 bytes_past : (rest : List Placed) (x : Placed) (pending : List Placed) (half : List ℕ) → bytes_of rest ≡ half →
     bytes_of (rest ++ x ∷ pending) ≡ (half ++ x.byte ∷ []) ++ bytes_of pending
@@ -37,15 +37,15 @@ front_between m xs mode = ap (λ (mode : Mode). front_in mode m xs) mode
 
 -- an incomplete code, which this byte completes
 pub front_code : {half : List ℕ} {c : Code} {n : ℕ} {after : CodeSets} (m : Machine) (rest : List Placed) (x : Placed) (pending : List Placed) → m.mode ≡ between →
-    bytes_of rest ≡ half → codes.front m.sets (half ++ x.byte ∷ []) ≡ codes.whole c n after → n ≡ length (half ++ x.byte ∷ []) →
+    bytes_of rest ≡ half → codes.front m.sets (half ++ x.byte ∷ []) ≡ codes.complete c n after → n ≡ length (half ++ x.byte ∷ []) →
     front m (rest ++ x ∷ pending) ≡ code_front (record m { sets = after }) (kind_of c) x.place pending
 front_code {half} {c} {n} {after} m rest x pending mode is e len =
-    let found : codes.front m.sets (bytes_of (rest ++ x ∷ pending)) ≡ codes.whole c n after =
-    rw (bytes_past rest x pending half is) (whole_stays m.sets (half ++ x.byte ∷ []) (bytes_of pending) c n after e) in
+    let found : codes.front m.sets (bytes_of (rest ++ x ∷ pending)) ≡ codes.complete c n after =
+    rw (bytes_past rest x pending half is) (code_stays m.sets (half ++ x.byte ∷ []) (bytes_of pending) c n after e) in
     let count : n ≡ suc (length rest) = omega (arith, len, length-append half (x.byte ∷ []), length_past rest half is) in
     let last : n - 1 ≡ length rest = omega (arith, count) in
     front_between m (rest ++ x ∷ pending) mode
-    ∙ rw (found, last, place_at-behind rest x pending (length rest) refl, drop_past rest x pending n count) refl
+    ∙ rw (found, last, place_at-following rest x pending (length rest) refl, drop_past rest x pending n count) refl
 
 -- an incomplete code, which this byte can't continue
 pub front_fault : {half : List ℕ} {fault : CodeFault} {i : ℕ} (m : Machine) (rest : List Placed) (x : Placed) (pending : List Placed) → m.mode ≡ between →
@@ -55,7 +55,7 @@ front_fault {half} {fault} {i} m rest x pending mode is e index =
     let found : codes.front m.sets (bytes_of (rest ++ x ∷ pending)) ≡ codes.refused fault i =
     rw (bytes_past rest x pending half is) (refused_stays m.sets (half ++ x.byte ∷ []) (bytes_of pending) fault i e) in
     let at : i ≡ length rest = index ∙ length_past rest half is in
-    front_between m (rest ++ x ∷ pending) mode ∙ rw (found, at, place_at-behind rest x pending (length rest) refl) refl
+    front_between m (rest ++ x ∷ pending) mode ∙ rw (found, at, place_at-following rest x pending (length rest) refl) refl
 
 -- an open run and what is after it
 
@@ -66,7 +66,7 @@ opcode_first m rest open_run run pending mode h =
     front_between m (rest ++ pending) mode
     ∙ rw (
       h.is,
-      whole_stays m.sets (h.opcode.byte ∷ []) (bytes_of (h.operands ++ pending)) (code.Op open_run.op) 1 m.sets h.names,
+      code_stays m.sets (h.opcode.byte ∷ []) (bytes_of (h.operands ++ pending)) (code.Op open_run.op) 1 m.sets h.names,
       h.place,
     ) refl
 
@@ -102,9 +102,9 @@ front_run m rest open_run run x pending mode h other =
     ∙ rw (ends, taken, dropped, short_run rest open_run run m.sets h, h.words) refl
 
 -- an open run that continues
-run_goes_on : (operands pending : List Placed) → run_length operands ≡ length operands →
+run_continues : (operands pending : List Placed) → run_length operands ≡ length operands →
     run_length (operands ++ pending) ≡ length operands + run_length pending
-run_goes_on operands pending all = rw (prefix_len-append is_operand operands pending, all, eq-eqb (length operands) (length operands) refl) refl
+run_continues operands pending all = rw (prefix_len-append is_operand operands pending, all, eq-eqb (length operands) (length operands) refl) refl
 
 -- an operand byte too many
 pub front_long : (m : Machine) (rest : List Placed) (open_run : OpenRun) (run : List ℕ) (x : Placed) (pending : List Placed) → m.mode ≡ between →
@@ -112,7 +112,7 @@ pub front_long : (m : Machine) (rest : List Placed) (open_run : OpenRun) (run : 
     front m (rest ++ x ∷ pending) ≡ refuse (refusal LongRun open_run.place)
 front_long m rest open_run run x pending mode h word many =
     let one : run_length (x ∷ pending) ≡ 1 + run_length pending = rw word refl in
-    let goes = run_goes_on h.operands (x ∷ pending) h.all in
+    let goes = run_continues h.operands (x ∷ pending) h.all in
     let long : run_limit < length (take (run_length (h.operands ++ x ∷ pending)) (h.operands ++ x ∷ pending)) =
     omega (arith, length-prefix_len is_operand (h.operands ++ x ∷ pending), goes, one, many, ap length h.words, length-words_of h.operands) in
     opcode_first m rest open_run run (x ∷ pending) mode h ∙ rw (lt-ltb run_limit _ long) refl
@@ -136,7 +136,7 @@ half_read_pauses m rest half mode is e =
     ∙ ap (front_by m rest) (ap (codes.front m.sets) is ∙ e) ∙ ap (λ (bs : List ℕ). pause (half_read bs)) is
 
 -- an opcode opens a run
-pub opens_run : (x : Placed) (op : Opcode) (sets : CodeSets) → codes.front sets (x.byte ∷ []) ≡ codes.whole (code.Op op) 1 sets →
+pub opens_run : (x : Placed) (op : Opcode) (sets : CodeSets) → codes.front sets (x.byte ∷ []) ≡ codes.complete (code.Op op) 1 sets →
     IsOpenRun (x ∷ []) (record { op = op; place = x.place }) [] sets
 opens_run x op sets names = record {
   opcode = x;
@@ -160,7 +160,7 @@ joins_run rest open_run run sets x h word few = record {
   place = h.place;
   names = h.names;
   words = words_of-append h.operands (x ∷ []) ∙ ap (λ (ws : List ℕ). ws ++ (x.byte - 64) ∷ []) h.words;
-  all = run_goes_on h.operands (x ∷ []) h.all ∙ rw (word, length-append h.operands (x ∷ [])) refl;
+  all = run_continues h.operands (x ∷ []) h.all ∙ rw (word, length-append h.operands (x ∷ [])) refl;
   short = omega (arith, length-append run ((x.byte - 64) ∷ []), few);
 }
 
@@ -189,27 +189,27 @@ pub record Lawful {S : Type 0} (g : Ghosts S) : Type 0 where
 
 -- between two codes
 pub is_between : (h : ReadingState) (rest : List Placed) → h.open_body ≡ None → ArePending rest h → ArePendingBetweenCodes rest h
-is_between h rest no_body held = subst (ArePendingIn rest h) no_body held
+is_between h rest no_body retained = subst (ArePendingIn rest h) no_body retained
 
 pub holds_between : (h : ReadingState) (rest : List Placed) → h.open_body ≡ None → ArePendingBetweenCodes rest h → ArePending rest h
-holds_between h rest no_body held = subst (ArePendingIn rest h) (sym no_body) held
+holds_between h rest no_body retained = subst (ArePendingIn rest h) (sym no_body) retained
 
 -- the end of a body isn't seen yet
-escape_waits : (room : ℕ) (escape : Option ℕ) → body_front room (bytes_of (pending_escape escape)) ≡ bodies.unfinished
+escape_waits : (space : ℕ) (escape : Option ℕ) → body_front space (bytes_of (pending_escape escape)) ≡ bodies.unfinished
 unfolding body_front
-escape_waits room None = refl
-escape_waits room (Some place) = refl
+escape_waits space None = refl
+escape_waits space (Some place) = refl
 
 open_body_waits : (rest : List Placed) (body : OpenBody) (h : ReadingState) → IsOpenBody rest body h →
     body_front (store_limit - h.machine.stored) (bytes_of rest) ≡ bodies.unfinished
 open_body_waits rest body h k =
-    let room = store_limit - h.machine.stored in
+    let space = store_limit - h.machine.stored in
     let all : bytes_of rest ≡ h.body ++ bytes_of (pending_escape body.escape) =
     ap bytes_of k.is ∙ bytes_of-append k.bytes (pending_escape body.escape) ∙ ap (λ (bs : List ℕ). bs ++ bytes_of (pending_escape body.escape)) k.at.body in
     let none = append-nil (bytes_of (pending_escape body.escape)) in
-    ap (body_front room) (all ∙ ap (λ (bs : List ℕ). h.body ++ bs) (sym none))
-    ∙ k.at.goes_on []
-    ∙ ap (body_front_after (length h.body)) (ap (body_front (room - length h.body)) none ∙ escape_waits (room - length h.body) body.escape)
+    ap (body_front space) (all ∙ ap (λ (bs : List ℕ). h.body ++ bs) (sym none))
+    ∙ k.at.are_of_body []
+    ∙ ap (body_front_after (length h.body)) (ap (body_front (space - length h.body)) none ∙ escape_waits (space - length h.body) body.escape)
 
 -- the front of an open body
 pub front_body : (rest : List Placed) (body : OpenBody) (h : ReadingState) (pending : List Placed) → h.machine.mode ≡ in_body body.name body.show →
@@ -219,9 +219,9 @@ unfolding front
 front_body rest body h pending mode = ap (λ (mode : Mode). front_in mode h.machine (rest ++ pending)) mode
 
 -- pending bytes wait for further ones
-pub held_pauses : (h : ReadingState) (rest : List Placed) → ArePending rest h → front h.machine rest ≡ pause (unfinished_of h)
+pub pending_waits : (h : ReadingState) (rest : List Placed) → ArePending rest h → front h.machine rest ≡ pause (unfinished_of h)
 unfolding front
-held_pauses h rest held = in_mode h.open_body held
+pending_waits h rest retained = in_mode h.open_body retained
   where
     at : (open_run : Option OpenRun) → h.machine.mode ≡ between → ArePendingBy rest h open_run →
         front h.machine rest ≡ pause (unfinished_by None open_run h.half h.run)
@@ -236,12 +236,12 @@ held_pauses h rest held = in_mode h.open_body held
 
 pub is_open_run : (h : ReadingState) (rest : List Placed) (open_run : OpenRun) → h.open_body ≡ None → h.open_run ≡ Some open_run → ArePending rest h →
     IsOpenRun rest open_run h.run h.machine.sets × (h.half ≡ [])
-is_open_run h rest open_run no_body is held = subst (ArePendingBy rest h) is (is_between h rest no_body held).half
+is_open_run h rest open_run no_body is retained = subst (ArePendingBy rest h) is (is_between h rest no_body retained).half
 
 pub holds_open_run : (h : ReadingState) (rest : List Placed) (open_run : OpenRun) → h.open_body ≡ None → h.machine.mode ≡ between → h.body ≡ [] →
     h.open_run ≡ Some open_run → IsOpenRun rest open_run h.run h.machine.sets → h.half ≡ [] → ArePending rest h
-holds_open_run h rest open_run no_body mode empty is held none =
-    holds_between h rest no_body (record { mode = mode; body = empty; half = subst (ArePendingBy rest h) (sym is) (held, none) })
+holds_open_run h rest open_run no_body mode empty is retained none =
+    holds_between h rest no_body (record { mode = mode; body = empty; half = subst (ArePendingBy rest h) (sym is) (retained, none) })
 
 -- a fault of a rule has one cause, for the rule and for the reader
 pub same_cause : (fault : DrawFault) → cause_of (draw_fault fault) ≡ draws.cause_of fault
@@ -259,23 +259,23 @@ module _ {S : Type 0} {g : Ghosts S} {s : S} {o : Outcome} {t : S} {h : ReadingS
   unfoldable pub leads_on : (u : S) (es : List Entry) (h' : ReadingState) (ys : List Placed) → TookMore g → ArePending [] h' →
       front h.machine (k.rest ++ pending) ≡ act es h'.machine ys → g.took t es u → (g.failed t ≡ false → g.failed u ≡ false) →
       Continues g s o u h' ys
-  leads_on u es h' ys law held e took clear = record {
+  leads_on u es h' ys law retained e took clear = record {
     done = k.done ++ es;
     taken = law s t u k.done es k.taken took;
     clear = λ before. clear (k.clear before);
     rest = [];
-    held = held;
+    retained = retained;
     leads = by_front (act es h'.machine ys) e ∙ sym (prepend-append k.done es (outcome_from h'.machine ys));
   }
 
   -- the front acts, and puts nothing
   unfoldable pub leads_past : (h' : ReadingState) (ys : List Placed) → ArePending [] h' → front h.machine (k.rest ++ pending) ≡ act [] h'.machine ys → Continues g s o t h' ys
-  leads_past h' ys held e = record {
+  leads_past h' ys retained e = record {
     done = k.done;
     taken = k.taken;
     clear = k.clear;
     rest = [];
-    held = held;
+    retained = retained;
     leads = by_front (act [] h'.machine ys) e;
   }
 
@@ -291,8 +291,8 @@ module _ {S : Type 0} {g : Ghosts S} {s : S} {o : Outcome} {t : S} {h : ReadingS
   -- the front is a body that comes next
   pub leads_shown : (m : Machine) (place : ℕ) (bytes : List ℕ) (ys : List Placed) → front h.machine (k.rest ++ pending) ≡ shown_front m place bytes ys →
       length bytes ≤ m.left → (h' : ReadingState) → h'.machine ≡ after_charge m (length bytes) → ArePending [] h' → Continues g s o t h' (all_at place bytes ++ ys)
-  leads_shown m place bytes ys e few h' same held =
-      leads_past h' (all_at place bytes ++ ys) held
+  leads_shown m place bytes ys e few h' same retained =
+      leads_past h' (all_at place bytes ++ ys) retained
       (e
       ∙ cond-false (ltb m.left (length bytes)) _ _ (le-ltb m.left (length bytes) few)
       ∙ ap (λ (m : Machine). act [] m (all_at place bytes ++ ys)) (sym same))
@@ -315,12 +315,12 @@ module _ {S : Type 0} {g : Ghosts S} {s : S} {o : Outcome} {t : S} {h : ReadingS
 -- the first of the next bytes become pending
 unfoldable pub leads_shift : {S : Type 0} {g : Ghosts S} {s : S} {o : Outcome} {t : S} {h : ReadingState} {x : Placed} {pending : List Placed} (k : Continues g s o t h (x ∷ pending)) (h' : ReadingState) →
     h'.machine ≡ h.machine → ArePending (k.rest ++ x ∷ []) h' → Continues g s o t h' pending
-leads_shift {x = x} {pending = pending} k h' same held = record {
+leads_shift {x = x} {pending = pending} k h' same retained = record {
   done = k.done;
   taken = k.taken;
   clear = k.clear;
   rest = k.rest ++ x ∷ [];
-  held = held;
+  retained = retained;
   leads =
       k.leads
       ∙ ap (λ (m : Machine). prepend k.done (outcome_from m (k.rest ++ x ∷ pending))) (sym same)
@@ -332,7 +332,7 @@ module _ {S : Type 0} {g : Ghosts S} {s : S} {o : Outcome} {t : S} {h : ReadingS
   pub leads_paused : o ≡ prepend k.done (paused h.machine k.rest (Some (unfinished_of h)))
   leads_paused =
       k.leads
-      ∙ ap (prepend k.done) (ap (outcome_from h.machine) (append-nil k.rest) ∙ outcome_from-front h.machine k.rest ∙ ap (outcome_by_front outcome_from h.machine k.rest) (held_pauses h k.rest k.held))
+      ∙ ap (prepend k.done) (ap (outcome_from h.machine) (append-nil k.rest) ∙ outcome_from-front h.machine k.rest ∙ ap (outcome_by_front outcome_from h.machine k.rest) (pending_waits h k.rest k.retained))
 
   pub leads_entries : o.entries ≡ k.done
   leads_entries = ap (λ (x : Outcome). x.entries) leads_paused ∙ append-nil k.done
@@ -365,7 +365,7 @@ leads_more {h = h} budget p q k =
       taken = k.taken;
       clear = k.clear;
       rest = k.rest;
-      held = k.held;
+      retained = k.retained;
       leads =
           begun-append budget p q
           ∙ ap (λ (o : Outcome). continue outcome_from o (placed_from (length p) q)) is
@@ -412,7 +412,7 @@ opcode_of_kind (code.Op op') op e = let same : op' ≡ op = cc in ap code.Op sam
 opcode_of_kind _ op e = let bad : ⊥ = cc in absurd bad
 
 -- an opcode that opens a run has a rule
-pub opens_drawn : (sets : CodeSets) (xs : List ℕ) (c : Code) (n : ℕ) (after : CodeSets) (op : Opcode) → codes.front sets xs ≡ codes.whole c n after →
+pub opens_drawn : (sets : CodeSets) (xs : List ℕ) (c : Code) (n : ℕ) (after : CodeSets) (op : Opcode) → codes.front sets xs ≡ codes.complete c n after →
     kind_of c ≡ kinds.Opens op → IsDrawn op
 opens_drawn sets xs c n after op e kind =
     opcodes_are_drawn op (subst IsInRange (opcode_of_kind c op kind) (code_ranges sets xs c n after e))
@@ -433,24 +433,24 @@ matched_err {A} {E} F G r e is h = subst (λ (x : Result A E). MatchResult x F G
 pub more_of : (f : codes.Front) (old : LexerState) (b : ℕ) (new : LexerState) → StepsBy f old b steps.More new →
     (f ≡ codes.unfinished) × (new ≡ record { sets = old.sets; half = old.half ++ b ∷ [] })
 more_of codes.unfinished old b new h = (refl, h.1)
-more_of (codes.whole c n after) old b new h = let bad : ⊥ = cc in absurd bad
+more_of (codes.complete c n after) old b new h = let bad : ⊥ = cc in absurd bad
 more_of (codes.refused fault i) old b new h = let bad : ⊥ = cc in absurd bad
 
 pub code_of : (f : codes.Front) (old : LexerState) (b : ℕ) (c : Code) (new : LexerState) → StepsBy f old b (steps.Code c) new →
-    (n : ℕ) × (after : CodeSets) × (f ≡ codes.whole c n after) × (n ≡ length (old.half ++ b ∷ [])) × (new ≡ record { sets = after; half = [] })
+    (n : ℕ) × (after : CodeSets) × (f ≡ codes.complete c n after) × (n ≡ length (old.half ++ b ∷ [])) × (new ≡ record { sets = after; half = [] })
 code_of codes.unfinished old b c new h = let bad : ⊥ = cc in absurd bad
-code_of (codes.whole c' n after) old b c new h = let same : c' ≡ c = cc in (n, after, ap (λ (k : Code). codes.whole k n after) same, h.1, h.2)
+code_of (codes.complete c' n after) old b c new h = let same : c' ≡ c = cc in (n, after, ap (λ (k : Code). codes.complete k n after) same, h.1, h.2)
 code_of (codes.refused fault i) old b c new h = let bad : ⊥ = cc in absurd bad
 
 pub fault_of : (f : codes.Front) (old : LexerState) (b : ℕ) (fault : CodeFault) (new : LexerState) → StepsBy f old b (steps.Fault fault) new →
     (i : ℕ) × (f ≡ codes.refused fault i) × (i ≡ length old.half)
 fault_of codes.unfinished old b fault new h = let bad : ⊥ = cc in absurd bad
-fault_of (codes.whole c n after) old b fault new h = let bad : ⊥ = cc in absurd bad
+fault_of (codes.complete c n after) old b fault new h = let bad : ⊥ = cc in absurd bad
 fault_of (codes.refused fault' i) old b fault new h = let same : fault' ≡ fault = cc in (i, ap (λ (k : CodeFault). codes.refused k i) same, h.1)
 
 pub is_half : (h : ReadingState) (rest : List Placed) → h.open_body ≡ None → h.open_run ≡ None → ArePending rest h →
     (bytes_of rest ≡ h.half) × (codes.front h.machine.sets h.half ≡ codes.unfinished)
-is_half h rest no_body is held = subst (ArePendingBy rest h) is (is_between h rest no_body held).half
+is_half h rest no_body is retained = subst (ArePendingBy rest h) is (is_between h rest no_body retained).half
 
 pub holds_half : (h : ReadingState) (rest : List Placed) → h.open_body ≡ None → h.machine.mode ≡ between → h.body ≡ [] → h.open_run ≡ None →
     bytes_of rest ≡ h.half → codes.front h.machine.sets h.half ≡ codes.unfinished → ArePending rest h
@@ -465,10 +465,10 @@ holds_nothing h no_body mode empty is none = holds_half h [] no_body mode empty 
 module _ {S : Type 0} {g : Ghosts S} {s : S} {o : Outcome} {t : S} {h : ReadingState} {open_run : OpenRun} {x : Placed} {pending : List Placed} (no_body : h.open_body ≡ None) (is : h.open_run ≡ Some open_run)
     (k : Continues g s o t h (x ∷ pending)) where
   half_of : ArePendingBetweenCodes k.rest h
-  half_of = is_between h k.rest no_body k.held
+  half_of = is_between h k.rest no_body k.retained
 
   open_of : IsOpenRun k.rest open_run h.run h.machine.sets × (h.half ≡ [])
-  open_of = is_open_run h k.rest open_run no_body is k.held
+  open_of = is_open_run h k.rest open_run no_body is k.retained
 
   -- the byte is a word that joins the run
   pub word_joins : is_operand x ≡ true → length h.run < run_limit → Continues g s o t (record h { run = h.run ++ (x.byte - 64) ∷ [] }) pending
@@ -488,45 +488,45 @@ module _ {S : Type 0} {g : Ghosts S} {s : S} {o : Outcome} {t : S} {h : ReadingS
       ∙ ap (drawn_front h.machine open_run.place (x ∷ pending)) e
 
   -- nothing is pending once the run's opcode has acted
-  pub none_held : (m : Machine) → m.mode ≡ h.machine.mode → ArePending [] (record h { machine = m; open_run = None; run = [] })
-  none_held m mode = holds_nothing (record h { machine = m; open_run = None; run = [] }) no_body (mode ∙ half_of.mode) half_of.body refl open_of.1
+  pub none_pending : (m : Machine) → m.mode ≡ h.machine.mode → ArePending [] (record h { machine = m; open_run = None; run = [] })
+  none_pending m mode = holds_nothing (record h { machine = m; open_run = None; run = [] }) no_body (mode ∙ half_of.mode) half_of.body refl open_of.1
 
 -- a byte while no run is open
 module _ {S : Type 0} {g : Ghosts S} {s : S} {o : Outcome} {t : S} {h : ReadingState} {x : Placed} {pending : List Placed} (no_body : h.open_body ≡ None) (is : h.open_run ≡ None) (k : Continues g s o t h (x ∷ pending)) where
-  pub between_held : ArePendingBetweenCodes k.rest h
-  between_held = is_between h k.rest no_body k.held
+  pub between_pending : ArePendingBetweenCodes k.rest h
+  between_pending = is_between h k.rest no_body k.retained
 
-  pub half_held : (bytes_of k.rest ≡ h.half) × (codes.front h.machine.sets h.half ≡ codes.unfinished)
-  half_held = is_half h k.rest no_body is k.held
+  pub half_pending : (bytes_of k.rest ≡ h.half) × (codes.front h.machine.sets h.half ≡ codes.unfinished)
+  half_pending = is_half h k.rest no_body is k.retained
 
   -- the byte's code is still incomplete
-  unfoldable pub code_goes_on : codes.front h.machine.sets (h.half ++ x.byte ∷ []) ≡ codes.unfinished → Continues g s o t (record h { half = h.half ++ x.byte ∷ [] }) pending
-  code_goes_on e =
+  unfoldable pub code_continues : codes.front h.machine.sets (h.half ++ x.byte ∷ []) ≡ codes.unfinished → Continues g s o t (record h { half = h.half ++ x.byte ∷ [] }) pending
+  code_continues e =
       leads_shift k (record h { half = h.half ++ x.byte ∷ [] }) refl
-      (holds_half (record h { half = h.half ++ x.byte ∷ [] }) _ no_body between_held.mode between_held.body is
-      (bytes_of-append k.rest (x ∷ []) ∙ ap (λ (bs : List ℕ). bs ++ x.byte ∷ []) half_held.0) e)
+      (holds_half (record h { half = h.half ++ x.byte ∷ [] }) _ no_body between_pending.mode between_pending.body is
+      (bytes_of-append k.rest (x ∷ []) ∙ ap (λ (bs : List ℕ). bs ++ x.byte ∷ []) half_pending.0) e)
 
   -- the byte is refused
   pub byte_refused : (fault : CodeFault) (i : ℕ) → codes.front h.machine.sets (h.half ++ x.byte ∷ []) ≡ codes.refused fault i →
       i ≡ length h.half → IsRefused g s o t h (refusal (code_fault fault) x.place)
-  byte_refused fault i e at = leads_to_refusal k _ (front_fault h.machine k.rest x pending between_held.mode half_held.0 e at)
+  byte_refused fault i e at = leads_to_refusal k _ (front_fault h.machine k.rest x pending between_pending.mode half_pending.0 e at)
 
   -- the byte ends a code
-  pub code_ends : (c : Code) (n : ℕ) (after : CodeSets) → codes.front h.machine.sets (h.half ++ x.byte ∷ []) ≡ codes.whole c n after → n ≡ length (h.half ++ x.byte ∷ []) →
+  pub code_ends : (c : Code) (n : ℕ) (after : CodeSets) → codes.front h.machine.sets (h.half ++ x.byte ∷ []) ≡ codes.complete c n after → n ≡ length (h.half ++ x.byte ∷ []) →
       front h.machine (k.rest ++ x ∷ pending) ≡ code_front (record h.machine { sets = after }) (kind_of c) x.place pending
-  code_ends c n after e len = front_code h.machine k.rest x pending between_held.mode half_held.0 e len
+  code_ends c n after e len = front_code h.machine k.rest x pending between_pending.mode half_pending.0 e len
 
   -- the byte ends a code, and nothing is pending then
   pub code_over : (h' : ReadingState) → h'.open_body ≡ None → h'.machine.mode ≡ h.machine.mode → h'.body ≡ h.body → h'.open_run ≡ None → h'.half ≡ [] → ArePending [] h'
-  code_over h' no_body' mode body is' none = holds_nothing h' no_body' (mode ∙ between_held.mode) (body ∙ between_held.body) is' none
+  code_over h' no_body' mode body is' none = holds_nothing h' no_body' (mode ∙ between_pending.mode) (body ∙ between_pending.body) is' none
 
   -- an opcode opens a run, with no incomplete code before it
-  pub run_opens : (op : Opcode) → h.half ≡ [] → codes.front h.machine.sets (x.byte ∷ []) ≡ codes.whole (code.Op op) 1 h.machine.sets →
+  pub run_opens : (op : Opcode) → h.half ≡ [] → codes.front h.machine.sets (x.byte ∷ []) ≡ codes.complete (code.Op op) 1 h.machine.sets →
       Continues g s o t (record h { half = []; open_run = Some (record { op = op; place = x.place }); run = [] }) pending
   run_opens op none alone =
-      let empty : k.rest ≡ [] = rest_of_nothing k.rest (half_held.0 ∙ none) in
+      let empty : k.rest ≡ [] = rest_of_nothing k.rest (half_pending.0 ∙ none) in
       let h' : ReadingState = record h { half = []; open_run = Some (record { op = op; place = x.place }); run = [] } in
-      leads_shift k h' refl (rw empty (holds_open_run h' (x ∷ []) (record { op = op; place = x.place }) no_body between_held.mode between_held.body refl (opens_run x op h.machine.sets alone) refl))
+      leads_shift k h' refl (rw empty (holds_open_run h' (x ∷ []) (record { op = op; place = x.place }) no_body between_pending.mode between_pending.body refl (opens_run x op h.machine.sets alone) refl))
 
 -- a reader that was fed nothing
 pub begins : {S : Type 0} (g : Ghosts S) (s : S) (budget left : ℕ) → left ≡ budget → g.took s [] s →
@@ -538,6 +538,6 @@ begins g s budget left same none = record {
   taken = none;
   clear = λ before. before;
   rest = [];
-  held = record { mode = refl; body = refl; half = (refl, nothing_yet start_sets) };
+  retained = record { mode = refl; body = refl; half = (refl, nothing_yet start_sets) };
   leads = ap (λ (left : ℕ). outcome_from (record (start_machine budget) { left = left }) []) (sym same);
 }

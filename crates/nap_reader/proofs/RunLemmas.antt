@@ -1,7 +1,7 @@
 use Rattle.nap_reader.proofs.Common.{ActsRun, All, All-head, All-tail, Bool, CodeTakes, Codes, Continues, LeadsThrough, DrawFault, RuleResult, DrawsBy, Executes, FailsRun, Ghosts, ReadingState, IsLive, IsOpcodeByte, IsOver, IsWholeRun, LeadsOn, List, LongRun, Memory, None, Nothing, Opcode, OpenRun, Outcome, Placed, Refusal, Refuses, Request, Some, Stop, Stops, StopsRun, Takes, FaultMatchesSink, [], after_drawing, ahead, ap, append-nil, append_assoc, arith, as_it_was, state_after_request, clear_request_if, at_byte, at_word, bytes_of, operand_words, draw_fault, drop, drop-append-le, drop-map, drop_more, get_or, inl, inr, is_operand_byte, length, length-append, length-map, length-take-le, map, place_at, prefix_len, prefix_len-le-length, prefix_len_passes, refl, refusal, rule, run_by, run_limit, subst, sym, take, take-append-le, take-map, true, with_machine, ℕ, ◌++◌, ◌+◌, ◌-◌, ◌<◌, ◌∙◌, ◌∷◌, ◌≡◌, ◌≤◌}
-use Rattle.nap_reader.proofs.Base.{TookMore, as_many_words, bytes_of-append, conveys_nothing, first_of, more_words, no_some, operands_in_front, place_at-append, run_over, same_words, split_bytes, stops_run, word_joins, word_too_many}
+use Rattle.nap_reader.proofs.Base.{TookMore, as_many_words, bytes_of-append, conveys_nothing, first_of, more_words, no_some, operands_prefix, place_at-append, run_over, same_words, split_bytes, stops_run, word_joins, word_too_many}
 use Rattle.nap_reader.specs.declared.machine.Machine.{Machine}
-use Rattle.nap_reader.proofs.TakingLemmas.{held_is, stop_takes, Drew, LeftBy, asked_is, asks_takes, own_tells, leads_behind, stops_behind, takes_then}
+use Rattle.nap_reader.proofs.TakingLemmas.{state_is, stop_takes, Drew, LeftBy, asked_is, asks_takes, own_tells, leads_after, stops_after, takes_then}
 use Rattle.nap_draw.specs.Draws as draws
 use Rattle.nap_reader.specs.declared.machine.codes.CodeOutcome.TheVariants as outcomes
 use Rattle.nap_reader.proofs.CodesLemmas.{StartsRun, open_at, run_opened}
@@ -33,12 +33,12 @@ pub record IsOpen (h : ReadingState) (open_run : OpenRun) : Type 0 where
   pub between : h.open_body ≡ None
 
 -- The first k bytes are operands, for which the run has space.
-pub record HasRoom (h : ReadingState) (all : List Placed) (k : ℕ) : Type 0 where
+pub record HasSpace (h : ReadingState) (all : List Placed) (k : ℕ) : Type 0 where
   pub few : k ≤ length all
   pub operands : All (λ b. is_operand_byte b ≡ true) (bytes_of (take k all))
   pub short : length h.run + k ≤ run_limit
 
-module _ {S : Type 0} (g : Ghosts S) (t : S) {h : ReadingState} {open_run : OpenRun} (run : IsOpen h open_run) {all : List Placed} {k : ℕ} (room : HasRoom h all k) where
+module _ {S : Type 0} (g : Ghosts S) (t : S) {h : ReadingState} {open_run : OpenRun} (run : IsOpen h open_run) {all : List Placed} {k : ℕ} (space : HasSpace h all k) where
   -- the reading state with these operands
   abbrev pub joined : ReadingState
   joined = record h { run = h.run ++ words (bytes_of (take k all)) }
@@ -50,12 +50,12 @@ module _ {S : Type 0} (g : Ghosts S) (t : S) {h : ReadingState} {open_run : Open
     holding = joined;
     left = refl;
     run = λ n all before. before;
-    passes = λ s o pending c. words_join (take k all) pending run.between run.is c room.operands (omega (arith, room.short, length-take-le k all room.few));
+    passes = λ s o pending c. words_join (take k all) pending run.between run.is c space.operands (omega (arith, space.short, length-take-le k all space.few));
     none = λ empty. (refl, ap (λ (ws : List ℕ). record h { run = ws }) (ap (λ (xs : List Placed). h.run ++ words (bytes_of xs)) empty ∙ append-nil h.run));
   }
 
   -- The operands wait for further bytes.
-  operands_wait : {v : S} {held : ReadingState} (next : List ℕ) → v ≡ t → held ≡ joined → LeadsOn g t h v held (take k all) next
+  operands_wait : {v : S} {retained : ReadingState} (next : List ℕ) → v ≡ t → retained ≡ joined → LeadsOn g t h v retained (take k all) next
   unfolding joins
   operands_wait next sink same = record { conveys = joins; acted = as_it_was sink same }
 
@@ -78,7 +78,7 @@ module _ {S : Type 0} (g : Ghosts S) (t : S) {h : ReadingState} {open_run : Open
       at_byte x zs left joins (record {
         own = λ own s o pending c.
             word_too_many run.between run.is c word
-            (omega (arith, full, length-append h.run (words (bytes_of (take k all))), length-map (bytes_of (take k all)) (λ (b : ℕ). b - 64), length-map (take k all) (λ (x : Placed). x.byte), length-take-le k all room.few));
+            (omega (arith, full, length-append h.run (words (bytes_of (take k all))), length-map (bytes_of (take k all)) (λ (b : ℕ). b - 64), length-map (take k all) (λ (x : Placed). x.byte), length-take-le k all space.few));
         broke = λ broke. absurd (broke refl);
       })
 
@@ -88,30 +88,30 @@ module _ {S : Type 0} (g : Ghosts S) (t : S) {h : ReadingState} {open_run : Open
 abbrev pub operands_in : List Placed → ℕ
 operands_in xs = prefix_len is_operand_byte (bytes_of xs)
 
-module _ (xs behind : List Placed) where
+module _ (xs following : List Placed) where
   size : length (bytes_of xs) ≡ length xs
   size = length-map xs (λ (x : Placed). x.byte)
 
   within : operands_in xs ≤ length xs
   within = omega (arith, size, prefix_len-le-length is_operand_byte (bytes_of xs))
 
-  bytes_taken : (k : ℕ) → k ≤ operands_in xs → bytes_of (take k (xs ++ behind)) ≡ take k (bytes_of xs)
-  bytes_taken k few = ap bytes_of (take-append-le k xs behind (omega (arith, few, within))) ∙ sym (take-map (λ (x : Placed). x.byte) k xs)
+  bytes_taken : (k : ℕ) → k ≤ operands_in xs → bytes_of (take k (xs ++ following)) ≡ take k (bytes_of xs)
+  bytes_taken k few = ap bytes_of (take-append-le k xs following (omega (arith, few, within))) ∙ sym (take-map (λ (x : Placed). x.byte) k xs)
 
-  bytes_left : (k : ℕ) → k ≤ operands_in xs → bytes_of (drop k (xs ++ behind)) ≡ drop k (bytes_of xs) ++ bytes_of behind
+  bytes_left : (k : ℕ) → k ≤ operands_in xs → bytes_of (drop k (xs ++ following)) ≡ drop k (bytes_of xs) ++ bytes_of following
   bytes_left k few =
-      ap bytes_of (drop-append-le k xs behind (omega (arith, few, within))) ∙ bytes_of-append (drop k xs) behind ∙ ap (λ (bs : List ℕ). bs ++ bytes_of behind) (sym (drop-map (λ (x : Placed). x.byte) k xs))
+      ap bytes_of (drop-append-le k xs following (omega (arith, few, within))) ∙ bytes_of-append (drop k xs) following ∙ ap (λ (bs : List ℕ). bs ++ bytes_of following) (sym (drop-map (λ (x : Placed). x.byte) k xs))
 
   -- the byte after some of the operand bytes
-  next_byte : (k : ℕ) → k < operands_in xs → (x : Placed) × (zs : List Placed) × (drop k (xs ++ behind) ≡ x ∷ zs) × (is_operand_byte x.byte ≡ true)
+  next_byte : (k : ℕ) → k < operands_in xs → (x : Placed) × (zs : List Placed) × (drop k (xs ++ following) ≡ x ∷ zs) × (is_operand_byte x.byte ≡ true)
   next_byte k less =
-      let (x, zs, left, byte, others) = first_of (drop k (xs ++ behind)) (get_or (bytes_of xs) k 0) (drop (k + 1) (bytes_of xs) ++ bytes_of behind)
-      (bytes_left k (omega (arith, less)) ∙ ap (λ (bs : List ℕ). bs ++ bytes_of behind) (drop_more (bytes_of xs) k 0 (omega (arith, less, within, size)))) in
+      let (x, zs, left, byte, others) = first_of (drop k (xs ++ following)) (get_or (bytes_of xs) k 0) (drop (k + 1) (bytes_of xs) ++ bytes_of following)
+      (bytes_left k (omega (arith, less)) ∙ ap (λ (bs : List ℕ). bs ++ bytes_of following) (drop_more (bytes_of xs) k 0 (omega (arith, less, within, size)))) in
       (x, zs, left, ap is_operand_byte byte ∙ prefix_len_passes is_operand_byte (bytes_of xs) k 0 less)
 
   -- no operand comes after all of the operand bytes
-  over_behind : (operands_in xs ≡ length xs → IsOver (bytes_of behind)) → IsOver (bytes_of (drop (operands_in xs) (xs ++ behind)))
-  over_behind over = subst IsOver (sym (bytes_left (operands_in xs) (omega arith))) (run_over (bytes_of xs) (bytes_of behind) (operands_in xs) refl (λ all. over (all ∙ size)))
+  over_after : (operands_in xs ≡ length xs → IsOver (bytes_of following)) → IsOver (bytes_of (drop (operands_in xs) (xs ++ following)))
+  over_after over = subst IsOver (sym (bytes_left (operands_in xs) (omega arith))) (run_over (bytes_of xs) (bytes_of following) (operands_in xs) refl (λ all. over (all ∙ size)))
 
 -- The effect of operand bytes on a machine with an open run.
 
@@ -122,10 +122,10 @@ module _ {S : Type 0} {g : Ghosts S} (old : Machine S g) (open_run : OpenRun) (i
   counted : length (with_machine h old).run ≡ length old.run.items
   counted = as_many_words old.open_run open_run old.run.items is
 
-  has_room : (xs behind : List Placed) (k : ℕ) → k ≤ operands_in xs → length old.run.items + k ≤ run_limit → HasRoom (with_machine h old) (xs ++ behind) k
-  has_room xs behind k few short = record {
-    few = omega (arith, few, within xs behind, length-append xs behind);
-    operands = subst (All (λ b. is_operand_byte b ≡ true)) (sym (bytes_taken xs behind k few)) (operands_in_front (bytes_of xs) k few);
+  has_space : (xs following : List Placed) (k : ℕ) → k ≤ operands_in xs → length old.run.items + k ≤ run_limit → HasSpace (with_machine h old) (xs ++ following) k
+  has_space xs following k few short = record {
+    few = omega (arith, few, within xs following, length-append xs following);
+    operands = subst (All (λ b. is_operand_byte b ≡ true)) (sym (bytes_taken xs following k few)) (operands_prefix (bytes_of xs) k few);
     short = omega (arith, short, counted);
   }
 
@@ -134,18 +134,18 @@ pub run_too_long : {S : Type 0} {g : Ghosts S} {old new : Machine S g} {open_run
     new.refusal ≡ Some (refusal LongRun open_run.place) → new.sink ≡ old.sink → Takes old new xs ended most Stop
 run_too_long {g = g} {old = old} {open_run = open_run} {xs = xs} ended most is less full refused same =
     stop_takes refused same (omega (arith, less, within xs [])) (own_tells g old.sink (λ own. cc))
-    (λ h behind between over.
-    let (x, zs, left, word) = next_byte xs behind most less in
-    operands_long g old.sink (is_open old open_run is h between) (has_room old open_run is h xs behind most (omega (arith, less)) (omega (arith, full))) x zs left word (omega (arith, full, counted old open_run is h)) (length xs))
+    (λ h following between over.
+    let (x, zs, left, word) = next_byte xs following most less in
+    operands_long g old.sink (is_open old open_run is h between) (has_space old open_run is h xs following most (omega (arith, less)) (omega (arith, full))) x zs left word (omega (arith, full, counted old open_run is h)) (length xs))
 
 -- Memory is lacking for the operand bytes.
 pub run_lacks : {S : Type 0} {g : Ghosts S} {old new : Machine S g} {open_run : OpenRun} {xs : List Placed} (ended : Bool) → old.open_run ≡ Some open_run → 0 < operands_in xs → length old.run.items + operands_in xs ≤ run_limit →
     new.refusal ≡ Some (refusal Memory (place_at xs 0)) → new.sink ≡ old.sink → Takes old new xs ended 0 Stop
 run_lacks {g = g} {old = old} {open_run = open_run} {xs = xs} ended is some short refused same =
     stop_takes refused same (omega arith) (own_tells g old.sink (λ own. cc))
-    (λ h behind between over.
-    let (x, zs, left, word) = next_byte xs behind 0 some in
-    let here : x.place ≡ place_at xs 0 = sym (ap (λ (ys : List Placed). place_at ys 0) left) ∙ place_at-append xs behind 0 (omega (arith, some, within xs behind)) in
+    (λ h following between over.
+    let (x, zs, left, word) = next_byte xs following 0 some in
+    let here : x.place ≡ place_at xs 0 = sym (ap (λ (ys : List Placed). place_at ys 0) left) ∙ place_at-append xs following 0 (omega (arith, some, within xs following)) in
     at_byte x zs left (conveys_nothing g old.sink (with_machine h old)) (record {
       own = λ own. let bad : ⊥ = cc in absurd bad;
       broke = λ broke.
@@ -177,16 +177,16 @@ module _ {S : Type 0} {g : Ghosts S} {old mid : Machine S g} {open_run : OpenRun
   open_in : (h : ReadingState) → h.open_body ≡ None → IsOpen (with_machine h old) open_run
   open_in = is_open old open_run j.is
 
-  room_in : (h : ReadingState) (behind : List Placed) → HasRoom (with_machine h old) (xs ++ behind) (operands_in xs)
-  room_in h behind = has_room old open_run j.is h xs behind (operands_in xs) (omega arith) j.short
+  space_in : (h : ReadingState) (following : List Placed) → HasSpace (with_machine h old) (xs ++ following) (operands_in xs)
+  space_in h following = has_space old open_run j.is h xs following (operands_in xs) (omega arith) j.short
 
   -- the reading state with the operand bytes
-  held_joined : (h : ReadingState) (between : h.open_body ≡ None) (behind : List Placed) → with_machine h mid ≡ joined g old.sink (open_in h between) (room_in h behind)
-  held_joined h between behind =
-      held_is h mid old.work old.lexer old.open_run j.work j.lexer j.open_run_is
+  state_joined : (h : ReadingState) (between : h.open_body ≡ None) (following : List Placed) → with_machine h mid ≡ joined g old.sink (open_in h between) (space_in h following)
+  state_joined h between following =
+      state_is h mid old.work old.lexer old.open_run j.work j.lexer j.open_run_is
       ∙ ap (λ (ws : List ℕ). record (with_machine h old) { run = ws })
-      (ap (run_by old.open_run) j.items ∙ more_words old.open_run open_run old.run.items (take (operands_in xs) (bytes_of xs)) j.is (operands_in_front (bytes_of xs) (operands_in xs) (omega arith))
-      ∙ ap (λ (bs : List ℕ). run_by old.open_run old.run.items ++ words bs) (sym (bytes_taken xs behind (operands_in xs) (omega arith))))
+      (ap (run_by old.open_run) j.items ∙ more_words old.open_run open_run old.run.items (take (operands_in xs) (bytes_of xs)) j.is (operands_prefix (bytes_of xs) (operands_in xs) (omega arith))
+      ∙ ap (λ (bs : List ℕ). run_by old.open_run old.run.items ++ words bs) (sym (bytes_taken xs following (operands_in xs) (omega arith))))
 
   -- The operand bytes are all bytes of the slice.
   pub run_waits : IsLive mid → operands_in xs ≡ length xs → Takes old mid xs ended (operands_in xs) Nothing
@@ -195,16 +195,16 @@ module _ {S : Type 0} {g : Ghosts S} {old mid : Machine S g} {open_run : OpenRun
     leaves = record { live = live; clear = λ clear. ap g.failed j.sink ∙ clear };
     goes = λ some. inl (omega (arith, some, all));
     closed = λ nothing less. absurd (omega (arith, less, all));
-    by = λ h behind between over.
-        operands_wait g old.sink (open_in h between) (room_in h behind) (bytes_of (drop (operands_in xs) (xs ++ behind))) j.sink (held_joined h between behind);
+    by = λ h following between over.
+        operands_wait g old.sink (open_in h between) (space_in h following) (bytes_of (drop (operands_in xs) (xs ++ following))) j.sink (state_joined h between following);
   }
 
   -- The byte after the operand bytes is known, and the opcode acts.
-  leads : (operands_in xs ≡ length xs → ended ≡ true) → (new : Machine S g) (clears : Bool) → Executes mid new clears → (h : ReadingState) (behind : List Placed) → h.open_body ≡ None → (ended ≡ true → IsOver (bytes_of behind)) →
-      LeadsOn g old.sink (with_machine h old) new.sink (state_after_request (with_machine h new) (clear_request_if clears)) (take (operands_in xs) (xs ++ behind)) (bytes_of (drop (operands_in xs) (xs ++ behind)))
-  leads ends new clears (works, store_bound, acted) h behind between over =
-      operands_act g old.sink (open_in h between) (room_in h behind) (over_behind xs behind (λ all. over (ends all)))
-      (subst (λ (h' : ReadingState). ActsRun g old.sink h' new.sink (state_after_request (with_machine h new) (clear_request_if clears))) (held_joined h between behind)
+  leads : (operands_in xs ≡ length xs → ended ≡ true) → (new : Machine S g) (clears : Bool) → Executes mid new clears → (h : ReadingState) (following : List Placed) → h.open_body ≡ None → (ended ≡ true → IsOver (bytes_of following)) →
+      LeadsOn g old.sink (with_machine h old) new.sink (state_after_request (with_machine h new) (clear_request_if clears)) (take (operands_in xs) (xs ++ following)) (bytes_of (drop (operands_in xs) (xs ++ following)))
+  leads ends new clears (works, closed, acted) h following between over =
+      operands_act g old.sink (open_in h between) (space_in h following) (over_after xs following (λ all. over (ends all)))
+      (subst (λ (h' : ReadingState). ActsRun g old.sink h' new.sink (state_after_request (with_machine h new) (clear_request_if clears))) (state_joined h between following)
       (subst (λ (t : S). ActsRun g t (with_machine h mid) new.sink (state_after_request (with_machine h new) (clear_request_if clears))) j.sink (acted h between)))
 
   pub run_acts : (operands_in xs ≡ length xs → ended ≡ true) → {new : Machine S g} (clears : Bool) → Executes mid new clears → Takes old new xs ended (operands_in xs) (clear_request_if clears)
@@ -215,9 +215,9 @@ module _ {S : Type 0} {g : Ghosts S} {old mid : Machine S g} {open_run : OpenRun
   pub run_stops : (operands_in xs ≡ length xs → ended ≡ true) → {failed new : Machine S g} {r : Refusal} → FailsRun mid failed r → Refuses failed new r → Takes old new xs ended (operands_in xs) Stop
   run_stops ends {failed} {new} {r} (stopped, tells) refuses =
       stop_takes refuses.is refuses.sink few (tells.0, λ works fails. tells.1 (ap g.failed j.sink ∙ works) fails)
-      (λ h behind between over.
-      operands_stop g old.sink (open_in h between) (room_in h behind) (over_behind xs behind (λ all. over (ends all)))
-      (subst (λ (h' : ReadingState). StopsRun g old.sink h' failed.sink r) (held_joined h between behind) (subst (λ (t : S). StopsRun g t (with_machine h mid) failed.sink r) j.sink (stopped h between))) (length xs))
+      (λ h following between over.
+      operands_stop g old.sink (open_in h between) (space_in h following) (over_after xs following (λ all. over (ends all)))
+      (subst (λ (h' : ReadingState). StopsRun g old.sink h' failed.sink r) (state_joined h between following) (subst (λ (t : S). StopsRun g t (with_machine h mid) failed.sink r) j.sink (stopped h between))) (length xs))
 
 -- The effect of an opcode on a machine without an open run.
 
@@ -237,28 +237,28 @@ pub record RunsWhole {S : Type 0} {g : Ghosts S} (old : Machine S g) (op : Opcod
   pub bytes_is : bytes ≡ byte ∷ rest
   pub at : AtOpcode old byte op
   pub short : length run ≤ run_limit
-  pub whole : (behind : List ℕ) → (ended ≡ true → IsOver behind) → IsWholeRun rest behind run
+  pub whole : (following : List ℕ) → (ended ≡ true → IsOver following) → IsWholeRun rest following run
 
 module _ {S : Type 0} {g : Ghosts S} {old : Machine S g} {op : Opcode} {bytes : List ℕ} {ended : Bool} {run : List ℕ} (r : RunsWhole old op bytes ended run) where
   run_within : length run + 1 ≤ length bytes
   run_within = omega (arith, ap length r.bytes_is, (r.whole (0 ∷ []) (λ _. record { byte = 0; rest = []; is = refl; other = refl })).within)
 
   -- The next bytes are these, and others come after them.
-  record AreNextBytes (h : ReadingState) (x : Placed) (ys behind : List Placed) : Type 0 where
+  record AreNextBytes (h : ReadingState) (x : Placed) (ys following : List Placed) : Type 0 where
     between : h.open_body ≡ None
     byte : x.byte ≡ r.byte
     rest : bytes_of ys ≡ r.rest
-    over : ended ≡ true → IsOver (bytes_of behind)
+    over : ended ≡ true → IsOver (bytes_of following)
 
-  module _ {h : ReadingState} {x : Placed} {ys behind : List Placed} (comes : AreNextBytes h x ys behind) where
+  module _ {h : ReadingState} {x : Placed} {ys following : List Placed} (comes : AreNextBytes h x ys following) where
     abbrev all : List Placed
-    all = ys ++ behind
+    all = ys ++ following
 
-    whole : IsWholeRun r.rest (bytes_of behind) run
-    whole = r.whole (bytes_of behind) comes.over
+    whole : IsWholeRun r.rest (bytes_of following) run
+    whole = r.whole (bytes_of following) comes.over
 
     split : (bytes_of (take (length run) all) ≡ run) × (bytes_of (drop (length run) all) ≡ whole.rest)
-    split = split_bytes all run whole.rest (bytes_of-append ys behind ∙ ap (λ (bs : List ℕ). bs ++ bytes_of behind) comes.rest ∙ whole.front)
+    split = split_bytes all run whole.rest (bytes_of-append ys following ∙ ap (λ (bs : List ℕ). bs ++ bytes_of following) comes.rest ∙ whole.front)
 
     start : StartsRun (with_machine h old) x op
     start = starts (subst (λ (b : ℕ). AtOpcode old b op) (sym comes.byte) r.at) h comes.between
@@ -269,9 +269,9 @@ module _ {S : Type 0} {g : Ghosts S} {old : Machine S g} {op : Opcode} {bytes : 
     begun_open : IsOpen begun (record { op = op; place = x.place })
     begun_open = record { is = refl; between = comes.between }
 
-    room : HasRoom begun all (length run)
-    room = record {
-      few = omega (arith, whole.within, ap length comes.rest, length-map ys (λ (x : Placed). x.byte), length-append ys behind);
+    space : HasSpace begun all (length run)
+    space = record {
+      few = omega (arith, whole.within, ap length comes.rest, length-map ys (λ (x : Placed). x.byte), length-append ys following);
       operands = subst (All (λ b. is_operand_byte b ≡ true)) (sym split.0) whole.operands;
       short = omega (arith, r.short);
     }
@@ -283,11 +283,11 @@ module _ {S : Type 0} {g : Ghosts S} {old : Machine S g} {op : Opcode} {bytes : 
         LeadsOn g old.sink (with_machine h old) new.sink (state_after_request (with_machine h new) (clear_request_if drawn.clears)) (take (1 + length run) (x ∷ all)) (bytes_of (drop (1 + length run) (x ∷ all)))
     whole_leads new drawn left drew more =
         let h' : ReadingState = record (with_machine h old) { machine = after_drawing (with_machine h old).machine drawn; half = []; open_run = None; run = [] } in
-        let held : state_after_request (with_machine h new) (clear_request_if drawn.clears) ≡ h' =
-        ap (λ (held : ReadingState). state_after_request held (clear_request_if drawn.clears)) (held_is h new drawn.work old.lexer None left.work_is left.lexer_is left.closed)
+        let retained : state_after_request (with_machine h new) (clear_request_if drawn.clears) ≡ h' =
+        ap (λ (retained : ReadingState). state_after_request retained (clear_request_if drawn.clears)) (state_is h new drawn.work old.lexer None left.work_is left.lexer_is left.closed)
         ∙ asked_is (record (with_machine h old) { open_run = None; run = [] }) drawn ∙ ap (λ (half : List ℕ). record h' { half = half }) r.at.is.rested in
-        leads_behind (x ∷ all) 1 more (run_opened start (bytes_of all) refl refl) (length run)
-        (operands_act g old.sink begun_open room (subst IsOver (sym split.1) whole.over) (record {
+        leads_after (x ∷ all) 1 more (run_opened start (bytes_of all) refl refl) (length run)
+        (operands_act g old.sink begun_open space (subst IsOver (sym split.1) whole.over) (record {
           open_run = record { op = op; place = x.place };
           between = comes.between;
           is = refl;
@@ -296,14 +296,14 @@ module _ {S : Type 0} {g : Ghosts S} {old : Machine S g} {op : Opcode} {bytes : 
           by = ap (rule old.work op) (sym run_words) ∙ drew.is;
           took = drew.took;
           clear = drew.clear;
-          holds = held;
+          holds = retained;
         }))
 
     stops : (u : S) (fault : DrawFault) → DrawsBy g.took g.broke g.failed (rule old.work op (operand_words run)) old.sink u fault (draws.cause_of fault) → TookMore g →
         Stops g old.sink (with_machine h old) (x ∷ all) (length (x ∷ ys)) (1 + length run) u (refusal (draw_fault fault) x.place)
     stops u fault drew more =
-        stops_behind (x ∷ all) 1 more (run_opened start (bytes_of all) refl refl) (length (x ∷ ys)) (length run)
-        (operands_stop g old.sink begun_open room (subst IsOver (sym split.1) whole.over) (record {
+        stops_after (x ∷ all) 1 more (run_opened start (bytes_of all) refl refl) (length (x ∷ ys)) (length run)
+        (operands_stop g old.sink begun_open space (subst IsOver (sym split.1) whole.over) (record {
           open_run = record { op = op; place = x.place };
           between = comes.between;
           is = refl;
@@ -313,12 +313,12 @@ module _ {S : Type 0} {g : Ghosts S} {old : Machine S g} {op : Opcode} {bytes : 
         }) (length (x ∷ ys) - 1))
 
   -- The byte is the first of some bytes, and others come after it.
-  first_is : (P : List Placed → Type 0) → ((x : Placed) (ys : List Placed) → ((h : ReadingState) (behind : List Placed) → h.open_body ≡ None → (ended ≡ true → IsOver (bytes_of behind)) → AreNextBytes h x ys behind) → length run + 1 ≤ length (x ∷ ys) → P (x ∷ ys)) →
+  first_is : (P : List Placed → Type 0) → ((x : Placed) (ys : List Placed) → ((h : ReadingState) (following : List Placed) → h.open_body ≡ None → (ended ≡ true → IsOver (bytes_of following)) → AreNextBytes h x ys following) → length run + 1 ≤ length (x ∷ ys) → P (x ∷ ys)) →
       (xs : List Placed) → bytes_of xs ≡ bytes → P xs
   first_is P takes xs is =
       let (x, ys, all, byte, rest) = first_of xs r.byte r.rest (is ∙ r.bytes_is) in
       subst P (sym all)
-      (takes x ys (λ h behind between over. record { between = between; byte = byte; rest = rest; over = over }) (omega (arith, run_within, ap length is, length-map xs (λ (x : Placed). x.byte), ap (λ (zs : List Placed). length zs) all)))
+      (takes x ys (λ h following between over. record { between = between; byte = byte; rest = rest; over = over }) (omega (arith, run_within, ap length is, length-map xs (λ (x : Placed). x.byte), ap (λ (zs : List Placed). length zs) all)))
 
   -- The opcode acts on its run.
   pub opcode_acts : {new : Machine S g} (drawn : RuleResult) → LeftBy old new drawn.work old.lexer → Drew g (rule old.work op (operand_words run)) old.sink drawn new.sink → IsLive new → TookMore g → Codes old new bytes ended (outcomes.Acted (length run + 1) drawn.clears)
@@ -328,23 +328,23 @@ module _ {S : Type 0} {g : Ghosts S} {old : Machine S g} {op : Opcode} {bytes : 
     by = first_is (λ xs. Takes old new xs ended (length run + 1) (clear_request_if drawn.clears))
         (λ x ys comes few.
         asks_takes drawn.clears (record { live = live; clear = drew.clear }) left.closed few (λ some. inl (omega arith))
-        (λ h behind between over.
-        subst (λ (n : ℕ). LeadsOn g old.sink (with_machine h old) new.sink (state_after_request (with_machine h new) (clear_request_if drawn.clears)) (take n (x ∷ (ys ++ behind))) (bytes_of (drop n (x ∷ (ys ++ behind))))) (let e : 1 + length run ≡ length run + 1 = omega arith in e)
-        (whole_leads (comes h behind between over) new drawn left drew more)));
+        (λ h following between over.
+        subst (λ (n : ℕ). LeadsOn g old.sink (with_machine h old) new.sink (state_after_request (with_machine h new) (clear_request_if drawn.clears)) (take n (x ∷ (ys ++ following))) (bytes_of (drop n (x ∷ (ys ++ following))))) (let e : 1 + length run ≡ length run + 1 = omega arith in e)
+        (whole_leads (comes h following between over) new drawn left drew more)));
   }
 
   -- The opcode is refused on its run, or breaks.
   pub opcode_stops : {new : Machine S g} (fault : DrawFault) → new.open_run ≡ old.open_run → DrawsBy g.took g.broke g.failed (rule old.work op (operand_words run)) old.sink new.sink fault (draws.cause_of fault) →
       FaultMatchesSink g old.sink new.sink (draw_fault fault) → TookMore g → Codes old new bytes ended (outcomes.Stopped (length run + 1) (draw_fault fault) 0)
-  opcode_stops {new} fault store_bound drew told more = record {
+  opcode_stops {new} fault closed drew reported more = record {
     within = (run_within, omega (arith, run_within));
-    closed = store_bound;
+    closed = closed;
     by = first_is (λ xs. CodeTakes old new xs ended (outcomes.Stopped (length run + 1) (draw_fault fault) 0))
         (λ x ys comes few kept refuses.
-        stop_takes refuses.is refuses.sink few told
-        (λ h behind between over.
-        subst (λ (n : ℕ). Stops g old.sink (with_machine h old) (x ∷ (ys ++ behind)) (length (x ∷ ys)) n new.sink (refusal (draw_fault fault) x.place)) (let e : 1 + length run ≡ length run + 1 = omega arith in e)
-        (stops (comes h behind between over) new.sink fault drew more)));
+        stop_takes refuses.is refuses.sink few reported
+        (λ h following between over.
+        subst (λ (n : ℕ). Stops g old.sink (with_machine h old) (x ∷ (ys ++ following)) (length (x ∷ ys)) n new.sink (refusal (draw_fault fault) x.place)) (let e : 1 + length run ≡ length run + 1 = omega arith in e)
+        (stops (comes h following between over) new.sink fault drew more)));
   }
 
 -- The opcode's run opens.
@@ -361,11 +361,11 @@ module _ {S : Type 0} {g : Ghosts S} {old mid : Machine S g} {x : Placed} {op : 
   opened : (h : ReadingState) → h.open_body ≡ None → (next : List ℕ) → LeadsOn g old.sink (with_machine h old) mid.sink (with_machine h mid) (x ∷ []) next
   opened h between next =
       let open_run : OpenRun = record { op = op; place = x.place } in
-      let held : with_machine h mid ≡ record (with_machine h old) { half = []; open_run = Some open_run; run = [] } =
-      held_is h mid old.work old.lexer (Some open_run) o.work o.lexer o.run
+      let retained : with_machine h mid ≡ record (with_machine h old) { half = []; open_run = Some open_run; run = [] } =
+      state_is h mid old.work old.lexer (Some open_run) o.work o.lexer o.run
       ∙ ap (λ (half : List ℕ). record (with_machine h old) { half = half; open_run = Some open_run; run = operand_words mid.run.items }) o.at.is.rested
       ∙ ap (λ (run : List ℕ). record (with_machine h old) { half = []; open_run = Some open_run; run = operand_words run }) o.items in
-      run_opened (starts o.at h between) next o.sink held
+      run_opened (starts o.at h between) next o.sink retained
 
 -- The bytes that the machine consumes after the opcode are consumed with it.
 pub open_takes : {S : Type 0} {g : Ghosts S} {old mid new : Machine S g} {x : Placed} {op : Opcode} {xs : List Placed} {ended : Bool} {count : ℕ} {request : Request} → IsLive mid → Takes mid new xs ended count request → OpensRun old mid x op → TookMore g →
@@ -374,5 +374,5 @@ open_takes {g = g} {old = old} {mid = mid} {x = x} {xs = xs} {ended = ended} {co
     takes_then {xs = x ∷ xs} {count = 1} (record {
       within = omega arith;
       works = record { live = live; clear = λ clear. ap g.failed o.sink ∙ clear };
-      by = λ h behind between over. opened o h between (bytes_of (xs ++ behind));
+      by = λ h following between over. opened o h between (bytes_of (xs ++ following));
     }) more (inl (omega arith)) takes

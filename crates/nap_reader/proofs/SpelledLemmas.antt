@@ -1,6 +1,6 @@
-use Rattle.nap_reader.proofs.Common.{AllCharacters, BodyFront, Bool, CallsBy, CharSet, Code, CodeSets, Fault, IsGraphic, IsInRange, IsMade, Kind, LexerState, List, Macros, None, Opcode, Some, Step, Steps, StepsBy, TextStep, [], ap, arith, at_escape, body_front, code_ranges, cond, control0_rows, control1_rows, drop, drop_more, ended, ends_body, eqb, false, get_or, kind_of, length, length-append, length-take-le, mask_rows, one_byte_later, opcode_rows, refl, refused, row_of, set_at, set_rows, stores, subst, suc, sym, take, take_all, true, unfinished, whole_is_spelled, ℕ, ⊤, ◌++◌, ◌+◌, ◌-◌, ◌<◌, ◌∙◌, ◌∷◌, ◌≡◌, ◌≢◌, ◌≤◌}
+use Rattle.nap_reader.proofs.Common.{AllCharacters, BodyFront, Bool, CallsBy, CharSet, Code, CodeSets, Fault, IsGraphic, IsInRange, IsMade, Kind, LexerState, List, Macros, None, Opcode, Some, Step, Steps, StepsBy, TextStep, [], ap, arith, at_escape, body_front, code_ranges, cond, control0_rows, control1_rows, drop, drop_more, ended, ends_body, eqb, false, get_or, kind_of, length, length-append, length-take-le, mask_rows, one_byte_later, opcode_rows, refl, refused, row_of, set_at, set_rows, stores, subst, suc, sym, take, take_all, true, unfinished, code_is_spelled, ℕ, ⊤, ◌++◌, ◌+◌, ◌-◌, ◌<◌, ◌∙◌, ◌∷◌, ◌≡◌, ◌≢◌, ◌≤◌}
 use Rattle.nap_codes.specs.Spelling.{Spells}
-use Rattle.nap_codes.specs.declared.control.Row.TheVariants.{Whole, More, Out}
+use Rattle.nap_codes.specs.declared.control.Row.TheVariants.{Complete, More, Out}
 use Rattle.nap_codes.specs.declared.code.Code.TheVariants as code
 use Rattle.nap_codes.specs.declared.code_set.CodeSet.{CodeSet}
 use Rattle.nap_codes.specs.declared.code_set.CodeSet.TheVariants as code_sets
@@ -16,7 +16,7 @@ use Rattle.nap_reader.specs.declared.kind.Kind.TheVariants as kinds
 
 -- whether a row is a code of some kind
 abbrev pub row_is : (Code → Bool) → Row → Bool
-row_is kind (Whole c) = kind c
+row_is kind (Complete c) = kind c
 row_is kind More = false
 row_is kind (Out name) = false
 
@@ -54,7 +54,7 @@ no_plain set byte _ e = refl
 
 in_pdi : (sets : CodeSets) (bytes : List ℕ) (c : Code) (after : CodeSets) → Spells sets bytes c after → length bytes ≡ 1 → opens c ≡ true → set_at sets sets.gl ≡ code_sets.Pdi
 in_pdi sets _ _ _ (spelling.control0 {byte = byte} {code = c} row differs) one is =
-    let none = row_none opens control0_rows byte (Whole c) controls_open row in
+    let none = row_none opens control0_rows byte (Complete c) controls_open row in
     let bad : ⊥ = cc in absurd bad
 in_pdi sets _ _ _ spelling.shift_out one is = let bad : ⊥ = cc in absurd bad
 in_pdi sets _ _ _ spelling.shift_in one is = let bad : ⊥ = cc in absurd bad
@@ -71,16 +71,16 @@ is_character _ = false
 
 not_pdi : (sets : CodeSets) (bytes : List ℕ) (c : Code) (after : CodeSets) → Spells sets bytes c after → get_or bytes 0 0 ≡ 0x20 → is_character c ≡ true → set_at sets sets.gl ≡ code_sets.Pdi → ⊥
 unfolding row_of control0_rows codes.non_pdi_code
-not_pdi sets _ _ _ (spelling.control0 {code = c} row differs) first is pdi = let bad : None ≡ Some (Whole c) = ap (row_of control0_rows) (sym first) ∙ row in cc
+not_pdi sets _ _ _ (spelling.control0 {code = c} row differs) first is pdi = let bad : None ≡ Some (Complete c) = ap (row_of control0_rows) (sym first) ∙ row in cc
 not_pdi sets _ _ _ (spelling.in_gl {byte = byte} {code = c} range e) first is pdi = let bad : None ≡ Some c = ap (λ (set : CodeSet). codes.non_pdi_code set byte) (sym pdi) ∙ e in cc
 not_pdi sets _ _ _ (spelling.opcode pdi row kept) first is pdi' = cc
 not_pdi sets _ _ _ (spelling.operand pdi least most) first is pdi' = cc
 not_pdi sets _ _ _ _ first is pdi = omega arith
 
-pub opcode_alone : (sets : CodeSets) (b : ℕ) (op : Opcode) → codes.front sets (b ∷ []) ≡ codes.whole (code.Op op) 1 sets → (set : CharSet) → AllCharacters sets set → ⊥
+pub opcode_alone : (sets : CodeSets) (b : ℕ) (op : Opcode) → codes.front sets (b ∷ []) ≡ codes.complete (code.Op op) 1 sets → (set : CharSet) → AllCharacters sets set → ⊥
 opcode_alone sets b op is set all =
-    not_pdi sets (0x20 ∷ []) (code.Char set 0x20) sets ((whole_is_spelled sets (0x20 ∷ []) (code.Char set 0x20) 1 sets).0 (all 0x20 (omega arith, omega arith))).1 refl refl
-    (in_pdi sets (b ∷ []) (code.Op op) sets ((whole_is_spelled sets (b ∷ []) (code.Op op) 1 sets).0 is).1 refl refl)
+    not_pdi sets (0x20 ∷ []) (code.Char set 0x20) sets ((code_is_spelled sets (0x20 ∷ []) (code.Char set 0x20) 1 sets).0 (all 0x20 (omega arith, omega arith))).1 refl refl
+    (in_pdi sets (b ∷ []) (code.Op op) sets ((code_is_spelled sets (b ∷ []) (code.Op op) 1 sets).0 is).1 refl refl)
 
 -- The name of a macro calls it if the macro set is in GL, and SS3 with the name calls it if that set is in G3.
 
@@ -88,11 +88,11 @@ macro_call : (sets : CodeSets) (set : CodeSet) (b : ℕ) → set ≡ code_sets.M
 unfolding codes.non_pdi_code
 macro_call sets set b macros = ap (λ (set : CodeSet). codes.non_pdi_code set b) macros
 
-pub byte_calls : (sets : CodeSets) (b : ℕ) → set_at sets sets.gl ≡ code_sets.Macros → IsGraphic b → codes.front sets (b ∷ []) ≡ codes.whole (code.Call b) 1 sets
-byte_calls sets b macros graphic = (whole_is_spelled sets (b ∷ []) (code.Call b) 1 sets).1 (omega arith, spelling.in_gl graphic (macro_call sets (set_at sets sets.gl) b macros))
+pub byte_calls : (sets : CodeSets) (b : ℕ) → set_at sets sets.gl ≡ code_sets.Macros → IsGraphic b → codes.front sets (b ∷ []) ≡ codes.complete (code.Call b) 1 sets
+byte_calls sets b macros graphic = (code_is_spelled sets (b ∷ []) (code.Call b) 1 sets).1 (omega arith, spelling.in_gl graphic (macro_call sets (set_at sets sets.gl) b macros))
 
-pub name_calls : (sets : CodeSets) (b : ℕ) → sets.g3 ≡ code_sets.Macros → IsGraphic b → codes.front sets (0x1D ∷ b ∷ []) ≡ codes.whole (code.Call b) 2 sets
-name_calls sets b macros graphic = (whole_is_spelled sets (0x1D ∷ b ∷ []) (code.Call b) 2 sets).1 (omega arith, spelling.single_shift3 graphic (macro_call sets sets.g3 b macros))
+pub name_calls : (sets : CodeSets) (b : ℕ) → sets.g3 ≡ code_sets.Macros → IsGraphic b → codes.front sets (0x1D ∷ b ∷ []) ≡ codes.complete (code.Call b) 2 sets
+name_calls sets b macros graphic = (code_is_spelled sets (0x1D ∷ b ∷ []) (code.Call b) 2 sets).1 (omega arith, spelling.single_shift3 graphic (macro_call sets sets.g3 b macros))
 
 -- no bytes are an unfinished code
 pub nothing_yet : (sets : CodeSets) → codes.front sets [] ≡ codes.unfinished
@@ -119,20 +119,20 @@ last_of [] = 0
 last_of (b ∷ []) = b
 last_of (b ∷ c ∷ bs) = last_of (c ∷ bs)
 
-last_behind : (bs : List ℕ) (b : ℕ) → last_of (bs ++ b ∷ []) ≡ b
-last_behind [] b = refl
-last_behind (c ∷ []) b = refl
-last_behind (c ∷ d ∷ bs) b = last_behind (d ∷ bs) b
+last_following : (bs : List ℕ) (b : ℕ) → last_of (bs ++ b ∷ []) ≡ b
+last_following [] b = refl
+last_following (c ∷ []) b = refl
+last_following (c ∷ d ∷ bs) b = last_following (d ∷ bs) b
 
 no_escape : (sets : CodeSets) (bytes : List ℕ) (c : Code) (after : CodeSets) → Spells sets bytes c after → last_of bytes ≢ 27
 unfolding row_of control0_rows control1_rows mask_rows set_rows opcode_rows
-no_escape sets _ _ _ (spelling.control0 {code = c} row differs) is = let bad : Some More ≡ Some (Whole c) = ap (row_of control0_rows) (sym is) ∙ row in cc
+no_escape sets _ _ _ (spelling.control0 {code = c} row differs) is = let bad : Some More ≡ Some (Complete c) = ap (row_of control0_rows) (sym is) ∙ row in cc
 no_escape sets _ _ _ spelling.shift_out is = omega arith
 no_escape sets _ _ _ spelling.shift_in is = omega arith
 no_escape sets _ _ _ spelling.locking_shift2 is = omega arith
 no_escape sets _ _ _ spelling.locking_shift3 is = omega arith
 no_escape sets _ _ _ (spelling.position row column) is = omega (arith, column.0)
-no_escape sets _ _ _ (spelling.control1 {code = c} row) is = let bad : None ≡ Some (Whole c) = ap (row_of control1_rows) (sym is) ∙ row in cc
+no_escape sets _ _ _ (spelling.control1 {code = c} row) is = let bad : None ≡ Some (Complete c) = ap (row_of control1_rows) (sym is) ∙ row in cc
 no_escape sets _ _ _ (spelling.def_macro graphic) is = omega (arith, graphic.0)
 no_escape sets _ _ _ (spelling.defp_macro graphic) is = omega (arith, graphic.0)
 no_escape sets _ _ _ (spelling.def_drcs graphic) is = omega (arith, graphic.0)
@@ -152,10 +152,10 @@ escape_waits old new step steps none = at (codes.front old.sets (old.half ++ 27 
   where
     at : (f : codes.Front) → codes.front old.sets (old.half ++ 27 ∷ []) ≡ f → StepsBy f old 27 step new → ⊥
     at codes.unfinished e k = omega (arith, ap length (sym none ∙ ap (λ (l : LexerState). l.half) k.1), length-append old.half (27 ∷ []))
-    at (codes.whole c n after) e k =
-        let spelled = (whole_is_spelled old.sets (old.half ++ 27 ∷ []) c n after).0 e in
+    at (codes.complete c n after) e k =
+        let spelled = (code_is_spelled old.sets (old.half ++ 27 ∷ []) c n after).0 e in
         no_escape old.sets (old.half ++ 27 ∷ []) c after
-        (subst (λ (bytes : List ℕ). Spells old.sets bytes c after) (take_all n (old.half ++ 27 ∷ []) (omega (arith, k.1))) spelled.1) (last_behind old.half 27)
+        (subst (λ (bytes : List ℕ). Spells old.sets bytes c after) (take_all n (old.half ++ 27 ∷ []) (omega (arith, k.1))) spelled.1) (last_following old.half 27)
     at (codes.refused fault i) e k =
         let empty : old.half ≡ [] = ap (λ (l : LexerState). l.half) (sym k.2) ∙ none in
         let bad : codes.unfinished ≡ codes.refused fault i = sym (escape_unfinished old.sets) ∙ ap (λ (half : List ℕ). codes.front old.sets (half ++ 27 ∷ [])) (sym empty) ∙ e in
@@ -172,7 +172,7 @@ pub calls_by_name : (lexer : LexerState) (bytes : List ℕ) → lexer.half ≡ [
 calls_by_name lexer bytes rested some graphic macros = record {
   before = [];
   name = get_or bytes 0 0;
-  behind = drop 1 bytes;
+  following = drop 1 bytes;
   is = drop_more bytes 0 0 some;
   counted = refl;
   rested = rested;
@@ -186,7 +186,7 @@ pub calls_by_shift : (lexer : LexerState) (bytes : List ℕ) → lexer.half ≡ 
 calls_by_shift lexer bytes rested first more graphic macros = record {
   before = 0x1D ∷ [];
   name = get_or bytes 1 0;
-  behind = drop 2 bytes;
+  following = drop 2 bytes;
   is = drop_more bytes 0 0 (omega (arith, more)) ∙ ap (λ (b : ℕ). b ∷ drop 1 bytes) first ∙ ap (λ (bs : List ℕ). 0x1D ∷ bs) (drop_more bytes 1 0 more);
   counted = refl;
   rested = rested;
@@ -214,7 +214,7 @@ graphic_defines set byte _ e = refl
 
 spelled_long : (sets : CodeSets) (bytes : List ℕ) (c : Code) (after : CodeSets) → Spells sets bytes c after → defines c ≡ true → 2 ≤ length bytes
 spelled_long sets _ _ _ (spelling.control0 {byte = byte} {code = c} row differs) is =
-    let none = row_none defines control0_rows byte (Whole c) controls_define row in
+    let none = row_none defines control0_rows byte (Complete c) controls_define row in
     let bad : ⊥ = cc in absurd bad
 spelled_long sets _ _ _ spelling.shift_out is = let bad : ⊥ = cc in absurd bad
 spelled_long sets _ _ _ spelling.shift_in is = let bad : ⊥ = cc in absurd bad
@@ -226,9 +226,9 @@ spelled_long sets _ _ _ (spelling.operand pdi least most) is = let bad : ⊥ = c
 spelled_long sets _ _ _ _ is = omega arith
 
 pub definition_length : (sets : CodeSets) (bytes : List ℕ) (name : ℕ) (show : Bool) (n : ℕ) (after : CodeSets) →
-    codes.front sets bytes ≡ codes.whole (code.DefMacro name show) n after → 2 ≤ n
+    codes.front sets bytes ≡ codes.complete (code.DefMacro name show) n after → 2 ≤ n
 definition_length sets bytes name show n after e =
-    let spelled = (whole_is_spelled sets bytes (code.DefMacro name show) n after).0 e in
+    let spelled = (code_is_spelled sets bytes (code.DefMacro name show) n after).0 e in
     let long = spelled_long sets (take n bytes) (code.DefMacro name show) after spelled.1 refl in
     omega (arith, long, length-take-le n bytes spelled.0)
 
@@ -249,21 +249,21 @@ one_byte_later-Settled waits = waits
 one_byte_later-Settled (refuses within) = refuses (omega arith)
 one_byte_later-Settled (ends within) = ends (omega arith)
 
-stores-Settled : {n : ℕ} (room : ℕ) {f f' : BodyFront} → Settled n f f' → Settled (suc n) (stores room f) (stores room f')
-stores-Settled room k = Settled-cond (eqb room 0) (refuses (omega arith)) (one_byte_later-Settled k)
+stores-Settled : {n : ℕ} (space : ℕ) {f f' : BodyFront} → Settled n f f' → Settled (suc n) (stores space f) (stores space f')
+stores-Settled space k = Settled-cond (eqb space 0) (refuses (omega arith)) (one_byte_later-Settled k)
 
-at_escape-Settled : (room : ℕ) (bytes more : List ℕ) {f f' : BodyFront} → Settled (length bytes) f f' →
-    Settled (suc (length bytes)) (at_escape room bytes f) (at_escape room (bytes ++ more) f')
-at_escape-Settled room [] more k = waits
-at_escape-Settled room (byte ∷ bytes) more k =
-    Settled-cond _ (refuses (omega arith)) (Settled-cond (ends_body byte) (ends (omega arith)) (stores-Settled room k))
+at_escape-Settled : (space : ℕ) (bytes more : List ℕ) {f f' : BodyFront} → Settled (length bytes) f f' →
+    Settled (suc (length bytes)) (at_escape space bytes f) (at_escape space (bytes ++ more) f')
+at_escape-Settled space [] more k = waits
+at_escape-Settled space (byte ∷ bytes) more k =
+    Settled-cond _ (refuses (omega arith)) (Settled-cond (ends_body byte) (ends (omega arith)) (stores-Settled space k))
 
-pub body_front-Settled : (room : ℕ) (bytes more : List ℕ) → Settled (length bytes) (body_front room bytes) (body_front room (bytes ++ more))
+pub body_front-Settled : (space : ℕ) (bytes more : List ℕ) → Settled (length bytes) (body_front space bytes) (body_front space (bytes ++ more))
 unfolding body_front
-body_front-Settled room [] more = waits
-body_front-Settled room (byte ∷ bytes) more =
-    let further = body_front-Settled (room - 1) bytes more in
-    Settled-cond _ (refuses (omega arith)) (Settled-cond (eqb byte 27) (at_escape-Settled room bytes more further) (stores-Settled room further))
+body_front-Settled space [] more = waits
+body_front-Settled space (byte ∷ bytes) more =
+    let further = body_front-Settled (space - 1) bytes more in
+    Settled-cond _ (refuses (omega arith)) (Settled-cond (eqb byte 27) (at_escape-Settled space bytes more further) (stores-Settled space further))
 
 -- The codes that act have parameters in range.
 
@@ -293,11 +293,11 @@ kind_made (code.DefMacro name show) range made = range
 kind_made _ range made = made
 
 -- the code at a front has parameters in range
-pub front_made : (sets : CodeSets) (xs : List ℕ) (c : Code) (n : ℕ) (after : CodeSets) → codes.front sets xs ≡ codes.whole c n after → IsMade c
+pub front_made : (sets : CodeSets) (xs : List ℕ) (c : Code) (n : ℕ) (after : CodeSets) → codes.front sets xs ≡ codes.complete c n after → IsMade c
 front_made sets xs c n after e = range_made c (code_ranges sets xs c n after e)
 
 -- a code at a front that acts has parameters in range
-pub front_kind_made : (sets : CodeSets) (xs : List ℕ) (c : Code) (n : ℕ) (after : CodeSets) → codes.front sets xs ≡ codes.whole c n after → KindMade (kind_of c)
+pub front_kind_made : (sets : CodeSets) (xs : List ℕ) (c : Code) (n : ℕ) (after : CodeSets) → codes.front sets xs ≡ codes.complete c n after → KindMade (kind_of c)
 front_kind_made sets xs c n after e = kind_made c (code_ranges sets xs c n after e) (front_made sets xs c n after e)
 
 -- the code that defines a macro

@@ -1,12 +1,12 @@
-use Rattle.nap_reader.proofs.Common.{Acted, ActsRun, All, All-cons, All-head, All-nil, All-tail, AllCharacters, Breaks, BreaksCode, Budget, CharSet, CodeFault, Continues, ContinuesPast, LeadsThrough, DrawFault, Fault, Ghosts, ReadingState, IsRefused, LeadsOn, List, Machine, Memory, None, Outcome, Placed, Refusal, RunAt, Sink, Some, StopsByte, StopsRun, StopsText, [], after_body, after_drawing, ahead, ap, append-nil, append_assoc, arith, as_it_was, at_word, behind_run, bound, bytes_of, cause_of, code_fault, draw_fault, false, front, get_or, in_code, in_run, inl, inr, is_operand, is_operand_byte, length, length-append, refl, refusal, shown_front, stream, subst, sym, ℕ, ◌++◌, ◌<◌, ◌∙◌, ◌∷◌, ◌≡◌, ◌≤◌, ◌⊎◌}
+use Rattle.nap_reader.proofs.Common.{Acted, ActsRun, All, All-cons, All-head, All-nil, All-tail, AllCharacters, Breaks, BreaksCode, Budget, CharSet, CodeFault, Continues, ContinuesPast, LeadsThrough, DrawFault, Fault, Ghosts, ReadingState, IsRefused, LeadsOn, List, Machine, Memory, None, Outcome, Placed, Refusal, RunAt, Sink, Some, StopsByte, StopsRun, StopsText, [], after_body, after_drawing, ahead, ap, append-nil, append_assoc, arith, as_it_was, at_word, after_run, bound, bytes_of, cause_of, code_fault, draw_fault, false, front, get_or, in_code, in_run, inl, inr, is_operand, is_operand_byte, length, length-append, refl, refusal, shown_front, stream, subst, sym, ℕ, ◌++◌, ◌<◌, ◌∙◌, ◌∷◌, ◌≡◌, ◌≤◌, ◌⊎◌}
 use Rattle.nap_codes.specs.declared.code.Code.TheVariants as code
 use Rattle.nap_codes.specs.declared.code.CodeFault.TheVariants as code_faults
 use Rattle.nap_draw.specs.declared.fault.DrawFault.TheVariants as draw_faults
 use Rattle.nap_reader.specs.Bodies as bodies
 use Rattle.nap_reader.specs.Steps.{in_body}
 use Rattle.nap_reader.proofs.PartLemmas.{some_in_body}
-use Rattle.nap_reader.proofs.ReadingLemmas.{TookMore, leads_on, leads_to_fault, none_held, over, leads_budget}
-use Rattle.nap_reader.proofs.OpenBodyLemmas.{body_bound, held_body, same_done}
+use Rattle.nap_reader.proofs.ReadingLemmas.{TookMore, leads_on, leads_to_fault, none_pending, over, leads_budget}
+use Rattle.nap_reader.proofs.OpenBodyLemmas.{body_bound, pending_body, same_done}
 
 pub no_some : {A : Type 0} {x : A} → Some x ≡ None → ⊥
 no_some e = cc
@@ -28,7 +28,7 @@ pub breaks_code : {S : Type 0} {g : Ghosts S} {t : S} {h : ReadingState} {x : Pl
 breaks_code between closed (at_word lacks) = let bad : Some lacks.open_run ≡ None = sym lacks.is ∙ closed in cc
 breaks_code between closed (in_run other stops) = let bad : Some stops.open_run ≡ None = sym stops.is ∙ closed in cc
 breaks_code between closed (in_code none code) = code
-breaks_code between closed (behind_run v h' other acts code) = let bad : Some acts.open_run ≡ None = sym acts.is ∙ closed in cc
+breaks_code between closed (after_run v h' other acts code) = let bad : Some acts.open_run ≡ None = sym acts.is ∙ closed in cc
 breaks_code between closed (in_body body) = let bad : Some body.body ≡ None = sym body.is ∙ between in cc
 
 -- The opcode of the open run acts, and the byte that ended the run is still to be read.
@@ -37,7 +37,7 @@ pub passes_run : {S : Type 0} {g : Ghosts S} {t : S} {h : ReadingState} {u : S} 
 passes_run {g = g} {h = h} {u = u} {x = x} {s = s} {o = o} {pending = pending} more acts other k =
     let m = after_drawing h.machine acts.drawn in
     subst (λ (h : ReadingState). Continues g s o u h (x ∷ pending)) (sym acts.holds)
-    (leads_on k u acts.drawn.entries (record h { machine = m; open_run = None; run = [] }) (x ∷ pending) more (none_held acts.between acts.is k m refl) (over acts.between acts.is k other _ acts.by) acts.took acts.clear)
+    (leads_on k u acts.drawn.entries (record h { machine = m; open_run = None; run = [] }) (x ∷ pending) more (none_pending acts.between acts.is k m refl) (over acts.between acts.is k other _ acts.by) acts.took acts.clear)
 
 -- The opcode of the open run is refused, or breaks.
 pub stops_run : {S : Type 0} {g : Ghosts S} {t : S} {h : ReadingState} {x : Placed} {u : S} {r : Refusal} → is_operand x ≡ false → StopsRun g t h u r → StopsByte g t h x u r
@@ -56,8 +56,8 @@ module _ {S : Type 0} {g : Ghosts S} {t : S} {h : ReadingState} {u : S} {h' : Re
   passes_acted (ahead b bs is other acts) k = passes_run more acts (ap is_operand_byte (first b bs is) ∙ other) k
   passes_acted {s} {o} {pending} (bound b bs is ends sink binds) k =
       subst (λ (t : S). Continues g s o t h' (x ∷ pending)) (sym sink)
-      (subst (λ (held : ReadingState). Continues g s o t held (x ∷ pending)) (sym (binds.holds (held_body binds.is k).at.half))
-      (body_bound binds.is k binds.held (ap bodies.ends_body (first b bs is) ∙ ends) binds.hidden))
+      (subst (λ (retained : ReadingState). Continues g s o t retained (x ∷ pending)) (sym (binds.holds (pending_body binds.is k).at.half))
+      (body_bound binds.is k binds.retained (ap bodies.ends_body (first b bs is) ∙ ends) binds.hidden))
 
   pub stops_acted : {v : S} {r : Refusal} → Acted g t h u h' next → StopsByte g u h' x v r → StopsByte g t h x v r
   stops_acted {v} {r} (as_it_was sink holding) stops = subst (λ (t : S). StopsByte g t h x v r) sink (subst (λ (h : ReadingState). StopsByte g u h x v r) holding stops)
@@ -68,7 +68,7 @@ module _ {S : Type 0} {g : Ghosts S} {t : S} {h : ReadingState} {u : S} {h' : Re
             let there = stops.own own s o pending (passes_run more acts x_other k) in
             (there.0, there.1, there.2 ∙ ap (λ (h : ReadingState). h.machine.left) acts.holds);
         broke = λ broke.
-            behind_run u h' x_other acts
+            after_run u h' x_other acts
             (breaks_code (ap (λ (h : ReadingState). h.open_body) acts.holds ∙ acts.between) (ap (λ (h : ReadingState). h.open_run) acts.holds) (stops.broke broke));
       }
   stops_acted {v} {r} (bound b bs is ends sink binds) stops = record {
@@ -84,12 +84,12 @@ module _ {S : Type 0} {g : Ghosts S} {t : S} {h : ReadingState} {u : S} {h' : Re
           part = λ s known o k.
               let x_ends = ap bodies.ends_body (first b bs is) ∙ ends in
               let after : ReadingState = record h { machine = after_body h.machine binds.body.name h.body; half = 27 ∷ []; open_run = None; run = []; open_body = None; body = [] } in
-              let holds : h' ≡ after = binds.holds (held_body binds.is k.continues).at.half in
+              let holds : h' ≡ after = binds.holds (pending_body binds.is k.continues).at.half in
               let past : ContinuesPast g s known o t after (x ∷ []) = record {
-                continues = body_bound binds.is k.continues binds.held x_ends binds.hidden;
-                done = same_done binds.is k.continues binds.held x_ends binds.hidden ∙ k.done;
+                continues = body_bound binds.is k.continues binds.retained x_ends binds.hidden;
+                done = same_done binds.is k.continues binds.retained x_ends binds.hidden ∙ k.done;
               } in
-              let here : BreaksCode g t after x v r = subst (λ (w : S). BreaksCode g w after x v r) sink (subst (λ (held : ReadingState). BreaksCode g u held x v r) holds code) in
+              let here : BreaksCode g t after x v r = subst (λ (w : S). BreaksCode g w after x v r) sink (subst (λ (retained : ReadingState). BreaksCode g u retained x v r) holds code) in
               some_in_body (here.part s known o past);
         });
   }
@@ -112,16 +112,16 @@ run_acted n (bound b bs is ends sink binds) run = subst (RunAt n) (sym binds.clo
 abbrev pub conveys_nothing : {S : Type 0} (g : Ghosts S) (t : S) (h : ReadingState) → LeadsThrough g t h []
 conveys_nothing g t h = record { sink = t; holding = h; left = refl; run = λ n all before. before; passes = λ s o pending k. k; none = λ _. (refl, refl) }
 
-pub leads_nowhere : {S : Type 0} {g : Ghosts S} {t v : S} {h held : ReadingState} (next : List ℕ) → v ≡ t → held ≡ h → LeadsOn g t h v held [] next
+pub leads_nowhere : {S : Type 0} {g : Ghosts S} {t v : S} {h retained : ReadingState} (next : List ℕ) → v ≡ t → retained ≡ h → LeadsOn g t h v retained [] next
 leads_nowhere {g = g} {t = t} {h = h} next sink same = record { conveys = conveys_nothing g t h; acted = as_it_was sink same }
 
 abbrev pub IsAt : ℕ → Placed → Type 0
 IsAt n x = x.place ≡ n
 
 -- a property of all bytes of a list, for its prefix and for the rest
-pub all_front : (n : ℕ) (xs ys : List Placed) → All (IsAt n) (xs ++ ys) → All (IsAt n) xs
-all_front n [] ys all = All-nil (IsAt n)
-all_front n (x ∷ xs) ys all = All-cons (IsAt n) x xs (All-head (IsAt n) x (xs ++ ys) all) (all_front n xs ys (All-tail (IsAt n) x (xs ++ ys) all))
+pub all_prefix : (n : ℕ) (xs ys : List Placed) → All (IsAt n) (xs ++ ys) → All (IsAt n) xs
+all_prefix n [] ys all = All-nil (IsAt n)
+all_prefix n (x ∷ xs) ys all = All-cons (IsAt n) x xs (All-head (IsAt n) x (xs ++ ys) all) (all_prefix n xs ys (All-tail (IsAt n) x (xs ++ ys) all))
 
 pub all_rest : (n : ℕ) (xs ys : List Placed) → All (IsAt n) (xs ++ ys) → All (IsAt n) ys
 all_rest n [] ys all = all
@@ -129,8 +129,8 @@ all_rest n (x ∷ xs) ys all = all_rest n xs ys (All-tail (IsAt n) x (xs ++ ys) 
 
 -- An opcode acts before a byte once, or a body is bound.
 pub acted_then : {S : Type 0} {g : Ghosts S} {t : S} {h : ReadingState} {u : S} {h' : ReadingState} {v : S} {h'' : ReadingState} {next : List ℕ} → Acted g t h u h' next → Acted g u h' v h'' next → Acted g t h v h'' next
-acted_then {S = S} {g = g} {t = t} {h' = h'} {v = v} {h'' = h''} {next = next} (as_it_was sink holding) then = subst (λ (held : ReadingState). Acted g t held v h'' next) holding (subst (λ (w : S). Acted g w h' v h'' next) sink then)
-acted_then {S = S} {g = g} {t = t} {h = h} {h' = h'} {v = v} {next = next} first (as_it_was sink holding) = subst (λ (held : ReadingState). Acted g t h v held next) (sym holding) (subst (λ (w : S). Acted g t h w h' next) (sym sink) first)
+acted_then {S = S} {g = g} {t = t} {h' = h'} {v = v} {h'' = h''} {next = next} (as_it_was sink holding) then = subst (λ (retained : ReadingState). Acted g t retained v h'' next) holding (subst (λ (w : S). Acted g w h' v h'' next) sink then)
+acted_then {S = S} {g = g} {t = t} {h = h} {h' = h'} {v = v} {next = next} first (as_it_was sink holding) = subst (λ (retained : ReadingState). Acted g t h v retained next) (sym holding) (subst (λ (w : S). Acted g t h w h' next) (sym sink) first)
 acted_then (ahead b bs is other acts) (ahead c cs is' other' acts') =
     absurd (no_some (sym acts'.is ∙ ap (λ (h : ReadingState). h.open_run) acts.holds))
 acted_then (bound b bs is ends sink binds) (ahead c cs is' other' acts') =
@@ -143,7 +143,7 @@ acted_then (bound b bs is ends sink binds) (bound c cs is' ends' sink' binds') =
 -- An opcode has acted or a body is bound only if no byte is a character by itself, or a code is incomplete.
 pub acted_typed : {S : Type 0} {g : Ghosts S} {t : S} {h : ReadingState} {u : S} {h' : ReadingState} {next : List ℕ} → Acted g t h u h' next → (set : CharSet) → h'.half ≡ [] → AllCharacters h'.machine.sets set → (u ≡ t) × (h' ≡ h)
 acted_typed (as_it_was sink holding) set rested chars = (sink, holding)
-acted_typed (ahead b bs is other acts) set rested chars = absurd (acts.alone set (subst (λ (held : ReadingState). AllCharacters held.machine.sets set) acts.holds chars))
+acted_typed (ahead b bs is other acts) set rested chars = absurd (acts.alone set (subst (λ (retained : ReadingState). AllCharacters retained.machine.sets set) acts.holds chars))
 acted_typed (bound b bs is ends sink binds) set rested chars = absurd (binds.waits rested)
 
 -- Bytes were consumed, and then more of those that came next.
@@ -158,7 +158,7 @@ module _ {S : Type 0} {g : Ghosts S} {t : S} {h : ReadingState} {u : S} {h' : Re
         holding = then.holding;
         left = then.left ∙ left_acted first.acted ∙ c.left;
         run = λ n all before.
-            then.run n (all_rest n xs (x ∷ ys) all) (run_acted n first.acted (c.run n (all_front n xs (x ∷ ys) all) before));
+            then.run n (all_rest n xs (x ∷ ys) all) (run_acted n first.acted (c.run n (all_prefix n xs (x ∷ ys) all) before));
         passes = λ s o pending k.
             then.passes s o pending
             (passes_acted more byte first.acted
@@ -171,7 +171,7 @@ module _ {S : Type 0} {g : Ghosts S} {t : S} {h : ReadingState} {u : S} {h' : Re
   leads_then v h'' [] then_next is then =
       let same = then.conveys.none refl in
       let c = first.conveys in
-      let acted : Acted g u h' v h'' then_next = subst (λ (held : ReadingState). Acted g u held v h'' then_next) same.1 (subst (λ (w : S). Acted g w then.conveys.holding v h'' then_next) same.0 then.acted) in
+      let acted : Acted g u h' v h'' then_next = subst (λ (retained : ReadingState). Acted g u retained v h'' then_next) same.1 (subst (λ (w : S). Acted g w then.conveys.holding v h'' then_next) same.0 then.acted) in
       subst (λ (zs : List Placed). LeadsOn g t h v h'' zs then_next) (sym (append-nil xs)) (record {
         conveys = c;
         acted = acted_then (subst (Acted g c.sink c.holding u h') is first.acted) acted;
@@ -189,7 +189,7 @@ module _ {S : Type 0} {g : Ghosts S} {t : S} {h : ReadingState} {u : S} {h' : Re
       let same = c.none refl in
       let at = first.conveys in
       let byte = λ (b : ℕ) (bs : List ℕ) (there : next ≡ b ∷ bs). let same : x.byte ∷ rest ≡ b ∷ bs = sym is ∙ there in ap (λ (zs : List ℕ). get_or zs 0 0) same in
-      let here = stops_acted more byte first.acted (subst (λ (held : ReadingState). StopsByte g u held x v r) same.1 (subst (λ (w : S). StopsByte g w c.holding x v r) same.0 stops)) in
+      let here = stops_acted more byte first.acted (subst (λ (retained : ReadingState). StopsByte g u retained x v r) same.1 (subst (λ (w : S). StopsByte g w c.holding x v r) same.0 stops)) in
       subst (λ (zs : List Placed). (k : LeadsThrough g t h zs) × StopsByte g k.sink k.holding x v r) (sym (append-nil xs)) (at, here)
   stops_then {x} (y ∷ ys) rest is c stops = (conveys_then y ys (bytes_of ys ++ x.byte ∷ rest) is c, stops)
 
@@ -199,9 +199,9 @@ module _ {S : Type 0} {g : Ghosts S} {t : S} {h : ReadingState} {u : S} {h' : Re
   halts_then {text} {i} {v} {r} [] rest is c stops =
       let same = c.none refl in
       let at = first.conveys in
-      let here : StopsText g u h' text i v r = subst (λ (held : ReadingState). StopsText g u held text i v r) same.1 (subst (λ (w : S). StopsText g w c.holding text i v r) same.0 stops) in
+      let here : StopsText g u h' text i v r = subst (λ (retained : ReadingState). StopsText g u retained text i v r) same.1 (subst (λ (w : S). StopsText g w c.holding text i v r) same.0 stops) in
       let still = acted_typed first.acted here.set here.text_is.rested here.text_is.chars in
-      let there : StopsText g at.sink at.holding text i v r = subst (λ (held : ReadingState). StopsText g at.sink held text i v r) still.1 (subst (λ (w : S). StopsText g w h' text i v r) still.0 here) in
+      let there : StopsText g at.sink at.holding text i v r = subst (λ (retained : ReadingState). StopsText g at.sink retained text i v r) still.1 (subst (λ (w : S). StopsText g w h' text i v r) still.0 here) in
       subst (λ (zs : List Placed). (k : LeadsThrough g t h zs) × StopsText g k.sink k.holding text i v r) (sym (append-nil xs)) (at, there)
   halts_then (y ∷ ys) rest is c stops = (conveys_then y ys (bytes_of ys ++ rest) is c, stops)
 

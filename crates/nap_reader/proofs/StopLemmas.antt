@@ -1,5 +1,5 @@
 use Rattle.nap_reader.proofs.Common.{All, All-head, All-tail, Breaks, BreaksFrom, Came, Continues, LeadsThrough, Fault, Ghosts, ReadingState, LeadsTo, List, Machine, Outcome, Placed, Reaches, Reader, Refusal, Stops, StopsAt, StopsByte, StopsText, [], ap, arith, at_byte, begun, budget_of, bytes_of, cause_of, draw_fault, drop, drop_at, fault_of, fed_of, get_or, in_text, left_of, length, length-append, length-drop, length-map, length-take-le, of_body, of_piece, place_at, placed_at, placed_from, refl, refusal, sink_of, subst, suc, sym, take, take-append-drop, zero, ℕ, ◌++◌, ◌+◌, ◌-◌, ◌<◌, ◌∙◌, ◌∷◌, ◌≡◌, ◌≤◌}
-use Rattle.nap_reader.proofs.Base.{IsAt, Lawful, acted_typed, all_front, breaks_byte, breaks_inside, breaks_more, breaks_place, bytes_of-append, bytes_of-placed, came_coming, came_next, came_none, came_take, cut, leads_left, leads_machine, leads_unrefused, left_acted, length-placed, stops_acted}
+use Rattle.nap_reader.proofs.Base.{IsAt, Lawful, acted_typed, all_prefix, breaks_byte, breaks_inside, breaks_more, breaks_place, bytes_of-append, bytes_of-placed, came_coming, came_next, came_none, came_take, cut, leads_left, leads_machine, leads_unrefused, left_acted, length-placed, stops_acted}
 use Rattle.nap_reader.proofs.PieceLemmas.{broken_amid, first_placed, known_amid, known_with, leads_past, length_taken, stops_by}
 use Rattle.nap_reader.proofs.TakingLemmas.{place_at-drop}
 use Rattle.nap_reader.proofs.TextLemmas.{halts_in, not_own, text_breaks_off, text_stops}
@@ -28,14 +28,14 @@ module _ {S : Type 0} {g : Ghosts S} {old : Reader S g} {piece : List ℕ} {at :
         record {
           within = omega (arith, inside, moved);
           fed = omega (arith, fed, moved);
-          before = λ s p stood. leads_unrefused (leads.alone empty s p stood);
-          there = λ s p stood.
+          before = λ s p had_read. leads_unrefused (leads.alone empty s p had_read);
+          there = λ s p had_read.
               let q = p ++ take at piece in
               let o : Outcome = begun (budget_of old) (q ++ b ∷ []) in
-              let k0 = leads.alone empty s p stood in
-              let k : Continues g s o t h (x ∷ []) = subst (λ (y : Placed). Continues g s o t h (y ∷ [])) (sym placed) (known_with leads empty (b ∷ []) stood) in
+              let k0 = leads.alone empty s p had_read in
+              let k : Continues g s o t h (x ∷ []) = subst (λ (y : Placed). Continues g s o t h (y ∷ [])) (sym placed) (known_with leads empty (b ∷ []) had_read) in
               let here : placed_at b (fed_of old + at) ≡ placed_at b (length q) =
-              ap (placed_at b) (sym (length_taken p piece at leads.within ∙ ap (λ (n : ℕ). n + at) (sym (stood.fed leads.live)))) in
+              ap (placed_at b) (sym (length_taken p piece at leads.within ∙ ap (λ (n : ℕ). n + at) (sym (had_read.fed leads.live)))) in
               let known = ap (λ (m : Machine). m.left) (leads_machine k0) in
               stops_by s (budget_of old) q b (sink_of new) (left_of new) r (λ is. let k' = stops.own is s o [] k in record { refusal = k'.0; taken = k'.1; left = k'.2 ∙ sym left })
               (λ is. record {
@@ -54,13 +54,13 @@ module _ {S : Type 0} {g : Ghosts S} {old : Reader S g} {piece : List ℕ} {at :
         record {
           within = inside;
           fed = omega (arith, fed, same, last);
-          before = λ s p stood. leads_unrefused (amid.before s p stood);
-          there = λ s p stood.
+          before = λ s p had_read. leads_unrefused (amid.before s p had_read);
+          there = λ s p had_read.
               let o : Outcome = begun (budget_of old) ((p ++ take i piece) ++ b ∷ []) in
-              let k = subst (Continues g s o t h) front (known_amid leads.live inside amid stood) in
+              let k = subst (Continues g s o t h) front (known_amid leads.live inside amid had_read) in
               stops_by s (budget_of old) (p ++ take i piece) b (sink_of new) (left_of new) r (λ is. let k' = stops.own is s o rest k in record { refusal = k'.0; taken = k'.1; left = k'.2 ∙ sym left })
               (λ is.
-              broken_amid leads.live inside amid stood laws left
+              broken_amid leads.live inside amid had_read laws left
               (breaks_place (fed_of old + i) (All-head (IsAt (fed_of old + i)) x rest (subst (All (IsAt (fed_of old + i))) front amid.there)) amid.run (stops.broke is))
               (λ s o k.
               let less = cut (x ∷ []) rest (subst (Continues g s o t h) front k) in
@@ -81,17 +81,17 @@ module _ {S : Type 0} {g : Ghosts S} {old : Reader S g} {piece : List ℕ} {at :
   stops_text {texts = texts} {rest = rest} {index = index} {r = r} stops (of_body some front same) place less fed =
       let (i, last, amid) = leads.amid some in
       let inside : i < length piece = omega (arith, last, leads.within) in
-      let there : All (IsAt (fed_of old + i)) texts = all_front (fed_of old + i) texts rest (subst (All (IsAt (fed_of old + i))) front amid.there) in
+      let there : All (IsAt (fed_of old + i)) texts = all_prefix (fed_of old + i) texts rest (subst (All (IsAt (fed_of old + i))) front amid.there) in
       let reason : r ≡ refusal (draw_fault (fault_of stops.fault)) r.place = ap (λ (f : Fault). refusal f r.place) stops.why in (
         i,
         record {
           within = inside;
           fed = omega (arith, fed, last, less, ap length front, length-append texts rest);
-          before = λ s p stood. leads_unrefused (amid.before s p stood);
-          there = λ s p stood.
+          before = λ s p had_read. leads_unrefused (amid.before s p had_read);
+          there = λ s p had_read.
               stops_by s (budget_of old) (p ++ take i piece) (get_or piece i 0) (sink_of new) (left_of new) r (λ own. absurd (not_own stops.fault (ap (λ (r : Refusal). cause_of r.fault) (sym reason) ∙ own)))
               (λ _.
-              broken_amid leads.live inside amid stood laws left (sym place ∙ place_of_all (fed_of old + i) texts index less there)
+              broken_amid leads.live inside amid had_read laws left (sym place ∙ place_of_all (fed_of old + i) texts index less there)
               (λ s o k.
               subst (λ (r : Refusal). BreaksFrom g s [] o (sink_of new) (cause_of r.fault)) (sym reason)
               (text_breaks_off {set = stops.set} texts rest (subst (Continues g s o t h) front k) stops.text_is
@@ -138,10 +138,10 @@ module _ {S : Type 0} {g : Ghosts S} {old : Reader S g} {piece : List ℕ} {at :
 
     -- what leads to the stop
     reached : (P : S → ReadingState → Type 0) → (c : LeadsThrough g t h (take n all)) → P c.sink c.holding → (n ≡ 0 → P t h → P by.sink by.holding) →
-        (u : S) × (held : ReadingState) × LeadsTo old piece until u held rest × (h.machine.left ≡ held.machine.left) × P u held
+        (u : S) × (retained : ReadingState) × LeadsTo old piece until u retained rest × (h.machine.left ≡ retained.machine.left) × P u retained
     reached P c here first = by_first (take n all) refl
       where
-        by_first : (xs : List Placed) → take n all ≡ xs → (u : S) × (held : ReadingState) × LeadsTo old piece until u held rest × (h.machine.left ≡ held.machine.left) × P u held
+        by_first : (xs : List Placed) → take n all ≡ xs → (u : S) × (retained : ReadingState) × LeadsTo old piece until u retained rest × (h.machine.left ≡ retained.machine.left) × P u retained
         by_first [] gone =
             let gone_is = c.none gone in
             let still = came_none frames rest piece at until (fed_of old + at) (take n all) gone came in (
@@ -160,28 +160,28 @@ module _ {S : Type 0} {g : Ghosts S} {old : Reader S g} {piece : List ℕ} {at :
 
   -- Reading stops there. The bytes of the input are counted up to and with the one that stops it.
   pub stops_reached : {r : Refusal} {index : ℕ} (new : Reader S g) → left_of new ≡ h.machine.left → index ≤ many → Stops g t h all many index (sink_of new) r → fed_of new ≡ fed_of old + at + (index + 1 - length frames) → (i : ℕ) × StopsAt old new piece r i
-  stops_reached {r} {index} new left few (at_byte x behind is c stops) fed =
-      let (u, held, leads, same, there) =
-      reached index few (λ (u : S) (held : ReadingState). StopsByte g u held x (sink_of new) r) c stops
+  stops_reached {r} {index} new left few (at_byte x following is c stops) fed =
+      let (u, retained, leads, same, there) =
+      reached index few (λ (u : S) (retained : ReadingState). StopsByte g u retained x (sink_of new) r) c stops
       (λ zero here.
-      let first : next ≡ x.byte ∷ bytes_of behind = sym next_is ∙ ap bytes_of (ap (λ (m : ℕ). drop m all) (sym zero) ∙ is) in
+      let first : next ≡ x.byte ∷ bytes_of following = sym next_is ∙ ap bytes_of (ap (λ (m : ℕ). drop m all) (sym zero) ∙ is) in
       stops_acted laws.more (λ b bs e. ap (λ (zs : List ℕ). get_or zs 0 0) (sym first ∙ e)) by.acted here) in
       stops_byte new leads (left ∙ same) laws there
-      (came_next (rest index few) piece (until index few) (fed_of old + until index few) x behind leads.within (sym (then_is index few) ∙ is)) (omega (arith, fed, length-drop index frames))
+      (came_next (rest index few) piece (until index few) (fed_of old + until index few) x following leads.within (sym (then_is index few) ∙ is)) (omega (arith, fed, length-drop index frames))
   stops_reached {r} new left few (in_text first taken size is less inside_slice place c stops) fed =
       let few' : first ≤ many = omega (arith, inside_slice) in
       let texts = take size (drop first all) in
       let from = until first few' in
-      let behind = rest first few' in
+      let following = rest first few' in
       let left_there = length-drop first frames in
-      let (u, held, leads, same, there) =
-      reached first few' (λ (u : S) (held : ReadingState). StopsText g u held (bytes_of texts) taken (sink_of new) r) c stops
+      let (u, retained, leads, same, there) =
+      reached first few' (λ (u : S) (retained : ReadingState). StopsText g u retained (bytes_of texts) taken (sink_of new) r) c stops
       (λ zero here.
       let typed = acted_typed by.acted here.set here.text_is.rested here.text_is.chars in
-      subst (λ (held : ReadingState). StopsText g by.sink held (bytes_of texts) taken (sink_of new) r) typed.1 (subst (λ (w : S). StopsText g w h (bytes_of texts) taken (sink_of new) r) typed.0 here)) in
+      subst (λ (retained : ReadingState). StopsText g by.sink retained (bytes_of texts) taken (sink_of new) r) typed.1 (subst (λ (w : S). StopsText g w h (bytes_of texts) taken (sink_of new) r) typed.0 here)) in
       stops_text new leads (left ∙ same) laws there
-      (subst (Came behind (drop size behind) piece from (from + (size - length behind)) (fed_of old + from)) (ap (take size) (sym (then_is first few')))
-      (came_take behind piece from (fed_of old + from) size leads.within (λ empty. grind (arith, empty, left_there, less, inside_slice, fit.0, fit.1)) (λ some. grind (arith, some, left_there, inside_slice, fit.1))))
+      (subst (Came following (drop size following) piece from (from + (size - length following)) (fed_of old + from)) (ap (take size) (sym (then_is first few')))
+      (came_take following piece from (fed_of old + from) size leads.within (λ empty. grind (arith, empty, left_there, less, inside_slice, fit.0, fit.1)) (λ some. grind (arith, some, left_there, inside_slice, fit.1))))
       (place_at-taken (drop first all) size taken less ∙ place_at-drop all first taken ∙ ap (place_at all) (sym is) ∙ place)
       (omega (arith, less, length-take-le size (drop first all) (omega (arith, inside_slice, all_long, length-drop first all))))
       (grind (arith, left_there, is, less, fed, inside_slice, fit.1))

@@ -1,4 +1,4 @@
-use Rattle.nap_reader.proofs.Common.{All, All-cons, All-nil, Bool, Code, CodeSets, DrawFault, RuleResult, Entry, Err, Front, IsMade, IsWord, Kind, Lessens, List, LongRun, Machine, Mode, None, Ok, Opcode, Option, Placed, Refusal, Result, Some, Unfinished, Work, [], act, after_body, all_at, ap, append_assoc, arith, begun, between, body_front, body_front_by, body_of, bound_front, bytes_of, code_front, code_rule, cond, continue, continue_by, drawn_front, drop, drop-append-le, drop_of_length-le, ends_of, eqb, eqb-false, eqb-true, false, front, front_by, front_in, outcome_within, half_read, in_body, is_operand, is_operand_byte, kind_of, length, length-append, length-drop, length-map, length-prefix_len, lt-ltb, ltb, ltb-false, ltb-true, nat_tests, outcome_by_front, opcode_front, open_run, outcome, outcome_from, pause, place_at, placed_from, prefix_len-append, prefix_len-le-length, prepend, refl, refusal, refuse, refused_index, refused_stays, rule, run_front, run_length, run_limit, shown_front, start_machine, store_limit, subst, suc, sym, take, take-append-le, true, whole_length, whole_stays, words_of, zero, ℕ, ⊤, ◌++◌, ◌+◌, ◌-◌, ◌<◌, ◌∙◌, ◌∷◌, ◌≡◌, ◌≢◌, ◌≤◌}
+use Rattle.nap_reader.proofs.Common.{All, All-cons, All-nil, Bool, Code, CodeSets, DrawFault, RuleResult, Entry, Err, Front, IsMade, IsWord, Kind, Lessens, List, LongRun, Machine, Mode, None, Ok, Opcode, Option, Placed, Refusal, Result, Some, Unfinished, Work, [], act, after_body, all_at, ap, append_assoc, arith, begun, between, body_front, body_front_by, body_of, bound_front, bytes_of, code_front, code_rule, cond, continue, continue_by, drawn_front, drop, drop-append-le, drop_of_length-le, ends_of, eqb, eqb-false, eqb-true, false, front, front_by, front_in, outcome_within, half_read, in_body, is_operand, is_operand_byte, kind_of, length, length-append, length-drop, length-map, length-prefix_len, lt-ltb, ltb, ltb-false, ltb-true, nat_tests, outcome_by_front, opcode_front, open_run, outcome, outcome_from, pause, place_at, placed_from, prefix_len-append, prefix_len-le-length, prepend, refl, refusal, refuse, refused_index, refused_stays, rule, run_front, run_length, run_limit, shown_front, start_machine, store_limit, subst, suc, sym, take, take-append-le, true, code_length, code_stays, words_of, zero, ℕ, ⊤, ◌++◌, ◌+◌, ◌-◌, ◌<◌, ◌∙◌, ◌∷◌, ◌≡◌, ◌≢◌, ◌≤◌}
 use Rattle.nap_reader.specs.Course.{Stays}
 use Rattle.nap_codes.specs.declared.code.Code.TheVariants as code
 use Rattle.nap_codes.specs.Front as codes
@@ -250,9 +250,9 @@ code_fronts m kind place rest q k mode h made = at kind h made
         drawn_fronts (record m { mode = in_body name show }) place rest q (code_rule m.work (code.DefMacro name show)) k (omega (arith, still))
         (λ d is. by_code (code.DefMacro name show) d tt is)
 
-least_of : (sets : CodeSets) (bytes : List ℕ) (c : Code) (n : ℕ) (after : CodeSets) → codes.front sets bytes ≡ codes.whole c n after → least (kind_of c) ≤ n
+least_of : (sets : CodeSets) (bytes : List ℕ) (c : Code) (n : ℕ) (after : CodeSets) → codes.front sets bytes ≡ codes.complete c n after → least (kind_of c) ≤ n
 least_of sets bytes (code.DefMacro name show) n after e = definition_length sets bytes name show n after e
-least_of sets bytes c n after e = (whole_length sets bytes c n after e).0
+least_of sets bytes c n after e = (code_length sets bytes c n after e).0
 
 half_of_words : (bytes : List ℕ) → IsOfWords (half_read bytes)
 half_of_words [] = tt
@@ -265,14 +265,14 @@ by_fronts m xs q (codes.refused fault i) e mode =
     let same : length (bytes_of xs) ≡ length xs = length-map xs _ in
     let within : i < length (bytes_of xs) = refused_index m.sets (bytes_of xs) fault i e in
     rw (bytes_of-append xs q, refused_stays m.sets (bytes_of xs) (bytes_of q) fault i e, place_at-append xs q i (omega arith)) refuses
-by_fronts m xs q (codes.whole c n sets) e mode =
+by_fronts m xs q (codes.complete c n sets) e mode =
     let same : length (bytes_of xs) ≡ length xs = length-map xs _ in
-    let within = whole_length m.sets (bytes_of xs) c n sets e in
+    let within = code_length m.sets (bytes_of xs) c n sets e in
     let few = least_of m.sets (bytes_of xs) c n sets e in
     let last : n - 1 < length xs = omega (arith, within.0, within.1) in
-    let behind : length (drop n xs) + (least (kind_of c) + m.left) ≤ length xs + m.left = simp length-drop (omega (arith, within.1, few, same)) in
-    rw (bytes_of-append xs q, whole_stays m.sets (bytes_of xs) (bytes_of q) c n sets e, place_at-append xs q (n - 1) last, drop-append-le n xs q (omega (arith, within.1)))
-    (code_fronts (record m { sets = sets }) (kind_of c) (place_at xs (n - 1)) (drop n xs) q (length xs + m.left) mode behind (front_kind_made m.sets (bytes_of xs) c n sets e))
+    let following : length (drop n xs) + (least (kind_of c) + m.left) ≤ length xs + m.left = simp length-drop (omega (arith, within.1, few, same)) in
+    rw (bytes_of-append xs q, code_stays m.sets (bytes_of xs) (bytes_of q) c n sets e, place_at-append xs q (n - 1) last, drop-append-le n xs q (omega (arith, within.1)))
+    (code_fronts (record m { sets = sets }) (kind_of c) (place_at xs (n - 1)) (drop n xs) q (length xs + m.left) mode following (front_kind_made m.sets (bytes_of xs) c n sets e))
 
 taken_bytes : (xs q : List Placed) (n : ℕ) → n ≤ length xs → take n (bytes_of (xs ++ q)) ≡ take n (bytes_of xs)
 taken_bytes xs q n h =
@@ -280,10 +280,10 @@ taken_bytes xs q n h =
 
 bound_fronts : (m : Machine) (name : ℕ) (show : Bool) (n : ℕ) (xs q : List Placed) → n + 2 ≤ length xs → Fronts q m.work m.left (length xs + (m.left + 1)) (bound_front m name show n xs) (bound_front m name show n (xs ++ q))
 bound_fronts m name false n xs q h =
-    let behind : length (drop n xs) + m.left < length xs + (m.left + 1) = simp length-drop (omega arith) in
+    let following : length (drop n xs) + m.left < length xs + (m.left + 1) = simp length-drop (omega arith) in
     rw (taken_bytes xs q n (omega arith), drop-append-le n xs q (omega arith)) (acts {m = after_body m name (take n (bytes_of xs))} {xs = drop n xs} refl (omega arith) (omega arith) puts_nothing)
 bound_fronts m name true n xs q h =
-    let behind : length (drop (n + 2) xs) + m.left < length xs + (m.left + 1) = simp length-drop (omega arith) in
+    let following : length (drop (n + 2) xs) + m.left < length xs + (m.left + 1) = simp length-drop (omega arith) in
     rw (
       taken_bytes xs q n (omega arith),
       taken_bytes xs q (n + 2) (omega arith),

@@ -12,9 +12,9 @@ pub record Drew {S : Type 0} (g : Ghosts S) (by : Result RuleResult DrawFault) (
   pub clear : g.failed t ≡ false → g.failed u ≡ false
 
 -- the reading state once codes have acted
-pub held_is : {S : Type 0} {g : Ghosts S} (h : ReadingState) (m : Machine S g) (work : Work) (lexer : LexerState) (open_run : Option OpenRun) → m.work ≡ work → m.lexer ≡ lexer → m.open_run ≡ open_run →
+pub state_is : {S : Type 0} {g : Ghosts S} (h : ReadingState) (m : Machine S g) (work : Work) (lexer : LexerState) (open_run : Option OpenRun) → m.work ≡ work → m.lexer ≡ lexer → m.open_run ≡ open_run →
     with_machine h m ≡ record h { machine = record h.machine { work = work; sets = lexer.sets }; half = lexer.half; open_run = open_run; run = run_by open_run m.run.items }
-held_is h m work lexer open_run is_work is_lexer is_run =
+state_is h m work lexer open_run is_work is_lexer is_run =
     ap (λ (w : Work). record h { machine = record h.machine { work = w; sets = m.lexer.sets }; half = m.lexer.half; open_run = m.open_run; run = run_by m.open_run m.run.items }) is_work
     ∙ ap (λ (l : LexerState). record h { machine = record h.machine { work = work; sets = l.sets }; half = l.half; open_run = m.open_run; run = run_by m.open_run m.run.items }) is_lexer
     ∙ ap (λ (o : Option OpenRun). record h { machine = record h.machine { work = work; sets = lexer.sets }; half = lexer.half; open_run = o; run = run_by o m.run.items }) is_run
@@ -39,7 +39,7 @@ pub record LeftBy {S : Type 0} {g : Ghosts S} (old new : Machine S g) (work : Wo
 pub left_is : {S : Type 0} {g : Ghosts S} {old new : Machine S g} {work : Work} {lexer : LexerState} → LeftBy old new work lexer → (h : ReadingState) →
     with_machine h new ≡ record (with_machine h old) { machine = record h.machine { work = work; sets = lexer.sets }; half = lexer.half }
 left_is {old = old} {new = new} {work = work} {lexer = lexer} left h =
-    held_is h new work lexer None left.work_is left.lexer_is left.closed
+    state_is h new work lexer None left.work_is left.lexer_is left.closed
     ∙ sym (ap (λ (o : Option OpenRun). record h { machine = record h.machine { work = work; sets = lexer.sets }; half = lexer.half; open_run = o; run = run_by o old.run.items }) left.before)
 
 -- The open run of a machine.
@@ -47,7 +47,7 @@ module _ {S : Type 0} {g : Ghosts S} (old : Machine S g) (open_run : OpenRun) (i
   -- the open run acts
   pub executes : (new : Machine S g) (drawn : RuleResult) → (new.work ≡ drawn.work) × (new.lexer ≡ old.lexer) × (new.open_run ≡ None) → Drew g (rule old.work open_run.op (operand_words old.run.items)) old.sink drawn new.sink → (h : ReadingState) → h.open_body ≡ None →
       ActsRun g old.sink (with_machine h old) new.sink (state_after_request (with_machine h new) (clear_request_if drawn.clears))
-  executes new drawn (work, lexer, store_bound) drew h between = record {
+  executes new drawn (work, lexer, closed) drew h between = record {
     open_run = open_run;
     between = between;
     is = is;
@@ -57,7 +57,7 @@ module _ {S : Type 0} {g : Ghosts S} (old : Machine S g) (open_run : OpenRun) (i
     took = drew.took;
     clear = drew.clear;
     holds =
-        ap (λ (held : ReadingState). state_after_request held (clear_request_if drawn.clears)) (held_is h new drawn.work old.lexer None work lexer store_bound)
+        ap (λ (retained : ReadingState). state_after_request retained (clear_request_if drawn.clears)) (state_is h new drawn.work old.lexer None work lexer closed)
         ∙ asked_is (record (with_machine h old) { open_run = None; run = [] }) drawn;
   }
 
@@ -86,13 +86,13 @@ lacked (Err _) A failed was fails so = so
 
 -- the machine stops
 pub stop_takes : {S : Type 0} {g : Ghosts S} {old new : Machine S g} {bytes : List Placed} {ended : Bool} {count : ℕ} {r : Refusal} {u : S} → new.refusal ≡ Some r → new.sink ≡ u → count ≤ length bytes → FaultMatchesSink g old.sink u r.fault →
-    ((h : ReadingState) (behind : List Placed) → h.open_body ≡ None → (ended ≡ true → IsOver (bytes_of behind)) → Stops g old.sink (with_machine h old) (bytes ++ behind) (length bytes) count u r) → Takes old new bytes ended count Stop
+    ((h : ReadingState) (following : List Placed) → h.open_body ≡ None → (ended ≡ true → IsOver (bytes_of following)) → Stops g old.sink (with_machine h old) (bytes ++ following) (length bytes) count u r) → Takes old new bytes ended count Stop
 stop_takes {S} {g} {old} {new} {bytes} {ended} {count} {r} is same few tells stops = record {
   within = few;
   leaves = record { why = r; is = is; tells = subst (λ (u : S). FaultMatchesSink g old.sink u r.fault) (sym same) tells };
   goes = λ some. inr (inl refl);
   closed = λ nothing. let bad : ⊥ = cc in absurd bad;
-  by = λ h behind between over. (r, is, subst (λ (u : S). Stops g old.sink (with_machine h old) (bytes ++ behind) (length bytes) count u r) (sym same) (stops h behind between over));
+  by = λ h following between over. (r, is, subst (λ (u : S). Stops g old.sink (with_machine h old) (bytes ++ following) (length bytes) count u r) (sym same) (stops h following between over));
 }
 
 -- a fault that isn't the sink's says nothing of the sink
@@ -112,20 +112,20 @@ leaves_from {g = g} old mid new request still leaves = by request leaves
 
 -- the code may request that all names are unbound
 pub asks_takes : {S : Type 0} {g : Ghosts S} {old new : Machine S g} {xs : List Placed} {ended : Bool} {count : ℕ} (clears : Bool) → Works old new → new.open_run ≡ None → count ≤ length xs → (0 < length xs → Progresses old new count (clear_request_if clears)) →
-    ((h : ReadingState) (behind : List Placed) → h.open_body ≡ None → (ended ≡ true → IsOver (bytes_of behind)) →
-    LeadsOn g old.sink (with_machine h old) new.sink (state_after_request (with_machine h new) (clear_request_if clears)) (take count (xs ++ behind)) (bytes_of (drop count (xs ++ behind)))) → Takes old new xs ended count (clear_request_if clears)
-asks_takes true works store_bound few goes leads = record { within = few; leaves = works; goes = goes; closed = λ nothing less. store_bound; by = leads }
-asks_takes false works store_bound few goes leads = record { within = few; leaves = works; goes = goes; closed = λ nothing less. store_bound; by = leads }
+    ((h : ReadingState) (following : List Placed) → h.open_body ≡ None → (ended ≡ true → IsOver (bytes_of following)) →
+    LeadsOn g old.sink (with_machine h old) new.sink (state_after_request (with_machine h new) (clear_request_if clears)) (take count (xs ++ following)) (bytes_of (drop count (xs ++ following)))) → Takes old new xs ended count (clear_request_if clears)
+asks_takes true works closed few goes leads = record { within = few; leaves = works; goes = goes; closed = λ nothing less. closed; by = leads }
+asks_takes false works closed few goes leads = record { within = few; leaves = works; goes = goes; closed = λ nothing less. closed; by = leads }
 
 -- The machine consumes one byte.
 pub one_takes : {S : Type 0} {g : Ghosts S} {old new : Machine S g} {x : Placed} {zs : List Placed} {ended : Bool} {request : Request} → Leaves old new request → new.open_run ≡ None →
-    ((h : ReadingState) (behind : List Placed) → h.open_body ≡ None → TakesBy g old.sink (with_machine h old) new.sink (with_machine h new) (x ∷ (zs ++ behind)) (length (x ∷ zs)) 1 new.refusal request) → Takes old new (x ∷ zs) ended 1 request
-one_takes leaves store_bound by = record {
+    ((h : ReadingState) (following : List Placed) → h.open_body ≡ None → TakesBy g old.sink (with_machine h old) new.sink (with_machine h new) (x ∷ (zs ++ following)) (length (x ∷ zs)) 1 new.refusal request) → Takes old new (x ∷ zs) ended 1 request
+one_takes leaves closed by = record {
   within = omega arith;
   leaves = leaves;
   goes = λ some. inl (omega arith);
-  closed = λ nothing less. store_bound;
-  by = λ h behind between over. by h behind between;
+  closed = λ nothing less. closed;
+  by = λ h following between over. by h following between;
 }
 
 -- the bytes of a slice from one on
@@ -155,24 +155,24 @@ next_parts all n m =
 
 module _ {S : Type 0} {g : Ghosts S} {t : S} {h : ReadingState} {u : S} {h' : ReadingState} (all : List Placed) (n : ℕ) (more : TookMore g) (first : LeadsOn g t h u h' (take n all) (bytes_of (drop n all))) where
   -- The bytes lead on.
-  pub leads_behind : {v : S} {h'' : ReadingState} (m : ℕ) → LeadsOn g u h' v h'' (take m (drop n all)) (bytes_of (drop m (drop n all))) →
+  pub leads_after : {v : S} {h'' : ReadingState} (m : ℕ) → LeadsOn g u h' v h'' (take m (drop n all)) (bytes_of (drop m (drop n all))) →
       LeadsOn g t h v h'' (take (n + m) all) (bytes_of (drop (n + m) all))
-  leads_behind {v} {h''} m later =
+  leads_after {v} {h''} m later =
       let parts = two_parts all n m in
       subst (λ (xs : List Placed). LeadsOn g t h v h'' xs (bytes_of (drop (n + m) all))) (sym parts.0)
       (leads_then more first v h'' (take m (drop n all)) (bytes_of (drop (n + m) all)) (next_parts all n m)
       (subst (λ (xs : List Placed). LeadsOn g u h' v h'' (take m (drop n all)) (bytes_of xs)) parts.1 later))
 
   -- The bytes lead to a byte that stops, or to characters of which one does.
-  pub stops_behind : {v : S} {r : Refusal} (many m : ℕ) → Stops g u h' (drop n all) (many - n) m v r → Stops g t h all many (n + m) v r
-  stops_behind {v} {r} many m (at_byte x behind there c stops) =
+  pub stops_after : {v : S} {r : Refusal} (many m : ℕ) → Stops g u h' (drop n all) (many - n) m v r → Stops g t h all many (n + m) v r
+  stops_after {v} {r} many m (at_byte x following there c stops) =
       let parts = two_parts all n m in
-      let is : bytes_of (drop n all) ≡ bytes_of (take m (drop n all)) ++ x.byte ∷ bytes_of behind =
+      let is : bytes_of (drop n all) ≡ bytes_of (take m (drop n all)) ++ x.byte ∷ bytes_of following =
       next_parts all n m ∙ ap (λ (xs : List Placed). bytes_of (take m (drop n all)) ++ bytes_of xs) (sym parts.1 ∙ there) in
-      let both = stops_then more first (take m (drop n all)) (bytes_of behind) is c stops in
+      let both = stops_then more first (take m (drop n all)) (bytes_of following) is c stops in
       let k = subst (λ (xs : List Placed). (k : LeadsThrough g t h xs) × StopsByte g k.sink k.holding x v r) (sym parts.0) both in
-      at_byte x behind (sym parts.1 ∙ there) k.0 k.1
-  stops_behind {v} {r} many m (in_text before taken size is less within place c stops) =
+      at_byte x following (sym parts.1 ∙ there) k.0 k.1
+  stops_after {v} {r} many m (in_text before taken size is less within place c stops) =
       let parts = two_parts all n before in
       let text = bytes_of (take size (drop before (drop n all))) in
       let both = halts_then more first (take before (drop n all)) (bytes_of (drop (n + before) all)) (next_parts all n before) c stops in
@@ -181,13 +181,13 @@ module _ {S : Type 0} {g : Ghosts S} {t : S} {h : ReadingState} {u : S} {h' : Re
       (subst (λ (xs : List Placed). StopsText g k.0.sink k.0.holding (bytes_of (take size xs)) taken v r) parts.1 k.1)
 
   -- The bytes lead to a call.
-  pub calls_behind : {v : S} {h'' : ReadingState} {name : ℕ} (m : ℕ) → Calls g u h' v h'' (drop n all) m name → Calls g t h v h'' all (n + m) name
-  calls_behind m calls = record {
+  pub calls_after : {v : S} {h'' : ReadingState} {name : ℕ} (m : ℕ) → Calls g u h' v h'' (drop n all) m name → Calls g t h v h'' all (n + m) name
+  calls_after m calls = record {
     byte = calls.byte;
-    behind = calls.behind;
+    following = calls.following;
     is = sym (two_parts all n m).1 ∙ calls.is;
     holding = calls.holding;
-    leads = leads_behind m calls.leads;
+    leads = leads_after m calls.leads;
     between = calls.between;
     closed = calls.closed;
     left = calls.left;
@@ -197,29 +197,29 @@ module _ {S : Type 0} {g : Ghosts S} {t : S} {h : ReadingState} {u : S} {h' : Re
     named = calls.named;
   }
 
-  pub takes_behind : (new : Machine S g) (k : ReadingState) (request : Request) (many m : ℕ) → TakesBy g u h' new.sink (with_machine k new) (drop n all) (many - n) m new.refusal request → TakesBy g t h new.sink (with_machine k new) all many (n + m) new.refusal request
-  takes_behind new k (Define name show) many m (some, graphic, later) = (omega (arith, some), graphic, leads_behind m later)
-  takes_behind new k (Call name) many m (index, counted, calls) = (n + index, omega (arith, counted), calls_behind index calls)
-  takes_behind new k Stop many m (why, is, stops) = (why, is, stops_behind many m stops)
-  takes_behind new k _ many m later = leads_behind m later
+  pub takes_after : (new : Machine S g) (k : ReadingState) (request : Request) (many m : ℕ) → TakesBy g u h' new.sink (with_machine k new) (drop n all) (many - n) m new.refusal request → TakesBy g t h new.sink (with_machine k new) all many (n + m) new.refusal request
+  takes_after new k (Define name show) many m (some, graphic, later) = (omega (arith, some), graphic, leads_after m later)
+  takes_after new k (Call name) many m (index, counted, calls) = (n + index, omega (arith, counted), calls_after index calls)
+  takes_after new k Stop many m (why, is, stops) = (why, is, stops_after many m stops)
+  takes_after new k _ many m later = leads_after m later
 
 -- The machine consumed `count` bytes of a slice, and continues after them.
 pub record Took {S : Type 0} {g : Ghosts S} (old new : Machine S g) (xs : List Placed) (ended : Bool) (count : ℕ) : Type 0 where
   pub within : count ≤ length xs
   pub works : Works old new
-  pub by : (h : ReadingState) (behind : List Placed) → h.open_body ≡ None → (ended ≡ true → IsOver (bytes_of behind)) →
-      LeadsOn g old.sink (with_machine h old) new.sink (with_machine h new) (take count (xs ++ behind)) (bytes_of (drop count (xs ++ behind)))
+  pub by : (h : ReadingState) (following : List Placed) → h.open_body ≡ None → (ended ≡ true → IsOver (bytes_of following)) →
+      LeadsOn g old.sink (with_machine h old) new.sink (with_machine h new) (take count (xs ++ following)) (bytes_of (drop count (xs ++ following)))
 
 -- The machine consumed none so far, and is unchanged.
 pub took_same : {S : Type 0} {g : Ghosts S} {old mid : Machine S g} {xs : List Placed} {ended : Bool} → LeftBy old mid old.work old.lexer → mid.sink ≡ old.sink → IsLive mid → Took old mid xs ended 0
 took_same {g = g} {xs = xs} left same live = record {
   within = omega arith;
   works = record { live = live; clear = λ clear. ap g.failed same ∙ clear };
-  by = λ h behind between over. leads_nowhere (bytes_of (xs ++ behind)) same (left_is left h);
+  by = λ h following between over. leads_nowhere (bytes_of (xs ++ following)) same (left_is left h);
 }
 
 pub took_none : {S : Type 0} {g : Ghosts S} {old : Machine S g} (xs : List Placed) (ended : Bool) → IsLive old → old.open_run ≡ None → Took old old xs ended 0
-took_none xs ended live store_bound = took_same (record { before = store_bound; closed = store_bound; work_is = refl; lexer_is = refl }) refl live
+took_none xs ended live closed = took_same (record { before = closed; closed = closed; work_is = refl; lexer_is = refl }) refl live
 
 -- The machine requests nothing.
 pub took : {S : Type 0} {g : Ghosts S} {old new : Machine S g} {xs : List Placed} {ended : Bool} {count : ℕ} → Takes old new xs ended count Nothing → Took old new xs ended count
@@ -243,21 +243,21 @@ takes_then {g = g} {old = old} {mid = mid} {new = new} {xs = xs} {count = count}
   leaves = leaves_from old mid new request t.works.clear takes.leaves;
   goes = λ some. by_further further;
   closed = λ nothing few. takes.closed nothing (omega (arith, few, length-drop count xs));
-  by = λ h behind between over.
-      takes_behind (xs ++ behind) count more (t.by h behind between over) new h request (length xs) n
-      (subst (λ (many : ℕ). TakesBy g mid.sink (with_machine h mid) new.sink (with_machine h new) (drop count (xs ++ behind)) many n new.refusal request) (length-drop count xs)
-      (subst (λ (ys : List Placed). TakesBy g mid.sink (with_machine h mid) new.sink (with_machine h new) ys (length (drop count xs)) n new.refusal request) (sym (drop-append-le count xs behind t.within))
-      (takes.by h behind between over)));
+  by = λ h following between over.
+      takes_after (xs ++ following) count more (t.by h following between over) new h request (length xs) n
+      (subst (λ (many : ℕ). TakesBy g mid.sink (with_machine h mid) new.sink (with_machine h new) (drop count (xs ++ following)) many n new.refusal request) (length-drop count xs)
+      (subst (λ (ys : List Placed). TakesBy g mid.sink (with_machine h mid) new.sink (with_machine h new) ys (length (drop count xs)) n new.refusal request) (sym (drop-append-le count xs following t.within))
+      (takes.by h following between over)));
 }
   where
     by_goes : mid.open_run ≡ None → Progresses mid new n request → Progresses old new (count + n) request
-    by_goes store_bound (inl some) = inl (omega (arith, some))
-    by_goes store_bound (inr (inl stops)) = inr (inl stops)
-    by_goes store_bound (inr (inr (over, opened))) = absurd (opened store_bound)
+    by_goes closed (inl some) = inl (omega (arith, some))
+    by_goes closed (inr (inl stops)) = inr (inl stops)
+    by_goes closed (inr (inr (over, opened))) = absurd (opened closed)
 
     by_further : (0 < count) ⊎ ((count < length xs) × (mid.open_run ≡ None)) → Progresses old new (count + n) request
     by_further (inl some) = inl (omega (arith, some))
-    by_further (inr (less, store_bound)) = by_goes store_bound (takes.goes (omega (arith, less, length-drop count xs)))
+    by_further (inr (less, closed)) = by_goes closed (takes.goes (omega (arith, less, length-drop count xs)))
 
 -- The machine had consumed none before, and was unchanged.
 pub takes_same : {S : Type 0} {g : Ghosts S} {old mid new : Machine S g} {xs : List Placed} {ended : Bool} {n : ℕ} {request : Request} → Takes mid new xs ended n request → LeftBy old mid old.work old.lexer → mid.sink ≡ old.sink → IsLive mid → TookMore g → 0 < length xs →

@@ -1,5 +1,5 @@
-use Rattle.nap_reader.proofs.Common.{All, All-head, All-tail, AllCharacters, Bool, BreaksFrom, CharSet, CodeSets, Continues, Entry, Fault, Ghosts, HaltsAfter, ReadingState, IsBroken, IsText, IsTextByte, Kind, LeadsTo, List, Machine, None, Option, Outcome, Placed, Reader, Refusal, SinkFault, Some, HasRead, State, StopsAt, StopsText, TextStep, TookFront, TookPart, Unfinished, [], after, ap, append-nil, append_assoc, ap₂, arith, begun, between, budget_of, bytes_of, cause_of, closed_by, code_as, code_front, cond, device, draw_fault, rule_result, drawn_front, drop, false, fault_of, fed_of, format_effector, format_effector_front, get_or, get_or-append_seam, get_or-drop, get_or-take, get_or_append_left, hand_of, inl, inr, is_operand_byte, kind_of, left_of, length, length-append, length-drop, length-take, memory, nothing, outcome_by_front, outcome_from, paused, placed_from, prepend, refl, refusal, sink_model_of, sink_of, stream, subst, suc, sym, take, take-append_seam, take-take, text, true, text_entry, text_code, typed_rule, walk, with_run, with_run_by, ℕ, ◌++◌, ◌+◌, ◌-◌, ◌<◌, ◌∙◌, ◌∷◌, ◌≡◌, ◌≢◌, ◌≤◌, ◌⊎◌}
-use Rattle.nap_reader.proofs.Base.{Lawful, TookMore, brings_breaks, bytes_of-placed, fails_part, front_code, half_read_pauses, holds_nothing, is_between, is_half, leads_more, nothing_yet, outcome_from-front, prepend-append, rest_of_nothing, was_failed}
+use Rattle.nap_reader.proofs.Common.{All, All-head, All-tail, AllCharacters, Bool, BreaksFrom, CharSet, CodeSets, Continues, Entry, Fault, Ghosts, HaltsAfter, ReadingState, IsBroken, IsText, IsTextByte, Kind, LeadsTo, List, Machine, None, Option, Outcome, Placed, Reader, Refusal, SinkFault, Some, HasRead, State, StopsAt, StopsText, TextStep, TookPrefix, TookPart, Unfinished, [], after, ap, append-nil, append_assoc, ap₂, arith, begun, between, budget_of, bytes_of, cause_of, closed_by, code_as, code_front, cond, device, draw_fault, rule_result, drawn_front, drop, false, fault_of, fed_of, format_effector, format_effector_front, get_or, get_or-append_seam, get_or-drop, get_or-take, get_or_append_left, hand_of, inl, inr, is_operand_byte, kind_of, left_of, length, length-append, length-drop, length-take, memory, nothing, outcome_by_front, outcome_from, paused, placed_from, prepend, refl, refusal, sink_model_of, sink_of, stream, subst, suc, sym, take, take-append_seam, take-take, text, true, text_entry, text_code, typed_rule, walk, with_run, with_run_by, ℕ, ◌++◌, ◌+◌, ◌-◌, ◌<◌, ◌∙◌, ◌∷◌, ◌≡◌, ◌≢◌, ◌≤◌, ◌⊎◌}
+use Rattle.nap_reader.proofs.Base.{Lawful, TookMore, adding_breaks, bytes_of-placed, fails_part, front_code, half_read_pauses, holds_nothing, is_between, is_half, leads_more, nothing_yet, outcome_from-front, prepend-append, rest_of_nothing, was_failed}
 use Rattle.nap_codes.specs.Front as codes
 use Rattle.nap_list.specs.declared.sink.SinkFault.TheVariants as sink_faults
 use Rattle.nap_reader.specs.declared.kind.Kind.TheVariants as kinds
@@ -8,10 +8,10 @@ use Rattle.nap_reader.proofs.PieceLemmas.{length_taken, stops_by, taken_further}
 -- A stretch of text has the effect of its characters and format effectors one after another.
 
 -- If all bytes from 20 to 7F are characters, each byte of a text is a format effector of one byte, or such a character.
-are_typed : (sets : CodeSets) (set : CharSet) → AllCharacters sets set → (b : ℕ) → IsTextByte b → codes.front sets (b ∷ []) ≡ codes.whole (text_code set b) 1 sets
+are_typed : (sets : CodeSets) (set : CharSet) → AllCharacters sets set → (b : ℕ) → IsTextByte b → codes.front sets (b ∷ []) ≡ codes.complete (text_code set b) 1 sets
 are_typed sets set are b is = by (format_effector b) refl
   where
-    by : (step : Option TextStep) → format_effector b ≡ step → codes.front sets (b ∷ []) ≡ codes.whole (code_as step set b) 1 sets
+    by : (step : Option TextStep) → format_effector b ≡ step → codes.front sets (b ∷ []) ≡ codes.complete (code_as step set b) 1 sets
     by (Some step) e = (format_effector_front b step e).1 sets
     by None e = are b ((is e).0, omega (arith, (is e).1))
 
@@ -66,8 +66,8 @@ text_comes m set q n mode are all =
     ∙ ap (λ (bs : List ℕ). prepend (text m.work.state set bs) (outcome_from (with_text m set bs) [])) same
     ∙ ap (prepend (text m.work.state set q)) (outcome_from-front m' [] ∙ ap (outcome_by_front outcome_from m' []) (half_read_pauses m' [] [] mode refl (nothing_yet m'.sets)))
 
-all_front : (xs ys : List ℕ) → All IsTextByte (xs ++ ys) → All IsTextByte xs
-all_front xs ys all = λ i d less. subst IsTextByte (get_or_append_left xs ys d i less) (all i d (omega (arith, less, length-append xs ys)))
+all_prefix : (xs ys : List ℕ) → All IsTextByte (xs ++ ys) → All IsTextByte xs
+all_prefix xs ys all = λ i d less. subst IsTextByte (get_or_append_left xs ys d i less) (all i d (omega (arith, less, length-append xs ys)))
 
 -- no run is open
 closed_still : (o : Outcome) (word : Bool) (known : List Entry) → o.entries ≡ known → o.unfinished ≡ Some nothing → (cond word o (with_run o)).entries ≡ known
@@ -103,19 +103,19 @@ halts_in g s set q i t u sink_faults.Write some (inr h) = record { es = h.prefix
 pub record IsTextOf (s : State) (set : CharSet) (q : List ℕ) (es : List Entry) (e : Entry) : Type 0 where
   pub before : List ℕ
   pub byte : ℕ
-  pub behind : List ℕ
-  pub parts : q ≡ before ++ byte ∷ behind
+  pub following : List ℕ
+  pub parts : q ≡ before ++ byte ∷ following
   pub front : es ≡ text s set before
   pub next : e ≡ typed_in (walk s (text s set before)) set byte
   pub count : length es ≡ length before
 
-behind_one : (s : State) (set : CharSet) (b : ℕ) (q : List ℕ) (e : Entry) (es : List Entry) (next : Entry) → e ≡ typed_in s set b →
+following_one : (s : State) (set : CharSet) (b : ℕ) (q : List ℕ) (e : Entry) (es : List Entry) (next : Entry) → e ≡ typed_in s set b →
     IsTextOf (after s (typed_in s set b)) set q es next → IsTextOf s set (b ∷ q) (e ∷ es) next
 unfolding text walk
-behind_one s set b q e es next first k = record {
+following_one s set b q e es next first k = record {
   before = b ∷ k.before;
   byte = k.byte;
-  behind = k.behind;
+  following = k.following;
   parts = ap (λ (xs : List ℕ). b ∷ xs) k.parts;
   front = ap₂ (λ (x : Entry) (xs : List Entry). x ∷ xs) first k.front;
   next = k.next;
@@ -126,23 +126,23 @@ pub text_parts : (s : State) (set : CharSet) (q : List ℕ) (front : List Entry)
 unfolding text walk
 text_parts s set [] [] next rest e = let bad : ⊥ = cc in absurd bad
 text_parts s set [] (first ∷ front) next rest e = let bad : ⊥ = cc in absurd bad
-text_parts s set (b ∷ q) [] next rest e = record { before = []; byte = b; behind = q; parts = refl; front = refl; next = cc; count = refl }
-text_parts s set (b ∷ q) (first ∷ front) next rest e = behind_one s set b q first front next (cc) (text_parts (after s (typed_in s set b)) set q front next rest (cc))
+text_parts s set (b ∷ q) [] next rest e = record { before = []; byte = b; following = q; parts = refl; front = refl; next = cc; count = refl }
+text_parts s set (b ∷ q) (first ∷ front) next rest e = following_one s set b q first front next (cc) (text_parts (after s (typed_in s set b)) set q front next rest (cc))
 
 pub halts_less : {S : Type 0} (g : Ghosts S) (s : State) (set : CharSet) (q : List ℕ) (i : ℕ) (t u : S) (fault : SinkFault) → 0 < length q → HaltsAfter (sink_model_of g) (text s set q) t u i fault → i < length q
 halts_less g s set q i t u fault some h =
     let halt = halts_in g s set q i t u fault some h in
     let is = text_parts s set q halt.es halt.next halt.rest halt.parts in
-    omega (arith, halt.count, is.count, ap (λ (xs : List ℕ). length xs) is.parts, length-append is.before (is.byte ∷ is.behind))
+    omega (arith, halt.count, is.count, ap (λ (xs : List ℕ). length xs) is.parts, length-append is.before (is.byte ∷ is.following))
 
 -- Characters are pending before other bytes.
 module _ {S : Type 0} {g : Ghosts S} {s : S} {o : Outcome} {t : S} {h : ReadingState} {set : CharSet} (xs pending : List Placed) (k : Continues g s o t h (xs ++ pending)) (in_text : IsText h set (bytes_of xs)) where
   acts : o ≡ prepend (k.done ++ text h.machine.work.state set (bytes_of xs)) (outcome_from (with_text h.machine set (bytes_of xs)) pending)
   acts =
-      let empty : k.rest ≡ [] = rest_of_nothing k.rest ((is_half h k.rest in_text.between in_text.closed k.held).0 ∙ in_text.rested) in
+      let empty : k.rest ≡ [] = rest_of_nothing k.rest ((is_half h k.rest in_text.between in_text.closed k.retained).0 ∙ in_text.rested) in
       k.leads
       ∙ ap (λ (ys : List Placed). prepend k.done (outcome_from h.machine (ys ++ (xs ++ pending)))) empty
-      ∙ ap (prepend k.done) (text_acts h.machine set xs pending (is_between h k.rest in_text.between k.held).mode in_text.chars in_text.typed)
+      ∙ ap (prepend k.done) (text_acts h.machine set xs pending (is_between h k.rest in_text.between k.retained).mode in_text.chars in_text.typed)
       ∙ sym (prepend-append k.done (text h.machine.work.state set (bytes_of xs)) (outcome_from (with_text h.machine set (bytes_of xs)) pending))
 
   -- all of them were taken
@@ -150,13 +150,13 @@ module _ {S : Type 0} {g : Ghosts S} {s : S} {o : Outcome} {t : S} {h : ReadingS
       Continues g s o u (record h { machine = with_text h.machine set (bytes_of xs) }) pending
   text_passes u more took clear =
       let h' : ReadingState = record h { machine = with_text h.machine set (bytes_of xs) } in
-      let held = is_between h k.rest in_text.between k.held in
+      let retained = is_between h k.rest in_text.between k.retained in
       record {
         done = k.done ++ text h.machine.work.state set (bytes_of xs);
         taken = more s t u k.done (text h.machine.work.state set (bytes_of xs)) k.taken took;
         clear = λ before. clear (k.clear before);
         rest = [];
-        held = holds_nothing h' in_text.between held.mode held.body in_text.closed in_text.rested;
+        retained = holds_nothing h' in_text.between retained.mode retained.body in_text.closed in_text.rested;
         leads = acts;
       }
 
@@ -175,7 +175,7 @@ module _ {S : Type 0} {g : Ghosts S} {s : S} {o : Outcome} {t : S} {h : ReadingS
           ap (λ (o : Outcome). o.entries) acts ∙ ap (λ (es : List Entry). (k.done ++ es) ++ bytes_after) halt.parts
           ∙ ap (λ (es : List Entry). es ++ bytes_after) (sym (append_assoc k.done halt.es (halt.next ∷ halt.rest))) ∙ append_assoc first (halt.next ∷ halt.rest) bytes_after
 
-      at : (fault : SinkFault) → Halted g halt.es halt.next t u fault → TookFront g s [] o.entries u (cause_of (draw_fault (fault_of fault)))
+      at : (fault : SinkFault) → Halted g halt.es halt.next t u fault → TookPrefix g s [] o.entries u (cause_of (draw_fault (fault_of fault)))
       at sink_faults.Memory (took, wants) = (first, halt.next ∷ (halt.rest ++ bytes_after), parts, laws.more s t u k.done halt.es k.taken took)
       at sink_faults.Write (inl (failed, stays, empty)) =
           inl (
@@ -194,10 +194,10 @@ module _ {S : Type 0} {g : Ghosts S} {s : S} {t : S} {h : ReadingState} {set : C
   pub comes : (q : List ℕ) → All IsTextByte q → begun budget (p ++ q) ≡ prepend (k.done ++ text h.machine.work.state set q) (paused (with_text h.machine set q) [] (Some nothing))
   unfolding leads_more
   comes q all =
-      let empty : k.rest ≡ [] = rest_of_nothing k.rest ((is_half h k.rest in_text.between in_text.closed k.held).0 ∙ in_text.rested) in
+      let empty : k.rest ≡ [] = rest_of_nothing k.rest ((is_half h k.rest in_text.between in_text.closed k.retained).0 ∙ in_text.rested) in
       (leads_more budget p q k).leads
       ∙ ap (λ (xs : List Placed). prepend k.done (outcome_from h.machine (xs ++ placed_from (length p) q))) empty
-      ∙ ap (prepend k.done) (text_comes h.machine set q (length p) (is_between h k.rest in_text.between k.held).mode in_text.chars all)
+      ∙ ap (prepend k.done) (text_comes h.machine set q (length p) (is_between h k.rest in_text.between k.retained).mode in_text.chars all)
       ∙ sym (prepend-append k.done (text h.machine.work.state set q) (paused (with_text h.machine set q) [] (Some nothing)))
 
   -- the next one wasn't taken, or broke
@@ -212,14 +212,14 @@ module _ {S : Type 0} {g : Ghosts S} {s : S} {t : S} {h : ReadingState} {set : C
       let known = k.done ++ halt.es in
       let past : Outcome = prepend known (paused (with_text h.machine set before) [] (Some nothing)) in
       let there : begun budget (p ++ before) ≡ past =
-      comes before (all_front before (b ∷ is.behind) all) ∙ ap (λ (es : List Entry). prepend (k.done ++ es) (paused (with_text h.machine set before) [] (Some nothing))) (sym is.front) in
-      let one = all_front (before ++ b ∷ []) is.behind (subst (All IsTextByte) (sym (append_assoc before (b ∷ []) is.behind)) all) in
+      comes before (all_prefix before (b ∷ is.following) all) ∙ ap (λ (es : List Entry). prepend (k.done ++ es) (paused (with_text h.machine set before) [] (Some nothing))) (sym is.front) in
+      let one = all_prefix (before ++ b ∷ []) is.following (subst (All IsTextByte) (sym (append_assoc before (b ∷ []) is.following)) all) in
       let further = ap (begun budget) (append_assoc p before (b ∷ [])) ∙ comes (before ++ b ∷ []) one in
       let still = λ (word : Bool). closed_still past word known (append-nil known) refl in
       record {
         before = ap (λ (o : Outcome). o.refusal) there;
         breaks =
-            brings_breaks budget (p ++ before) b r (sym (ap (λ (o : Outcome). (closed_by o b).entries) there ∙ still (is_operand_byte b))) (omega (arith, place, halt.count, is.count, length-append p before))
+            adding_breaks budget (p ++ before) b r (sym (ap (λ (o : Outcome). (closed_by o b).entries) there ∙ still (is_operand_byte b))) (omega (arith, place, halt.count, is.count, length-append p before))
             (record {
               some = λ none. let bad : ⊥ = cc in bad;
               wants = wants;
@@ -267,25 +267,25 @@ text_stops {S} {g} {old} {piece} {at} {t} {h} {q = q} {i = i} {r = r} new leads 
     let long : length q ≤ length piece - at = omega (arith, sym (ap length front), length-take (length q) (drop at piece), length-drop at piece) in
     let first : take (length is.before) (drop at piece) ≡ is.before =
     ap (λ (j : ℕ). take j (drop at piece)) (sym count)
-    ∙ sym (take-take i (length q) (drop at piece) (omega (arith, less))) ∙ ap (take i) (front ∙ is.parts) ∙ ap (λ (j : ℕ). take j (is.before ++ is.byte ∷ is.behind)) count
-    ∙ take-append_seam is.before (is.byte ∷ is.behind) in
+    ∙ sym (take-take i (length q) (drop at piece) (omega (arith, less))) ∙ ap (take i) (front ∙ is.parts) ∙ ap (λ (j : ℕ). take j (is.before ++ is.byte ∷ is.following)) count
+    ∙ take-append_seam is.before (is.byte ∷ is.following) in
     let there : get_or piece (at + i) 0 ≡ is.byte =
     sym (get_or-drop at piece i 0)
     ∙ sym (get_or-take (length q) (drop at piece) i 0 less) ∙ ap (λ (xs : List ℕ). get_or xs i 0) (front ∙ is.parts)
-    ∙ ap (λ (j : ℕ). get_or (is.before ++ is.byte ∷ is.behind) j 0) count ∙ get_or-append_seam is.before is.byte is.behind 0 in
+    ∙ ap (λ (j : ℕ). get_or (is.before ++ is.byte ∷ is.following) j 0) count ∙ get_or-append_seam is.before is.byte is.following 0 in
     let reason : refusal (draw_fault (fault_of stops.fault)) r.place ≡ r = ap (λ (f : Fault). refusal f r.place) (sym stops.why) in
-    let broken = λ (s : S) (p : List ℕ) (stood : HasRead old s p).
+    let broken = λ (s : S) (p : List ℕ) (had_read : HasRead old s p).
     subst (IsBroken g s (budget_of old) (p ++ take (at + i) piece) (get_or piece (at + i) 0) (sink_of new) (left_of new)) reason
     (subst (λ (q : List ℕ). IsBroken g s (budget_of old) q (get_or piece (at + i) 0) (sink_of new) (left_of new) (refusal (draw_fault (fault_of stops.fault)) r.place))
     (taken_further p piece is.before at first ∙ ap (λ (j : ℕ). p ++ take (at + j) piece) (sym count))
     (subst (λ (b : ℕ). IsBroken g s (budget_of old) ((p ++ take at piece) ++ is.before) b (sink_of new) (left_of new) (refusal (draw_fault (fault_of stops.fault)) r.place)) (sym there)
-    (text_broken {set = stops.set} (budget_of old) (p ++ take at piece) (leads.alone empty s p stood) stops.text_is stops.fault laws halt is left
-    (omega (arith, place, length_taken p piece at leads.within, stood.fed leads.live))))) in
+    (text_broken {set = stops.set} (budget_of old) (p ++ take at piece) (leads.alone empty s p had_read) stops.text_is stops.fault laws halt is left
+    (omega (arith, place, length_taken p piece at leads.within, had_read.fed leads.live))))) in
     record {
       within = omega (arith, less, long, leads.within);
       fed = omega (arith, fed);
-      before = λ s p stood. (broken s p stood).before;
-      there = λ s p stood.
+      before = λ s p had_read. (broken s p had_read).before;
+      there = λ s p had_read.
           stops_by s (budget_of old) (p ++ take (at + i) piece) (get_or piece (at + i) 0) (sink_of new) (left_of new) r (λ own. absurd (not_own stops.fault (ap (λ (r : Refusal). cause_of r.fault) reason ∙ own)))
-          (λ _. broken s p stood);
+          (λ _. broken s p had_read);
     }

@@ -5,10 +5,10 @@ use Rattle.nap_list.specs.declared.entry.Entry.{Entry}
 use Rattle.nap_list.specs.declared.sink.Sink.{Ghosts}
 use Rattle.nap_reader.specs.declared.fault.Fault.TheVariants as fault
 use Rattle.nap_reader.specs.declared.fault.Refusal.{Refusal}
-use Rattle.nap_reader.specs.Breaking.{cause_of, BreaksInRun, LacksWithin, TookFront}
+use Rattle.nap_reader.specs.Breaking.{cause_of, BreaksInRun, LacksWithin, TookPrefix}
 use Rattle.nap_reader.specs.Collecting.{LacksMemoryFor, RefusedBy}
 use Rattle.nap_reader.specs.Laws.{BreaksAmong, WantsSome}
-use Rattle.nap_reader.specs.Standing.{AnswersBy, StopsBy}
+use Rattle.nap_reader.specs.ReaderAnswers.{AnswersBy, StopsBy}
 use Rattle.nap_reader.specs.Stream.{Outcome, begun, means}
 use Rattle.nap_reader.specs.Twice.{BreaksOff, EndsEarly, ReadsTo}
 use Rattle.nap_reader.proofs.CollectLemmas.{device_fault, still_refused}
@@ -25,7 +25,7 @@ parted known first left rest whole more is parts = is ∙ ap (λ (more : List En
 
 -- the entries that a sink took of some, after others that it took completely
 part_of_whole : {S : Type 0} (g : Ghosts S) (s : S) (known more rest whole : List Entry) (t : S) (cause : Cause) → whole ≡ (known ++ more) ++ rest →
-    TookFront g s known more t cause → TookFront g s [] whole t cause
+    TookPrefix g s known more t cause → TookPrefix g s [] whole t cause
 part_of_whole g s known more rest whole t stream is part = absurd part
 part_of_whole g s known more rest whole t memory is (first, left, parts, took) = (known ++ first, left ++ rest, parted known first left rest whole more is parts, took)
 part_of_whole g s known more rest whole t device is (inl (failed, (first, left, parts, took))) =

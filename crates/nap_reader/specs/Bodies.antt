@@ -38,7 +38,7 @@ one_byte_later (ended n) = ended (suc n)
 
 -- a byte of the body, which needs space in the store
 abbrev pub stores : ℕ → BodyFront → BodyFront
-stores room further = if room == 0 then refused faults.Store 0 else one_byte_later further
+stores space further = if space == 0 then refused faults.Store 0 else one_byte_later further
 
 -- whether a byte after ESC ends a body: DEF MACRO, DEFP MACRO, DEFT MACRO, DEF DRCS, DEF TEXTURE or END
 abbrev pub ends_body : ℕ → Bool
@@ -46,15 +46,15 @@ ends_body byte = nat_le 0x40 byte && nat_le byte 0x45
 
 -- ESC, which belongs to the body if the byte after it neither ends the body nor has the eighth bit
 abbrev pub at_escape : ℕ → List ℕ → BodyFront → BodyFront
-at_escape room [] further = unfinished
-at_escape room (byte ∷ bytes) further =
-    if nat_le 0x80 byte then refused faults.EighthBit 1 else if ends_body byte then ended 0 else stores room further
+at_escape space [] further = unfinished
+at_escape space (byte ∷ bytes) further =
+    if nat_le 0x80 byte then refused faults.EighthBit 1 else if ends_body byte then ended 0 else stores space further
 
 abbrev pub at_byte : ℕ → ℕ → List ℕ → BodyFront → BodyFront
-at_byte room byte bytes further =
-    if nat_le 0x80 byte then refused faults.EighthBit 0 else if byte == 0x1B then at_escape room bytes further else stores room further
+at_byte space byte bytes further =
+    if nat_le 0x80 byte then refused faults.EighthBit 0 else if byte == 0x1B then at_escape space bytes further else stores space further
 
 -- what comes after the name of a definition, if the store has this much space left
 unfoldable pub body_front : ℕ → List ℕ → BodyFront
-body_front room [] = unfinished
-body_front room (byte ∷ bytes) = at_byte room byte bytes (body_front (room - 1) bytes)
+body_front space [] = unfinished
+body_front space (byte ∷ bytes) = at_byte space byte bytes (body_front (space - 1) bytes)

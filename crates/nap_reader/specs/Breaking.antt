@@ -102,17 +102,17 @@ TakesPart g s known more t = (first : List Entry) × (rest : List Entry) × (mor
 
 -- A sink that was s took the known entries and a prefix of the further ones, for a body that is charged; or one of them
 -- broke.
-abbrev pub TookFront : {S : Type 0} → Ghosts S → S → List Entry → List Entry → S → Cause → Type 0
-TookFront g s known more t stream = ⊥
-TookFront g s known more t memory = TakesPart g s known more t
-TookFront g s known more t device =
+abbrev pub TookPrefix : {S : Type 0} → Ghosts S → S → List Entry → List Entry → S → Cause → Type 0
+TookPrefix g s known more t stream = ⊥
+TookPrefix g s known more t memory = TakesPart g s known more t
+TookPrefix g s known more t device =
     ((g.failed s ≡ true) × TakesPart g s known more t) ⊎ Breaks (λ s es e t. g.broke s (known ++ es) e t) s more t
 
 -- A sink that was s has the known entries, and a part of those that the outcome has more.
 pub record BreaksFrom {S : Type 0} (g : Ghosts S) (s : S) (known : List Entry) (o : Outcome) (t : S) (cause : Cause) : Type 0 where
   pub more : List Entry
   pub adds : o.entries ≡ known ++ more
-  pub part : TookFront g s known more t cause
+  pub part : TookPrefix g s known more t cause
 
 -- the opcode whose run is open after p acts, and breaks
 pub record BreaksInRun {S : Type 0} (g : Ghosts S) (s : S) (budget : ℕ) (p : List ℕ) (t : S) (r : Refusal) : Type 0 where
@@ -130,7 +130,7 @@ BreaksWith g s budget p b t cause =
 -- ends are. Memory was lacking to the reader itself, or to its sink for these entries.
 pub record BreaksAtByte {S : Type 0} (g : Ghosts S) (s : S) (budget : ℕ) (p : List ℕ) (b : ℕ) (t : S) (r : Refusal) : Type 0 where
   pub place : r.place ≡ length p
-  pub brings : AddsEntries budget p b
+  pub adds_entries : AddsEntries budget p b
   pub wants : cause_of r.fault ≡ memory → WantsMemory budget p b ⊎ g.wants s (begun budget (p ++ b ∷ [])).entries
   pub part : BreaksWith g s budget p b t (cause_of r.fault)
 

@@ -28,7 +28,7 @@ HasName-prop (Some body) = hlevel props
 
 -- each of the bytes from 20 to 7F alone is a character of this set
 abbrev pub AllCharacters : CodeSets → CharSet → Type 0
-AllCharacters sets set = (b : ℕ) → IsGraphic b → codes.front sets (b ∷ []) ≡ codes.whole (code.Char set b) 1 sets
+AllCharacters sets set = (b : ℕ) → IsGraphic b → codes.front sets (b ∷ []) ≡ codes.complete (code.Char set b) 1 sets
 
 -- the bytes from 20 to 7F aren't characters while a run is open
 abbrev pub NoCharacters : LexerState → Option OpenRun → Type 0

@@ -6,7 +6,7 @@ use Rattle.nap_list.specs.Reading.{Reading, NoneFailed, IsCutOff, IsReadWhole, r
 use Rattle.nap_reader.specs.declared.fault.Fault.TheVariants as faults
 use Rattle.nap_reader.specs.declared.feeding.FeedFault.{FeedFault}
 use Rattle.nap_reader.specs.declared.feeding.FeedFault.TheVariants as feed_fault
-use Rattle.nap_reader.specs.Standing.{HasRead, StopsBy, budget_of, left_of, refusal_of, sink_of}
+use Rattle.nap_reader.specs.ReaderAnswers.{HasRead, StopsBy, budget_of, left_of, refusal_of, sink_of}
 
 -- Feeding a reader what an input gives.
 
@@ -37,7 +37,7 @@ StopsInLast g s budget before last t left _ = ⊤
 
 -- A reader that had read no bytes was fed the bytes p.
 pub record Feeds {I S : Type 0} (i : inlet.Ghosts I) {g : Ghosts S} (old new : Reader S g) (s : S) (p : List ℕ) (start end : I) (answer : Result (Unit {0}) FeedFault) : Type 0 where
-  pub stands : HasRead new s p
+  pub has_read : HasRead new s p
   pub last : LastRead i (budget_of old) p start end
   pub ends : EndsBy p (reading i start end) (refusal_of new) answer
   pub stops : StopsInLast g s (budget_of old) last.before last.last (sink_of new) (left_of new) answer

@@ -5,7 +5,7 @@ use Rattle.nap_codes.specs.declared.code.Code.TheVariants as code
 use Rattle.nap_codes.specs.Front as codes
 use Rattle.nap_list.specs.State.{Legal}
 use Rattle.nap_list.specs.Range.{AllInRange}
-use Rattle.nap_reader.specs.Standing.{StopsBy}
+use Rattle.nap_reader.specs.ReaderAnswers.{StopsBy}
 
 -- The outcome of a list is that of its front, and then that of the list that remains.
 abbrev pub FrontAfterFront : Type 0
@@ -14,7 +14,7 @@ FrontAfterFront = (m : Machine) (xs : List Placed) → outcome_from m xs ≡ out
 -- between two codes, the byte of an opcode, and after it operand bytes, no more than a run may have
 pub record IsRun (m : Machine) (op : Opcode) (x : Placed) (operands : List Placed) : Type 0 where
   pub mode : m.mode ≡ between
-  pub names : codes.front m.sets (x.byte ∷ []) ≡ codes.whole (code.Op op) 1 m.sets
+  pub names : codes.front m.sets (x.byte ∷ []) ≡ codes.complete (code.Op op) 1 m.sets
   pub carriers : All IsOperandByte (bytes_of operands)
   pub few : length operands ≤ run_limit
 
@@ -41,7 +41,7 @@ IsAlone _ = ⊤
 pub record IsCodeAlone (m : Machine) (c : Code) (before : List Placed) (last : Placed) (after : CodeSets) : Type 0 where
   pub mode : m.mode ≡ between
   pub alone : IsAlone c
-  pub names : codes.front m.sets (bytes_of before ++ last.byte ∷ []) ≡ codes.whole c (length before + 1) after
+  pub names : codes.front m.sets (bytes_of before ++ last.byte ∷ []) ≡ codes.complete c (length before + 1) after
 
 -- A code that acts alone acts by its rule, or adds nothing, whatever comes after it.
 abbrev pub CodeActs : Type 0

@@ -7,7 +7,7 @@ pub mod Kinds
 pub mod Stream
 -- What a reader answers about a stream.
 pub mod Breaking
-pub mod Standing
+pub mod ReaderAnswers
 pub mod Looking
 pub mod Feeding
 pub mod Laws

@@ -11,8 +11,8 @@ bytes_ahead (ahead.First n) = n
 bytes_ahead (ahead.Each n) = n
 
 -- After the bytes p, those after the first add no entries; or each adds one entry.
-abbrev pub BringsAhead : ℕ → List ℕ → List ℕ → Ahead → Type 0
-BringsAhead budget p piece (ahead.First n) = (k : ℕ) → 1 ≤ k → k ≤ n →
+abbrev pub AddsAhead : ℕ → List ℕ → List ℕ → Ahead → Type 0
+AddsAhead budget p piece (ahead.First n) = (k : ℕ) → 1 ≤ k → k ≤ n →
     (begun budget (p ++ take k piece)).entries ≡ (begun budget (p ++ take 1 piece)).entries
-BringsAhead budget p piece (ahead.Each n) = (k : ℕ) → k ≤ n →
+AddsAhead budget p piece (ahead.Each n) = (k : ℕ) → k ≤ n →
     length (begun budget (p ++ take k piece)).entries ≡ length (begun budget p).entries + k

@@ -4,7 +4,7 @@ use Rattle.nap_reader.specs.declared.fault.Fault.TheVariants as faults
 use Rattle.nap_reader.specs.declared.machine.Machine.{Machine}
 use Rattle.nap_reader.specs.declared.machine.Request.{Request}
 use Rattle.nap_reader.specs.NextBytes.{HasReadOn, IsNext, Reads}
-use Rattle.nap_reader.specs.Standing.{HasRead, StopsAt, budget_of, charged_of, fed_of, refusal_of, sink_of, turns_of}
+use Rattle.nap_reader.specs.ReaderAnswers.{HasRead, StopsAt, budget_of, charged_of, fed_of, refusal_of, sink_of, turns_of}
 use Rattle.nap_reader.specs.Steps.{Acted, Takes}
 
 -- How a piece is read. No caller sees these definitions.
@@ -50,20 +50,20 @@ pub record ReadsTo {S : Type 0} {g : Ghosts S} (old : Reader S g) (piece : List 
   pub reaches : Reaches old piece input.at machine.sink (reading_state_by machine input) (unread_of input)
 
 -- A reader that had read the piece up to some index has read it further.
-abbrev pub GoesOn : {S : Type 0} {g : Ghosts S} → List ℕ → Machine S g → Input → Machine S g → Input → Type 0
-GoesOn {S} {g} piece machine input machine' input' =
+abbrev pub ReadsFurther : {S : Type 0} {g : Ghosts S} → List ℕ → Machine S g → Input → Machine S g → Input → Type 0
+ReadsFurther {S} {g} piece machine input machine' input' =
     (old : Reader S g) → refusal_of old ≡ None → ReadsTo old piece machine input → ReadsTo old piece machine' input'
 
 -- A reader that had read the piece up to some index has read at least `count` bytes more.
 pub record Goes {S : Type 0} {g : Ghosts S} (piece : List ℕ) (count : ℕ) (machine : Machine S g) (input : Input) (machine' : Machine S g) (input' : Input) : Type 0 where
   pub counts : HasReadOn input input' piece count
-  pub on : GoesOn piece machine input machine' input'
+  pub on : ReadsFurther piece machine input machine' input'
 
 -- All bytes of the piece were consumed.
 pub record TakesPiece {S : Type 0} {g : Ghosts S} (old new : Reader S g) (piece : List ℕ) : Type 0 where
   pub live : refusal_of new ≡ None
   pub budget : budget_of new ≡ budget_of old
-  pub stands : (s : S) (p : List ℕ) → HasRead old s p → HasRead new s (p ++ piece)
+  pub has_read : (s : S) (p : List ℕ) → HasRead old s p → HasRead new s (p ++ piece)
   pub clear : g.failed (sink_of old) ≡ false → g.failed (sink_of new) ≡ false
   pub fed : fed_of new ≡ fed_of old + length piece
   pub turns : turns_of old ≡ fed_of old + charged_of old → turns_of new ≡ fed_of new + charged_of new
@@ -74,7 +74,7 @@ pub record RefusesPiece {S : Type 0} {g : Ghosts S} (old new : Reader S g) (piec
   pub why : Refusal
   pub is : refusal_of new ≡ Some why
   pub budget : budget_of new ≡ budget_of old
-  pub stands : (s : S) (p : List ℕ) → HasRead old s p → HasRead new s (p ++ piece)
+  pub has_read : (s : S) (p : List ℕ) → HasRead old s p → HasRead new s (p ++ piece)
   pub stops : (i : ℕ) × StopsAt old new piece why i
   pub failed : why.fault ≡ faults.Sink → g.failed (sink_of new) ≡ true
   pub kept : g.failed (sink_of old) ≡ false → g.failed (sink_of new) ≡ true → why.fault ≡ faults.Sink

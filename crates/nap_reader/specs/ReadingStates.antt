@@ -81,7 +81,7 @@ pub record IsOpenRun (rest : List Placed) (open_run : OpenRun) (run : List ℕ) 
   pub operands : List Placed
   pub is : rest ≡ opcode ∷ operands
   pub place : opcode.place ≡ open_run.place
-  pub names : codes.front sets (opcode.byte ∷ []) ≡ codes.whole (code.Op open_run.op) 1 sets
+  pub names : codes.front sets (opcode.byte ∷ []) ≡ codes.complete (code.Op open_run.op) 1 sets
   pub words : words_of operands ≡ run
   pub all : run_length operands ≡ length operands
   pub short : length run ≤ run_limit
@@ -104,13 +104,13 @@ body_front_after n (bodies.ended k) = bodies.ended (n + k)
 -- The bytes are of a body before the next bytes: the body's state at them has the outcome of the state after its name,
 -- with less space.
 abbrev pub AreOfBody : ℕ → List ℕ → List ℕ → Type 0
-AreOfBody room body next = (more : List ℕ) → body_front room (body ++ (next ++ more)) ≡ body_front_after (length body) (body_front (room - length body) (next ++ more))
+AreOfBody space body next = (more : List ℕ) → body_front space (body ++ (next ++ more)) ≡ body_front_after (length body) (body_front (space - length body) (next ++ more))
 
 -- before the next bytes, these bytes are those of a body that hasn't ended
 pub record AtBody (rest : List Placed) (b : OpenBody) (h : ReadingState) (next : List ℕ) : Type 0 where
   pub mode : h.machine.mode ≡ in_body b.name b.show
   pub body : bytes_of rest ≡ h.body
-  pub goes_on : AreOfBody (store_limit - h.machine.stored) h.body next
+  pub are_of_body : AreOfBody (store_limit - h.machine.stored) h.body next
   pub still : h.open_run ≡ None
   pub half : h.half ≡ []
 
@@ -141,7 +141,7 @@ pub record Continues {S : Type 0} (g : Ghosts S) (s : S) (o : Outcome) (t : S) (
   pub taken : g.took s done t
   pub clear : g.failed s ≡ false → g.failed t ≡ false
   pub rest : List Placed
-  pub held : ArePending rest h
+  pub retained : ArePending rest h
   pub leads : o ≡ prepend done (outcome_from h.machine (rest ++ pending))
 
 -- A sink that was s took the first entries of the outcome, and the pending bytes are those of the body before this

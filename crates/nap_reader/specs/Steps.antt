@@ -53,7 +53,7 @@ pub record Binds (h h' : ReadingState) : Type 0 where
   pub body : OpenBody
   pub is : h.open_body ≡ Some body
   pub place : ℕ
-  pub held : body.escape ≡ Some place
+  pub retained : body.escape ≡ Some place
   pub hidden : body.show ≡ false
   pub holds : h.half ≡ [] → h' ≡ record h { machine = model.after_body h.machine body.name h.body; half = 0x1B ∷ []; open_run = None; run = []; open_body = None; body = [] }
   pub left : h'.machine.left ≡ h.machine.left
@@ -98,7 +98,7 @@ pub data Breaks {S : Type 0} (g : Ghosts S) (t : S) (h : ReadingState) (x : Plac
   at_word : LacksWord t h x u r → Breaks g t h x u r
   in_run : is_operand x ≡ false → StopsRun g t h u r → Breaks g t h x u r
   in_code : h.open_run ≡ None → BreaksCode g t h x u r → Breaks g t h x u r
-  behind_run : (v : S) (h' : ReadingState) → is_operand x ≡ false → ActsRun g t h v h' → BreaksCode g v h' x u r → Breaks g t h x u r
+  after_run : (v : S) (h' : ReadingState) → is_operand x ≡ false → ActsRun g t h v h' → BreaksCode g v h' x u r → Breaks g t h x u r
   in_body : BreaksBody g t h x u r → Breaks g t h x u r
 
 -- The stream is refused at a byte, or reading breaks at it.
@@ -189,8 +189,8 @@ clear_request_if clears = if clears then requests.Clear else requests.Nothing
 -- The bytes before this index lead to a state in which the byte there completes a call of the macro of this name.
 pub record Calls {S : Type 0} (g : Ghosts S) (t : S) (h : ReadingState) (u : S) (h' : ReadingState) (all : List Placed) (index name : ℕ) : Type 0 where
   pub byte : Placed
-  pub behind : List Placed
-  pub is : drop index all ≡ byte ∷ behind
+  pub following : List Placed
+  pub is : drop index all ≡ byte ∷ following
   pub holding : ReadingState
   pub leads : LeadsOn g t h u holding (take index all) (bytes_of (drop index all))
   pub between : holding.open_body ≡ None
@@ -271,7 +271,7 @@ pub record IsOpcodeByte (half : List ℕ) (sets : CodeSets) (byte : ℕ) (op : O
   pub rested : half ≡ []
   pub drawn : IsDrawn op
   pub alone : (set : CharSet) → AllCharacters sets set → ⊥
-  pub names : codes.front sets (byte ∷ []) ≡ codes.whole (code.Op op) 1 sets
+  pub names : codes.front sets (byte ∷ []) ≡ codes.complete (code.Op op) 1 sets
 
 -- no code is half read, and each of the bytes from 20 to 7F alone is a character of this set
 pub record AreCharacters (lexer : LexerState) (set : CharSet) : Type 0 where
@@ -283,21 +283,21 @@ abbrev pub IsFrontCode : LexerState → ℕ → FrontCode → Type 0
 IsFrontCode lexer byte (fronts.Opcode op) = IsOpcodeByte lexer.half lexer.sets byte op
 IsFrontCode lexer byte (fronts.Characters set) = AreCharacters lexer set × (0x20 ≤ byte)
 IsFrontCode lexer byte fronts.Shift = IsShift lexer byte
-IsFrontCode lexer byte (fronts.Effector step) = (lexer.half ≡ []) × (codes.front lexer.sets (byte ∷ []) ≡ codes.whole (code.Step step) 1 lexer.sets)
+IsFrontCode lexer byte (fronts.Effector step) = (lexer.half ≡ []) × (codes.front lexer.sets (byte ∷ []) ≡ codes.complete (code.Step step) 1 lexer.sets)
 IsFrontCode lexer byte fronts.Other = ⊤
 
 -- The first `count` bytes call a macro: the last is its name, and those before it are unfinished.
 pub record CallsBy (lexer : LexerState) (bytes : List ℕ) (count : ℕ) : Type 0 where
   pub before : List ℕ
   pub name : ℕ
-  pub behind : List ℕ
-  pub is : bytes ≡ before ++ name ∷ behind
+  pub following : List ℕ
+  pub is : bytes ≡ before ++ name ∷ following
   pub counted : count ≡ length before + 1
   pub rested : lexer.half ≡ []
   pub named : IsGraphic name
   pub waits : codes.front lexer.sets before ≡ codes.unfinished
   pub few : length before ≤ 1
-  pub whole : codes.front lexer.sets (before ++ name ∷ []) ≡ codes.whole (code.Call name) count lexer.sets
+  pub whole : codes.front lexer.sets (before ++ name ∷ []) ≡ codes.complete (code.Call name) count lexer.sets
 
 -- The number of bytes of the code; or its opcode, whose run these bytes don't end; or nothing was done.
 abbrev pub CodeWithin : {S : Type 0} {g : Ghosts S} → Machine S g → Machine S g → List ℕ → CodeOutcome → Type 0

@@ -136,7 +136,7 @@ half_read (b ∷ bs) = half_code (b ∷ bs)
 abbrev pub front_by : Machine → List Placed → codes.Front → Front
 front_by m xs codes.unfinished = course.pause (half_read (bytes_of xs))
 front_by m xs (codes.refused fault i) = course.refuse (refusal (code_fault fault) (place_at xs i))
-front_by m xs (codes.whole code n sets) = code_front (record m { sets = sets }) (kind_of code) (place_at xs (n - 1)) (drop n xs)
+front_by m xs (codes.complete code n sets) = code_front (record m { sets = sets }) (kind_of code) (place_at xs (n - 1)) (drop n xs)
 
 -- the machine after the name was bound to the body
 abbrev pub after_body : Machine → ℕ → List ℕ → Machine

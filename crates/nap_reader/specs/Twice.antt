@@ -2,7 +2,7 @@ use Rattle.std.specs.Prelude.{ℕ, ◌≡◌, ◌⊎◌, true, List, [], Some, N
 use Rattle.nap_draw.specs.Draws.{Cause, stream, memory, device}
 use Rattle.nap_list.specs.declared.sink.Sink.{Ghosts}
 use Rattle.nap_reader.specs.declared.fault.Refusal.{Refusal}
-use Rattle.nap_reader.specs.Breaking.{cause_of, BreaksWithin, TookFront}
+use Rattle.nap_reader.specs.Breaking.{cause_of, BreaksWithin, TookPrefix}
 use Rattle.nap_reader.specs.Collecting.{LacksMemoryFor, RefusedBy}
 use Rattle.nap_reader.specs.Stream.{means}
 
@@ -13,7 +13,7 @@ pub record BreaksOff {S : Type 0} (g : Ghosts S) (s : S) (budget : ℕ) (p : Lis
   pub place : BreaksWithin budget p r.place
   pub wants : cause_of r.fault ≡ memory → LacksMemoryFor g s budget p r.place
   pub failed : cause_of r.fault ≡ device → g.failed t ≡ true
-  pub part : TookFront g s [] (means budget p).entries t (cause_of r.fault)
+  pub part : TookPrefix g s [] (means budget p).entries t (cause_of r.fault)
 
 -- a page is refused by itself, or its reading broke
 abbrev pub EndsEarly : {S : Type 0} → Ghosts S → S → ℕ → List ℕ → S → Refusal → Cause → Type 0

@@ -23,7 +23,7 @@ const READ_SIZE: usize = 65_536;
 /// Reads and drops the rest of the input, with at most `most` reads.
 fn drain<I: Inlet>(input: &mut I, buffer: &mut [u8], most: u64) -> Result<(), ReadFault>
     requires calls { I.calls input.old + most < 2 ^ 64 - 1 }
-    requires room { 0 < length buffer.old }
+    requires space { 0 < length buffer.old }
     ensures few { I.calls input.new ≤ I.calls input.old + most }
     ensures more { I.calls input.old ≤ I.calls input.new }
     ensures read { let seen = reading I.Inlet input.old input.new in

@@ -4,7 +4,7 @@ ghost use Rattle.std.specs.Io.KnownBytes.{Consumes};
 ghost use Rattle.nap_list.specs.Limits.{reads_limit};
 ghost use Rattle.nap_reader.specs.declared.feeding.FeedFault.TheVariants.{Refused};
 ghost use Rattle.nap_reader.specs.Feeding.{FailsBy, Feeds};
-ghost use Rattle.nap_reader.specs.Standing.{HasRead, budget_of, fed_of, refusal_of, sink_of};
+ghost use Rattle.nap_reader.specs.ReaderAnswers.{HasRead, budget_of, fed_of, refusal_of, sink_of};
 
 use crate::fault::Refusal;
 use crate::reader::Reader;

@@ -49,7 +49,7 @@ impl Frames {
     /// Adds a part of the store as the innermost body, with this place. Memory for it has to be reserved.
     pub(crate) fn push_reserved(&mut self, span: Span, place: u64)
         requires some { span.start < span.end }
-        requires room { HasRoomFor self.old.stack 1 }
+        requires space { HasRoomFor self.old.stack 1 }
         ensures { self.new.stack.items ≡ self.old.stack.items ++ record { next = span.start; end = span.end; place = place } ∷ [] }
     {
         self.stack.push_reserved(Frame {

@@ -20,7 +20,7 @@ pub(crate) fn operand_prefix_len(bytes: &[u8]) -> usize
 #[inline]
 pub(crate) fn whole_run(piece: &[u8], ended: bool) -> Option<&[u8]>
     ensures short { IfSome result (λ run. length run.now ≤ run_limit) }
-    ensures whole { IfSome result (λ run. (behind : List ℕ) → (ended ≡ true → IsOver behind) → IsWholeRun piece.now behind run.now) }
+    ensures whole { IfSome result (λ run. (following : List ℕ) → (ended ≡ true → IsOver following) → IsWholeRun piece.now following run.now) }
     ensures none { result ≡ None → (run_limit < prefix_len is_operand_byte piece.now) ⊎ ((ended ≡ false) × (prefix_len is_operand_byte piece.now ≡ length piece.now)) }
 {
     let count = prefix_from(piece, 0x40);

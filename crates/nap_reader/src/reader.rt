@@ -32,12 +32,12 @@ impl<S: Sink> Reader<S> {
     ghost use Rattle.nap_draw.specs.Draws.{stream};
     ghost use Rattle.nap_reader.specs.Breaking.{BreaksInRun, cause_of};
     ghost use Rattle.nap_reader.specs.ReadingStates.{Ends, IsOwn, reading_state};
-    ghost use Rattle.nap_reader.specs.Standing.{Answers, IsBounded, IsTaken, HasRead, StopsAt, budget_of, charged_of, fed_of, left_of, refusal_of, sink_of, turns_of};
+    ghost use Rattle.nap_reader.specs.ReaderAnswers.{Answers, IsBounded, IsTaken, HasRead, StopsAt, budget_of, charged_of, fed_of, left_of, refusal_of, sink_of, turns_of};
 
     /// Returns a reader at the start of a stream, which puts the entries into this sink. Takes no memory.
     pub fn new(alloc: Global, budget: Budget, sink: S) -> Reader<S>
         requires { S.state sink ≡ start }
-        ensures stands { HasRead result sink [] }
+        ensures has_read { HasRead result sink [] }
         ensures sink { sink_of result ≡ sink }
         ensures budget { budget_of result ≡ budget }
         ensures unrefused { refusal_of result ≡ None }
@@ -56,7 +56,7 @@ impl<S: Sink> Reader<S> {
     pub(crate) fn again<T: Sink>(self, budget: Budget, sink: T) -> (S, Reader<T>)
         requires { T.state sink ≡ start }
         ensures first { result.0 ≡ sink_of self }
-        ensures stands { HasRead result.1 sink [] }
+        ensures has_read { HasRead result.1 sink [] }
         ensures sink { sink_of result.1 ≡ sink }
         ensures budget { budget_of result.1 ≡ budget }
         ensures unrefused { refusal_of result.1 ≡ None }
@@ -76,7 +76,7 @@ impl<S: Sink> Reader<S> {
     pub fn feed(&mut self, piece: &[u8]) -> Result<(), Refusal>
         requires { fed_of self.old + length piece.now < 2 ^ 63 }
         // The reader has read the bytes so far, also if it refuses.
-        ensures stands { (s : S) (p : List ℕ) → HasRead self.old s p → HasRead self.new s (p ++ piece.now) }
+        ensures has_read { (s : S) (p : List ℕ) → HasRead self.old s p → HasRead self.new s (p ++ piece.now) }
         ensures budget { budget_of self.new ≡ budget_of self.old }
         ensures answered { MatchResult result (λ _. refusal_of self.new ≡ None) (λ r. refusal_of self.new ≡ Some r) }
         // A refusal is kept, and nothing changes after it.

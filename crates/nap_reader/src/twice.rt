@@ -1,7 +1,7 @@
 //! Reading of a page into one sink, and, if it is accepted, into another.
 ghost use Rattle.std.specs.Prelude.{◌≡◌, [], None, false};
 ghost use Rattle.nap_list.specs.State.{start};
-ghost use Rattle.nap_reader.specs.Standing.{HasRead, budget_of, fed_of, refusal_of, sink_of};
+ghost use Rattle.nap_reader.specs.ReaderAnswers.{HasRead, budget_of, fed_of, refusal_of, sink_of};
 ghost use Rattle.nap_reader.specs.Twice.{IsReadTwice, ReadsTo};
 
 use crate::budget::Budget;

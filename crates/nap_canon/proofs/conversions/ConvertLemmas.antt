@@ -22,7 +22,7 @@ use Rattle.nap_reader.specs.Breaking.{cause_of, BreaksInRun}
 use Rattle.nap_reader.specs.declared.reader.Reader.{Reader}
 use Rattle.nap_reader.specs.Feeding.{Feeds, LastRead}
 use Rattle.nap_reader.specs.Laws.{BreaksAmong}
-use Rattle.nap_reader.specs.Standing.{Answers, AnswersBy, IsKnown, IsTaken, HasRead, budget_of, left_of, refusal_of, sink_of}
+use Rattle.nap_reader.specs.ReaderAnswers.{Answers, AnswersBy, IsKnown, IsTaken, HasRead, budget_of, left_of, refusal_of, sink_of}
 use Rattle.nap_reader.specs.Stream.{Outcome, begun, means, ended_by}
 use Rattle.nap_reader.proofs.PublicLaws.{begun_comes_first, end_breaks_among, fed_breaks_among, more_bytes_keep_entries}
 use Rattle.nap_canon.specs.declared.conversion.ConvertFault.{ConvertFault}
@@ -135,10 +135,10 @@ module _ {O : Type 0} (o : outlet.Ghosts O) (w : O) (s : Canonical O) (begins : 
     -- the feeding stopped before the end
     pub fed_leaves : (fault : FeedFault) (h : Feeds i old new s p initial final (Err fault)) → Ends h.last (sink_of new) (Err fault)
     fed_leaves feed_fault.Read h =
-        let known = unrefused new s p h.stands (budget_of old) same h.ends.1 in
+        let known = unrefused new s p h.has_read (budget_of old) same h.ends.1 in
         leaves_cut o w s begins works (budget_of old) p (reading i initial final) h.last.before (first_of h.last) (sink_of new) h.ends.0 known.refusal
         (took_is (sink_of new) (begun (budget_of old) p).entries known.taken)
-    fed_leaves (feed_fault.Refused r) h = at (cause_of r.fault) refl (refused_by new s p h.stands (budget_of old) r same h.ends.1)
+    fed_leaves (feed_fault.Refused r) h = at (cause_of r.fault) refl (refused_by new s p h.has_read (budget_of old) r same h.ends.1)
       where
         broken : cause_of r.fault ≢ stream → Ends h.last (sink_of new) (Err (feed_fault.Refused r))
         broken broke =
@@ -174,7 +174,7 @@ module _ {O : Type 0} (o : outlet.Ghosts O) (w : O) (s : Canonical O) (begins : 
       end_leaves t r own broke = at (cause_of r.fault) refl
         where
           known : IsKnown g s (begun (budget_of old) p) (sink_of new) (left_of new) None
-          known = unrefused new s p h.stands (budget_of old) same h.ends.1
+          known = unrefused new s p h.has_read (budget_of old) same h.ends.1
 
           broken : cause_of r.fault ≢ stream → Ends h.last t (Err (feed_fault.Refused r))
           broken other =
@@ -192,7 +192,7 @@ module _ {O : Type 0} (o : outlet.Ghosts O) (w : O) (s : Canonical O) (begins : 
           at device is = broken (λ own. let bad = sym is ∙ own in cc)
 
   -- a conversion that was fed bytes, and the output as it is given back
-  module _ (works : o.failed s.outlet ≡ false) {I : Type 0} (i : inlet.Ghosts I) (initial final : I) (old new : Reader (Canonical O) g) (stands : HasRead old s []) (same : budget_of new ≡ budget_of old) (budget : ℕ)
+  module _ (works : o.failed s.outlet ≡ false) {I : Type 0} (i : inlet.Ghosts I) (initial final : I) (old new : Reader (Canonical O) g) (has_read : HasRead old s []) (same : budget_of new ≡ budget_of old) (budget : ℕ)
       (is : budget_of old ≡ budget) (law : (x : O) → o.write_failed x ≡ true → o.failed x ≡ true) (unfailed : o.failed w ≡ false) (u : O) (answer : Result ℕ ConvertFault) where
     abbrev Fed : Result (Unit {0}) FeedFault → Type 0
     Fed r = (p : List ℕ) × Consumes (i.left initial) (i.left final) p × ((s : Canonical O) → HasRead old s [] → Feeds i old new s p initial final r)
@@ -221,18 +221,18 @@ module _ {O : Type 0} (o : outlet.Ghosts O) (w : O) (s : Canonical O) (begins : 
     pub whole_converts : Fed (Ok tt) → (t : Canonical O) → ((p : List ℕ) → HasRead new s p → IsTaken g s (means (budget_of new) p) t None) → Closes t (Ok tt) →
         Converted i o budget initial final w u answer
     whole_converts (p, read, feeds) t taken =
-        let h = feeds s stands in
-        closes p read h.last t (Ok tt) (whole_leaves works i initial final old new p same h t (taken p h.stands))
+        let h = feeds s has_read in
+        closes p read h.last t (Ok tt) (whole_leaves works i initial final old new p same h t (taken p h.has_read))
 
     pub end_converts : Fed (Ok tt) → (t : Canonical O) (r : Refusal) → (cause_of r.fault ≡ stream → (p : List ℕ) → HasRead new s p → IsTaken g s (means (budget_of new) p) t (Some r)) →
         (refusal_of new ≡ None → cause_of r.fault ≢ stream → (p : List ℕ) → HasRead new s p → BreaksInRun g s (budget_of new) p t r) → Closes t (Err (feed_fault.Refused r)) →
         Converted i o budget initial final w u answer
     end_converts (p, read, feeds) t r own broke =
-        let h = feeds s stands in
-        closes p read h.last t (Err (feed_fault.Refused r)) (end_leaves works i initial final old new p same h t r (λ is. own is p h.stands) (λ other. broke h.ends.1 other p h.stands))
+        let h = feeds s has_read in
+        closes p read h.last t (Err (feed_fault.Refused r)) (end_leaves works i initial final old new p same h t r (λ is. own is p h.has_read) (λ other. broke h.ends.1 other p h.has_read))
 
     pub fed_converts : (fault : FeedFault) → Fed (Err fault) → (t : Canonical O) → t ≡ sink_of new → Closes t (Err fault) → Converted i o budget initial final w u answer
     fed_converts fault (p, read, feeds) t left =
-        let h = feeds s stands in
+        let h = feeds s has_read in
         closes p read h.last t (Err fault)
         (subst (λ (t : Canonical O). Ends works i initial final old new p same h.last t (Err fault)) (sym left) (fed_leaves works i initial final old new p same fault h))

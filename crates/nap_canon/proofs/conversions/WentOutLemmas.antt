@@ -18,7 +18,7 @@ use Rattle.nap_list.specs.State.{start, walk, after}
 use Rattle.nap_reader.specs.declared.fault.Refusal.{Refusal}
 use Rattle.nap_reader.specs.declared.feeding.FeedFault.{FeedFault}
 use Rattle.nap_reader.specs.declared.feeding.FeedFault.TheVariants as feed_fault
-use Rattle.nap_reader.specs.Breaking.{cause_of, LacksWithin, TookFront}
+use Rattle.nap_reader.specs.Breaking.{cause_of, LacksWithin, TookPrefix}
 use Rattle.nap_reader.specs.Laws.{BreaksAmong, WantsSome}
 use Rattle.nap_reader.specs.Stream.{Outcome, begun, means}
 use Rattle.nap_reader.proofs.PublicLaws.{begun_comes_first}
@@ -164,7 +164,7 @@ module _ {O : Type 0} (o : outlet.Ghosts O) (w : O) (s : Canonical O) (begins : 
       own (inl reader) = reader
       own (inr (some, rest, parts, wants)) = absurd (wants_none some wants)
 
-      lacks : cause_of r.fault ≡ memory → TookFront g s known among.from.more t memory → Leaves t (Err (feed_fault.Refused r))
+      lacks : cause_of r.fault ≡ memory → TookPrefix g s known among.from.more t memory → Leaves t (Err (feed_fault.Refused r))
       lacks is (taken, rest, parts, took) =
           let d = known ++ taken in
           let d_first : IsPrefixOf d end.entries = (rest, among.from.adds ∙ ap (λ (es : List Entry). known ++ es) parts ∙ sym (append_assoc known taken rest)) in
@@ -176,7 +176,7 @@ module _ {O : Type 0} (o : outlet.Ghosts O) (w : O) (s : Canonical O) (begins : 
                 (record { none_failed = none_failed; place = own (among.wants is); taken = d; prefix = d_whole; text = refl }),
           ))
 
-      breaks : TookFront g s known among.from.more t device → Leaves t (Err (feed_fault.Refused r))
+      breaks : TookPrefix g s known among.from.more t device → Leaves t (Err (feed_fault.Refused r))
       breaks (inl (failed, part)) = let bad = sym works ∙ (sym failed_is ∙ failed) in cc
       breaks (inr (taken, next, rest, parts, broke)) =
           let d = known ++ taken in
@@ -196,7 +196,7 @@ module _ {O : Type 0} (o : outlet.Ghosts O) (w : O) (s : Canonical O) (begins : 
             λ whole. let bad = sym h.failed ∙ whole in cc,
           )
 
-      at : (cause : Cause) → cause_of r.fault ≡ cause → cause ≢ stream → TookFront g s known among.from.more t cause → Leaves t (Err (feed_fault.Refused r))
+      at : (cause : Cause) → cause_of r.fault ≡ cause → cause ≢ stream → TookPrefix g s known among.from.more t cause → Leaves t (Err (feed_fault.Refused r))
       at stream is broke part = absurd part
       at memory is broke part = lacks is part
       at device is broke part = breaks part

@@ -11,7 +11,7 @@ use Rattle.nap_codes.specs.declared.opcode.Opcode.{Opcode}
 use Rattle.nap_codes.specs.CodeSets.{start_sets}
 use Rattle.nap_codes.specs.Front as codes
 use Rattle.nap_codes.specs.LexResults.{LexResult, lex_result, lex_result_by}
-use Rattle.nap_codes.proofs.PublicLaws.{whole_length, whole_taken, one_byte_opcode}
+use Rattle.nap_codes.proofs.PublicLaws.{code_length, code_taken, one_byte_opcode}
 use Rattle.nap_draw.specs.declared.fault.DrawFault.{DrawFault}
 use Rattle.nap_draw.specs.declared.work.Work.{Work}
 use Rattle.nap_draw.specs.Codes.{code_rule}
@@ -144,13 +144,13 @@ module _ (fuel : ℕ) (m : Machine) (op : Opcode) (place : ℕ) (xs : List Place
       at false going asks = closed_goes run rest ih going asks
 
 opcode_goes : (fuel : ℕ) (m : Machine) (op : Opcode) (xs : List Placed) → IsBetween m → ((w : Machine) (ys : List Placed) → length ys < length xs → Goes fuel w ys) →
-    codes.front m.sets (bytes_of xs) ≡ codes.whole (code.Op op) 1 m.sets →
-    Going m xs (front_by m xs (codes.whole (code.Op op) 1 m.sets)) → Asks m.work (code.Op op ∷ (lex_result m.sets (bytes_of (drop 1 xs))).codes) →
-    Known (record { op = op; lengths = m.work.domain } ∷ acting_after (acting_within fuel) (front_by m xs (codes.whole (code.Op op) 1 m.sets)))
+    codes.front m.sets (bytes_of xs) ≡ codes.complete (code.Op op) 1 m.sets →
+    Going m xs (front_by m xs (codes.complete (code.Op op) 1 m.sets)) → Asks m.work (code.Op op ∷ (lex_result m.sets (bytes_of (drop 1 xs))).codes) →
+    Known (record { op = op; lengths = m.work.domain } ∷ acting_after (acting_within fuel) (front_by m xs (codes.complete (code.Op op) 1 m.sets)))
     (code.Op op ∷ (lex_result m.sets (bytes_of (drop 1 xs))).codes)
-opcode_goes fuel m op [] is_between ih e going asks = absurd (omega (arith, (whole_length m.sets [] (code.Op op) 1 m.sets e).1))
+opcode_goes fuel m op [] is_between ih e going asks = absurd (omega (arith, (code_length m.sets [] (code.Op op) 1 m.sets e).1))
 opcode_goes fuel m op (x ∷ ys) is_between ih e going asks =
-    let names = whole_taken m.sets (bytes_of (x ∷ ys)) (code.Op op) 1 m.sets e in
+    let names = code_taken m.sets (bytes_of (x ∷ ys)) (code.Op op) 1 m.sets e in
     let k : ℕ = run_length ys in
     let cut = run_codes m.sets ys (pdi_in_gl m.sets x.byte op names) in
     let few : length (drop k ys) < length (x ∷ ys) = simp length-drop (omega arith) in
@@ -217,14 +217,14 @@ bytes_of-drop (suc n) (x ∷ xs) = bytes_of-drop n xs
 module _ (fuel : ℕ) (m : Machine) (xs : List Placed) (is_between : IsBetween m) (ih : (w : Machine) (ys : List Placed) → length ys < length xs → Goes fuel w ys) where
   abbrev ByCode : Code → ℕ → CodeSets → Type 0
   ByCode c n after =
-      Going m xs (front_by m xs (codes.whole c n after)) → Asks m.work (c ∷ (lex_result after (bytes_of (drop n xs))).codes) →
-      Known (acting_at m (codes.whole c n after) ++ acting_after (acting_within fuel) (front_by m xs (codes.whole c n after)))
+      Going m xs (front_by m xs (codes.complete c n after)) → Asks m.work (c ∷ (lex_result after (bytes_of (drop n xs))).codes) →
+      Known (acting_at m (codes.complete c n after) ++ acting_after (acting_within fuel) (front_by m xs (codes.complete c n after)))
       (c ∷ (lex_result after (bytes_of (drop n xs))).codes)
 
-  by_code : (c : Code) (n : ℕ) (after : CodeSets) → codes.front m.sets (bytes_of xs) ≡ codes.whole c n after → length (drop n xs) < length xs → ByCode c n after
+  by_code : (c : Code) (n : ℕ) (after : CodeSets) → codes.front m.sets (bytes_of xs) ≡ codes.complete c n after → length (drop n xs) < length xs → ByCode c n after
   by_code (code.Op op) n after e less going asks =
       let one = one_byte_opcode m.sets (bytes_of xs) op n after e in
-      let there : codes.front m.sets (bytes_of xs) ≡ codes.whole (code.Op op) 1 m.sets = e ∙ rw (one.0, one.1) refl in
+      let there : codes.front m.sets (bytes_of xs) ≡ codes.complete (code.Op op) 1 m.sets = e ∙ rw (one.0, one.1) refl in
       subst (λ (k : ℕ). ByCode (code.Op op) k after) (sym one.0)
       (subst (ByCode (code.Op op) 1) (sym one.1) (opcode_goes fuel m op xs is_between ih there)) going asks
   by_code (code.Operand word) n after e less going asks = let bad : ⊥ = cc in absurd bad
@@ -242,12 +242,12 @@ module _ (fuel : ℕ) (m : Machine) (xs : List Placed) (is_between : IsBetween m
       Known (acting_at m f ++ acting_after (acting_within fuel) (front_by m xs f)) (lex_result_by lex_result m.sets (bytes_of xs) f).codes
   by_front codes.unfinished e going asks = known_nothing
   by_front (codes.refused fault i) e going asks = let bad : ⊥ = cc in absurd bad
-  by_front (codes.whole c n after) e going asks =
-      let some = whole_length m.sets (bytes_of xs) c n after e in
+  by_front (codes.complete c n after) e going asks =
+      let some = code_length m.sets (bytes_of xs) c n after e in
       let size : length (bytes_of xs) ≡ length xs = length-map xs _ in
       let less : length (drop n xs) < length xs = simp length-drop (omega (arith, some.0, some.1, size)) in
       let cut = ap (λ (bs : List ℕ). c ∷ (lex_result after bs).codes) (bytes_of-drop n xs) in
-      subst (Known (acting_at m (codes.whole c n after) ++ acting_after (acting_within fuel) (front_by m xs (codes.whole c n after)))) (sym cut)
+      subst (Known (acting_at m (codes.complete c n after) ++ acting_after (acting_within fuel) (front_by m xs (codes.complete c n after)))) (sym cut)
       (by_code c n after e less going (subst (Asks m.work) cut asks))
 
   -- the statement for the front, in this mode

@@ -13,11 +13,11 @@ use Rattle.nap_codes.specs.declared.control.Row.{Row}
 use Rattle.nap_codes.specs.declared.control.Row.TheVariants as rows
 use Rattle.nap_codes.specs.declared.opcode.Opcode.{Opcode}
 use Rattle.nap_codes.specs.CodeSets.{set_at}
-use Rattle.nap_codes.specs.Front.{Front, unfinished, whole, refused, front, one_byte_later, is_graphic, non_pdi_code, gl_front, control0_front, more_front, escape_front, position_front, single_shift_front}
+use Rattle.nap_codes.specs.Front.{Front, unfinished, complete, refused, front, one_byte_later, is_graphic, non_pdi_code, gl_front, control0_front, more_front, escape_front, position_front, single_shift_front}
 use Rattle.nap_codes.specs.LexResults.{LexResult, lex_result_by, lex_result_within, lex_result}
 use Rattle.nap_codes.specs.Spelling as spells
 use Rattle.nap_codes.specs.Tables.{row_of, control0_rows}
-use Rattle.nap_codes.proofs.PublicLaws.{whole_length, whole_is_spelled}
+use Rattle.nap_codes.proofs.PublicLaws.{code_length, code_is_spelled}
 use Rattle.nap_reader.specs.Stream.{Placed, bytes_of, words_of, is_operand, is_operand_byte, run_length}
 
 pub no_front : (sets : CodeSets) → front sets [] ≡ unfinished
@@ -42,8 +42,8 @@ lex_result_within-spare (suc f) (suc g) sets bytes hf hg =
         lex_result_by (lex_result_within f) sets bytes r ≡ lex_result_by (lex_result_within g) sets bytes r
     at unfinished e ih = refl
     at (refused fault i) e ih = refl
-    at (whole code n after) e ih =
-        let some = whole_length sets bytes code n after e in
+    at (complete code n after) e ih =
+        let some = code_length sets bytes code n after e in
         let less : length (drop n bytes) < length bytes = simp length-drop (omega arith) in
         ap (with_code code) (ih after (drop n bytes) (omega arith) (omega arith))
 
@@ -54,15 +54,15 @@ lexed_front sets bytes = at (front sets bytes) refl
     at : (r : Front) → front sets bytes ≡ r → lex_result_by (lex_result_within (length bytes)) sets bytes r ≡ lex_result_by lex_result sets bytes r
     at unfinished e = refl
     at (refused fault i) e = refl
-    at (whole code n after) e =
-        let some = whole_length sets bytes code n after e in
+    at (complete code n after) e =
+        let some = code_length sets bytes code n after e in
         let less : length (drop n bytes) < length bytes = simp length-drop (omega arith) in
         ap (with_code code) (lex_result_within-spare (length bytes) (suc (length (drop n bytes))) after (drop n bytes) less (omega arith))
 
 -- the PDI set is in GL when an opcode is complete
 
 is_no_opcode : Row → Bool
-is_no_opcode (rows.Whole (codes.Op op)) = false
+is_no_opcode (rows.Complete (codes.Op op)) = false
 is_no_opcode _ = true
 
 all_pass : (Row → Bool) → List (ℕ × Row) → Bool
@@ -80,10 +80,10 @@ row_passes p (r ∷ rs) byte row all is = at (byte == r.0) is (p r.1) refl all (
     at true is true e all later = let same_row : r.1 ≡ row = cc in ap p (sym same_row) ∙ e
     at false is true e all later = later all is
 
-no_row : (byte : ℕ) (op : Opcode) → row_of control0_rows byte ≡ Some (rows.Whole (codes.Op op)) → ⊥
+no_row : (byte : ℕ) (op : Opcode) → row_of control0_rows byte ≡ Some (rows.Complete (codes.Op op)) → ⊥
 unfolding all_pass is_no_opcode control0_rows
 no_row byte op is =
-    let bad : ◌≡◌ {A = Bool} false true = row_passes is_no_opcode control0_rows byte (rows.Whole (codes.Op op)) refl is in
+    let bad : ◌≡◌ {A = Bool} false true = row_passes is_no_opcode control0_rows byte (rows.Complete (codes.Op op)) refl is in
     cc
 
 nothing_more : (sets : CodeSets) (byte : ℕ) → more_front sets byte [] ≡ unfinished
@@ -97,7 +97,7 @@ nothing_more sets byte = at (byte == 0x1B) (byte == 0x1C) (byte == 0x19)
     at false false false = refl
 
 module _ (sets : CodeSets) (byte : ℕ) (op : Opcode) where
-  by_set : (set : CodeSet) → gl_front sets byte (non_pdi_code set byte) ≡ whole (codes.Op op) 1 sets → set ≡ code_sets.Pdi
+  by_set : (set : CodeSet) → gl_front sets byte (non_pdi_code set byte) ≡ complete (codes.Op op) 1 sets → set ≡ code_sets.Pdi
   unfolding gl_front non_pdi_code
   by_set code_sets.Pdi is = refl
   by_set code_sets.Primary is = let bad : ⊥ = cc in absurd bad
@@ -106,36 +106,36 @@ module _ (sets : CodeSets) (byte : ℕ) (op : Opcode) where
   by_set code_sets.Drcs is = let bad : ⊥ = cc in absurd bad
   by_set code_sets.Macros is = let bad : ⊥ = cc in absurd bad
 
-  by_row : (row : Option Row) → row_of control0_rows byte ≡ row → control0_front sets byte [] row ≡ whole (codes.Op op) 1 sets → set_at sets sets.gl ≡ code_sets.Pdi
+  by_row : (row : Option Row) → row_of control0_rows byte ≡ row → control0_front sets byte [] row ≡ complete (codes.Op op) 1 sets → set_at sets sets.gl ≡ code_sets.Pdi
   unfolding control0_front one_byte_later
-  by_row (Some (rows.Whole c)) e is =
+  by_row (Some (rows.Complete c)) e is =
       let same : c ≡ codes.Op op = cc in
-      absurd (no_row byte op (e ∙ ap (λ (x : Code). Some (rows.Whole x)) same))
+      absurd (no_row byte op (e ∙ ap (λ (x : Code). Some (rows.Complete x)) same))
   by_row (Some (rows.Out name)) e is = let bad : ⊥ = cc in absurd bad
   by_row (Some rows.More) e is =
       let more : one_byte_later (more_front sets byte []) ≡ unfinished = ap one_byte_later (nothing_more sets byte) in
-      let bad : ◌≡◌ {A = Front} unfinished (whole (codes.Op op) 1 sets) = sym more ∙ is in
+      let bad : ◌≡◌ {A = Front} unfinished (complete (codes.Op op) 1 sets) = sym more ∙ is in
       let no : ⊥ = cc in
       absurd no
   by_row None e is = at (is_graphic byte) is
     where
-      at : (graphic : Bool) → cond graphic (gl_front sets byte (non_pdi_code (set_at sets sets.gl) byte)) (refused EighthBit 0) ≡ whole (codes.Op op) 1 sets →
+      at : (graphic : Bool) → cond graphic (gl_front sets byte (non_pdi_code (set_at sets sets.gl) byte)) (refused EighthBit 0) ≡ complete (codes.Op op) 1 sets →
           set_at sets sets.gl ≡ code_sets.Pdi
       at true is = by_set (set_at sets sets.gl) is
       at false is = let bad : ⊥ = cc in absurd bad
 
-  pub pdi_in_gl : front sets (byte ∷ []) ≡ whole (codes.Op op) 1 sets → set_at sets sets.gl ≡ code_sets.Pdi
+  pub pdi_in_gl : front sets (byte ∷ []) ≡ complete (codes.Op op) 1 sets → set_at sets sets.gl ≡ code_sets.Pdi
   unfolding front
   pdi_in_gl is = by_row (row_of control0_rows byte) refl is
 
 -- a run of operand bytes where the PDI set is in GL
 
 operand_front : (sets : CodeSets) (b : ℕ) (bytes : List ℕ) → set_at sets sets.gl ≡ code_sets.Pdi → is_operand_byte b ≡ true →
-    front sets (b ∷ bytes) ≡ whole (codes.Operand (b - 64)) 1 sets
+    front sets (b ∷ bytes) ≡ complete (codes.Operand (b - 64)) 1 sets
 operand_front sets b bytes pdi is =
     let low : 64 ≤ b = grind (arith, nat_tests) in
     let high : b < 128 = grind (arith, nat_tests) in
-    (whole_is_spelled sets (b ∷ bytes) (codes.Operand (b - 64)) 1 sets).1 (omega arith, spells.operand pdi low high)
+    (code_is_spelled sets (b ∷ bytes) (codes.Operand (b - 64)) 1 sets).1 (omega arith, spells.operand pdi low high)
 
 abbrev pub operands_of : List ℕ → List Code
 operands_of words = map codes.Operand words

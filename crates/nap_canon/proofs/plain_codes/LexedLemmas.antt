@@ -15,7 +15,7 @@ use Rattle.nap_codes.specs.Front as codes
 use Rattle.nap_codes.specs.Front.{Front, front}
 use Rattle.nap_codes.specs.Lexer.{LexerState, Steps, StepsBy}
 use Rattle.nap_codes.specs.LexResults.{LexResult, lex_result, StepsThrough, at_end, at_more, at_code, at_fault}
-use Rattle.nap_codes.proofs.PublicLaws.{whole_stays, whole_length, whole_taken, refused_stays, refused_index, refused_taken, steps_are_lexed}
+use Rattle.nap_codes.proofs.PublicLaws.{code_stays, code_length, code_taken, refused_stays, refused_index, refused_taken, steps_are_lexed}
 use Rattle.nap_canon.specs.declared.plain.PlainCheck.{PlainCheck}
 use Rattle.nap_canon.specs.Checking.{check_after, may_end}
 use Rattle.nap_canon.specs.Plain.{IsPlain, ArePlain}
@@ -55,11 +55,11 @@ all_decide state b f n half early stays decided few = at (nat_le n (length state
 
 -- a complete code has all the bytes
 complete_size : (state : LexerState) (b : ℕ) (code : Code) (n : ℕ) (after : CodeSets) → IsHalf state →
-    front state.sets (state.half ++ b ∷ []) ≡ codes.whole code n after → n ≡ length (state.half ++ b ∷ [])
+    front state.sets (state.half ++ b ∷ []) ≡ codes.complete code n after → n ≡ length (state.half ++ b ∷ [])
 complete_size state b code n after half is =
     let xs : List ℕ = state.half ++ b ∷ [] in
-    all_decide state b (codes.whole code n after) n half (whole_taken state.sets xs code n after is)
-    (whole_stays state.sets (take n state.half) (drop n state.half) code n after) (λ bad. cc) (whole_length state.sets xs code n after is).1
+    all_decide state b (codes.complete code n after) n half (code_taken state.sets xs code n after is)
+    (code_stays state.sets (take n state.half) (drop n state.half) code n after) (λ bad. cc) (code_length state.sets xs code n after is).1
 
 -- the last byte is the one refused
 refused_size : (state : LexerState) (b : ℕ) (fault : CodeFault) (i : ℕ) → IsHalf state →
@@ -81,7 +81,7 @@ run_by bytes b state half go codes.unfinished e =
       end = rest.end;
       steps = at_more (subst (λ (f : Front). StepsBy f state b steps.More next) (sym e) (refl, refl)) rest.steps;
     }
-run_by bytes b state half go (codes.whole code n after) e =
+run_by bytes b state half go (codes.complete code n after) e =
     let next : LexerState = record { sets = after; half = [] } in
     let rest = go next (no_front after) in
     record {

@@ -8,7 +8,7 @@ use Rattle.nap_codes.specs.Front as fronts
 use Rattle.nap_codes.specs.Front.{front}
 use Rattle.nap_codes.specs.LexResults.{lex_result, lex_result_by}
 use Rattle.nap_codes.specs.Spelling.{Spells}
-use Rattle.nap_codes.proofs.PublicLaws.{whole_is_spelled}
+use Rattle.nap_codes.proofs.PublicLaws.{code_is_spelled}
 use Rattle.nap_canon.proofs.operand_lengths.FrontCodes.{no_front, with_code, lexed_front}
 
 -- under these code sets, these bytes spell these codes, one after another
@@ -30,10 +30,10 @@ spelled_after {sets = sets} {end = end} {ys = ys} {second = second} (one_code {b
 -- lexing gives the codes that are spelled
 
 complete_code : (sets : CodeSets) (bytes rest : List ℕ) (code : Code) (after : CodeSets) → Spells sets bytes code after →
-    front sets (bytes ++ rest) ≡ fronts.whole code (length bytes) after
+    front sets (bytes ++ rest) ≡ fronts.complete code (length bytes) after
 complete_code sets bytes rest code after by =
     let few : length bytes ≤ length (bytes ++ rest) = omega (arith, length-append bytes rest) in
-    (whole_is_spelled sets (bytes ++ rest) code (length bytes) after).1 (few, subst (λ (bs : List ℕ). Spells sets bs code after) (sym (take-append_seam bytes rest)) by)
+    (code_is_spelled sets (bytes ++ rest) code (length bytes) after).1 (few, subst (λ (bs : List ℕ). Spells sets bs code after) (sym (take-append_seam bytes rest)) by)
 
 pub lexed_spelled : (sets : CodeSets) (bytes : List ℕ) (list : List Code) (end : CodeSets) → AllSpelled sets bytes list end →
     lex_result sets bytes ≡ record { codes = list; fault = None; state = record { sets = end; half = [] } }

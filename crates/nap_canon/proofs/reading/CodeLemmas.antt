@@ -6,7 +6,7 @@ use Rattle.nap_codes.specs.declared.code.Code.{Code}
 use Rattle.nap_codes.specs.declared.code_set.CodeSets.{CodeSets}
 use Rattle.nap_codes.specs.Front as codes
 use Rattle.nap_codes.specs.Spelling.{Spells}
-use Rattle.nap_codes.proofs.PublicLaws.{whole_is_spelled}
+use Rattle.nap_codes.proofs.PublicLaws.{code_is_spelled}
 use Rattle.nap_list.specs.declared.entry.Entry.{Entry}
 use Rattle.nap_draw.specs.Codes.{code_rule}
 use Rattle.nap_draw.specs.Rule.{RuleResult}
@@ -18,12 +18,12 @@ use Rattle.nap_canon.proofs.reading.PlacedLemmas.{bytes_of-placed, length-placed
 use Rattle.nap_canon.proofs.reading.ReadLemmas.{machine_between, between_after, Reads, reads_act}
 
 spelled_front : (sets : CodeSets) (before : List ℕ) (last : ℕ) (c : Code) (after : CodeSets) → Spells sets (before ++ last ∷ []) c after →
-    codes.front sets (before ++ last ∷ []) ≡ codes.whole c (length before + 1) after
+    codes.front sets (before ++ last ∷ []) ≡ codes.complete c (length before + 1) after
 spelled_front sets before last c after spells =
     let bytes : List ℕ = before ++ last ∷ [] in
     let size : length bytes ≡ length before + 1 = omega (arith, length-append before (last ∷ [])) in
     let all : bytes ≡ take (length before + 1) bytes = sym (take_all (length before + 1) bytes (omega (arith, size))) in
-    (whole_is_spelled sets bytes c (length before + 1) after).1 (omega (arith, size), subst (λ (bs : List ℕ). Spells sets bs c after) all spells)
+    (code_is_spelled sets bytes c (length before + 1) after).1 (omega (arith, size), subst (λ (bs : List ℕ). Spells sets bs c after) all spells)
 
 -- a code, and what comes after it
 pub code_reads : (budget : ℕ) (sets : CodeSets) (work : Work) (n : ℕ) (before : List ℕ) (last : ℕ) (c : Code) (after : CodeSets) (d : RuleResult) (xs : List Placed) (more : List Entry) (end : Machine) →
@@ -37,7 +37,7 @@ code_reads budget sets work n before last c after d xs more end alone spells by 
     let x : Placed = record { byte = last; place = n + length before } in
     let parts : placed_from n (before ++ last ∷ []) ++ xs ≡ first ++ x ∷ xs =
     ap (λ (ys : List Placed). ys ++ xs) (placed_from-append n before (last ∷ [])) ∙ append_assoc first (x ∷ []) xs in
-    let names : codes.front sets (bytes_of first ++ last ∷ []) ≡ codes.whole c (length first + 1) after =
+    let names : codes.front sets (bytes_of first ++ last ∷ []) ≡ codes.complete c (length first + 1) after =
     rw (bytes_of-placed n before, length-placed n before) (spelled_front sets before last c after spells) in
     reads_act m (placed_from n (before ++ last ∷ []) ++ xs) d.entries (after_drawing next d) xs more end
     (ap (front m) parts

@@ -13,7 +13,7 @@ use Rattle.nap_codes.specs.declared.opcode.Opcode.TheVariants as opcodes
 use Rattle.nap_codes.specs.Laws.{IsGraphic}
 use Rattle.nap_codes.specs.Spelling.{Spells}
 use Rattle.nap_codes.specs.Spelling as spells
-use Rattle.nap_codes.proofs.PublicLaws.{whole_is_spelled}
+use Rattle.nap_codes.proofs.PublicLaws.{code_is_spelled}
 use Rattle.nap_codes.specs.Tables.{row_of, opcode_rows, left_out_opcode}
 use Rattle.nap_list.specs.declared.entry.Entry.{Entry}
 use Rattle.nap_list.specs.State.{walk}
@@ -34,7 +34,7 @@ use Rattle.nap_canon.proofs.reading.PieceLemmas.{Acts, Begins, Names, sets_with,
 use Rattle.nap_canon.proofs.plain_codes.PlainPieces.{IsOpcode, PlainlySpelled, operand_codes, nothing_plain, codes_after_plain, opcode_plain, reset_plain, control_plain, primary_plain, drcs_plain}
 
 pub names : (byte : ℕ) (op : Opcode) → IsOpcode byte op → Names byte op
-names byte op is = (whole_is_spelled (sets_with G1) (byte ∷ []) (code.Op op) 1 (sets_with G1)).1 (omega arith, spells.opcode refl is.0 is.1)
+names byte op is = (code_is_spelled (sets_with G1) (byte ∷ []) (code.Op op) 1 (sets_with G1)).1 (omega arith, spells.opcode refl is.0 is.1)
 
 -- one piece
 pub data Conveys (work : Work) : Piece → List Entry → Work → Type 0 where

@@ -120,7 +120,7 @@ acts_after budget gl ps qs work between left es fs begins first second n xs more
 
 -- the byte is the opcode's
 abbrev pub Names : ℕ → Opcode → Type 0
-Names byte op = codes.front (sets_with G1) (byte ∷ []) ≡ codes.whole (code.Op op) 1 (sets_with G1)
+Names byte op = codes.front (sets_with G1) (byte ∷ []) ≡ codes.complete (code.Op op) 1 (sets_with G1)
 
 opcode_in_gl : (budget : ℕ) (work : Work) (byte : ℕ) (operands : List ℕ) (op : Opcode) (d : RuleResult) → Names byte op → All IsOperandByte operands →
     length operands ≤ run_limit → rule work op (spellings.words_of operands) ≡ Ok d →

@@ -36,7 +36,7 @@ placed_from-append n (x ∷ xs) ys =
 
 -- an opcode and the bytes of its operands are a run
 pub spelled_run : (n : ℕ) (opcode : ℕ) (operands : List ℕ) (op : Opcode) (m : Machine) → m.mode ≡ between →
-    codes.front m.sets (opcode ∷ []) ≡ codes.whole (code.Op op) 1 m.sets → All IsOperandByte operands → length operands ≤ run_limit →
+    codes.front m.sets (opcode ∷ []) ≡ codes.complete (code.Op op) 1 m.sets → All IsOperandByte operands → length operands ≤ run_limit →
     IsRun m op (record { byte = opcode; place = n }) (placed_from (suc n) operands)
 spelled_run n opcode operands op m mode names all few = record {
   mode = mode;

@@ -61,7 +61,7 @@ impl<S: Sink> Machine<S> {
     ) -> Result<(), Refused>
         requires live { IsLive self.old }
         requires open { input.old.body ≡ Some body }
-        requires held { body.escape ≡ None }
+        requires retained { body.escape ≡ None }
         requires next { IsNextByte input.old piece.now next.byte next.place }
         requires low { next.byte < 0x80 }
         ensures same { OnOk result (self.new ≡ self.old) }

@@ -39,7 +39,7 @@ impl<S: Sink> Machine<S> {
         requires set { AreCharacters self.old.lexer set }
         requires graphic { All IsGraphic text.now }
         requires few { length text.now < 2 }
-        ensures { (ended : Bool) (behind : List ℕ) → Codes self.old self.new (text.now ++ behind) ended result }
+        ensures { (ended : Bool) (following : List ℕ) → Codes self.old self.new (text.now ++ following) ended result }
     {
         let Some(byte) = text.first() else {
             return CodeOutcome::Other;

@@ -25,7 +25,7 @@ impl<S: Sink> Machine<S> {
     ) -> Result<(), Refused>
         requires live { IsLive self.old }
         requires open { input.old.body ≡ Some body }
-        requires held { IsSome body.escape }
+        requires retained { IsSome body.escape }
         requires next { IsNextByte input.old piece.now next.byte next.place }
         requires low { next.byte < 0x80 }
         requires other { bodies.ends_body next.byte ≡ false }
@@ -66,7 +66,7 @@ impl<S: Sink> Machine<S> {
     ) -> Result<(), Refused>
         requires live { IsLive self.old }
         requires open { input.old.body ≡ Some body }
-        requires held { IsSome body.escape }
+        requires retained { IsSome body.escape }
         requires next { (piece : List ℕ) × IsNextByte input.old piece next.byte next.place }
         requires ends { bodies.ends_body next.byte ≡ true }
         ensures live { OnOk result (IsLive self.new) }

@@ -16,15 +16,15 @@ pub enum Ahead {
 }
 
 impl<S: Sink> Reader<S> {
-    ghost use Rattle.nap_reader.specs.Looking.{BringsAhead, bytes_ahead};
-    ghost use Rattle.nap_reader.specs.Standing.{HasRead, budget_of, refusal_of};
+    ghost use Rattle.nap_reader.specs.Looking.{AddsAhead, bytes_ahead};
+    ghost use Rattle.nap_reader.specs.ReaderAnswers.{HasRead, budget_of, refusal_of};
 
     /// Returns what the first bytes of this piece add, if it comes next. The reader is unchanged.
     pub fn ahead(&self, piece: &[u8]) -> Ahead
         ensures some { 0 < length piece.now → 0 < bytes_ahead result }
         ensures within { bytes_ahead result ≤ length piece.now }
-        ensures brings { refusal_of self.now ≡ None → (s : S) (p : List ℕ) → HasRead self.now s p →
-            BringsAhead (budget_of self.now) p piece.now result }
+        ensures adds_entries { refusal_of self.now ≡ None → (s : S) (p : List ℕ) → HasRead self.now s p →
+            AddsAhead (budget_of self.now) p piece.now result }
     {
         let Some(byte) = piece.first() else {
             return Ahead::First(0);

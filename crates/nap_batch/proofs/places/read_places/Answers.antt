@@ -2,7 +2,7 @@ use Rattle.std.proofs.Common.{ℕ, ◌+◌, ◌≡◌, List, [], length, take, d
 use Rattle.std.proofs.lemmas.List.{take-append-drop, take_all}
 use Rattle.nap_list.specs.State.{start, walk}
 use Rattle.nap_reader.specs.Breaking.{BreaksWithin}
-use Rattle.nap_reader.specs.Standing.{HasRead, budget_of}
+use Rattle.nap_reader.specs.ReaderAnswers.{HasRead, budget_of}
 use Rattle.nap_reader.specs.Stream.{begun, means}
 use Rattle.nap_batch.proofs.PlaceLemmas.{all_places, breaks_at, breaks_last, broke_apart, ends_longer, grows, kept, kept_refused, next_bytes, none_before, own_cause, still_refused, stops_so, true_isnt, walks_nothing, written_last, written_more}
 use Rattle.nap_batch.proofs.places.read_places.Goals as goal
@@ -13,14 +13,14 @@ new-reader-requires c = ap (walk start) c.new.ensures ∙ walks_nothing
 pub loop-byte-init : goal.loop-byte-init
 loop-byte-init c =
     let new = c.new-reader.ensures in
-    let stands = subst (λ (s : List _). HasRead c.new-reader.result s []) c.new.ensures new.stands in
+    let has_read = subst (λ (s : List _). HasRead c.new-reader.result s []) c.new.ensures new.has_read in
     record {
       at = refl;
       fed = new.fed;
       budget = new.budget;
       live = new.unrefused;
-      stands = stands;
-      known = ap length (sym (new.sink ∙ c.new.ensures) ∙ kept (λ s t d h. h) c.new-reader.result c.args.budget [] stands new.budget new.unrefused);
+      has_read = has_read;
+      known = ap length (sym (new.sink ∙ c.new.ensures) ∙ kept (λ s t d h. h) c.new-reader.result c.args.budget [] has_read new.budget new.unrefused);
       written = c.new-text.ensures.items ∙ sym (none_before c.args.budget c.args.page.now);
     }
 
@@ -32,9 +32,9 @@ stopped_places-requires c apart =
     let new = c.feed.new.self in
     let q = c.in-Err.refusal in
     let next = next_bytes page i c.loop-byte.byte-index inv.at (omega (arith, c.loop-byte-test.true)) in
-    let stands = subst (λ (bytes : List ℕ). HasRead new [] bytes) next (c.feed.ensures.stands [] (take i page) inv.stands) in
+    let has_read = subst (λ (bytes : List ℕ). HasRead new [] bytes) next (c.feed.ensures.has_read [] (take i page) inv.has_read) in
     let own = own_cause q.fault apart (λ is. true_isnt (c.in-Err.ensures.failed inv.live is)) in
-    let k = kept_refused (λ s t d h. h) new c.args.budget (take (i + 1) page) stands (c.feed.ensures.budget ∙ inv.budget) q c.in-Err.ensures.answered own in
+    let k = kept_refused (λ s t d h. h) new c.args.budget (take (i + 1) page) has_read (c.feed.ensures.budget ∙ inv.budget) q c.in-Err.ensures.answered own in
     let more = grows c.args.budget page i (omega (arith, inv.at, c.loop-byte-test.true)) in
     let size = ap length (c.entries.ensures ∙ (c.sink.ensures.now ∙ k.0)) in
     omega (arith, more, size, inv.known)
@@ -49,20 +49,20 @@ returns-in-Err c =
     let new = c.feed.new.self in
     let q = c.in-Err.refusal in
     let next = next_bytes page i j inv.at (omega (arith, c.loop-byte-test.true)) in
-    let fed = c.feed.ensures.stands [] (take i page) inv.stands in
-    let stands = subst (λ (bytes : List ℕ). HasRead new [] bytes) next fed in
+    let fed = c.feed.ensures.has_read [] (take i page) inv.has_read in
+    let has_read = subst (λ (bytes : List ℕ). HasRead new [] bytes) next fed in
     let fails = c.in-Err.ensures.failed inv.live in
     let same = c.feed.ensures.budget ∙ inv.budget in
     let (n, stops) = c.in-Err.ensures.stops inv.live in
     stops_so budget page c.stopped_places.result q _ c.stopped_places.ensures.ended c.stopped_places.ensures.memory c.stopped_places.ensures.own
     (λ apart.
     let own = own_cause q.fault apart (λ is. true_isnt (fails is)) in
-    let k = kept_refused (λ s t d h. h) new budget (take (i + 1) page) stands same q c.in-Err.ensures.answered own in (
+    let k = kept_refused (λ s t d h. h) new budget (take (i + 1) page) has_read same q c.in-Err.ensures.answered own in (
       ap (λ (bytes : List ℕ). (means budget bytes).refusal) (sym (take-append-drop (i + 1) page)) ∙ still_refused budget (take (i + 1) page) (drop (i + 1) page) q k.1,
       written_more budget page i c.loop-byte.known c.loop-byte.text.items c.entries.result.now inv.written inv.known (c.entries.ensures ∙ (c.sink.ensures.now ∙ k.0))
           ∙ sym (all_places budget page (i + 1) q k.1 (omega (arith, inv.at, c.loop-byte-test.true))),
     ))
-    (breaks_at c.loop-byte.reader new budget page i j q inv.at (omega (arith, c.loop-byte-test.true)) inv.budget inv.stands n stops)
+    (breaks_at c.loop-byte.reader new budget page i j q inv.at (omega (arith, c.loop-byte-test.true)) inv.budget inv.has_read n stops)
 
 pub write_new-requires : goal.write_new-requires
 write_new-requires c =
@@ -71,8 +71,8 @@ write_new-requires c =
     let inv = c.loop-byte.invariant in
     let new = c.feed.new.self in
     let next = next_bytes page i c.loop-byte.byte-index inv.at (omega (arith, c.loop-byte-test.true)) in
-    let stands = subst (λ (bytes : List ℕ). HasRead new [] bytes) next (c.feed.ensures.stands [] (take i page) inv.stands) in
-    let k = kept (λ s t d h. h) new c.args.budget (take (i + 1) page) stands (c.feed.ensures.budget ∙ inv.budget) c.in_default.ensures.answered in
+    let has_read = subst (λ (bytes : List ℕ). HasRead new [] bytes) next (c.feed.ensures.has_read [] (take i page) inv.has_read) in
+    let k = kept (λ s t d h. h) new c.args.budget (take (i + 1) page) has_read (c.feed.ensures.budget ∙ inv.budget) c.in_default.ensures.answered in
     let more = grows c.args.budget page i (omega (arith, inv.at, c.loop-byte-test.true)) in
     let size = ap length (c.entries-in-loop-byte.ensures ∙ (c.sink-in-loop-byte.ensures.now ∙ k)) in
     omega (arith, more, size, inv.known)
@@ -84,15 +84,15 @@ loop-byte-preserved c =
     let inv = c.loop-byte.invariant in
     let new = c.feed.new.self in
     let next = next_bytes page i c.loop-byte.byte-index inv.at (omega (arith, c.loop-byte-test.true)) in
-    let stands = subst (λ (bytes : List ℕ). HasRead new [] bytes) next (c.feed.ensures.stands [] (take i page) inv.stands) in
+    let has_read = subst (λ (bytes : List ℕ). HasRead new [] bytes) next (c.feed.ensures.has_read [] (take i page) inv.has_read) in
     let same = c.feed.ensures.budget ∙ inv.budget in
-    let all = c.entries-in-loop-byte.ensures ∙ (c.sink-in-loop-byte.ensures.now ∙ kept (λ s t d h. h) new c.args.budget (take (i + 1) page) stands same c.in_default.ensures.answered) in
+    let all = c.entries-in-loop-byte.ensures ∙ (c.sink-in-loop-byte.ensures.now ∙ kept (λ s t d h. h) new c.args.budget (take (i + 1) page) has_read same c.in_default.ensures.answered) in
     record {
       at = ap (λ (k : ℕ). k + 1) inv.at;
       fed = omega (arith, c.in_default.ensures.fed, inv.fed);
       budget = same;
       live = c.in_default.ensures.answered;
-      stands = stands;
+      has_read = has_read;
       known = c.in_ok-known.ensures.0 ∙ ap length all;
       written = c.in_ok-known.ensures.1 ∙ written_more c.args.budget page i c.loop-byte.known c.loop-byte.text.items _ inv.written inv.known all;
     }
@@ -102,8 +102,8 @@ write_new-requires-in-Ok c =
     let page = c.args.page.now in
     let inv = c.loop-byte.invariant in
     let whole = take_all c.loop-byte.place page (omega (arith, inv.at, c.loop-byte-test.false)) in
-    let stands = subst (λ (bytes : List ℕ). HasRead c.loop-byte.reader [] bytes) whole inv.stands in
-    let taken = c.in-Ok.ensures.ok [] page stands in
+    let has_read = subst (λ (bytes : List ℕ). HasRead c.loop-byte.reader [] bytes) whole inv.has_read in
+    let taken = c.in-Ok.ensures.ok [] page has_read in
     let all = c.entries-in-Ok.ensures ∙ (taken.1 ∙ ap (λ (b : ℕ). (means b page).entries) inv.budget) in
     let count = inv.known ∙ ap (λ (bytes : List ℕ). length (begun c.args.budget bytes).entries) whole in
     omega (arith, count, ap length all, ends_longer c.args.budget page)
@@ -114,9 +114,9 @@ stopped_places-requires-in-Err-finish c apart =
     let inv = c.loop-byte.invariant in
     let q = c.in-Err-finish.end.refusal in
     let whole = take_all c.loop-byte.place page (omega (arith, inv.at, c.loop-byte-test.false)) in
-    let stands = subst (λ (bytes : List ℕ). HasRead c.loop-byte.reader [] bytes) whole inv.stands in
+    let has_read = subst (λ (bytes : List ℕ). HasRead c.loop-byte.reader [] bytes) whole inv.has_read in
     let own = own_cause q.fault apart (λ is. true_isnt (c.in-Err-finish.ensures.failed inv.live is)) in
-    let taken = c.in-Err-finish.ensures.err own [] page stands in
+    let taken = c.in-Err-finish.ensures.err own [] page has_read in
     let all = c.entries-in-Err-finish.ensures ∙ (taken.1 ∙ ap (λ (b : ℕ). (means b page).entries) inv.budget) in
     let count = inv.known ∙ ap (λ (bytes : List ℕ). length (begun c.args.budget bytes).entries) whole in
     omega (arith, count, ap length all, ends_longer c.args.budget page)
@@ -129,16 +129,16 @@ returns-in-Err-finish c =
     let inv = c.loop-byte.invariant in
     let q = c.in-Err-finish.end.refusal in
     let whole = take_all i page (omega (arith, inv.at, c.loop-byte-test.false)) in
-    let stands = subst (λ (bytes : List ℕ). HasRead c.loop-byte.reader [] bytes) whole inv.stands in
+    let has_read = subst (λ (bytes : List ℕ). HasRead c.loop-byte.reader [] bytes) whole inv.has_read in
     let fails = c.in-Err-finish.ensures.failed inv.live in
     let count = inv.known ∙ ap (λ (bytes : List ℕ). length (begun budget bytes).entries) whole in
     stops_so budget page c.stopped_places-in-Err-finish.result q _ c.stopped_places-in-Err-finish.ensures.ended c.stopped_places-in-Err-finish.ensures.memory c.stopped_places-in-Err-finish.ensures.own
     (λ apart.
     let own = own_cause q.fault apart (λ is. true_isnt (fails is)) in
-    let taken = c.in-Err-finish.ensures.err own [] page stands in
+    let taken = c.in-Err-finish.ensures.err own [] page has_read in
     let all = c.entries-in-Err-finish.ensures ∙ (taken.1 ∙ ap (λ (b : ℕ). (means b page).entries) inv.budget) in
     let end : i ≡ length page = omega (arith, inv.at, c.loop-byte-test.false) in (
       ap (λ (b : ℕ). (means b page).refusal) (sym inv.budget) ∙ taken.0,
       written_last budget page i c.loop-byte.known c.loop-byte.text.items _ end inv.written count all,
     ))
-    (λ is. subst (λ (b : ℕ). BreaksWithin b page q.place) inv.budget (breaks_last (budget_of c.loop-byte.reader) page _ q (c.in-Err-finish.ensures.breaks inv.live (λ own. broke_apart is own) [] page stands)))
+    (λ is. subst (λ (b : ℕ). BreaksWithin b page q.place) inv.budget (breaks_last (budget_of c.loop-byte.reader) page _ q (c.in-Err-finish.ensures.breaks inv.live (λ own. broke_apart is own) [] page has_read)))

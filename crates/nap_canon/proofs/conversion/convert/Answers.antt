@@ -22,7 +22,7 @@ returns-then-failed-clause-converts g c =
     let there : c.into_sink.result ≡ s = c.into_sink.ensures.now ∙ c.new-reader.ensures.sink in
     let fails : O.failed c.into_sink.result.outlet ≡ true =
     subst (λ (t : Canonical _). O.failed t.outlet ≡ true) (c.sink.ensures.now ∙ sym c.into_sink.ensures.now) (sym c.failed.ensures ∙ c.if-failed.true) in
-    let h = header_fails O c.args.output s c.new.ensures _ (λ t d k. k) (λ t d e k. k) refl (λ d k. k) I input reader c.new-reader.ensures.stands c.new-reader.ensures.unrefused
+    let h = header_fails O c.args.output s c.new.ensures _ (λ t d k. k) (λ t d e k. k) refl (λ d k. k) I input reader c.new-reader.ensures.has_read c.new-reader.ensures.unrefused
     (ap (λ (t : Canonical _). O.failed t.outlet) (sym there) ∙ fails) u answer
     (subst (λ (t : Canonical _). Keeps (O.taken t.outlet) (O.taken u)) there c.conclude.ensures.taken) (c.conclude.ensures.failed fails)
     (subst (λ (t : Canonical _). Concludes t.written (Ok tt) (O.failed u) answer) there c.conclude.ensures.answer) in (
@@ -44,7 +44,7 @@ returns-in-Ok-finish-clause-converts g c =
     let end = c.conclude-in-Ok-finish in
     let works = subst (λ (t : Canonical _). O.failed t.outlet ≡ false) (c.sink.ensures.now ∙ c.new-reader.ensures.sink) (sym c.failed.ensures ∙ c.if-failed.false) in
     whole_converts O c.args.output s c.new.ensures _ (λ t d k. k) (λ t d e k. k) refl (λ d k. k) works g.I.Inlet c.args.input.now c.feed_from.new.input c.new-reader.result c.feed_from.new.reader
-    c.new-reader.ensures.stands c.feed_from.ensures.budget c.args.budget c.new-reader.ensures.budget g.met.O.Outlet.fails_by_write c.requires.works end.result.0 end.result.1
+    c.new-reader.ensures.has_read c.feed_from.ensures.budget c.args.budget c.new-reader.ensures.budget g.met.O.Outlet.fails_by_write c.requires.works end.result.0 end.result.1
     c.in-Ok.ensures.feeds c.in-Ok-finish.sink (c.in-Ok-finish.ensures.ok s) (end.ensures.taken, end.ensures.failed, end.ensures.answer, end.ensures.flushes, end.ensures.write_failed)
 
 -- the stream is refused at its end
@@ -56,7 +56,7 @@ returns-in-Err-finish-clause-converts g c =
     let end = c.conclude-in-Err-finish in
     let works = subst (λ (t : Canonical _). O.failed t.outlet ≡ false) (c.sink.ensures.now ∙ c.new-reader.ensures.sink) (sym c.failed.ensures ∙ c.if-failed.false) in
     end_converts O c.args.output s c.new.ensures _ (λ t d k. k) (λ t d e k. k) refl (λ d k. k) works g.I.Inlet c.args.input.now c.feed_from.new.input c.new-reader.result c.feed_from.new.reader
-    c.new-reader.ensures.stands c.feed_from.ensures.budget c.args.budget c.new-reader.ensures.budget g.met.O.Outlet.fails_by_write c.requires.works end.result.0 end.result.1
+    c.new-reader.ensures.has_read c.feed_from.ensures.budget c.args.budget c.new-reader.ensures.budget g.met.O.Outlet.fails_by_write c.requires.works end.result.0 end.result.1
     c.in-Ok.ensures.feeds stopped.sink stopped.refusal (λ own. c.in-Err-finish.ensures.err own s) (λ unrefused other. c.in-Err-finish.ensures.breaks unrefused other s)
     (end.ensures.taken, end.ensures.failed, end.ensures.answer, end.ensures.flushes, end.ensures.write_failed)
 
@@ -68,5 +68,5 @@ returns-in-Err-clause-converts g c =
     let end = c.conclude-in-Err in
     let works = subst (λ (t : Canonical _). O.failed t.outlet ≡ false) (c.sink.ensures.now ∙ c.new-reader.ensures.sink) (sym c.failed.ensures ∙ c.if-failed.false) in
     fed_converts O c.args.output s c.new.ensures _ (λ t d k. k) (λ t d e k. k) refl (λ d k. k) works g.I.Inlet c.args.input.now c.feed_from.new.input c.new-reader.result c.feed_from.new.reader
-    c.new-reader.ensures.stands c.feed_from.ensures.budget c.args.budget c.new-reader.ensures.budget g.met.O.Outlet.fails_by_write c.requires.works end.result.0 end.result.1
+    c.new-reader.ensures.has_read c.feed_from.ensures.budget c.args.budget c.new-reader.ensures.budget g.met.O.Outlet.fails_by_write c.requires.works end.result.0 end.result.1
     c.in-Err.fault c.in-Err.ensures.feeds c.into_sink-in-Err.result c.into_sink-in-Err.ensures.now (end.ensures.taken, end.ensures.failed, end.ensures.answer, end.ensures.flushes, end.ensures.write_failed)

@@ -7,4 +7,4 @@ returns-then-count-piece c =
     record { short = last.0; whole = last.1; none = last.2 }
 
 pub returns-clause-whole : goal.returns-clause-whole
-returns-clause-whole c behind over = whole_run_is c.args.piece.now behind c.prefix_from-count.result c.prefix_from-count.ensures (λ same. absurd (omega (arith, same, c.if-count-piece.false)))
+returns-clause-whole c following over = whole_run_is c.args.piece.now following c.prefix_from-count.result c.prefix_from-count.ensures (λ same. absurd (omega (arith, same, c.if-count-piece.false)))

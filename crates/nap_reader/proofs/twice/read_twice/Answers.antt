@@ -1,5 +1,5 @@
 use Rattle.std.proofs.Common.{ℕ, Err, inl, refl, subst}
-use Rattle.nap_reader.specs.Standing.{sink_of}
+use Rattle.nap_reader.specs.ReaderAnswers.{sink_of}
 use Rattle.nap_reader.specs.Twice.{ReadsTo}
 use Rattle.nap_reader.proofs.TwiceLemmas.{refused_first}
 use Rattle.nap_reader.proofs.twice.read_twice.Goals as goal
@@ -13,5 +13,5 @@ returns-in-Err g c =
     let t = sink_of c.read_whole.new.reader in
     let r = c.in-Err.refusal in
     let begun = c.new-reader.ensures in
-    let reads = subst (λ (b : ℕ). ReadsTo S s b p t (Err r)) begun.budget (c.in-Err.ensures s begun.stands) in
+    let reads = subst (λ (b : ℕ). ReadsTo S s b p t (Err r)) begun.budget (c.in-Err.ensures s begun.has_read) in
     record { reads = inl (refused_first S s c.args.budget p t r reads, refl) }

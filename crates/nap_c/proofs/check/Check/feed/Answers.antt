@@ -1,6 +1,6 @@
 use Rattle.std.proofs.Common.{◌≢◌, ◌++◌, ◌∙◌, ap, inl, inr, sym}
 use Rattle.nap_reader.specs.declared.fault.Fault.TheVariants as fault
-use Rattle.nap_reader.specs.Standing.{refusal_of}
+use Rattle.nap_reader.specs.ReaderAnswers.{refusal_of}
 use Rattle.nap_c.specs.declared.answer.Answer.{Answer}
 use Rattle.nap_c.proofs.AnswerLemmas.{answers_uncounted}
 use Rattle.nap_c.proofs.CheckLemmas.{none_or_some, refused_so_far}
@@ -24,6 +24,6 @@ returns-in-Err-clause-answer c =
     inr (record {
       status = ap (λ (a : Answer). a.status) c.refused_answer.ensures;
       whole = λ more.
-          let why = refused_so_far (λ d wants. wants) new budget (c.feed.ensures.budget ∙ h.budget_is) fed (c.feed.ensures.stands _ p h.stands) r some sound more in
+          let why = refused_so_far (λ d wants. wants) new budget (c.feed.ensures.budget ∙ h.budget_is) fed (c.feed.ensures.has_read _ p h.has_read) r some sound more in
           answers_uncounted budget (fed ++ more) r.fault r.place c.refused_answer.result why c.refused_answer.ensures;
     })

@@ -1,4 +1,4 @@
-use Rattle.nap_reader.proofs.{All-append, All-cons, All-nil, All-pop, Frame, FramesIn, IsFrame, List, Placed, Some, [], all_at, ap, arith, gives-all, gives-some, last-frame, length, same-front, subst, sym, take, unread, ◌++◌, ◌+◌, ◌∙◌, ◌∷◌}
+use Rattle.nap_reader.proofs.{All-append, All-cons, All-nil, All-pop, Frame, FramesIn, IsFrame, List, Placed, Some, [], all_at, ap, arith, gives-all, gives-some, last-frame, length, same-prefix, subst, sym, take, unread, ◌++◌, ◌+◌, ◌∙◌, ◌∷◌}
 use Rattle.nap_reader.proofs.frames.Frames.take_from_innermost.Goals as goal
 
 pub overflow_sub-frame : goal.overflow_sub-frame
@@ -14,7 +14,7 @@ returns-then-count-frame-clause-given c text place inner few =
     ap (unread bytes) items
     ∙ gives-some bytes c.pop.new.self.items frame.next frame.end frame.place c.args.count (omega (arith, c.if-count-frame.true))
     ∙ ap (λ (xs : List Placed). xs ++ unread bytes (c.pop.new.self.items ++ record frame { next = frame.next + c.args.count } ∷ []))
-    (same-front bytes c.args.self.now.stack.items c.pop.new.self.items frame text place c.args.count items inner)
+    (same-prefix bytes c.args.self.now.stack.items c.pop.new.self.items frame text place c.args.count items inner)
     ∙ ap (λ (frames : List Frame). all_at place (take c.args.count text) ++ unread bytes frames) (sym c.push_reserved.ensures.items)
 
 pub returns-else-count-frame-clause-given : goal.returns-else-count-frame-clause-given
@@ -26,7 +26,7 @@ returns-else-count-frame-clause-given c text place inner few =
     ap (unread bytes) items
     ∙ gives-all bytes c.pop.new.self.items frame.next frame.end frame.place c.args.count k.1 (omega (arith, c.if-count-frame.false))
     ∙ ap (λ (xs : List Placed). xs ++ unread bytes c.pop.new.self.items)
-    (same-front bytes c.args.self.now.stack.items c.pop.new.self.items frame text place c.args.count items inner)
+    (same-prefix bytes c.args.self.now.stack.items c.pop.new.self.items frame text place c.args.count items inner)
 
 pub returns-then-count-frame-clause-within : goal.returns-then-count-frame-clause-within
 returns-then-count-frame-clause-within c =

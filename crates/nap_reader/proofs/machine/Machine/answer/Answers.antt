@@ -1,4 +1,4 @@
-use Rattle.nap_reader.proofs.{Call, Clear, Define, Lawful, Nothing, Stop, StoreState, ap, call_goes, call_refuses, held_sets, inl, match_goes, no_names, on_ok_by, reads_still, refl, same_comes, stop_passes, sym, turn_as, turn_counts, turn_goes, turn_passes, turn_stops, turn_takes, ◌∙◌, ◌≡◌}
+use Rattle.nap_reader.proofs.{Call, Clear, Define, Lawful, Nothing, Stop, StoreState, ap, call_goes, call_refuses, state_sets, inl, match_goes, no_names, on_ok_by, reads_still, refl, same_comes, stop_passes, sym, turn_as, turn_counts, turn_goes, turn_passes, turn_stops, turn_takes, ◌∙◌, ◌≡◌}
 use Rattle.nap_reader.proofs.machine.Machine.answer.Goals as goal
 
 pub advance-requires : goal.advance-requires
@@ -14,7 +14,7 @@ returns-in-Nothing g c =
       on = λ stop. let bad : Nothing ≡ Stop = sym c.in-Nothing.is ∙ stop in cc;
       goes = λ old turn.
           let t = turn_as Nothing c.in-Nothing.is turn in
-          turn_goes t adv g.met.S.Sink.took_more (turn_takes t) (held_sets c.args.self.now c.args.input.now c.advance.new.self adv.store adv.body adv.passed.budget adv.passed.charged)
+          turn_goes t adv g.met.S.Sink.took_more (turn_takes t) (state_sets c.args.self.now c.args.input.now c.advance.new.self adv.store adv.body adv.passed.budget adv.passed.charged)
           (record { frames = refl; same = record { budget = refl; at = refl; fed = refl; turns = refl } }) t.takes.leaves;
     }
 
@@ -30,7 +30,7 @@ returns-in-Clear g c =
       goes = λ old turn.
           let t = turn_as Clear c.in-Clear.is turn in
           turn_goes t adv g.met.S.Sink.took_more (turn_takes t)
-          (held_sets c.args.self.now c.args.input.now c.clear.new.self (sets.store_is ∙ ap (λ (store : StoreState). record store { names = no_names }) adv.store) (sets.body ∙ adv.body)
+          (state_sets c.args.self.now c.args.input.now c.clear.new.self (sets.store_is ∙ ap (λ (store : StoreState). record store { names = no_names }) adv.store) (sets.body ∙ adv.body)
           (sets.still.same.budget ∙ adv.passed.budget) (sets.still.charged ∙ adv.passed.charged)) (same_comes sets refl) t.takes.leaves;
     }
 
@@ -78,7 +78,7 @@ returns-in-Define-clause-goes g c = λ old turn.
     let sets = c.open_body.ensures in
     match_goes c.take_body.new.self c.take_body.new.input c.take_body.result
     (turn_goes t adv g.met.S.Sink.took_more (turn_takes t).2
-    (held_sets c.args.self.now c.args.input.now c.open_body.new.self (sets.store_is ∙ adv.store) sets.body (sets.still.same.budget ∙ adv.passed.budget) (sets.still.charged ∙ adv.passed.charged)) (same_comes sets refl) t.takes.leaves)
+    (state_sets c.args.self.now c.args.input.now c.open_body.new.self (sets.store_is ∙ adv.store) sets.body (sets.still.same.budget ∙ adv.passed.budget) (sets.still.charged ∙ adv.passed.charged)) (same_comes sets refl) t.takes.leaves)
     c.take_body.ensures.goes
 
 pub advance-requires-in-Stop : goal.advance-requires-in-Stop

@@ -14,31 +14,31 @@ text-requires-clause-made g c =
     (graphic.0, omega (arith, graphic.1))
 
 -- The byte is a code of one byte.
-is_alone : (g : _) (c : In-Some g) (behind : List ℕ) → IsAlone c.args.self.now (code.Char c.args.set c.in-Some.byte.now) c.args.self.now.lexer.sets (c.args.text.now ++ behind)
-is_alone g c behind =
+is_alone : (g : _) (c : In-Some g) (following : List ℕ) → IsAlone c.args.self.now (code.Char c.args.set c.in-Some.byte.now) c.args.self.now.lexer.sets (c.args.text.now ++ following)
+is_alone g c following =
     let b = c.in-Some.byte.now in
     let (rest, parts) = first_byte c.args.text.now b (sym c.in-Some.ensures.value) in
     record {
       byte = b;
-      rest = rest ++ behind;
-      is = ap (λ (bs : List ℕ). bs ++ behind) parts;
+      rest = rest ++ following;
+      is = ap (λ (bs : List ℕ). bs ++ following) parts;
       closed = c.requires.closed;
       half = c.requires.set.rested;
       front = c.requires.set.chars b (first_graphic c.args.text.now b (sym c.in-Some.ensures.value) c.requires.graphic);
     }
 
 pub returns-in-Ok : goal.returns-in-Ok
-returns-in-Ok g c = λ ended behind.
+returns-in-Ok g c = λ ended following.
     let acted = c.in-Ok.ensures.acts in
-    alone_acts (is_alone g (goal.at.returns-in-Ok g c).In-Some behind)
+    alone_acts (is_alone g (goal.at.returns-in-Ok g c).In-Some following)
     (record { before = c.requires.closed; closed = c.requires.closed; work_is = refl; lexer_is = ap (λ (half : List ℕ). record c.args.self.now.lexer { half = half }) c.requires.set.rested }) refl
     (record { is = acted.1; took = acted.2; clear = c.in-Ok.ensures.clear }) (record { live = c.requires.live.live; agrees = acted.4 }) g.met.S.Sink.took_more
 
 pub returns-in-Err : goal.returns-in-Err
-returns-in-Err g c = λ ended behind.
+returns-in-Err g c = λ ended following.
     let fault = c.in-Err.fault in
     rw c.from.ensures
-    (alone_stops (is_alone g (goal.at.returns-in-Err g c).In-Some behind) refl refl
+    (alone_stops (is_alone g (goal.at.returns-in-Err g c).In-Some following) refl refl
     (record { drew = c.in-Err.ensures.acts.1; wants = λ memory. c.in-Err.ensures.memory (ap Err memory); gives = λ device. c.in-Err.ensures.gives (ap Err device) })
     (λ is. c.in-Err.ensures.failed (ap Err (sink_fault fault is)), λ works fails. ap draw_fault (c.in-Err.ensures.kept works fails))
     (record { more = g.met.S.Sink.took_more; broken = g.met.S.Sink.took_broke; wants = g.met.S.Sink.wants_more; none = g.met.S.Sink.took_none }))

@@ -32,7 +32,7 @@ returns-in-Shift g c =
       is = first.1;
       closed = c.requires.closed;
       half = rested;
-      front = sym (ap (λ (half : List ℕ). codes.front m.lexer.sets (half ++ b ∷ [])) rested) ∙ front ∙ ap (λ (n : ℕ). codes.whole code.Shifted n after) one;
+      front = sym (ap (λ (half : List ℕ). codes.front m.lexer.sets (half ++ b ∷ [])) rested) ∙ front ∙ ap (λ (n : ℕ). codes.complete code.Shifted n after) one;
     } in
     alone_nothing k (record { before = c.requires.closed; closed = c.requires.closed; work_is = refl; lexer_is = lexer }) refl refl (record { live = c.requires.live.live; agrees = c.requires.live.agrees })
 

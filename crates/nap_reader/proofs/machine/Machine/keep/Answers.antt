@@ -12,7 +12,7 @@ returns-then-next-eq27 g c =
     let next = subst (λ (n : ℕ). IsNextByte c.args.input.now c.args.piece.now n c.args.next.place) c.if-next-eq27.true c.requires.next in
     record {
       same = refl;
-      goes = holds_goes c.args.self.now c.requires.open c.requires.held c.requires.next.reads next c.hold_escape.ensures c.advance.ensures g.met.S.Sink.took_more c.requires.live;
+      goes = holds_goes c.args.self.now c.requires.open c.requires.retained c.requires.next.reads next c.hold_escape.ensures c.advance.ensures g.met.S.Sink.took_more c.requires.live;
     }
 
 -- a byte comes next
@@ -39,7 +39,7 @@ advance-requires-then-count-space g c =
 
 pub advance-requires-then-count-space-2 : goal.advance-requires-then-count-space-2
 advance-requires-then-count-space-2 g c =
-    fill_passes c.args.self.now c.requires.open c.requires.held c.requires.next.reads c.in-Some.ensures c.space_left-space.result (omega (arith, c.body_prefix_len-count.ensures, prefix_len-le-length is_of_body c.in-Some.slice.bytes.now, c.if-count-space.true))
+    fill_passes c.args.self.now c.requires.open c.requires.retained c.requires.next.reads c.in-Some.ensures c.space_left-space.result (omega (arith, c.body_prefix_len-count.ensures, prefix_len-le-length is_of_body c.in-Some.slice.bytes.now, c.if-count-space.true))
     c.advance-then-count-space.ensures
 
 pub returns-then-count-space-clause-goes : goal.returns-then-count-space-clause-goes
@@ -49,7 +49,7 @@ returns-then-count-space-clause-goes g c =
     let input = c.args.input.now in
     let text = c.in-Some.slice.bytes.now in
     let next = c.in-Some.ensures in
-    let room = c.space_left-space.result in
+    let space = c.space_left-space.result in
     let first = c.advance-then-count-space.ensures in
     let mid = c.advance-then-count-space.new.self in
     let is = c.refuse.ensures.latched.is ∙ ap (λ (n : ℕ). Some (refusal Store n)) c.place_of-place.ensures in
@@ -57,8 +57,8 @@ returns-then-count-space-clause-goes g c =
     (stops_from laws (latches_own is c.refuse.ensures.latched.sink store_other) is
     (passed_then c.requires.next.reads next.comes (omega (arith, c.body_prefix_len-count.ensures, prefix_len-le-length is_of_body text, c.if-count-space.true)) first.passed
     (ap (λ (store : StoreState). unread store.bytes mid.frames.stack.items) (sym first.store)) c.advance-then-count-space-2.ensures.passed)
-    (subst (λ t. Stops g.S.Sink m.sink (reading_state_by m input) (next_bytes input c.args.piece.now) (length text) room t (refusal Store (c.in-Some.slice.place + c.in-Some.slice.step * room))) (sym c.refuse.ensures.latched.sink)
-    (body_fills m c.requires.open c.requires.held c.requires.next.reads next room (omega (arith, c.body_prefix_len-count.ensures, c.if-count-space.true)) (omega (arith, c.space_left-space.ensures)))))
+    (subst (λ t. Stops g.S.Sink m.sink (reading_state_by m input) (next_bytes input c.args.piece.now) (length text) space t (refusal Store (c.in-Some.slice.place + c.in-Some.slice.step * space))) (sym c.refuse.ensures.latched.sink)
+    (body_fills m c.requires.open c.requires.retained c.requires.next.reads next space (omega (arith, c.body_prefix_len-count.ensures, c.if-count-space.true)) (omega (arith, c.space_left-space.ensures)))))
 
 pub keep-requires-clause-next : goal.keep-requires-clause-next
 keep-requires-clause-next g c = (
@@ -80,19 +80,19 @@ returns-in_default-keep-clause-goes g c =
     let m = c.args.self.now in
     let slice = byte_comes c.requires.next in
     let adv = subst (λ (input : Input). Advances input c.advance-in_default-keep.new.self 1) c.in_default-keep.ensures.err c.advance-in_default-keep.ensures in
-    let some = first_plain m c.requires.open c.requires.held c.requires.next.reads c.in-Some.ensures c.requires.next (record { low = c.requires.low; other = c.if-next-eq27.false }) in
+    let some = first_plain m c.requires.open c.requires.retained c.requires.next.reads c.in-Some.ensures c.requires.next (record { low = c.requires.low; other = c.if-next-eq27.false }) in
     rw c.refuse-in_default-keep.ensures.answer
     (byte_stops laws c.requires.next c.refuse-in_default-keep.ensures.latched.is c.refuse-in_default-keep.ensures.latched.sink memory_other
     (byte_passed c.requires.next adv.passed)
-    (byte_lacks g.S.Sink m.sink (reading_state_by m c.args.input.now) c.requires.open c.requires.held (placed_at c.args.next.byte c.args.next.place) (record { low = c.requires.low; other = c.if-next-eq27.false })
+    (byte_lacks g.S.Sink m.sink (reading_state_by m c.args.input.now) c.requires.open c.requires.retained (placed_at c.args.next.byte c.args.next.place) (record { low = c.requires.low; other = c.if-next-eq27.false })
     (omega (arith, some, c.body_prefix_len-count.ensures, c.space_left-space.ensures, c.if-count-space.false))))
 
 pub returns : goal.returns
 returns g c =
     let m = c.args.self.now in
     let next = c.in-Some.ensures in
-    let first = first_plain m c.requires.open c.requires.held c.requires.next.reads next c.requires.next (record { low = c.requires.low; other = c.if-next-eq27.false }) in
+    let first = first_plain m c.requires.open c.requires.retained c.requires.next.reads next c.requires.next (record { low = c.requires.low; other = c.if-next-eq27.false }) in
     record {
       same = refl;
-      goes = goes_less 1 (omega (arith, first, c.body_prefix_len-count.ensures)) (keeps_goes m c.requires.open c.requires.held c.requires.next.reads next c.in-Ok.ensures.ok (omega (arith, first, c.body_prefix_len-count.ensures), omega (arith, c.body_prefix_len-count.ensures)) g.met.S.Sink.took_more c.requires.live (omega (arith, c.space_left-space.ensures, c.if-count-space.false)));
+      goes = goes_less 1 (omega (arith, first, c.body_prefix_len-count.ensures)) (keeps_goes m c.requires.open c.requires.retained c.requires.next.reads next c.in-Ok.ensures.ok (omega (arith, first, c.body_prefix_len-count.ensures), omega (arith, c.body_prefix_len-count.ensures)) g.met.S.Sink.took_more c.requires.live (omega (arith, c.space_left-space.ensures, c.if-count-space.false)));
     }

@@ -12,8 +12,8 @@ runs_whole g c =
       bytes_is = bytes;
       at = record { closed = c.requires.closed; is = is };
       short = c.in-Some.ensures.short;
-      whole = λ behind over.
-          subst (λ (bs : List ℕ). IsWholeRun bs behind c.in-Some.run'.now) (take_all (length c.args.bytes.now - 1) (drop 1 c.args.bytes.now) (omega (arith, length-drop 1 c.args.bytes.now)) ∙ ap (drop 1) bytes) (c.in-Some.ensures.whole behind over);
+      whole = λ following over.
+          subst (λ (bs : List ℕ). IsWholeRun bs following c.in-Some.run'.now) (take_all (length c.args.bytes.now - 1) (drop 1 c.args.bytes.now) (omega (arith, length-drop 1 c.args.bytes.now)) ∙ ap (drop 1) bytes) (c.in-Some.ensures.whole following over);
     }
 
 pub returns-in-Ok : goal.returns-in-Ok

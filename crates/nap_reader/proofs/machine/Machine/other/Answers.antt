@@ -24,7 +24,7 @@ returns-in-Some g c =
     let k = rw (take_all (length bytes - at) (drop at bytes) (omega (arith, length-drop at bytes))) at c.in-Some.ensures in
     let is : bytes_of xs ≡ drop at bytes = sym (drop-map (λ (x : Placed). x.byte) at (placed_by_step slice.place slice.step bytes)) ∙ ap (drop at) (bytes_of-placed_by_step slice.place slice.step bytes) in
     let name : k.name ≡ get_or bytes (at + more - 1) 0 =
-    sym (get_or-append_seam k.before k.name k.behind 0) ∙ ap (λ (bs : List ℕ). get_or bs (length k.before) 0) (sym k.is) ∙ get_or-drop at bytes (length k.before) 0
+    sym (get_or-append_seam k.before k.name k.following 0) ∙ ap (λ (bs : List ℕ). get_or bs (length k.before) 0) (sym k.is) ∙ get_or-drop at bytes (length k.before) 0
     ∙ ap (λ (i : ℕ). get_or bytes i 0) (let e : at + length k.before ≡ at + more - 1 = omega (arith, k.counted) in e) in
     record {
       from = omega arith;

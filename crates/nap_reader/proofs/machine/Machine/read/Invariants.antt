@@ -1,4 +1,4 @@
-use Rattle.nap_reader.proofs.{GoesOn, IsLive, None, Reads, [], next_bytes, is_open, to_come, ◌*◌, ◌+◌, ◌≡◌, ◌⊎◌}
+use Rattle.nap_reader.proofs.{ReadsFurther, IsLive, None, Reads, [], next_bytes, is_open, to_come, ◌*◌, ◌+◌, ◌≡◌, ◌⊎◌}
 use Rattle.nap_reader.proofs.machine.Machine.read.Given as goal
 
 -- some bytes were consumed so far, and no body is being defined
@@ -7,7 +7,7 @@ invariant-loop-slice g l = record {
   live : IsLive {S = g.row.S.Denot} {g = g.S.Sink} l.self;
   reads : Reads l.input l.piece;
   ends : (l.input.body ≡ None) ⊎ (next_bytes l.input l.piece ≡ []);
-  goes : GoesOn {S = g.row.S.Denot} {g = g.S.Sink} l.piece l.fn.self (record l.fn.input { at = 0 }) l.self l.input;
+  goes : ReadsFurther {S = g.row.S.Denot} {g = g.S.Sink} l.piece l.fn.self (record l.fn.input { at = 0 }) l.self l.input;
 }
 
 -- the number of bytes that may still be consumed, and then the opcode of the open run

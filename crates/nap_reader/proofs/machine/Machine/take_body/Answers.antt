@@ -58,8 +58,8 @@ returns-in_err-keep-in-None-clause-goes g c =
     let e = err_from_is_err_and c.from_residual.result c.from_residual.ensures.1 in
     rw e.1 (stops_then c.loop-input.invariant.goes.on c.in_err-keep-in-None.ensures.goes)
 
-pub end_body-requires-clause-held : goal.end_body-requires-clause-held
-end_body-requires-clause-held g c = ap is_some c.in-Some-escape.is
+pub end_body-requires-clause-retained : goal.end_body-requires-clause-retained
+end_body-requires-clause-retained g c = ap is_some c.in-Some-escape.is
 
 pub end_body-requires-clause-next : goal.end_body-requires-clause-next
 end_body-requires-clause-next g c = (c.args.piece.now, next_byte c.loop-input.invariant.goes.counts.reads c.in-Some-next_slice.ensures)
@@ -88,8 +88,8 @@ loop-input-preserved-then-ends_body g c =
       goes = goes_then so.goes (c.in_ok-end_body-in-Some-escape.ensures.goes c.args.piece.now next);
     }
 
-pub keep_escape-requires-clause-held : goal.keep_escape-requires-clause-held
-keep_escape-requires-clause-held g c = ap is_some c.in-Some-2.is
+pub keep_escape-requires-clause-retained : goal.keep_escape-requires-clause-retained
+keep_escape-requires-clause-retained g c = ap is_some c.in-Some-2.is
 
 pub keep_escape-requires-clause-next : goal.keep_escape-requires-clause-next
 keep_escape-requires-clause-next g c = next_byte c.loop-input.invariant.goes.counts.reads c.in-Some-next_slice.ensures

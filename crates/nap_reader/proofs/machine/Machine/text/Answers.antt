@@ -1,4 +1,4 @@
-use Rattle.nap_reader.proofs.{All, All-cons, All-head, All-nil, Codes, IsGraphic, IsTextByte, IsTextOf, List, None, Option, Some, TextStep, [], ap, arith, at_front, drop, format_effector, format_effector_front, get_or, is_of_text, length, refl, slice_index, subst, sym, take, take-append-drop, text_halts, text_taken, ℕ, ◌++◌, ◌<◌, ◌∙◌, ◌∷◌, ◌≡◌, ◌≤◌}
+use Rattle.nap_reader.proofs.{All, All-cons, All-head, All-nil, Codes, IsGraphic, IsTextByte, IsTextOf, List, None, Option, Some, TextStep, [], ap, arith, at_prefix, drop, format_effector, format_effector_front, get_or, is_of_text, length, refl, slice_index, subst, sym, take, take-append-drop, text_halts, text_taken, ℕ, ◌++◌, ◌<◌, ◌∙◌, ◌∷◌, ◌≡◌, ◌≤◌}
 use Rattle.nap_reader.proofs.machine.Machine.text.Goals as goal
 use Rattle.nap_reader.proofs.machine.Machine.text.Goals.{Else-text-lt2}
 
@@ -32,7 +32,7 @@ returns-then-text-lt2 g c = λ ended.
 -- The text has more than one byte.
 is_text : (g : _) (c : Else-text-lt2 g) → IsTextOf c.args.self.now c.args.set c.args.bytes.now c.text_bytes-text.result.now
 is_text g c =
-    let front = at_front is_of_text c.args.bytes.now c.text_bytes-text.result.now c.text_bytes-text.ensures.bytes in
+    let front = at_prefix is_of_text c.args.bytes.now c.text_bytes-text.result.now c.text_bytes-text.ensures.bytes in
     record { front = sym front.1; few = front.0; some = omega arith; typed = c.text_bytes-text.ensures.typed; closed = c.requires.closed; are = c.requires.set }
 
 pub returns-in-Ok : goal.returns-in-Ok

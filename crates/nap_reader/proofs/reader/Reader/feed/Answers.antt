@@ -2,8 +2,8 @@ use Rattle.nap_reader.proofs.{Err, IsSome, Reader, ReadsPiece, StopsPiece, arith
 use Rattle.nap_reader.proofs.reader.Reader.feed.Goals as goal
 use Rattle.nap_reader.proofs.reader.Reader.feed.Goals.{After-read}
 
-pub returns-in-Some-clause-stands : goal.returns-in-Some-clause-stands
-returns-in-Some-clause-stands g c s p h = stays c.args.self.now c.in-Some.refusal c.in-Some.is s p c.args.piece.now h
+pub returns-in-Some-clause-has_read : goal.returns-in-Some-clause-has_read
+returns-in-Some-clause-has_read g c s p h = stays c.args.self.now c.in-Some.refusal c.in-Some.is s p c.args.piece.now h
 
 pub read-requires-clause-live : goal.read-requires-clause-live
 read-requires-clause-live g c = record { live = c.in_default.is; agrees = c.args.self.now.agrees c.in_default.is }
@@ -41,7 +41,7 @@ pub returns-in-Ok : goal.returns-in-Ok
 returns-in-Ok g c =
     let takes = c.in-Ok.ensures.reads c.args.self.now (now g (goal.at.returns-in-Ok g c).After-read) refl refl refl refl in
     record {
-      stands = (c.in-Ok.ensures.reads c.args.self.now _ refl refl refl refl).stands;
+      has_read = (c.in-Ok.ensures.reads c.args.self.now _ refl refl refl refl).has_read;
       budget = takes.budget;
       answered = takes.live;
       latched = search rules;
@@ -60,7 +60,7 @@ returns-in-Err g c =
     let refuses = c.in-Err.ensures.reads.1 c.args.self.now (now g (goal.at.returns-in-Err g c).After-read) refl refl refl refl in
     let (refusal, is, kept) = err_from_is_err_and c.kept_refusal.result c.kept_refusal.ensures in
     rw is (record {
-      stands = (c.in-Err.ensures.reads.1 c.args.self.now _ refl refl refl refl).stands;
+      has_read = (c.in-Err.ensures.reads.1 c.args.self.now _ refl refl refl refl).has_read;
       budget = refuses.budget;
       answered = kept;
       latched = search rules;

@@ -15,9 +15,9 @@ taken_all p piece i within =
     ∙ ap (λ (q : List ℕ). p ++ q) (take-append-drop (i + 1) piece)
 
 -- A reader whose pending bytes lead on has read the bytes so far.
-pub stands_by : {S : Type 0} {g : Ghosts S} (reader : Reader S g) (s : S) (p : List ℕ) → refusal_of reader ≡ None → fed_of reader ≡ length p →
+pub has_read_by : {S : Type 0} {g : Ghosts S} (reader : Reader S g) (s : S) (p : List ℕ) → refusal_of reader ≡ None → fed_of reader ≡ length p →
     Continues g s (begun (budget_of reader) p) (sink_of reader) (reading_state reader) [] → HasRead reader s p
-stands_by {S} {g} reader s p live fed k = record {
+has_read_by {S} {g} reader s p live fed k = record {
   answers = subst (Answers g s (budget_of reader) p (sink_of reader) (left_of reader)) (sym live) (record {
     refusal = leads_unrefused k;
     taken = leads_taken k;
@@ -57,9 +57,9 @@ stop_answers {S} g s budget p b t n r cause h = at cause h
     at memory k = broken k
     at device k = broken k
 
-stands_refused : {S : Type 0} {g : Ghosts S} (reader : Reader S g) (r : Refusal) (s : S) (p : List ℕ) → refusal_of reader ≡ Some r →
+has_read_refused : {S : Type 0} {g : Ghosts S} (reader : Reader S g) (r : Refusal) (s : S) (p : List ℕ) → refusal_of reader ≡ Some r →
     AnswersBy g s (budget_of reader) p (sink_of reader) (left_of reader) r (cause_of r.fault) → HasRead reader s p
-stands_refused {S} {g} reader r s p is h = record {
+has_read_refused {S} {g} reader r s p is h = record {
   answers = subst (Answers g s (budget_of reader) p (sink_of reader) (left_of reader)) (sym is) h;
   fed = λ e. cc (is, e);
   continues = λ e. let bad : ⊥ = cc (is, e) in absurd bad;
@@ -69,22 +69,22 @@ stands_refused {S} {g} reader r s p is h = record {
 pub stays : {S : Type 0} {g : Ghosts S} (reader : Reader S g) (r : Refusal) → refusal_of reader ≡ Some r → (s : S) (p q : List ℕ) →
     HasRead reader s p → HasRead reader s (p ++ q)
 stays {S} {g} reader r is s p q h =
-    stands_refused reader r s (p ++ q) is
+    has_read_refused reader r s (p ++ q) is
     (answers_stay g s (budget_of reader) p q (sink_of reader) (left_of reader) r (cause_of r.fault)
     (subst (Answers g s (budget_of reader) p (sink_of reader) (left_of reader)) is h.answers))
 
 -- A reader that was refused at a byte has read it and whatever bytes come after it.
-pub stands_stopped : {S : Type 0} {g : Ghosts S} (reader : Reader S g) (r : Refusal) (s : S) (p : List ℕ) (b : ℕ) (q : List ℕ) → refusal_of reader ≡ Some r →
+pub has_read_stopped : {S : Type 0} {g : Ghosts S} (reader : Reader S g) (r : Refusal) (s : S) (p : List ℕ) (b : ℕ) (q : List ℕ) → refusal_of reader ≡ Some r →
     StopsBy g s (budget_of reader) p b (sink_of reader) (left_of reader) r (cause_of r.fault) → HasRead reader s ((p ++ b ∷ []) ++ q)
-stands_stopped {S} {g} reader r s p b q is h =
-    stands_refused reader r s ((p ++ b ∷ []) ++ q) is
+has_read_stopped {S} {g} reader r s p b q is h =
+    has_read_refused reader r s ((p ++ b ∷ []) ++ q) is
     (answers_stay g s (budget_of reader) (p ++ b ∷ []) q (sink_of reader) (left_of reader) r (cause_of r.fault)
     (stop_answers g s (budget_of reader) p b (sink_of reader) (left_of reader) r (cause_of r.fault) h))
 
 -- a reader that was refused in a piece has read the piece
-pub stands_behind_stop : {S : Type 0} {g : Ghosts S} {old new : Reader S g} {piece : List ℕ} {r : Refusal} {i : ℕ} → refusal_of new ≡ Some r → budget_of new ≡ budget_of old →
+pub has_read_past_stop : {S : Type 0} {g : Ghosts S} {old new : Reader S g} {piece : List ℕ} {r : Refusal} {i : ℕ} → refusal_of new ≡ Some r → budget_of new ≡ budget_of old →
     StopsAt old new piece r i → (s : S) (p : List ℕ) → HasRead old s p → HasRead new s (p ++ piece)
-stands_behind_stop {S} {g} {old} {new} {piece} {r} {i} refused budget stops s p h =
+has_read_past_stop {S} {g} {old} {new} {piece} {r} {i} refused budget stops s p h =
     subst (λ (q : List ℕ). HasRead new s q) (taken_all p piece i stops.within)
-    (stands_stopped new r s (p ++ take i piece) (get_or piece i 0) (drop (i + 1) piece) refused
+    (has_read_stopped new r s (p ++ take i piece) (get_or piece i 0) (drop (i + 1) piece) refused
     (subst (λ (budget : ℕ). StopsBy g s budget (p ++ take i piece) (get_or piece i 0) (sink_of new) (left_of new) r (cause_of r.fault)) (sym budget) (stops.there s p h)))
