@@ -1,9 +1,10 @@
-use Rattle.std.proofs.Common.{ℕ, ◌≡◌, ◌+◌, ◌-◌, ◌^◌, ◌<◌, ◌≤◌, List, [], ◌++◌, codes, decimal, length, take, drop, ap, sym, ◌∙◌, arith, length-append}
+use Rattle.std.proofs.Common.{ℕ, ◌≡◌, ◌+◌, ◌-◌, ◌^◌, ◌<◌, ◌≤◌, suc, List, [], ◌∷◌, ◌++◌, codes, decimal, length, set, take, drop, drop_at, append_assoc, ap, sym, ◌∙◌, arith, length-append}
 use Rattle.std.specs.Str.{IsUtf8}
 use Rattle.std.proofs.lemmas.Fmt.{IsAscii-decimal, length-decimal-le}
 use Rattle.std.proofs.lemmas.Str.{IsAscii-append, IsUtf8-from_ascii}
 use Rattle.std.proofs.lemmas.Str.Ascii.{IsAscii-cons, IsAscii-nil}
 use Rattle.std.proofs.lemmas.List.{drop-append-le, drop-drop, drop-take, length-take-le}
+use Rattle.std.proofs.lemmas.List.Edits.{sets-eq}
 use Rattle.std.proofs.Math.Seq.{drop-append-add, take-append_seam}
 use borrow.Rule.Slice.PartMut.{put_mid}
 
@@ -53,4 +54,19 @@ point_few x y wide high =
       length-append (decimal x) (codes ","),
       length-decimal-le 7 x (omega arith) (omega (arith, wide)) (omega (arith, wide)),
       length-decimal-le 7 y (omega arith) (omega (arith, high)) (omega (arith, high)),
+    )
+
+-- five bytes were put at a place
+pub five_put : (bytes : List ℕ) (at a b c d e : ℕ) → at + 5 ≤ length bytes →
+    drop at (set (set (set (set (set bytes at a) (at + 1) b) (at + 2) c) (at + 3) d) (at + 4) e) ≡ a ∷ b ∷ c ∷ d ∷ e ∷ drop (at + 5) bytes
+five_put bytes at a b c d e within =
+    let put : List ℕ = a ∷ b ∷ c ∷ d ∷ e ∷ [] in
+    let one : at + 1 ≡ suc at = omega arith in
+    let two : at + 2 ≡ suc (suc at) = omega arith in
+    let three : at + 3 ≡ suc (suc (suc at)) = omega arith in
+    let four : at + 4 ≡ suc (suc (suc (suc at))) = omega arith in
+    rw (one, two, three, four)
+    (
+    ap (drop at) (sets-eq put bytes at within ∙ append_assoc (take at bytes) put (drop (at + 5) bytes))
+    ∙ drop_at (take at bytes) (put ++ drop (at + 5) bytes) at (length-take-le at bytes (omega (arith, within)))
     )

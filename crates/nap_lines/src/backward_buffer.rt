@@ -1,5 +1,5 @@
 //! A buffer for a line that is filled from the back.
-ghost use Rattle.std.specs.Prelude.{◌≡◌, ◌+◌, ◌<◌, ◌≤◌, [], ◌++◌, ◌-◌, drop, length, take, decimal};
+ghost use Rattle.std.specs.Prelude.{◌≡◌, ◌+◌, ◌<◌, ◌≤◌, [], ◌++◌, ◌-◌, codes, drop, length, take, decimal};
 ghost use Rattle.std.specs.Char.{digit_char};
 ghost use Rattle.std.specs.Fmt.{signed_decimal};
 ghost use Rattle.std.specs.Str.{IsUtf8};
@@ -94,6 +94,22 @@ impl BackwardBuffer {
         self.push_bytes(text.as_bytes());
     }
 
+    /// Prepends the name of a Line.
+    #[inline(always)]
+    pub(crate) fn push_line_name(&mut self)
+        requires space { length self.old + 5 ≤ line_limit }
+        ensures text { self.new ≡ codes "LINE " ++ self.old }
+        ensures size { length self.new ≡ 5 + length self.old }
+    {
+        let at = self.at - 5;
+        self.bytes[at] = b'L';
+        self.bytes[at + 1] = b'I';
+        self.bytes[at + 2] = b'N';
+        self.bytes[at + 3] = b'E';
+        self.bytes[at + 4] = b' ';
+        self.at = at;
+    }
+
     /// Prepends the decimal digits of a number.
     pub(crate) fn push_number(&mut self, number: u32)
         requires space { length self.old + 10 ≤ line_limit }
@@ -113,10 +129,9 @@ impl BackwardBuffer {
         ensures { result ≡ take count self.now }
     {
         let end = self.at + count;
-        let mut bytes = [0; COPY_SIZE];
-        bytes.copy_from_slice(&self.bytes[end - COPY_SIZE..end]);
+        let bytes = self.bytes[end - COPY_SIZE..end].as_array();
         CopiedText {
-            bytes,
+            bytes: *bytes.unwrap(),
             from: COPY_SIZE - count,
         }
     }
@@ -187,14 +202,14 @@ impl Model for CopiedText {
     ghost invariant = { λ k. record { within : k.from ≤ 16; utf8 : IsUtf8 (drop k.from k.bytes) } };
 }
 
+/// The hexadecimal digits in lower case.
+static DIGITS: [u8; 16] = *b"0123456789abcdef";
+
 /// Returns a hexadecimal digit in lower case.
 #[inline(always)]
 pub(crate) fn digit(value: u8) -> u8
     requires { value < 16 }
     ensures { result ≡ digit_char value }
 {
-    match value {
-        0..=9 => b'0' + value,
-        _ => b'a' - 10 + value,
-    }
+    DIGITS[usize::from(value)]
 }

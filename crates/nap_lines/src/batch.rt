@@ -1,17 +1,15 @@
 //! Lines of the entries of a batch, which share their ends.
-ghost use Rattle.std.specs.Prelude.{◌≡◌, ◌+◌, ◌-◌, ◌≤◌, ◌++◌, OnOk, OnErr, drop, flat_map, length, take};
-ghost use Rattle.std.specs.Str.{IsUtf8};
+ghost use Rattle.std.specs.Prelude.{◌≡◌, ◌+◌, ◌≤◌, ◌++◌, drop, flat_map, length, take};
 ghost use Rattle.nap_list.specs.Batches.{batch_entries, text_entries_in};
 ghost use Rattle.nap_lines.specs.Listing.{lines};
 ghost use Rattle.nap_lines.specs.Batches.{point_front, point_end, line_front, char_front, move_front, text_byte_front, lines_with, pen_at};
 ghost use Rattle.nap_lines.specs.Writing.{line_limit};
 
 use crate::backward_buffer::BackwardBuffer;
-use crate::letters::{write_few, write_many};
+use crate::letters::{slice_part, write_few, write_many};
 use nap_codes::{CharSet, TextStep, format_effector};
 use nap_list::{Batch, Colour, Hand, Pen, line_start};
 use nap_values::{Move, Point};
-use std::alloc::AllocError;
 
 impl BackwardBuffer {
     /// Prepends the end of a Point's line: its attributes.
@@ -66,7 +64,7 @@ impl BackwardBuffer {
     }
 
     /// Prepends the beginning of the line of a byte of a text: of a TextMove for a format effector, else of a Char.
-    fn push_text_byte_front(&mut self, set: CharSet, code: u8)
+    pub(crate) fn push_text_byte_front(&mut self, set: CharSet, code: u8)
         requires space { length self.old + 21 ≤ line_limit }
         ensures { self.new ≡ text_byte_front set code ++ self.old }
     {
@@ -117,7 +115,7 @@ fn write_line_lines(
         let next = buffer.push_point_copied(*to);
         buffer.push(" ");
         buffer.push_copied(&kept);
-        buffer.push("LINE ");
+        buffer.push_line_name();
         if text.extend_from_slice(buffer.as_slice()).is_err() {
             return written;
         }
@@ -125,39 +123,6 @@ fn write_line_lines(
         written += 1;
     }
     written
-}
-
-/// Appends the line of a byte of a text that may be a format effector, with the last bytes of the buffer as its end.
-/// Afterwards the buffer has the beginning of a Char's line again.
-pub(crate) fn write_text_byte(
-    buffer: &mut BackwardBuffer,
-    text: &mut Vec<u8>,
-    set: CharSet,
-    code: u8,
-    end: usize,
-) -> Result<(), AllocError>
-    requires within { end ≤ length buffer.old }
-    requires space { end + 21 ≤ line_limit }
-    requires utf8 { IsUtf8 (drop (length buffer.old - end) buffer.old) }
-    ensures space { buffer.new ≡ char_front set 0 ++ drop (length buffer.old - end) buffer.old }
-    ensures ok { OnOk result (text.new.items ≡ text.old.items ++ (text_byte_front set code ++ drop (length buffer.old - end) buffer.old)) }
-    ensures err { OnErr result (text.new.items ≡ text.old.items) }
-{
-    buffer.keep_last(end);
-    buffer.push_text_byte_front(set, code);
-    let written = text.extend_from_slice(buffer.as_slice());
-    buffer.keep_last(end);
-    buffer.push_char_front(set, 0);
-    written
-}
-
-/// Returns `count` items from `first`.
-#[inline(always)]
-pub(crate) fn slice_part<X>(items: &[X], first: usize, count: usize) -> &[X]
-    requires { first + count ≤ length items.now }
-    ensures { result.now ≡ take count (drop first items.now) }
-{
-    &items[first..first + count]
 }
 
 /// The least number of bytes of a text whose lines are written by blocks.

@@ -1,6 +1,7 @@
 //! Blocks of lines of characters, which differ only in the digits of their codes.
 ghost use Rattle.std.specs.Prelude.{◌≡◌, ◌+◌, ◌*◌, ◌≤◌, ◌++◌, All, drop, length, take};
 ghost use Rattle.nap_lines.specs.Blocks.{with_bytes_at, recoded, repeated};
+ghost use Rattle.nap_lines.specs.Lines.{code_text};
 
 use crate::backward_buffer::digit;
 
@@ -14,6 +15,16 @@ fn copy_at(block: &mut [u8], at: usize, bytes: &[u8])
     ensures { block.new ≡ with_bytes_at block.old at bytes.now }
 {
     block[at..at + bytes.len()].copy_from_slice(bytes);
+}
+
+/// Puts the two digits of a code at an index.
+#[inline(always)]
+fn put_code(block: &mut [u8], at: usize, code: u8)
+    requires within { at + 2 ≤ length block.old }
+    ensures { block.new ≡ with_bytes_at block.old at (code_text code) }
+{
+    block[at] = digit(code / 16);
+    block[at + 1] = digit(code % 16);
 }
 
 /// Fills the beginning of a block with `count` copies of a line.
@@ -42,11 +53,7 @@ pub(crate) fn recode_lines(block: &mut [u8], size: usize, place: usize, codes: &
         if code < 0x20 {
             return i;
         }
-        copy_at(
-            block,
-            i * size + place,
-            &[digit(code / 16), digit(code % 16)],
-        );
+        put_code(block, i * size + place, code);
     }
     codes.len()
 }

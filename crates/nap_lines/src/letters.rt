@@ -1,12 +1,46 @@
 //! Lines of characters and of the moves among them.
-ghost use Rattle.std.specs.Prelude.{◌≡◌, ◌+◌, ◌≤◌, ◌++◌, flat_map, length, take};
-ghost use Rattle.nap_lines.specs.Batches.{text_byte_front};
+ghost use Rattle.std.specs.Prelude.{◌≡◌, ◌+◌, ◌-◌, ◌≤◌, ◌++◌, OnOk, OnErr, drop, flat_map, length, take};
+ghost use Rattle.std.specs.Str.{IsUtf8};
+ghost use Rattle.nap_lines.specs.Batches.{char_front, text_byte_front};
 ghost use Rattle.nap_lines.specs.Writing.{line_limit};
 
 use crate::backward_buffer::BackwardBuffer;
-use crate::batch::{slice_part, write_text_byte};
 use crate::block::{BLOCK, fill_lines, recode_lines};
 use nap_codes::CharSet;
+use std::alloc::AllocError;
+
+/// Returns `count` items from `first`.
+#[inline(always)]
+pub(crate) fn slice_part<X>(items: &[X], first: usize, count: usize) -> &[X]
+    requires { first + count ≤ length items.now }
+    ensures { result.now ≡ take count (drop first items.now) }
+{
+    &items[first..first + count]
+}
+
+/// Appends the line of a byte of a text that may be a format effector, with the last bytes of the buffer as its end.
+/// Afterwards the buffer has the beginning of a Char's line again.
+fn write_text_byte(
+    buffer: &mut BackwardBuffer,
+    text: &mut Vec<u8>,
+    set: CharSet,
+    code: u8,
+    end: usize,
+) -> Result<(), AllocError>
+    requires within { end ≤ length buffer.old }
+    requires space { end + 21 ≤ line_limit }
+    requires utf8 { IsUtf8 (drop (length buffer.old - end) buffer.old) }
+    ensures space { buffer.new ≡ char_front set 0 ++ drop (length buffer.old - end) buffer.old }
+    ensures ok { OnOk result (text.new.items ≡ text.old.items ++ (text_byte_front set code ++ drop (length buffer.old - end) buffer.old)) }
+    ensures err { OnErr result (text.new.items ≡ text.old.items) }
+{
+    buffer.keep_last(end);
+    buffer.push_text_byte_front(set, code);
+    let written = text.extend_from_slice(buffer.as_slice());
+    buffer.keep_last(end);
+    buffer.push_char_front(set, 0);
+    written
+}
 
 /// Appends a line for each byte of a text, one by one, each with the buffer's contents as its end. Returns the number
 /// of lines, which is less than the number of bytes only if memory runs out.

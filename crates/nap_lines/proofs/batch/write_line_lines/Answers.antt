@@ -37,7 +37,7 @@ loop-to-preserved c =
     let to = c.to-item.result in
     let i = c.loop-to.to-index in
     let points = c.args.points.now in
-    let buffer = made_front at to c.keep_last.new.self c.push_point_copied-next.new.self c.push.new.self c.push_copied.new.self c.push-in-loop-to.new.self c.loop-to.kept c.push_point_copied-next.ensures.text c.push.ensures.text c.push_copied.ensures.text c.push-in-loop-to.ensures.text invariant.kept ∙ ap (λ (bytes : List ℕ). line_front at to ++ bytes) (c.keep_last.ensures ∙ kept c.loop-to.buffer invariant.front end c.len-end.result invariant.buffer c.len-end.ensures.count) in
+    let buffer = made_front at to c.keep_last.new.self c.push_point_copied-next.new.self c.push.new.self c.push_copied.new.self c.push_line_name.new.self c.loop-to.kept c.push_point_copied-next.ensures.text c.push.ensures.text c.push_copied.ensures.text c.push_line_name.ensures.text invariant.kept ∙ ap (λ (bytes : List ℕ). line_front at to ++ bytes) (c.keep_last.ensures ∙ kept c.loop-to.buffer invariant.front end c.len-end.result invariant.buffer c.len-end.ensures.count) in
     let line = c.as_slice.ensures.bytes ∙ buffer in
     record {
       front = line_front at to;

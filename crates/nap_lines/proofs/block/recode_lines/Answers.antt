@@ -1,6 +1,5 @@
-use Rattle.std.proofs.Common.{◌≡◌, ◌+◌, ◌*◌, ◌/◌, ◌≤◌, ◌++◌, ℕ, List, [], ◌∷◌, arith, refl, ◌∙◌, ap, sym, subst, length, take}
+use Rattle.std.proofs.Common.{◌≡◌, ◌+◌, ◌*◌, ◌≤◌, ◌++◌, ℕ, List, [], ◌∷◌, arith, refl, ◌∙◌, ap, sym, subst, length, take}
 use Rattle.std.specs.Prelude.{All, slice_index}
-use Rattle.std.specs.Char.{digit_char}
 use Rattle.std.proofs.lemmas.List.{take_more, length-take-le}
 use Rattle.std.proofs.lemmas.List.Elements.{All-append, All-cons, All-nil}
 use Rattle.std.proofs.Math.Nat.{add-mul, mul-le-mul_right}
@@ -30,13 +29,10 @@ loop-i-preserved c =
     let next : i + 1 ≤ length codes = omega (arith, within) in
     let last : (i + 1) * size ≤ length codes * size = mul-le-mul_right size next in
     let long : length so_far * size + size ≤ length block = omega (arith, many, last, add-mul i 1 size, c.requires.within) in
-    let digits : c.digit.result ∷ c.digit-in-loop-i.result ∷ [] ≡ code_text code =
-    ap (λ (x : ℕ). x ∷ c.digit-in-loop-i.result ∷ []) c.digit.ensures ∙ ap (λ (y : ℕ). digit_char (code / 16) ∷ y ∷ []) c.digit-in-loop-i.ensures in
     record {
       characters = subst (λ (xs : List ℕ). All letter xs) (sym one)
           (All-append letter so_far (code ∷ []) c.loop-i.invariant.characters (All-cons letter code [] (omega (arith, c.if-code-lt32.false)) (All-nil letter)));
-      block = c.copy_at.ensures
-          ∙ ap (λ (two : List ℕ). with_bytes_at c.loop-i.block at two) digits
+      block = c.put_code.ensures
           ∙ ap (λ (bytes : List ℕ). with_bytes_at bytes at (code_text code)) c.loop-i.invariant.block
           ∙ recoded_next size place code so_far block at c.requires.place long (omega (arith, many))
           ∙ ap (λ (codes : List ℕ). recoded size place codes block) (sym one);

@@ -1,4 +1,6 @@
-use Rattle.std.proofs.Common.{◌≡◌, ◌+◌, ◌-◌, length, take, drop, length-drop, arith, ap, ◌∙◌}
+use Rattle.std.proofs.Common.{◌≡◌, ◌≢◌, ℕ, ◌+◌, ◌-◌, length, take, drop, length-drop, arith, ap, ◌∙◌, subst}
+use Rattle.std.specs.Prelude.{MatchOption}
+use Rattle.std.specs.Array.{IsWholeChunk}
 use Rattle.nap_lines.proofs.KeptLemmas.{first_copied}
 use Rattle.nap_lines.proofs.backward_buffer.BackwardBuffer.copy_of_first.Goals as goal
 
@@ -10,10 +12,11 @@ invariant_of-result c =
     let size = ap length c.self.view_is in
     let gone = length-drop at bytes in
     let start = at + count - 16 in
-    let made : drop (16 - count) c.copy_from_slice.new.self ≡ take count c.args.self.now =
-    ap (drop (16 - count)) c.copy_from_slice.ensures.after
-    ∙ first_copied bytes at count start (at + count - start) (16 - count) (omega arith) (omega arith) (omega arith)
-    ∙ ap (take count) c.self.view_is in
+    let size_now : ℕ = at + count - start in
+    let whole : IsWholeChunk (take size_now (drop start bytes)) c.unwrap.result.now 16 =
+    subst (λ found. MatchOption found (length (take size_now (drop start bytes)) ≢ 16) (λ y. IsWholeChunk (take size_now (drop start bytes)) y.now 16)) c.unwrap.ensures c.as_array-bytes.ensures.cases in
+    let made : drop (16 - count) c.unwrap.result.now ≡ take count c.args.self.now =
+    ap (drop (16 - count)) whole.same ∙ first_copied bytes at count start (at + count - start) (16 - count) (omega arith) (omega arith) (omega arith) ∙ ap (take count) c.self.view_is in
     record { within = omega arith; utf8 = rw made c.requires.utf8 }
 
 pub returns : goal.returns
@@ -24,6 +27,7 @@ returns c =
     let size = ap length c.self.view_is in
     let gone = length-drop at bytes in
     let start = at + count - 16 in
-    ap (drop (16 - count)) c.copy_from_slice.ensures.after
-    ∙ first_copied bytes at count start (at + count - start) (16 - count) (omega arith) (omega arith) (omega arith)
-    ∙ ap (take count) c.self.view_is
+    let size_now : ℕ = at + count - start in
+    let whole : IsWholeChunk (take size_now (drop start bytes)) c.unwrap.result.now 16 =
+    subst (λ found. MatchOption found (length (take size_now (drop start bytes)) ≢ 16) (λ y. IsWholeChunk (take size_now (drop start bytes)) y.now 16)) c.unwrap.ensures c.as_array-bytes.ensures.cases in
+    ap (drop (16 - count)) whole.same ∙ first_copied bytes at count start (at + count - start) (16 - count) (omega arith) (omega arith) (omega arith) ∙ ap (take count) c.self.view_is
