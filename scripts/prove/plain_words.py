@@ -25,7 +25,9 @@ FENCE = re.compile(r"^ *```")
 SPAN = re.compile(r"`[^`]*`")
 MACRO = re.compile(r"^[.'][A-Za-z]+ ?|\\f[BIRP]|\\")
 DOCUMENTS = ("*.md", "docs/*.md", "scripts/*.md", "scripts/*/*.md", "library/*.md", "python/*.md", "vectors/*.md",
-             "man/*.1")
+             "crates/*/data/*.md", "man/*.1")
+# Tables of streams, whose lines of `#` say what each shows.
+TABLES = ("crates/*/data/*.rows", "vectors/*.rows")
 
 
 class Text(NamedTuple):
@@ -185,11 +187,16 @@ def texts_of_crates(top: Path) -> Iterator[Text]:
 
 
 def texts_of_documents(top: Path) -> Iterator[Text]:
-    """The paragraphs of all documents, what the list of wrong bodies says, and the comments of scripts."""
+    """The paragraphs of all documents, what tables of streams and the list of wrong bodies say, and the comments of
+    scripts."""
     for path in sorted(path for pattern in DOCUMENTS for path in top.glob(pattern)):
         yield from prose_in(path.read_text("utf-8"), str(path.relative_to(top)))
     for number, line in enumerate((top / "docs" / "wrong-bodies.tsv").read_text("utf-8").splitlines(), 1):
         yield Text("documents", "docs/wrong-bodies.tsv", number, SPAN.sub("`", line.split("\t")[-1]))
+    for path in sorted(path for pattern in TABLES for path in top.glob(pattern)):
+        for number, line in enumerate(path.read_text("utf-8").splitlines(), 1):
+            if line.startswith("#"):
+                yield Text("documents", str(path.relative_to(top)), number, line)
     for path in sorted(path for folder in ("scripts", "library") for path in (top / folder).rglob("*")):
         if path.is_file() and "__pycache__" not in path.parts and not path.suffix == ".md":
             text = path.read_text("utf-8")

@@ -273,7 +273,7 @@ JOINS = """
 0E 26 52 40 40 49 40 40
 # Runs that are joined: Two points, each with its opcode, join.
 0E 26 52 26 49
-# Runs that are joined: Lines that go on from one another join.
+# Runs that are joined: Lines that start where the one before ends join.
 0E 24 49 28 52 28 49 28 50
 # Runs that are joined: A line from elsewhere after one that starts at the pen.
 0E 24 49 28 52 2A 49 40 40 50
@@ -352,7 +352,7 @@ def lengths() -> Iterator[Case]:
         yield Case(rule, f"{count} points: a run has at most 2,048.", f"0E 21 40 26 52*{count}")
         yield Case(
             rule,
-            f"{count} lines that go on from each other: a run has at most 2,048.",
+            f"{count} lines that start where the one before ends: a run has at most 2,048.",
             f"0E 21 40 24 49 28 49*{count}",
         )
     for count in (1023, 1024, 1025):

@@ -124,10 +124,10 @@ def escapes_in_full_stores() -> Iterator[Case]:
     yield Case(row, "The input ends after an ESC that may belong to a full store: Unended.", f"1B 40 21 41*{STORE} 1B")
     yield Case(
         row,
-        "ESC and a byte after it, where there is room for one: refused at the second.",
+        "ESC and a byte after it, where there is space for one: refused at the second.",
         f"1B 40 21 41*{STORE - 1} 1B 46",
     )
-    yield Case(row, "ESC and a byte after it, where there is room for both.", f"1B 40 21 41*{STORE - 2} 1B 46 1B 45")
+    yield Case(row, "ESC and a byte after it, where there is space for both.", f"1B 40 21 41*{STORE - 2} 1B 46 1B 45")
     yield Case(row, "An eighth bit after ESC where the store is full: EighthBit, since both are known at one byte.",
                f"1B 40 21 41*{STORE} 1B 80")
     yield Case(row, "An eighth bit where the store is full: EighthBit.", f"1B 40 21 41*{STORE} 80")
