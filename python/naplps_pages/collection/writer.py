@@ -11,7 +11,8 @@ from ..packs.naming import pack_of
 from ..packs.reading import SEVERAL
 from . import texts, word_index
 from .folders import is_within, join
-from .tables import ACCEPTED, GONE, READ, UNREADABLE, VANISHED, Answered, File, Piece
+from .rows import Answered, File, Piece
+from .tables import ACCEPTED, GONE, READ, UNREADABLE, VANISHED
 
 # A step is written once it has so many files, or is so old in seconds.
 STEP, SECONDS = 2000, 2.0
