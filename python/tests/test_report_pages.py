@@ -118,3 +118,16 @@ def test_what_is_closed_plays_no_more(wall, address):
     wall.press("Escape")
     wall.until("!" + OPEN)
     assert wall.run(told) == wall.run(later)
+
+
+@pytest.mark.parametrize("gone", ["", "folder"])
+def test_in_a_narrow_window_what_a_tile_says_is_shown_whole(wall, gone):
+    wall.size(390, 900)
+    wall.run("document.getElementById(%r)?.closest('.field').remove()" % gone)
+    wall.until("document.querySelectorAll('#wall .badge').length >= 3")
+    badges = wall.run("[...document.querySelectorAll('#wall .badge')].map((each) => [each.scrollWidth - "
+                      "each.clientWidth, each.getBoundingClientRect().top - "
+                      "each.closest('li').getBoundingClientRect().top])")
+    assert all(more <= 0 and top >= 0 for more, top in badges)
+    right = "document.getElementById(%r).getBoundingClientRect().right"
+    assert abs(wall.run(right % "wall-told") - wall.run(right % "wall")) < 1
