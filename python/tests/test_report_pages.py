@@ -89,8 +89,9 @@ def test_first_words_stand_beside_each_name(wall):
 
 
 def test_spellings_and_held_pages_stand_side_by_side(wall, address):
-    own, other = (hashlib.sha256(each).hexdigest()[:16] for each in (POINT, LINES))
-    for to, pictures in (("#page=" + own, ".equal .thumb"), (f"#page={own}&beside={other}", ".pictures figure")):
+    own, other, first = (hashlib.sha256(each).hexdigest()[:16] for each in (POINT, LINES, FILES["accents.nap"]))
+    for to, pictures in (("#page=" + own, ".equal .thumb"), (f"#page={own}&beside={other}", ".pictures figure"),
+                         (f"#page={own}&beside={first}", ".pictures figure")):
         wall.open(address + to)
         wall.until(OPEN + " && document.querySelectorAll('#details %s img').length === 2" % pictures)
         one, two = wall.run("[...document.querySelectorAll('#details %s')].map((each) => {const box = "
