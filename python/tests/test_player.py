@@ -398,6 +398,12 @@ def test_a_hostile_page_is_bounded_as_a_sketch_is(shown, program, kind):
     page.run("player.showNow(player.line.ofEntries(Math.floor(player.line.number / 2)))")
 
 
+def test_a_row_of_bytes_says_what_it_has_no_room_for(shown):
+    page = shown(StreamWriter().clear().domain().at(0.1, 0.1, "caf").accent("acute", "e").made())
+    titles = page.run("[...document.querySelectorAll('.code')].map((each) => each.title)")
+    assert [each.split(": ")[1] for each in titles if "supplementary" in each] == ["supplementary character 42, CHAR"]
+
+
 @pytest.fixture
 def small(monkeypatch):
     """Small limits of what a player holds."""
