@@ -9,7 +9,7 @@ def read_version() -> str:
     for folder in (here, os.path.dirname(os.path.dirname(here))):
         path = os.path.join(folder, "VERSION")
         if os.path.isfile(path):
-            with open(path, encoding="ascii") as file:
+            with open(path, encoding="utf-8") as file:
                 return file.read().strip()
     from importlib import metadata  # (what takes long to be imported, and is needed here alone)
     return metadata.version("naplps")

@@ -1,5 +1,6 @@
 """The command as a process: how it ends."""
 import errno
+import gc
 import os
 import signal
 import sys
@@ -36,6 +37,7 @@ def _end(status: int) -> NoReturn:
         if status != FAILED:
             tell(f"standard output: {error.strerror}")
         os._exit(FAILED)  # (a usual end would flush again)
+    gc.freeze()  # (else the end looks for cycles among all that was imported, which takes long)
     sys.exit(status)
 
 

@@ -14,7 +14,6 @@ from naplps.version import VERSION
 from . import TOOL
 from .collection.printing import FORMS
 from .console import FAILED, WRONG_WORDS, tell
-from .report.limits import MOST_SKETCHES, USUAL_SKETCHES
 from .unexpected import told
 
 LEAST_SECONDS, MOST_SECONDS = 0.01, 1e6
@@ -292,6 +291,7 @@ def _find_options(one: Parser) -> None:
 
 
 def _report_options(one: Parser) -> None:
+    from .report.limits import MOST_SKETCHES, USUAL_SKETCHES
     _store_option(one)
     _asking_options(one, budget=False)
     one.add_argument("--into", metavar="FILE", type=name, required=True, help="the file that is made")

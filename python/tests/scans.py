@@ -8,6 +8,7 @@ from typing import NamedTuple, Optional
 from conftest import COMMAND
 from naplps_pages.collection import schemas, tables
 from naplps_pages.collection.part import keep_part, read_part
+from naplps_pages.collection.rows import Answered, File
 from naplps_pages.collection.store import open_to_write
 from naplps_pages.collection.writer import Terms, Writer
 
@@ -132,7 +133,7 @@ def written(store, root, found, terms=Terms("naplps", b"\0" * 32, "2", 1048576),
     writer = Writer(connection, b"/usr/bin/naplps", terms)
     writer.root(root)
     folder, _ = writer.folder(root, tables.READ, None)
-    files = [tables.File(folder, name, tables.READ, None, 650, 1, 1, at, answer.own)
+    files = [File(folder, name, tables.READ, None, 650, 1, 1, at, answer.own)
              for at, (name, answer) in enumerate(found)]
     writer.take((tuple(files), tuple(answer for _, answer in found)))
     writer.write()
@@ -149,8 +150,8 @@ def made_up(store, first, number, part=None):
     canon = [tables.hashed(b"canonical %d" % (at - 1 if at % 10 in (1, 7) else at))
              for at in range(first, first + number)]
     written(store, b"/archive", [
-        (b"p%09d.nap" % at, tables.Answered(one, tables.ACCEPTED, entries=165, canon=other, canon_size=1060,
-                                         kind=tables.PAGE, several=0))
+        (b"p%09d.nap" % at, Answered(one, tables.ACCEPTED, entries=165, canon=other, canon_size=1060,
+                                     kind=tables.PAGE, several=0))
         for at, one, other in zip(range(first, first + number), own, canon)], part=read_part(part) if part else None)
 
 

@@ -12,6 +12,7 @@ from hypothesis import strategies as st
 from conftest import COMMAND, PACKAGES
 from naplps_pages.collection import equal, equal_over, tables
 from naplps_pages.collection.merge import merge
+from naplps_pages.collection.rows import Answered
 from naplps_pages.collection.store import open_to_read
 from naplps_pages.collection.writer import Terms
 from samples import OUTSIDE, POINT, POINT_AND_BELL, SPELLED
@@ -99,10 +100,10 @@ STORES = st.lists(st.tuples(st.sampled_from("12"), ANSWERS), min_size=2, max_siz
 def answered(at, letter, said):
     own = tables.hashed(letter.encode())
     if said == "refused":
-        return tables.Answered(own, tables.REFUSED, number=10, place=at, fault="Outside")
+        return Answered(own, tables.REFUSED, number=10, place=at, fault="Outside")
     if said == "no answer":
-        return tables.Answered(own, tables.NO_ANSWER, why="none")
-    return tables.Answered(own, tables.ACCEPTED, entries=at, canon=tables.hashed(said.encode()), canon_size=at)
+        return Answered(own, tables.NO_ANSWER, why="none")
+    return Answered(own, tables.ACCEPTED, entries=at, canon=tables.hashed(said.encode()), canon_size=at)
 
 
 @settings(max_examples=40, suppress_health_check=[HealthCheck.function_scoped_fixture, HealthCheck.too_slow])

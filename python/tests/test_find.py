@@ -181,9 +181,9 @@ def test_a_store_of_the_schema_before_has_no_texts(run, store, tmp_path):
 
 
 # Modules that take long, of which a command needs none that only looks into a store.
-HEAVY = ("asyncio", "concurrent", "ctypes", "dataclasses", "email", "http", "inspect", "multiprocessing",
-         "naplps.drawing", "naplps.entry", "pathlib", "ssl", "subprocess", "tarfile", "tempfile", "urllib", "xml",
-         "zipfile")
+HEAVY = ("asyncio", "concurrent", "ctypes", "dataclasses", "email", "hashlib", "http", "inspect", "multiprocessing",
+         "naplps.drawing", "naplps.entry", "naplps_pages.collection.rows", "naplps_pages.report", "pathlib", "shutil",
+         "site", "ssl", "subprocess", "tarfile", "tempfile", "threading", "urllib", "xml", "zipfile")
 IMPORTED = """import sys
 sys.path.insert(0, sys.argv[1])
 from naplps_pages import cli

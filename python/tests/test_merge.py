@@ -13,6 +13,7 @@ import pytest
 from conftest import COMMAND, PACKAGES
 from naplps_pages.collection import tables
 from naplps_pages.collection.lock import Lock
+from naplps_pages.collection.rows import Answered
 from naplps_pages.collection.writer import Terms
 from scans import (
     FAKE, children, count, every_table, is_sound, made_up, rows, start, statuses, tree, wait_until, written,
@@ -76,7 +77,7 @@ def test_stores_that_differ(run, fake, here):
 def test_answers_are_compared_with_all_of_their_version(run, here):
     own = tables.hashed(b"page")
     for at, (version, entries) in enumerate((("1", 5), ("2", 6), ("1", 7))):
-        answer = tables.Answered(own, tables.ACCEPTED, entries=entries, canon=own, canon_size=1)
+        answer = Answered(own, tables.ACCEPTED, entries=entries, canon=own, canon_size=1)
         written("%d.db" % at, b"/%d" % at, [(b"page", answer)], Terms(version, b"%32d" % at, "2", 1), began=str(at))
     refused(run, ["all.db", "0.db", "1.db", "2.db"],
             "0.db: /0/page: accepted 5 entries, canonical {0}; 2.db: /2/page: accepted 7 entries, canonical {0}, "

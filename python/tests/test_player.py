@@ -9,6 +9,7 @@ import gallery
 from browser import Browser
 from conftest import TOP, file
 from naplps import drawing
+from naplps.answers import Refusal
 from naplps.client import Client
 from naplps.drawing.timeline import timeline
 from naplps.drawing.walk import MOST_DRAWN
@@ -19,7 +20,7 @@ from naplps_pages.player import limits
 from naplps_pages.player.played import played
 from naplps_pages.source import Page
 from players import how_like, like, play, want
-from samples import has
+from samples import POINT, has
 from stream_writer import StreamWriter
 from test_sketch_bounds import bomb
 
@@ -397,6 +398,12 @@ def test_a_hostile_page_is_bounded_as_a_sketch_is(shown, program, kind):
     page.run("player.showNow(player.line.ofEntries(Math.floor(player.line.number / 2)))")
 
 
+def test_a_row_of_bytes_says_what_it_has_no_room_for(shown):
+    page = shown(StreamWriter().clear().domain().at(0.1, 0.1, "caf").accent("acute", "e").made())
+    titles = page.run("[...document.querySelectorAll('.code')].map((each) => each.title)")
+    assert [each.split(": ")[1] for each in titles if "supplementary" in each] == ["supplementary character 42, CHAR"]
+
+
 @pytest.fixture
 def small(monkeypatch):
     """Small limits of what a player holds."""
@@ -413,6 +420,15 @@ def test_what_is_held_is_bounded_and_told(program, small):
     assert max(map(len, held["lines"])) <= 63 and len(held["lines"]) == 108
     assert [re.sub("[0-9]+", "N", note) for note in held["notes"]] == [
         "Bytes are shown up to byte N of N.", "Some lines of the list are shown in part."]
+
+
+@pytest.mark.parametrize("end", [b"\x18", b"\x1b\x42", b"\x26\x28\x7f", b"\x3a\x52\x40", b"\x1b"])
+def test_of_a_refused_page_all_bytes_up_to_the_refusal_are_shown(program, end):
+    page = POINT + end
+    told = listed(program, Page("page", page))
+    assert isinstance(told.answer, Refusal)
+    made = json.loads(played(page, told))
+    assert made["notes"] == [] and made["length"] == min(len(page), told.answer.place + 1)
 
 
 def test_what_comes_in_time_counts_though_it_is_cleared(monkeypatch):

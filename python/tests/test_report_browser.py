@@ -447,6 +447,17 @@ def choose(page, name, value):
     page.run("((it) => {it.value = %r; it.onchange()})(document.getElementById(%r))" % (value, name))
 
 
+@pytest.mark.parametrize("width", [390, 1240])
+def test_the_way_past_the_head_is_seen_as_a_whole_where_the_focus_is(wall, width):
+    wall.size(width, 900)
+    wall.run("document.querySelector('.skip').focus()")
+    left, top, right, bottom, head = wall.run(
+        "((box, head) => [box.left, box.top, box.right, box.bottom, head.top])"
+        "(...['.skip', 'h1'].map((each) => document.querySelector(each).getBoundingClientRect()))")
+    around = 5  # (of its outline)
+    assert around <= left < right <= width - around and around <= top < bottom <= head - around
+
+
 def test_filters_of_the_wall(wall):
     choose(wall, "folder", "refused")
     wall.until(WALL_TOLD + " === '1 to 3 of 3 pages'")

@@ -89,8 +89,9 @@ def test_first_words_stand_beside_each_name(wall):
 
 
 def test_spellings_and_held_pages_stand_side_by_side(wall, address):
-    own, other = (hashlib.sha256(each).hexdigest()[:16] for each in (POINT, LINES))
-    for to, pictures in (("#page=" + own, ".equal .thumb"), (f"#page={own}&beside={other}", ".pictures figure")):
+    own, other, first = (hashlib.sha256(each).hexdigest()[:16] for each in (POINT, LINES, FILES["accents.nap"]))
+    for to, pictures in (("#page=" + own, ".equal .thumb"), (f"#page={own}&beside={other}", ".pictures figure"),
+                         (f"#page={own}&beside={first}", ".pictures figure")):
         wall.open(address + to)
         wall.until(OPEN + " && document.querySelectorAll('#details %s img').length === 2" % pictures)
         one, two = wall.run("[...document.querySelectorAll('#details %s')].map((each) => {const box = "
@@ -118,3 +119,16 @@ def test_what_is_closed_plays_no_more(wall, address):
     wall.press("Escape")
     wall.until("!" + OPEN)
     assert wall.run(told) == wall.run(later)
+
+
+@pytest.mark.parametrize("gone", ["", "folder"])
+def test_in_a_narrow_window_what_a_tile_says_is_shown_whole(wall, gone):
+    wall.size(390, 900)
+    wall.run("document.getElementById(%r)?.closest('.field').remove()" % gone)
+    wall.until("document.querySelectorAll('#wall .badge').length >= 3")
+    badges = wall.run("[...document.querySelectorAll('#wall .badge')].map((each) => [each.scrollWidth - "
+                      "each.clientWidth, each.getBoundingClientRect().top - "
+                      "each.closest('li').getBoundingClientRect().top])")
+    assert all(more <= 0 and top >= 0 for more, top in badges)
+    right = "document.getElementById(%r).getBoundingClientRect().right"
+    assert abs(wall.run(right % "wall-told") - wall.run(right % "wall")) < 1

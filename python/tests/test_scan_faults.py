@@ -78,7 +78,8 @@ def test_no_program(run, tmp_path, store):
 WORKER = """
 import os, time
 from multiprocessing.connection import Connection
-from naplps_pages.collection.tables import READ, File
+from naplps_pages.collection.rows import File
+from naplps_pages.collection.tables import READ
 def main(descriptor):
     line = Connection(descriptor)
     line.send(("alive", None))

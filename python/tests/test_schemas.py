@@ -53,6 +53,14 @@ def held(path):
         return file.read()
 
 
+@pytest.mark.parametrize("schema", [schemas.SCHEMA, schemas.EARLIER])
+def test_the_words_of_a_schema_are_those_that_sqlite_keeps(schema):
+    connection = sqlite3.connect(":memory:")
+    connection.executescript(f"{schemas.tables(schema)} {schemas.listing(schema)}; {schemas.INDICES}")
+    assert {(kind, name): words for kind, name, words in connection.execute(WORDS)} == schemas.own(schema)
+    connection.close()
+
+
 def test_each_page_has_its_kind(store):
     assert listed(store, "kind", "looks_like", "perhaps_several") == {
         "point.nap": ["page", None, 0], "text": ["text", None, 0], "several": ["page", None, 1],

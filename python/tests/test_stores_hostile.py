@@ -8,6 +8,7 @@ import pytest
 
 from forked import forked, require_told
 from naplps_pages.collection import kinds, refused, schemas, tables, word_index
+from naplps_pages.collection.rows import Answered
 from naplps_pages.collection.store import StoreFailed, open_to_read, open_to_write, open_unchanged
 from naplps_pages.report.questions import Questions
 from scans import rows, written
@@ -286,7 +287,7 @@ def test_what_stands_beside_a_store_has_to_be_its_own(tmp_path, ending):
 def test_as_many_reasons_as_pages_take_no_longer_than_one(tmp_path):
     """A join of all reasons with all pages would take minutes."""
     store = os.path.join(str(tmp_path), "pages.db")
-    written(store, b"/x", [(b"%d" % at, tables.Answered(
+    written(store, b"/x", [(b"%d" % at, Answered(
         tables.hashed(b"%d" % at), tables.REFUSED, number=10, left_out="X%d" % at, place=1, fault="Outside"))
         for at in range(30_000)])
     connection = open_to_read(store)

@@ -5,6 +5,7 @@ import logging
 import math
 import os
 import pickle
+import site
 import subprocess
 import sys
 import time
@@ -19,7 +20,8 @@ from ..interpreter import interpreter
 from .folders import reason
 from .pool import count, ending, halves, next_of
 from .remote import Alike, Done, Given
-from .tables import UNREADABLE, Chunk, File, Piece
+from .rows import Chunk, File, Piece
+from .tables import UNREADABLE
 from .worker import WorkerOptions
 
 WORDS = interpreter("naplps_pages.collection.remote")
@@ -56,6 +58,8 @@ def address_of(where: str) -> str:
 
 def _distributed() -> Any:
     """The library, which nothing else of this tool needs. Raises ClusterFailed."""
+    if sys.flags.no_site:  # as the launcher begins
+        site.main()
     try:
         library = importlib.import_module("distributed")
     except ImportError:

@@ -2,8 +2,9 @@
 import sqlite3
 from typing import List, Optional, Set
 
+from .rows import AskAgain
 from .store import reader
-from .tables import DESCRIBED, HAS_TEXT, TRIED, AskAgain
+from .tables import DESCRIBED, HAS_TEXT, TRIED
 
 # An answer counts under the same terms; one of this run alone, where there was none, or all is asked again; and, if
 # treatments are asked for, of a refused page with what they came to; and if texts are, with one.

@@ -8,7 +8,8 @@ from ..packs.naming import pack_of
 from ..packs.reading import open_file, open_pack
 from .file_reader import OTHER, Marks, Seen, change, marks, with_marks
 from .folders import is_gone, reason
-from .tables import CHANGED, READ, UNREADABLE, VANISHED, File, Names, hashed
+from .rows import File, Names
+from .tables import CHANGED, READ, UNREADABLE, VANISHED, hashed
 
 
 class _From(NamedTuple):

@@ -10,7 +10,8 @@ from typing import Deque, Iterator, List, Optional, Sequence, Set, Tuple
 
 from .. import interpreter
 from ..packs.naming import pack_of
-from .tables import UNREADABLE, Chunk, File, Piece, received
+from .rows import Chunk, File, Piece, received
+from .tables import UNREADABLE
 from .worker import MOST_AHEAD
 from .worker_process import ALIVE, DONE, FAILED
 

@@ -7,7 +7,7 @@ from typing import Iterator, List, NamedTuple, Optional, Tuple
 
 from ..interpreter import FOLDER
 from .folders import reason
-from .tables import Chunk, Piece
+from .rows import Chunk, Piece
 from .worker import Worker, WorkerOptions
 from .worker_process import limit_memory
 

@@ -26,11 +26,11 @@ from .part import Part, keep_part
 from .pool import NoWorkers, Pool
 from .progress import Counting, Progress
 from .remote import alike
+from .rows import File, Piece
 from .schemas import INDICES
 from .search import Scope, Search, apart
 from .stopping import Stopping
 from .store import StoreFailed, fold, keep_log, open_to_write
-from .tables import Piece
 from .walk import hidden
 from .worker import WorkerOptions
 from .writer import Terms, Writer
@@ -229,7 +229,7 @@ class ScanRun:
         self.line = counts.line(self.search.known)
 
 
-def _lacking(piece: Piece) -> Iterator[Tuple[tables.File, str]]:
+def _lacking(piece: Piece) -> Iterator[Tuple[File, str]]:
     """The files of a piece about which something couldn't be known, and why."""
     files, answers = piece
     reasons = {each.own: each.why for each in answers if each.state == tables.NO_ANSWER and each.why}

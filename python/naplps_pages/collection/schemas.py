@@ -73,6 +73,16 @@ def listing(schema: int = SCHEMA) -> str:
     return LISTING % ((ADDED_TO_LISTING, CURES_OF_LISTING) if schema > EARLIER else ("", ""))
 
 
+def own(schema: int = SCHEMA) -> Dict[Tuple[str, str], str]:
+    """The tables, the indices and the view of a schema, by kind and name, in the words that SQLite keeps of each."""
+    some = {}
+    for each in f"{tables(schema)}{listing(schema)};{INDICES.rstrip()}".rstrip(";").split(";"):
+        words = each.strip().replace("IF NOT EXISTS ", "")
+        _, kind, name, _ = words.replace("(", " ").split(maxsplit=3)
+        some[kind.lower(), name] = words
+    return some
+
+
 def renewal() -> str:
     """What makes a store of the schema before one of this schema: nothing that it holds is touched.
 

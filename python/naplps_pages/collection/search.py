@@ -11,7 +11,8 @@ from .folders import is_within, join, reason
 from .kinds import checked
 from .pack_state import PackState, settled
 from .part import Part, below
-from .tables import GONE, READ, SETTLED, UNREADABLE, AskAgain, Chunk, Names
+from .rows import AskAgain, Chunk, Names
+from .tables import GONE, READ, SETTLED, UNREADABLE
 from .walk import Hidden, Listing, walk
 from .writer import Writer
 

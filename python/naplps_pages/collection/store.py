@@ -2,9 +2,7 @@
 import os
 import sqlite3
 import stat
-from contextlib import closing
-from functools import lru_cache
-from typing import Any, Dict, Iterator, Tuple
+from typing import Any, Iterator, Tuple
 
 from naplps.names import printable, shown
 from naplps.version import VERSION
@@ -181,31 +179,23 @@ def _show_as_now(connection: sqlite3.Connection) -> None:
         connection.execute(f"CREATE TEMP VIEW {name} AS {schemas.as_now(name)}")
 
 
-@lru_cache(maxsize=None)
-def _own(schema: int) -> Dict[Tuple[str, str], str]:
-    """The tables, the indices and the view of a store, by kind and name, as SQLite keeps their words."""
-    with closing(sqlite3.connect(":memory:")) as connection:
-        connection.executescript(f"{schemas.tables(schema)} {schemas.listing(schema)}; {schemas.INDICES}")
-        return {(kind, name): words for kind, name, words in connection.execute(
-            "SELECT type, name, sql FROM sqlite_master WHERE sql IS NOT NULL")}
-
-
 def _check_tables(path: str, connection: sqlite3.Connection, schema: int) -> None:
     """Raises StoreFailed where tables, indices or views aren't those of a store.
 
     Other tables and indices than the store's own are nobody's matter. But other views and triggers would act where it
     is read or written. An index of words is there as a whole, or not at all.
     """
-    found: Dict[Tuple[str, str], str] = {}
+    wanted = schemas.own(schema)
+    found = set()
     for kind, name, words in connection.execute("SELECT type, name, sql FROM main.sqlite_master"):
-        own = _own(schema).get((kind, name)) or (word_index.OWN.get(name) if schema > schemas.EARLIER else None)
+        own = wanted.get((kind, name)) or (word_index.OWN.get(name) if schema > schemas.EARLIER else None)
         if own is None and kind not in ("table", "index"):
             raise StoreFailed(path, FOREIGN % (TOOL, kind, name))
         if own is not None and words != own and not _is_earlier(name, words, schema):
             raise StoreFailed(path, OTHERWISE % (TOOL, kind, name))
-        found[kind, name] = words
+        found.add((kind, name))
     has_words = schema > schemas.EARLIER and any(("table", name) in found for name in word_index.OWN)
-    for name in [*(name for kind, name in _own(schema) if kind == "table"), *(word_index.OWN if has_words else ())]:
+    for name in [*(name for kind, name in wanted if kind == "table"), *(word_index.OWN if has_words else ())]:
         if ("table", name) not in found:
             raise StoreFailed(path, LACKS % (TOOL, name))
 

@@ -21,10 +21,10 @@ from .merge import merge
 from .pool import processors
 from .printing import Printer, numbered
 from .progress import Progress
+from .rows import AskAgain
 from .scan import ScanOptions, scan
 from .session import ANSWERED, REFUSED_ALONE, Names, StoreSession, files
 from .store import StoreFailed, open_to_read
-from .tables import AskAgain
 from .verify import verified
 from .worker import WorkerOptions
 

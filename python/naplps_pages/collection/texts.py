@@ -8,7 +8,7 @@ from naplps.screen_text import lines_of
 
 from ..page_words import MOST_TEXT, first_words
 from . import word_index
-from .tables import PageText
+from .rows import PageText
 
 TOO_MANY = "it has too many entries for its text"
 TOO_LONG = "it is too long for its text"

@@ -19,7 +19,7 @@ SHADOWS = {
     "words_config": "CREATE TABLE 'words_config'(k PRIMARY KEY, v) WITHOUT ROWID"}
 OWN: Dict[str, str] = {NAME: WORDS, **SHADOWS}
 # What SQLite says of it, beside that the file is malformed.
-OF_FTS5 = re.compile(f"fts5|: {NAME}$|^constraint failed$")
+OF_FTS5 = f"fts5|: {NAME}$|^constraint failed$"
 DAMAGED = "its index of words is damaged (%s): a merge of it alone makes a store with a new one"
 
 
@@ -27,7 +27,7 @@ def has_fts5() -> bool:
     """Whether SQLite has FTS5 here."""
     connection = sqlite3.connect(":memory:")
     try:
-        connection.execute("CREATE VIRTUAL TABLE it USING fts5(text)")
+        connection.execute("SELECT fts5(NULL)")  # (its own function, which is there with it; and quicker than a table)
         return True
     except sqlite3.OperationalError:
         return False
@@ -41,7 +41,7 @@ def used() -> Iterator[None]:
     try:
         yield
     except sqlite3.DatabaseError as error:
-        if type(error) is sqlite3.DatabaseError or OF_FTS5.search(str(error)):
+        if type(error) is sqlite3.DatabaseError or re.search(OF_FTS5, str(error)):
             raise sqlite3.DatabaseError(DAMAGED % error) from None
         raise
 

@@ -20,7 +20,8 @@ from . import tables, texts
 from .file_reader import OTHER, Seen, change, look
 from .folders import is_gone, opened, reason
 from .pack_reader import PackScan
-from .tables import CHANGED, UNREADABLE, VANISHED, Answered, AskAgain, Chunk, Cured, File, Names, Piece, PageText
+from .rows import Answered, AskAgain, Chunk, Cured, File, Names, PageText, Piece
+from .tables import CHANGED, UNREADABLE, VANISHED
 
 # The number of requests that are written ahead, and of their bytes.
 MOST_AHEAD, MOST_BYTES = 64, 1 << 20

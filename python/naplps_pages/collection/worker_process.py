@@ -8,7 +8,7 @@ from types import FrameType
 from typing import Optional
 
 from .known_hashes import KnownHashes
-from .tables import plain
+from .rows import plain
 from .worker import Worker
 
 # A worker that needs more memory than this is at fault.

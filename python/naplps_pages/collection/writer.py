@@ -11,7 +11,8 @@ from ..packs.naming import pack_of
 from ..packs.reading import SEVERAL
 from . import texts, word_index
 from .folders import is_within, join
-from .tables import ACCEPTED, GONE, READ, UNREADABLE, VANISHED, Answered, File, Piece
+from .rows import Answered, File, Piece
+from .tables import ACCEPTED, GONE, READ, UNREADABLE, VANISHED
 
 # The number of files, or the age in seconds, with which a step is written.
 STEP, SECONDS = 2000, 2.0

@@ -65,7 +65,8 @@ class Codes {
   row(at) {
     const codes = this.data.codes;
     const row = node("div", {className: "code", role: "option", id: "code-" + at, "aria-selected": at === this.chosen,
-      "aria-posinset": at + 1, "aria-setsize": this.starts.length},
+      "aria-posinset": at + 1, "aria-setsize": this.starts.length,
+      title: [this.told(at), this.brought(at)].filter(Boolean).join(", ")},
     node("span", {className: "offset"}, String(codes.start[at])), node("span", {className: "bytes"}, this.bytes(at)),
     node("span", {className: "named"}, codes.names[codes.name[at]]),
     node("span", {className: "brought"}, this.brought(at)));

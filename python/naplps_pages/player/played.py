@@ -40,12 +40,12 @@ def played(data: bytes, told: Listed, said: str = "", before: Sequence[str] = ()
     earlier: List[Row] = [(NOT_HERE, line) for line in before[:drawn.drawn]]
     some = told.rows[:drawn.drawn - len(earlier)]
     length = _length(data, told, some)
-    codes = _codes(data, told, some, length)
+    codes, is_cut = _codes(data, told, some, length)
     codes.entry[:0] = [-1] * len(earlier)
     lines, is_short = _lines([*earlier, *some])
     shown = min(length, limits.MOST_BYTES)
     notes = [note for note in (said, drawn.end and ENDS % (len(some) + 1)) if note]
-    if codes.end and codes.end[-1] < length:
+    if is_cut and codes.end:
         notes.append(f"Bytes are shown up to byte {codes.end[-1]} of {length}.")
     if is_short:
         notes.append("Some lines of the list are shown in part.")
@@ -64,20 +64,21 @@ def _length(data: bytes, told: Listed, some: Sequence[Row]) -> int:
     return min(len(data), told.answer.place + 1) if isinstance(told.answer, Refusal) else len(data)
 
 
-def _codes(data: bytes, told: Listed, some: List[Row], length: int) -> CodeColumns:
-    """The codes as `explain` has them, with the entries that came of each."""
+def _codes(data: bytes, told: Listed, some: List[Row], length: int) -> Tuple[CodeColumns, bool]:
+    """The codes as `explain` has them, with the entries that came of each; and whether there are too many."""
     stop = told.answer.place if isinstance(told.answer, Refusal) else None
     columns = CodeColumns(entry=[-1] * len(some))
     numbers: Dict[str, int] = {}
-    rows = numbered(data, some, stop)[:limits.MOST_CODES]
-    for at, row in enumerate(takewhile(lambda row: row.start < length and row.start < limits.MOST_BYTES, rows)):
+    rows = list(takewhile(lambda row: row.start < length, numbered(data, some, stop)))
+    shown = list(takewhile(lambda row: row.start < limits.MOST_BYTES, rows[:limits.MOST_CODES]))
+    for at, row in enumerate(shown):
         for number in row.entries:
             columns.entry[number] = at
         columns.start.append(row.start)
         columns.end.append(row.end)
         columns.name.append(numbers.setdefault(row.name, len(numbers)))
     columns.names = list(numbers)
-    return columns
+    return columns, len(shown) < len(rows)
 
 
 def _lines(some: Sequence[Row]) -> Tuple[List[str], bool]:

@@ -7,9 +7,9 @@ class PageView {
   }
 
   // Shows a file; `position` is its place among the files that are found, if it was taken from there.
-  async open(key, position, beside) {
+  async open(key, position, beside = null) {
     const [file, drawing, other] = await Promise.all([this.source.details(key), this.source.drawing(key),
-      beside && this.taken(beside)]);
+      beside === null ? null : this.taken(beside)]);
     if (other) this.beside = other;
     Object.assign(this, {shown: {file, drawing}, position});
     this.draw();
