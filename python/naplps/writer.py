@@ -3,8 +3,8 @@
     from naplps.writer import PageWriter
     page = PageWriter().clear().rgb(1, 0.8, 0.2).at(0.1, 0.5, "HELLO").made()
 
-Places and sizes are in sides of the square. What is drawn with stays until it is set again: the colour, the pel, the
-texture and the look of text.
+Places and sizes are in sides of the unit screen. What is drawn with stays until it is set again: the colour, the pel,
+the texture and the text attributes.
 """
 import math
 from contextlib import contextmanager

@@ -34,7 +34,7 @@ def tell_line(text: str) -> None:
 
 
 class Output(NamedTuple):
-    """Standard output. A pipe that nobody reads ends the tool; other faults are told."""
+    """Standard output. A pipe that nobody reads ends the tool; other faults are reported."""
 
     file: IO[bytes]
 

@@ -27,7 +27,7 @@ class Earlier:
         return Page(page.name, self.data + (page.data or b""))
 
     def refusal(self, answer: Refusal) -> str:
-        """What is told where one of the earlier pages is refused."""
+        """What is reported where one of the earlier pages is refused."""
         at = next(number for number, end in enumerate(self.ends) if answer.place < end)
         start = self.ends[at - 1] if at else 0
         return f"the page before it, {shown(self.names[at])}, is {moved(answer, start).line}"

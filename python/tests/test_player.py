@@ -66,7 +66,7 @@ def program(naplps):
 
 @pytest.fixture
 def shown(browser, naplps, tmp_path):
-    """Shows the player of a page by its bytes or name; after the test it has told no fault, and asked for nothing."""
+    """Shows the player of a page by its bytes or name; after the test it reported no fault, and asked for nothing."""
     addresses = []
 
     def shows(page, bypass=False, words=()):

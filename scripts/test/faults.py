@@ -138,7 +138,7 @@ MAKES = [["make"], ["make", "--stream"]]
 
 
 class Lines(Page):
-    """The lines of a page, which `make` makes again; or lines that are none's, which are told."""
+    """The lines of a page, which `make` makes again; or lines that are none's, which are reported."""
 
     def __init__(self, page: Page, more: bytes = b"", refusal: Optional[str] = None) -> None:
         super().__init__(f"lines of {page.name} {more.decode().strip()}", page.lines + more, refusal=refusal)
@@ -146,7 +146,7 @@ class Lines(Page):
         self.canonical = page.canonical
 
     def answer(self, words: List[str]) -> Answer:
-        """The page of the lines, or what is told of them."""
+        """The page of the lines, or what is reported of them."""
         if self.refusal is not None:
             return Answer(1, self.canonical if "--stream" in words else b"", self.refusal.encode() + b"\n")
         return Answer(0, self.canonical)
@@ -211,7 +211,7 @@ def is_want(page: Page, words: List[str], got: Answer) -> bool:
 
 
 def test_memory(page: Page, words: List[str], once: int) -> Tuple[int, int]:
-    """Each growth is refused in turn: how many were told, and how many done without."""
+    """Each growth is refused in turn: how many were reported, and how many done without."""
     ample = page.answer(words)
     number, wants, without = 1, 0, 0
     while number < 10000:
@@ -254,9 +254,9 @@ def test_late_memory() -> None:
 
 # Tests that take lack of memory for an answer, and judge all else.
 LIBRARY = [
-    "short_pages_survive_want_of_memory",
-    "a_large_shape_survives_want_of_memory",
-    "a_full_store_survives_want_of_memory",
+    "short_pages_survive_lack_of_memory",
+    "a_large_shape_survives_lack_of_memory",
+    "a_full_store_survives_lack_of_memory",
 ]
 
 
@@ -360,7 +360,7 @@ def test_writes(page: Page, words: List[str], ample: Answer, most: int, error: i
         if not letters:
             judge.same(ample, got, what)
             break
-        # All of it was gathered. What is left of it is tried once more at the end.
+        # All of it was buffered. What is left of it is tried once more at the end.
         before = ample.out[: (number - 1) * most]
         judge.same(fault(write_fault(len(ample.out)), ample.out if once else before), got, what)
         number += 1
@@ -402,7 +402,7 @@ def test_all_writes() -> None:
 
 
 def is_cut(got: Answer, ample: Answer) -> bool:
-    """Whether an answer tells of a failed write. Its count may be ahead of what went out, by what was gathered."""
+    """Whether an answer reports a failed write. Its count may be ahead of what went out, by what was buffered."""
     said = re.fullmatch(rb"write fault after (0|[1-9][0-9]*) bytes\n", got.err)
     if got.status != 3 or said is None or not ample.out.startswith(got.out):
         return False
@@ -626,7 +626,7 @@ FAULT_LINES = {"read": b"read fault\n", "write": rb"write fault after (0|[1-9][0
 
 
 def test_lines() -> None:
-    """A read or a write that fails is told as that, whatever growth is refused, and all after it."""
+    """A read or a write that fails is reported as that, whatever growth is refused, and all after it."""
     told = 0
     pages: List[Tuple[List[str], Page]] = [*((words, POINT) for words in COMMANDS), (["batch"], REQUESTS)]
     for words, page in pages:

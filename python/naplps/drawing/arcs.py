@@ -26,12 +26,12 @@ def pieces(points: Sequence[Place]) -> List[Piece]:
 
 
 def is_large(some: Sequence[Piece]) -> bool:
-    """Whether there is an arc of a circle that goes far out of the square."""
+    """Whether there is an arc of a circle that goes far out of the unit screen."""
     return any(isinstance(piece, Round) and piece.radius > MOST_RADIUS for piece in some)
 
 
 def extent(points: Sequence[Place]) -> Extent:
-    """The extent of an arc through these points. An arc outside of the square costs nothing there."""
+    """The extent of an arc through these points. An arc outside of the unit screen costs nothing there."""
     if len(points) > 3:
         straight = straight_extent(points)
         return Extent(3 * straight.points, 2 * straight.length, 2 * straight.area)

@@ -5,7 +5,7 @@ from typing import NamedTuple, Optional, Tuple
 from ..entry import ONE, Look, Pen, Position, TextMove
 from .measure import HEIGHT, THIN, WIDTH
 
-# Width and height of a cell, as parts of the side of the square.
+# Width and height of a cell, as parts of the side of the unit screen.
 SIZES = {"small": (1 / 80, 5 / 128), "medium": (1 / 32, 3 / 64), "normal": (1 / 40, 5 / 128),
          "tall": (1 / 40, 5 / 64), "double": (1 / 20, 5 / 64)}
 SPACINGS = (1.0, 1.25, 1.5, 1.0)
@@ -49,7 +49,7 @@ class Saved(NamedTuple):
 
 
 class TextCursor:
-    """The place of the next character: the lower left corner of its cell, in sides of the square."""
+    """The place of the next character: the lower left corner of its cell, in sides of the unit screen."""
 
     def __init__(self) -> None:
         self.put_back(Saved())
@@ -63,7 +63,7 @@ class TextCursor:
         self.x, self.y, self.known, self.scrolled, self.field = saved
 
     def enter_glyph(self) -> None:
-        """Goes to the corner of a glyph or a mask, whose square is the field."""
+        """Goes to the corner of a glyph or a mask, whose unit screen is the field."""
         self.put_back(Saved(known=True, field=(0.0, 0.0, 1.0, 1.0)))
 
     def take(self, pen: Pen, size: Cell) -> None:

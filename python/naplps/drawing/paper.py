@@ -149,7 +149,7 @@ class Paper:
         self.notes[text] = None
 
     def reach(self, y: float) -> None:
-        """Keeps how high the page draws, in sides of the square."""
+        """Keeps how high the page draws, in sides of the unit screen."""
         if self.open is None and y > self.top:
             self.top = y
 

@@ -27,7 +27,7 @@ def sweep(pieces: Sequence[Piece], pel: Pel) -> Sweep:
         straight = isinstance(each, Straight)
         for piece in each.monotone():
             parts.append(_swept(piece, pel))
-            # (what is outside of the square costs nothing)
+            # (what is outside of the unit screen costs nothing)
             (a, b), (c, d) = piece.start, piece.end
             across, down = min(abs(c - a), WIDTH), min(abs(d - b), WIDTH)
             corners += CORNERS if straight else ROUND_CORNERS

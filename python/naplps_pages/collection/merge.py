@@ -49,7 +49,7 @@ def merge(into: str, paths: Sequence[str], unfinished: bool) -> bool:
 
 
 def _looked(into: str, sources: List[Source], unfinished: bool) -> int:
-    """Looks whether the stores can be joined; how many faults were told, with which that is possible."""
+    """Looks whether the stores can be joined; how many faults were reported, with which that is possible."""
     if os.path.lexists(into):
         raise NotWritten(into, "is there already, and isn't written over")
     for source in sources:
@@ -87,7 +87,7 @@ def _made(into: str, sources: List[Source], finished: bool, stopping: Stopping) 
 
 
 def _require_same(into: str, sources: List[Source], stopping: Stopping) -> None:
-    """Raises StoreFailed where the stores answer differently, which is told."""
+    """Raises StoreFailed where the stores answer differently, which is reported."""
     total = sum(source.number("SELECT count(*) FROM pages") for source in sources)
     progress = Progress(sys.stderr, lambda: total, what="pages compared")
     number = 0
