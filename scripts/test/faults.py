@@ -254,9 +254,9 @@ def test_late_memory() -> None:
 
 # Tests that take lack of memory for an answer, and judge all else.
 LIBRARY = [
-    "short_pages_survive_lack_of_memory",
-    "a_large_shape_survives_lack_of_memory",
-    "a_full_store_survives_lack_of_memory",
+    "short_pages_survive_want_of_memory",
+    "a_large_shape_survives_want_of_memory",
+    "a_full_store_survives_want_of_memory",
 ]
 
 

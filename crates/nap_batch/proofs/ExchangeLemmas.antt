@@ -72,19 +72,19 @@ module _ {I O : Type 0} (i : inlet.Ghosts I) (o : outlet.Ghosts O) (written : �
   }
 
 -- the buffer begins with a request, which is answered
-module _ (held : List ℕ) (r : RequestLine) (start : ℕ) (whole : IsWhole held r start) (page : List ℕ) (page_now : page ≡ take r.size (drop start held)) (text : List ℕ)
+module _ (buffered : List ℕ) (r : RequestLine) (start : ℕ) (whole : IsWhole buffered r start) (page : List ℕ) (page_now : page ≡ take r.size (drop start buffered)) (text : List ℕ)
     (is : IsAnswered r.question r.budget page text) where
   abbrev pub exchange_of : Exchange
-  exchange_of = record { asked = take (start + r.size) held; question = r.question; budget = r.budget; page = page; answered = text }
+  exchange_of = record { asked = take (start + r.size) buffered; question = r.question; budget = r.budget; page = page; answered = text }
 
   pub is_exchange : IsExchange exchange_of
   is_exchange = record {
-    request = subst (IsRequest (take (start + r.size) held) r.question r.budget) (sym (page_now ∙ page_is held r start whole)) (whole_request held r start whole);
+    request = subst (IsRequest (take (start + r.size) buffered) r.question r.budget) (sym (page_now ∙ page_is buffered r start whole)) (whole_request buffered r start whole);
     answer = is;
   }
 
-  pub parts_of : held ≡ take (start + r.size) held ++ drop (start + r.size) held
-  parts_of = sym (take-append-drop (start + r.size) held)
+  pub parts_of : buffered ≡ take (start + r.size) buffered ++ drop (start + r.size) buffered
+  parts_of = sym (take-append-drop (start + r.size) buffered)
 
 -- a request whose page was dropped
 module _ (all : List ℕ) (asked : IsAsked all) where

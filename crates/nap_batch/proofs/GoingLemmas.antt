@@ -8,7 +8,7 @@ use Rattle.nap_batch.specs.declared.service.Ended.{Ended}
 use Rattle.nap_batch.specs.declared.service.Ended.TheVariants as ended
 use Rattle.nap_batch.specs.Limits.{requests_limit}
 use Rattle.nap_batch.specs.Sessions.{Answers, Exchange, FlushedTimes, IsExchange, Pipes, Session, Stops, StopsIn, flushed_once, flushes_of}
-use Rattle.nap_batch.proofs.SessionLemmas.{answered_more, count_more, each_more, ends_behind, read_on}
+use Rattle.nap_batch.proofs.SessionLemmas.{answered_more, count_more, each_more, ends_after, read_on}
 
 -- The number of flushes.
 
@@ -32,7 +32,7 @@ amid false xs k n b m a size h is = subst (λ (i : ℕ). FlushedTimes (i + 1) b 
 -- the flushes of a run that ends in this way
 at_end : (end : Ended) (xs : List Exchange) (n b written : ℕ) (rest part : List ℕ) (mid after : Pipes) → length xs ≡ n → FlushedTimes n b mid.flushes → mid.output_failed ≡ false →
     StopsIn written rest part mid after end → (after.output_failed ≡ false → after.flushes ≡ mid.flushes) → FlushedTimes (flushes_of end after.write_failed (length xs)) b after.flushes
-at_end (ended.Write k) xs n b written rest part mid after size h works (x, behind, is, parts, front, number, failed, input, flushes) none =
+at_end (ended.Write k) xs n b written rest part mid after size h works (x, following, is, parts, prefix, number, failed, input, flushes) none =
     amid after.write_failed xs k n b mid.flushes after.flushes size h (flushes works)
 at_end ended.Done xs n b written rest part mid after size h works stops none = times_of xs n b mid.flushes after.flushes size (none (stops.2 ∙ works)) h
 at_end ended.Request xs n b written rest part mid after size h works stops none = times_of xs n b mid.flushes after.flushes size (none (stops.2 ∙ works)) h
@@ -40,10 +40,10 @@ at_end ended.Read xs n b written rest part mid after size h works stops none = t
 at_end ended.Memory xs n b written rest part mid after size h works stops none = times_of xs n b mid.flushes after.flushes size (none (stops.2 ∙ works)) h
 
 -- n requests were answered, and the buffer has these bytes.
-pub record Going (before now : Pipes) (held : List ℕ) (written n : ℕ) : Type 0 where
+pub record Going (before now : Pipes) (buffered : List ℕ) (written n : ℕ) : Type 0 where
   pub xs : List Exchange
   pub each : All IsExchange xs
-  pub read : Consumes before.left now.left (flat_map (λ x. x.asked) xs ++ held)
+  pub read : Consumes before.left now.left (flat_map (λ x. x.asked) xs ++ buffered)
   pub sent : Appends before.taken now.taken (flat_map (λ x. x.answered) xs)
   pub count : written ≡ min (length (flat_map (λ x. x.answered) xs)) (2 ^ 64 - 1)
   pub requests : length xs ≡ n
@@ -67,15 +67,15 @@ starts p = record {
 }
 
 -- one more request was answered
-pub goes_on : (before mid after : Pipes) (held new : List ℕ) (written m n : ℕ) → Going before mid held written n → Answers written held new mid after m → Going before after new m (n + 1)
-goes_on before mid after held new written m n h k =
+pub one_more_answered : (before mid after : Pipes) (buffered new : List ℕ) (written m n : ℕ) → Going before mid buffered written n → Answers written buffered new mid after m → Going before after new m (n + 1)
+one_more_answered before mid after buffered new written m n h k =
     let x = k.exchange in
     let out = flat_map (λ (y : Exchange). y.answered) h.xs in
     let asked = flat_map (λ (y : Exchange). y.asked) h.xs in
     record {
       xs = h.xs ++ x ∷ [];
       each = each_more h.xs x h.each k.is_exchange;
-      read = subst (Consumes before.left after.left) (read_on h.xs x held new k.bytes k.parts) (Consumes-trans before.left mid.left after.left (asked ++ held) k.bytes h.read k.read);
+      read = subst (Consumes before.left after.left) (read_on h.xs x buffered new k.bytes k.parts) (Consumes-trans before.left mid.left after.left (asked ++ buffered) k.bytes h.read k.read);
       sent = subst (Appends before.taken after.taken) (answered_more h.xs x) (Appends-trans before.taken mid.taken after.taken out x.answered h.sent k.sent);
       count = subst (λ (text : List ℕ). m ≡ min (length text) (2 ^ 64 - 1)) (answered_more h.xs x) (count_more out x.answered written m h.count k.count);
       requests = length-append h.xs (x ∷ []) ∙ ap (λ (i : ℕ). i + 1) h.requests;
@@ -86,28 +86,28 @@ goes_on before mid after held new written m n h k =
     }
 
 -- the run ends
-pub ends : (before mid after : Pipes) (held : List ℕ) (written n : ℕ) (end : Ended) → Going before mid held written n → Stops written held mid after end → Session before after end
-ends before mid after held written n end h k =
+pub ends : (before mid after : Pipes) (buffered : List ℕ) (written n : ℕ) (end : Ended) → Going before mid buffered written n → Stops written buffered mid after end → Session before after end
+ends before mid after buffered written n end h k =
     let out = flat_map (λ (y : Exchange). y.answered) h.xs in
     let asked = flat_map (λ (y : Exchange). y.asked) h.xs in
     record {
       exchanges = h.xs;
       each = h.each;
-      rest = held ++ k.bytes;
+      rest = buffered ++ k.bytes;
       part = k.part;
-      read = subst (Consumes before.left after.left) (append_assoc asked held k.bytes) (Consumes-trans before.left mid.left after.left (asked ++ held) k.bytes h.read k.read);
+      read = subst (Consumes before.left after.left) (append_assoc asked buffered k.bytes) (Consumes-trans before.left mid.left after.left (asked ++ buffered) k.bytes h.read k.read);
       sent = Appends-trans before.taken mid.taken after.taken out k.part h.sent k.sent;
-      ends = ends_behind before mid after h.xs (held ++ k.bytes) k.part written end h.input_works h.output_works h.count k.stops;
+      ends = ends_after before mid after h.xs (buffered ++ k.bytes) k.part written end h.input_works h.output_works h.count k.stops;
       flushed = λ some works. k.flushed (h.flushed some) works;
-      each_flushed = λ began. at_end end h.xs n before.flushes written (held ++ k.bytes) k.part mid after h.requests (h.each_flushed began) (h.output_works ∙ began) k.stops k.none_more;
+      each_flushed = λ began. at_end end h.xs n before.flushes written (buffered ++ k.bytes) k.part mid after h.requests (h.each_flushed began) (h.output_works ∙ began) k.stops k.none_more;
     }
 
 -- the run ends after the greatest number of requests
-pub ends_full : (before now : Pipes) (held : List ℕ) (written n : ℕ) → n ≡ requests_limit → Going before now held written n → Session before now ended.Request
-ends_full before now held written n full h = record {
+pub ends_full : (before now : Pipes) (buffered : List ℕ) (written n : ℕ) → n ≡ requests_limit → Going before now buffered written n → Session before now ended.Request
+ends_full before now buffered written n full h = record {
   exchanges = h.xs;
   each = h.each;
-  rest = held;
+  rest = buffered;
   part = [];
   read = h.read;
   sent = subst (Appends before.taken now.taken) (sym (append-nil (flat_map (λ (y : Exchange). y.answered) h.xs))) h.sent;

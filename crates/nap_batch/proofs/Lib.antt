@@ -7,5 +7,5 @@ mod WaitLemmas
 mod SendLemmas
 mod ExchangeLemmas
 mod GoingLemmas
-mod TellingLemmas
+mod ReportLemmas
 mod LawLemmas

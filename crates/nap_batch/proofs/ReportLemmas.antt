@@ -14,24 +14,24 @@ use Rattle.nap_batch.specs.Sessions.{Reports, ended_text}
 -- The report of an end on standard error.
 
 -- A failure has the report of an end, and the status 3.
-pub record StandsFor (end : Ended) (f : Failure) : Type 0 where
+pub record ReportedAs (end : Ended) (f : Failure) : Type 0 where
   pub text : reported_text (Err f) ≡ ended_text end
   pub status : exit_status (Err f) ≡ 3
 
-pub read_stands : StandsFor ended.Read failure.Read
-read_stands = record { text = refl; status = refl }
+pub read_reported : ReportedAs ended.Read failure.Read
+read_reported = record { text = refl; status = refl }
 
-pub write_stands : (n : ℕ) → StandsFor (ended.Write n) (failure.Write n)
-write_stands n = record { text = refl; status = refl }
+pub write_reported : (n : ℕ) → ReportedAs (ended.Write n) (failure.Write n)
+write_reported n = record { text = refl; status = refl }
 
-pub memory_stands : StandsFor ended.Memory failure.Memory
-memory_stands = record { text = refl; status = refl }
+pub memory_reported : ReportedAs ended.Memory failure.Memory
+memory_reported = record { text = refl; status = refl }
 
 -- the report of the failure is that of the end
-pub tells_of : (e : List ℕ) (failed : Bool) (end : Ended) (f : Failure) (status : ℕ) → StandsFor end f → commands.Reports e failed (Err f) status → Reports e failed end × (status ≡ 3)
-tells_of e failed end f status h k = (
+pub report_of_end : (e : List ℕ) (failed : Bool) (end : Ended) (f : Failure) (status : ℕ) → ReportedAs end f → commands.Reports e failed (Err f) status → Reports e failed end × (status ≡ 3)
+report_of_end e failed end f status h k = (
   record {
-    front = subst (λ (xs : List ℕ). take (length e) xs ≡ e) h.text k.front;
+    prefix = subst (λ (xs : List ℕ). take (length e) xs ≡ e) h.text k.prefix;
     all = λ works. k.all works ∙ h.text;
   },
   k.status_is ∙ h.status,
@@ -39,21 +39,21 @@ tells_of e failed end f status h k = (
 
 -- What standard error took of a line that was written.
 
-front_of_front : (n : ℕ) (xs : List ℕ) → n ≤ length xs → take (length (take n xs)) xs ≡ take n xs
-front_of_front n xs h =
+prefix_of_prefix : (n : ℕ) (xs : List ℕ) → n ≤ length xs → take (length (take n xs)) xs ≡ take n xs
+prefix_of_prefix n xs h =
     let long : length (take n xs) ≡ n = omega (arith, length-take n xs, h) in
     subst (λ (m : ℕ). take m xs ≡ take n xs) (sym long) refl
 
 failed_is_false : (was now : Bool) → now ≡ (was || true) → now ≡ false → ⊥
 failed_is_false was now h k = cc (or-true was)
 
-pub tells_line : (old new : Option (List ℕ)) (r : Result (Unit {0}) Failure) (was now : Bool) (end : Ended) → Takes old new (ended_text end) r → now ≡ (was || is_err r) →
+pub report_of_line : (old new : Option (List ℕ)) (r : Result (Unit {0}) Failure) (was now : Bool) (end : Ended) → Takes old new (ended_text end) r → now ≡ (was || is_err r) →
     (e : List ℕ) × Appends old new e × Reports e now end
-tells_line old new (Ok done) was now end h flag =
-    (ended_text end, h, record { front = take_all (length (ended_text end)) (ended_text end) (omega arith); all = λ _. refl })
-tells_line old new (Err (failure.Write n)) was now end h flag = (
+report_of_line old new (Ok done) was now end h flag =
+    (ended_text end, h, record { prefix = take_all (length (ended_text end)) (ended_text end) (omega arith); all = λ _. refl })
+report_of_line old new (Err (failure.Write n)) was now end h flag = (
   take n (ended_text end),
   h.1,
-  record { front = front_of_front n (ended_text end) h.0; all = λ works. absurd (failed_is_false was now flag works) },
+  record { prefix = prefix_of_prefix n (ended_text end) h.0; all = λ works. absurd (failed_is_false was now flag works) },
 )
-tells_line old new (Err _) was now end h flag = absurd h
+report_of_line old new (Err _) was now end h flag = absurd h

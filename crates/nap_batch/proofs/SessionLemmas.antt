@@ -53,12 +53,12 @@ count_more out more w n was is =
     is ∙ counted (2 ^ 64 - 1) (length out) (length more) w was ∙ ap (λ (k : ℕ). min k (2 ^ 64 - 1)) (sym (length-append out more))
 
 -- how a run ends that ends after some requests
-pub ends_behind : (before mid after : Pipes) (xs : List Exchange) (rest part : List ℕ) (written : ℕ) (end : Ended) → mid.input_failed ≡ before.input_failed →
+pub ends_after : (before mid after : Pipes) (xs : List Exchange) (rest part : List ℕ) (written : ℕ) (end : Ended) → mid.input_failed ≡ before.input_failed →
     mid.output_failed ≡ before.output_failed → written ≡ min (length (flat_map (λ x. x.answered) xs)) (2 ^ 64 - 1) → StopsIn written rest part mid after end →
     EndsBy before after xs rest part end
-ends_behind before mid after xs rest part written (ended.Write n) input output count (x, behind, is, parts, front, number, failed, works, flushes) =
-    (x, behind, is, parts, front, count_more (flat_map (λ x. x.answered) xs) part written n count number, failed, works ∙ input)
-ends_behind before mid after xs rest part written ended.Request input output count (none, stops, works) =
+ends_after before mid after xs rest part written (ended.Write n) input output count (x, following, is, parts, prefix, number, failed, works, flushes) =
+    (x, following, is, parts, prefix, count_more (flat_map (λ x. x.answered) xs) part written n count number, failed, works ∙ input)
+ends_after before mid after xs rest part written ended.Request input output count (none, stops, works) =
     (none, inl (stops_alike (reading_of mid after) (reading_of before after) rest ended.Request refl refl (sym input) stops), works ∙ output)
-ends_behind before mid after xs rest part written end input output count h =
+ends_after before mid after xs rest part written end input output count h =
     (h.0, stops_alike (reading_of mid after) (reading_of before after) rest end refl refl (sym input) h.1, h.2 ∙ output)

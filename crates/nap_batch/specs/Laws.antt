@@ -15,8 +15,8 @@ use Rattle.nap_batch.specs.Requests.{IsBegun, IsRequest, StartsNone}
 
 -- Bytes begin with at most one complete request.
 abbrev pub RequestsAreCutOneWay : Type 0
-RequestsAreCutOneWay = (asked other behind rest : List ℕ) (q r : Question) (b e : ℕ) (page paper : List ℕ) → IsRequest asked q b page → IsRequest other r e paper →
-    asked ++ behind ≡ other ++ rest → (asked ≡ other) × (q ≡ r) × (b ≡ e) × (page ≡ paper)
+RequestsAreCutOneWay = (asked other following rest : List ℕ) (q r : Question) (b e : ℕ) (page paper : List ℕ) → IsRequest asked q b page → IsRequest other r e paper →
+    asked ++ following ≡ other ++ rest → (asked ≡ other) × (q ≡ r) × (b ≡ e) × (page ≡ paper)
 
 -- Bytes that begin with an incomplete request don't begin with a complete one.
 abbrev pub BegunRequestsAreNone : Type 0

@@ -46,7 +46,7 @@ pub record IsRequest (bytes : List ℕ) (q : Question) (budget : ℕ) (page : Li
 
 -- the bytes begin with no complete request
 abbrev pub StartsNone : List ℕ → Type 0
-StartsNone bytes = (asked behind : List ℕ) (q : Question) (budget : ℕ) (page : List ℕ) → IsRequest asked q budget page → bytes ≡ asked ++ behind → ⊥
+StartsNone bytes = (asked following : List ℕ) (q : Question) (budget : ℕ) (page : List ℕ) → IsRequest asked q budget page → bytes ≡ asked ++ following → ⊥
 
 -- the bytes, with whatever follows them, begin with no complete request
 abbrev pub NeverStarts : List ℕ → Type 0
@@ -55,20 +55,20 @@ NeverStarts bytes = (more : List ℕ) → StartsNone (bytes ++ more)
 -- the bytes begin with a complete request: its line with LF has n bytes, and its page follows
 pub record IsWhole (bytes : List ℕ) (r : RequestLine) (n : ℕ) : Type 0 where
   pub line : List ℕ
-  pub behind : List ℕ
-  pub cut : SplitsAtByte 10 bytes line behind
+  pub following : List ℕ
+  pub cut : SplitsAtByte 10 bytes line following
   pub says : IsLine line r
   pub start : n ≡ length line + 1
-  pub enough : r.size ≤ length behind
+  pub enough : r.size ≤ length following
 
 -- the bytes begin with a request that lacks the last n bytes of its page
 pub record IsShort (bytes : List ℕ) (n : ℕ) : Type 0 where
   pub line : List ℕ
-  pub behind : List ℕ
+  pub following : List ℕ
   pub request : RequestLine
-  pub cut : SplitsAtByte 10 bytes line behind
+  pub cut : SplitsAtByte 10 bytes line following
   pub says : IsLine line request
-  pub missing : length behind + n ≡ request.size
+  pub missing : length following + n ≡ request.size
   pub some : 0 < n
 
 -- the bytes have no LF, and are no more than a line may have

@@ -58,13 +58,13 @@ pub record IsSent {O : Type 0} (o : outlet.Ghosts O) (written : ℕ) (text : Lis
   pub sends : Sends o written text before after result
 
 -- an output took the bytes before a body after a number of bytes, and wasn't flushed; or it failed during them
-abbrev pub Leads : {O : Type 0} → outlet.Ghosts O → ℕ → List ℕ → O → O → Result ℕ Ended → Type 0
-Leads o written head before after (Ok n) =
+abbrev pub SendsHead : {O : Type 0} → outlet.Ghosts O → ℕ → List ℕ → O → O → Result ℕ Ended → Type 0
+SendsHead o written head before after (Ok n) =
     Appends (o.taken before) (o.taken after) head × (n ≡ count_on written (length head)) × (o.failed after ≡ o.failed before) × (o.flushes after ≡ o.flushes before)
-Leads o written head before after (Err end) = Sends o written head before after (Err end)
+SendsHead o written head before after (Err end) = Sends o written head before after (Err end)
 
-pub record IsLed {O : Type 0} (o : outlet.Ghosts O) (written : ℕ) (head : List ℕ) (before after : O) (result : Result ℕ Ended) : Type 0 where
-  pub leads : Leads o written head before after result
+pub record IsHeadSent {O : Type 0} (o : outlet.Ghosts O) (written : ℕ) (head : List ℕ) (before after : O) (result : Result ℕ Ended) : Type 0 where
+  pub sends_head : SendsHead o written head before after result
 
 -- a request was answered like this after a number of bytes, or the output failed during the answer
 abbrev pub Replies : {O : Type 0} → outlet.Ghosts O → ℕ → Question → ℕ → List ℕ → O → O → Result ℕ Ended → Type 0
@@ -114,14 +114,14 @@ reading_of before after = record { left = after.left; failed_before = before.inp
 -- were as many requests as allowed, or a write failed during an answer.
 abbrev pub EndsBy : Pipes → Pipes → List Exchange → List ℕ → List ℕ → Ended → Type 0
 EndsBy before after xs rest part (ended.Write n) =
-    (x : Exchange) × (behind : List ℕ) × IsExchange x × (rest ≡ x.asked ++ behind) × (take (length part) x.answered ≡ part)
+    (x : Exchange) × (following : List ℕ) × IsExchange x × (rest ≡ x.asked ++ following) × (take (length part) x.answered ≡ part)
     × (n ≡ min (length (flat_map (λ x. x.answered) xs ++ part)) (2 ^ 64 - 1)) × (after.output_failed ≡ true) × (after.input_failed ≡ before.input_failed)
 EndsBy before after xs rest part ended.Request =
     (part ≡ []) × (StopsBy (reading_of before after) rest ended.Request ⊎ ((length xs ≡ requests_limit) × (after.input_failed ≡ before.input_failed)))
     × (after.output_failed ≡ before.output_failed)
 EndsBy before after xs rest part end = (part ≡ []) × StopsBy (reading_of before after) rest end × (after.output_failed ≡ before.output_failed)
 
--- an output was flushed this many times more, saturating at 2^64 - 1
+-- an output was flushed n times more, saturating at 2^64 - 1
 abbrev pub FlushedTimes : ℕ → ℕ → ℕ → Type 0
 FlushedTimes n before after = (n ≡ 0 → after ≡ before) × (n ≢ 0 → after ≡ min (before + n) (2 ^ 64 - 1))
 
@@ -160,7 +160,7 @@ pub record Answers (written : ℕ) (old new : List ℕ) (before after : Pipes) (
 -- how a run ends where no request is answered
 abbrev pub StopsIn : ℕ → List ℕ → List ℕ → Pipes → Pipes → Ended → Type 0
 StopsIn written rest part before after (ended.Write n) =
-    (x : Exchange) × (behind : List ℕ) × IsExchange x × (rest ≡ x.asked ++ behind) × (take (length part) x.answered ≡ part)
+    (x : Exchange) × (following : List ℕ) × IsExchange x × (rest ≡ x.asked ++ following) × (take (length part) x.answered ≡ part)
     × (n ≡ count_on written (length part)) × (after.output_failed ≡ true) × (after.input_failed ≡ before.input_failed)
     × (before.output_failed ≡ false → after.flushes ≡ flushing.flush_count after.write_failed before.flushes)
 StopsIn written rest part before after end = (part ≡ []) × StopsBy (reading_of before after) rest end × (after.output_failed ≡ before.output_failed)
@@ -193,7 +193,7 @@ status_of _ = 3
 
 -- Standard error took e: all of the line, unless it failed.
 pub record Reports (e : List ℕ) (failed : Bool) (end : Ended) : Type 0 where
-  pub front : take (length e) (ended_text end) ≡ e
+  pub prefix : take (length e) (ended_text end) ≡ e
   pub all : failed ≡ false → e ≡ ended_text end
 
 -- The command ran from the devices before to those after, with this exit status.
@@ -201,6 +201,6 @@ pub record Served (before after : Devices) (status : ℕ) : Type 0 where
   pub end : Ended
   pub session : Session (pipes_of before) (pipes_of after) end
   pub e : List ℕ
-  pub told : Appends before.told after.told e
+  pub reported : Appends before.reported after.reported e
   pub tells : Reports e after.errors_failed end
   pub status_is : status ≡ status_of end

@@ -85,9 +85,9 @@ IsLast bytes (Err _) = ⊥
 
 -- of all bytes read, these are in the buffer: they begin with a complete request, or the request was dropped
 abbrev pub Finds : Reading → List ℕ → List ℕ → Result FoundRequest Ended → Type 0
-Finds seen all held (Ok (found.Whole line start)) = (held ≡ all) × IsWhole all line start × NoneFailed seen
-Finds seen all held (Ok found.Dropped) = (held ≡ []) × IsAsked all × NoneFailed seen
-Finds seen all held (Err end) = StopsBy seen all end
+Finds seen all buffered (Ok (found.Whole line start)) = (buffered ≡ all) × IsWhole all line start × NoneFailed seen
+Finds seen all buffered (Ok found.Dropped) = (buffered ≡ []) × IsAsked all × NoneFailed seen
+Finds seen all buffered (Err end) = StopsBy seen all end
 
 pub record IsFound {I : Type 0} (i : inlet.Ghosts I) (old new : List ℕ) (before after : I) (result : Result FoundRequest Ended) : Type 0 where
   pub bytes : List ℕ

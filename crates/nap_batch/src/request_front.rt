@@ -12,7 +12,7 @@ const LINE_LIMIT: usize = 24;
 pub enum RequestFront {
     /// A complete request, whose page begins at this index.
     Whole(RequestLine, usize),
-    /// An incomplete request: its page lacks this many bytes, or its line is incomplete, and the number is 0.
+    /// An incomplete request: the number of bytes that its page lacks, or 0 if its line is incomplete.
     More(usize),
     /// No request, whatever follows.
     Wrong,
@@ -22,7 +22,7 @@ pub enum RequestFront {
 pub fn request_front_of(bytes: &[u8]) -> RequestFront
     ensures { IsFront bytes.now result }
 {
-    let Some((line, behind)) = split_at_byte(bytes, b'\n') else {
+    let Some((line, following)) = split_at_byte(bytes, b'\n') else {
         if bytes.len() > LINE_LIMIT {
             return RequestFront::Wrong;
         }
@@ -32,8 +32,8 @@ pub fn request_front_of(bytes: &[u8]) -> RequestFront
         return RequestFront::Wrong;
     };
     let size = request.size as usize;
-    if behind.len() < size {
-        return RequestFront::More(size - behind.len());
+    if following.len() < size {
+        return RequestFront::More(size - following.len());
     }
     RequestFront::Whole(request, line.len() + 1)
 }

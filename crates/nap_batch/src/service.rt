@@ -3,7 +3,7 @@ ghost use Rattle.std.specs.Prelude.{◌≡◌, ◌+◌, ◌++◌, IfOk, drop, le
 ghost use Rattle.nap_command.specs.Devices.{devices};
 ghost use Rattle.nap_batch.specs.declared.input_buffer.TheConstants.{READ_SIZE};
 ghost use Rattle.nap_batch.specs.Requests.{IsWhole};
-ghost use Rattle.nap_batch.specs.Sessions.{IsAnswered, IsExchanged, IsLed, IsSent, Replies, Served, Session, pipes};
+ghost use Rattle.nap_batch.specs.Sessions.{IsAnswered, IsExchanged, IsHeadSent, IsSent, Replies, Served, Session, pipes};
 
 use crate::answer::answer_page;
 use crate::input_buffer::{InputBuffer, READ_SIZE};
@@ -25,7 +25,7 @@ pub enum Ended {
     Request,
     /// A read failed, or there were as many reads for one request as allowed.
     Read,
-    /// A write failed after the output had taken this many bytes, saturating at the greatest `u64`.
+    /// A write failed. The number of bytes that the output had taken, saturating at the greatest `u64`.
     Write(u64),
     /// Memory ran out for the line of a request.
     Memory,
@@ -48,8 +48,8 @@ fn answer_parts(
 
 /// Writes the bytes before a body, without a flush. Returns the number of bytes written so far, of which `written` came
 /// before.
-fn lead<O: Outlet>(output: &mut O, written: u64, head: &[u8]) -> Result<u64, Ended>
-    ensures { IsLed O.Outlet written head.now output.old output.new result }
+fn send_head<O: Outlet>(output: &mut O, written: u64, head: &[u8]) -> Result<u64, Ended>
+    ensures { IsHeadSent O.Outlet written head.now output.old output.new result }
 {
     let mut taken = 0;
     while taken < head.len() {
@@ -84,8 +84,8 @@ fn send_parts<O: Outlet>(
 ) -> Result<u64, Ended>
     ensures { IsSent O.Outlet written (head.now ++ body.now) output.old output.new result }
 {
-    match lead(output, written, head) {
-        Ok(led) => send(output, led, body),
+    match send_head(output, written, head) {
+        Ok(head_sent) => send(output, head_sent, body),
         Err(ended) => Err(ended),
     }
 }
@@ -116,7 +116,7 @@ fn answer_front<O: Outlet>(
     written: u64,
 ) -> Result<u64, Ended>
     requires { IsWhole buffer.old line start }
-    ensures held { buffer.new ≡ drop (start + line.size) buffer.old }
+    ensures buffered { buffer.new ≡ drop (start + line.size) buffer.old }
     ensures answers { let page = take line.size (drop start buffer.old) in
         Replies O.Outlet written line.question line.budget page output.old output.new result }
 {

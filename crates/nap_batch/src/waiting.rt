@@ -41,7 +41,7 @@ fn end_of(buffer: &InputBuffer) -> Ended
     }
 }
 
-/// Reads once, with this many bytes of a page missing. If memory runs out for them, reads and drops them with at most
+/// Reads once, with `missing` bytes of a page missing. If memory runs out for them, reads and drops them with at most
 /// `most` reads, and empties the buffer.
 fn read_more<I: Inlet>(
     buffer: &mut InputBuffer,

@@ -31,13 +31,13 @@ none_or_some None = inl refl
 none_or_some (Some x) = inr (x, refl)
 
 -- the refusal at an end, or another one if it was accepted
-refusal_told : {X S : Type 0} → Refusal → Result X (Stopped S) → Refusal
-refusal_told other (Ok x) = other
-refusal_told other (Err stopped) = stopped.refusal
+refusal_or : {X S : Type 0} → Refusal → Result X (Stopped S) → Refusal
+refusal_or other (Ok x) = other
+refusal_or other (Err stopped) = stopped.refusal
 
 pub same_refusal : {X S : Type 0} (found : Result X (Stopped S)) (a b : Stopped S) → found ≡ Err a → found ≡ Err b → a.refusal ≡ b.refusal
-unfolding refusal_told
-same_refusal found a b one two = ap (refusal_told a.refusal) (sym one ∙ two)
+unfolding refusal_or
+same_refusal found a b one two = ap (refusal_or a.refusal) (sym one ∙ two)
 
 -- a page that is refused so far is refused whatever follows
 refused_on : (budget : ℕ) (p more : List ℕ) (r : Refusal) → (begun budget p).refusal ≡ Some r → (means budget (p ++ more)).refusal ≡ Some r
@@ -90,8 +90,8 @@ module _ {g : Ghosts CountSink} (wants_is : (d : List Entry) → g.wants uncount
         IsRefusal budget (p ++ more) (LacksToCount budget (p ++ more)) r
     why stream is here = own (p ++ more) is (refused_on budget p more r here.refusal)
     why memory is (i, within, broken) =
-        let (behind, joins) = begun_comes_first budget (p ++ more) in
-        lacks (p ++ more) (begun budget (p ++ more)).entries behind (sink_of reader) joins (begun budget (p ++ more)) refl (begun budget []).entries (among i within is broken) is
+        let (added_entries, joins) = begun_comes_first budget (p ++ more) in
+        lacks (p ++ more) (begun budget (p ++ more)).entries added_entries (sink_of reader) joins (begun budget (p ++ more)) refl (begun budget []).entries (among i within is broken) is
     why device is here = absurd (sound (device_fault r.fault is))
 
     pub refused_so_far : IsRefusal budget (p ++ more) (LacksToCount budget (p ++ more)) r

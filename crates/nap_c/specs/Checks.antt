@@ -26,7 +26,7 @@ pub record HasChecked (check : Check) (budget : ℕ) (p : List ℕ) : Type 0 whe
   pub sound : (r : Refusal) → refusal_of check.reader ≡ Some r → r.fault ≢ fault.Sink
 
 -- nothing is refused so far
-pub record GoesOn (budget : ℕ) (p : List ℕ) (a : Answer) : Type 0 where
+pub record UnrefusedSoFar (budget : ℕ) (p : List ℕ) (a : Answer) : Type 0 where
   pub unrefused : (begun budget p).refusal ≡ None
   pub answer : a ≡ accepted_answer 0
 
@@ -37,4 +37,4 @@ pub record StaysRefused (budget : ℕ) (p : List ℕ) (a : Answer) : Type 0 wher
 
 -- the answer for the bytes so far
 abbrev pub IsSoFar : ℕ → List ℕ → Answer → Type 0
-IsSoFar budget p a = GoesOn budget p a ⊎ StaysRefused budget p a
+IsSoFar budget p a = UnrefusedSoFar budget p a ⊎ StaysRefused budget p a

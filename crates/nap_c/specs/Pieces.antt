@@ -11,7 +11,7 @@ use Rattle.nap_c.specs.Checks.{IsSoFar, HasChecked}
 pub record Opens (budget : ℕ) (new : Option Check) (a : Answer) : Type 0 where
   pub check : Check
   pub begun : new ≡ Some check
-  pub has_read : HasChecked check budget []
+  pub has_checked : HasChecked check budget []
   pub answer : a ≡ accepted_answer 0
 
 -- a page is begun if there is such a budget, unless memory runs out
@@ -23,7 +23,7 @@ Begins budget new a =
 pub record Takes (piece : List ℕ) (old : Check) (new : Option Check) (a : Answer) : Type 0 where
   pub check : Check
   pub begun : new ≡ Some check
-  pub has_read : (budget : ℕ) (p : List ℕ) → HasChecked old budget p → HasChecked check budget (p ++ piece)
+  pub has_checked : (budget : ℕ) (p : List ℕ) → HasChecked old budget p → HasChecked check budget (p ++ piece)
   pub answer : (budget : ℕ) (p : List ℕ) → HasChecked old budget p → IsSoFar budget (p ++ piece) a
 
 abbrev pub Feeds : Option Check → Option Check → List ℕ → Answer → Type 0

@@ -28,7 +28,7 @@ impl Check {
     /// Takes the next piece.
     pub(crate) fn feed(&mut self, piece: &[u8]) -> Answer
         requires { fed self.old + length piece.now < 2 ^ 63 }
-        ensures has_read { (budget : ℕ) (p : List ℕ) → HasChecked self.old budget p → HasChecked self.new budget (p ++ piece.now) }
+        ensures has_checked { (budget : ℕ) (p : List ℕ) → HasChecked self.old budget p → HasChecked self.new budget (p ++ piece.now) }
         ensures answer { (budget : ℕ) (p : List ℕ) → HasChecked self.old budget p → IsSoFar budget (p ++ piece.now) result }
     {
         match self.reader.feed(piece) {

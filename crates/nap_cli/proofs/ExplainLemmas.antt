@@ -5,21 +5,21 @@ use Rattle.clap.specs.declared.error.kind.ErrorKind.TheVariants as kind
 use Rattle.nap_command.specs.declared.failure.Failure.{Failure}
 use Rattle.nap_command.specs.declared.failure.Failure.TheVariants as failure
 use Rattle.nap_command.specs.Devices.{Takes}
-use Rattle.nap_cli.specs.Explaining.{Explains, FlushesOnce, Outputs, ShowsHelp, ShowsText, WantsMemory}
+use Rattle.nap_cli.specs.Explaining.{Explains, FlushesOnce, Outputs, ShowsHelp, ShowsText, LacksMemory}
 
 -- words of any kind, if memory runs out
 
-memory_at_help : (before after : Outputs) (status : ℕ) → WantsMemory before after status → ShowsHelp before after status
+memory_at_help : (before after : Outputs) (status : ℕ) → LacksMemory before after status → ShowsHelp before after status
 memory_at_help before after status h = record {
   text = [];
   e = h.e;
   ended = Err failure.Memory;
   shown = h.unprinted;
-  told = h.told;
+  reported = h.reported;
   tells = h.tells;
 }
 
-pub explains_memory : (k : ErrorKind) (before after : Outputs) (status : ℕ) → WantsMemory before after status → Explains k before after status
+pub explains_memory : (k : ErrorKind) (before after : Outputs) (status : ℕ) → LacksMemory before after status → Explains k before after status
 explains_memory kind.DisplayHelp before after status h = memory_at_help before after status h
 explains_memory kind.DisplayVersion before after status h = memory_at_help before after status h
 explains_memory kind.OutOfMemory before after status h = h

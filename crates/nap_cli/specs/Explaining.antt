@@ -19,7 +19,7 @@ pub record Outputs : Type 0 where
   pub failed : Bool
   pub write_failed : Bool
   pub flushes : ℕ
-  pub told : Option (List ℕ)
+  pub reported : Option (List ℕ)
   pub errors_failed : Bool
 
 abbrev pub outputs : {O E : Type 0} → outlet.Ghosts O → outlet.Ghosts E → O → E → Outputs
@@ -29,7 +29,7 @@ outputs o e output errors = record {
   failed = o.failed output;
   write_failed = o.write_failed output;
   flushes = o.flushes output;
-  told = e.taken errors;
+  reported = e.taken errors;
   errors_failed = e.failed errors;
 }
 
@@ -40,7 +40,7 @@ outputs_of d = record {
   failed = d.output_failed;
   write_failed = d.write_failed;
   flushes = d.flushes;
-  told = d.told;
+  reported = d.reported;
   errors_failed = d.errors_failed;
 }
 
@@ -76,26 +76,26 @@ pub record ShowsHelp (before after : Outputs) (status : ℕ) : Type 0 where
   pub e : List ℕ
   pub ended : Result Verdict Failure
   pub shown : ShowsText before after text ended
-  pub told : Appends before.told after.told e
+  pub reported : Appends before.reported after.reported e
   pub tells : Reports e after.errors_failed ended status
 
 -- Memory ran out, as standard error reports; nothing was printed.
-pub record WantsMemory (before after : Outputs) (status : ℕ) : Type 0 where
+pub record LacksMemory (before after : Outputs) (status : ℕ) : Type 0 where
   pub unprinted : Unprinted before after
   pub e : List ℕ
-  pub told : Appends before.told after.told e
+  pub reported : Appends before.reported after.reported e
   pub tells : Reports e after.errors_failed (Err failure.Memory) status
 
 -- Standard error took clap's report of the words, and nothing was printed.
-pub record TellsWrong (before after : Outputs) (status : ℕ) : Type 0 where
+pub record ReportsWrong (before after : Outputs) (status : ℕ) : Type 0 where
   pub unprinted : Unprinted before after
   pub e : List ℕ
-  pub told : Appends before.told after.told e
+  pub reported : Appends before.reported after.reported e
   pub status_is : status ≡ 2
 
 -- the answer to words that ask for no command, by what clap finds: help, lack of memory, or what is wrong
 abbrev pub Explains : ErrorKind → Outputs → Outputs → ℕ → Type 0
 Explains kind.DisplayHelp before after status = ShowsHelp before after status
 Explains kind.DisplayVersion before after status = ShowsHelp before after status
-Explains kind.OutOfMemory before after status = WantsMemory before after status
-Explains _ before after status = TellsWrong before after status ⊎ WantsMemory before after status
+Explains kind.OutOfMemory before after status = LacksMemory before after status
+Explains _ before after status = ReportsWrong before after status ⊎ LacksMemory before after status

@@ -39,8 +39,8 @@ fn explain<O: Outlet, E: Outlet>(
     match write_whole(&mut output, text.as_bytes()) {
         Ok(()) => (output, 0),
         Err(fault) => {
-            let told = report(fault, errors);
-            (output, told)
+            let status = report(fault, errors);
+            (output, status)
         }
     }
 }

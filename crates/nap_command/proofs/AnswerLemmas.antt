@@ -86,9 +86,9 @@ module _ {O : Type 0} (o : outlet.Ghosts O) (w : O) (s : Canonical O) (begins : 
   text_is : (t : Canonical O) (d : List Entry) → Took o s d t → items t.outlet ≡ text d
   text_is t d took =
       let taken : Appends (o.taken w) (o.taken t.outlet) (text d) = (sink_writes_text o w s t d begins works took).grows.taken in
-      let told : Appends (Some (items w)) (Some (items t.outlet)) (text d) =
+      let reported : Appends (Some (items w)) (Some (items t.outlet)) (text d) =
       subst (λ (a : Option (List ℕ)). Appends a (Some (items t.outlet)) (text d)) (tells w) (subst (λ (b : Option (List ℕ)). Appends (o.taken w) b (text d)) (tells t.outlet) taken) in
-      told ∙ ap (λ (bytes : List ℕ). bytes ++ text d) empty
+      reported ∙ ap (λ (bytes : List ℕ). bytes ++ text d) empty
 
   lacks : (f : Fault) (place : ℕ) → RefusedBy g s c.budget p (record { fault = f; place = place }) (cause_of f) →
       IsRefusal c p (refusal_of_text (record { fault = f; place = place }))

@@ -10,8 +10,8 @@ use Rattle.nap_command.specs.Commands.{EndsWhole, Fails, Finds, IsPartly}
 
 -- The end of a command whose output fails.
 
-front_length : (n : ℕ) (xs : List ℕ) → n ≤ length xs → length (take n xs) ≡ n
-front_length n xs h = omega (arith, length-take n xs, h)
+prefix_length : (n : ℕ) (xs : List ℕ) → n ≤ length xs → length (take n xs) ≡ n
+prefix_length n xs h = omega (arith, length-take n xs, h)
 
 take_of_nothing : (n : ℕ) → let nothing : List ℕ = [] in take n nothing ≡ nothing
 take_of_nothing zero = refl
@@ -23,7 +23,7 @@ broken : (c : Command) (p : List ℕ) (a : Reading) (text : List ℕ) (old new :
 broken c p a text old new b n k e partly = (
   take n text,
   k.1,
-  subst (λ (x : Bool). EndsWhole c p a (take n text) x (Err (failure.Write n))) (sym e) (sym (front_length n text k.0), partly),
+  subst (λ (x : Bool). EndsWhole c p a (take n text) x (Err (failure.Write n))) (sym e) (sym (prefix_length n text k.0), partly),
 )
 
 -- the output failed during a printout
@@ -31,7 +31,7 @@ pub ends_amid : (c : Command) (p : List ℕ) (a : Reading) (text : List ℕ) (v 
     → Finds c p a text v → Takes old new text (Err f) → b ≡ true → (q : List ℕ) × Appends old new q × EndsWhole c p a q b (Err f)
 ends_amid c p a text v old new b (failure.Write n) h k e =
     broken c p a text old new b n k e
-    (inl (text, v, h, subst (λ (m : ℕ). take m text ≡ take n text) (sym (front_length n text k.0)) refl))
+    (inl (text, v, h, subst (λ (m : ℕ). take m text ≡ take n text) (sym (prefix_length n text k.0)) refl))
 ends_amid c p a text v old new b _ h k e = absurd k
 
 -- the output failed after the command had failed

@@ -34,8 +34,8 @@ use Rattle.nap_command.specs.Devices.{Takes}
 
 -- What `list` prints of a page that it reads twice.
 
-front_taken : (q left whole : List ℕ) → whole ≡ q ++ left → take (length q) whole ≡ q
-front_taken q left whole is = ap (take (length q)) is ∙ take-append_seam q left
+prefix_taken : (q left whole : List ℕ) → whole ≡ q ++ left → take (length q) whole ≡ q
+prefix_taken q left whole is = ap (take (length q)) is ∙ take-append_seam q left
 
 memory_fault : (f : Fault) → cause_of f ≡ memory → f ≡ fault.Memory
 memory_fault fault.Memory is = refl
@@ -98,7 +98,7 @@ module _ {O : Type 0} (o : outlet.Ghosts O) (w : O) (works : o.failed w ≡ fals
 
     partly_of : (q left : List ℕ) → lines (list_of c.budget page) ≡ q ++ left → ForPage (λ p seen. IsPartly c p seen q)
     partly_of q left is p seen whole streams =
-        inl (lines (list_of c.budget page), verdict.Accepted, finds p seen whole streams, front_taken q left (lines (list_of c.budget page)) is)
+        inl (lines (list_of c.budget page), verdict.Accepted, finds p seen whole streams, prefix_taken q left (lines (list_of c.budget page)) is)
 
     all_printed : (t : CountSink) → Took o begun (list_of c.budget page) v → Closes o v u n → Leaves u n (Ok t)
     all_printed t took closes =
@@ -130,7 +130,7 @@ module _ {O : Type 0} (o : outlet.Ghosts O) (w : O) (works : o.failed w ≡ fals
             ends = λ clear p seen whole streams.
                 let is = fault_is (ap o.failed (sym output) ∙ clear) in (
                   refuses is p seen whole streams,
-                  inr (is, (lines (list_of c.budget page), finds p seen whole streams, front_taken passes.sent (left ++ lines rest) (lines (list_of c.budget page)) parts)),
+                  inr (is, (lines (list_of c.budget page), finds p seen whole streams, prefix_taken passes.sent (left ++ lines rest) (lines (list_of c.budget page)) parts)),
                 );
           }
 
@@ -144,9 +144,9 @@ module _ {O : Type 0} (o : outlet.Ghosts O) (w : O) (works : o.failed w ≡ fals
     breaks accepted r memory is place (first, rest, entries, took) output written =
         some_printed accepted u n v r place output written first rest v.buffered entries (took_is v first took).passes (λ _. memory_fault r.fault is)
     breaks accepted r device is place (inl (failed, part)) output written = let bad : ⊥ = cc in absurd bad
-    breaks accepted r device is place (inr (front, next, rest, entries, broke)) output written =
-        let h = broke_is v front next broke in
-        some_printed accepted u n v r place output written (front ++ next ∷ []) rest h.left (entries ∙ sym (append_assoc front (next ∷ []) rest)) h.passes
+    breaks accepted r device is place (inr (prefix, next, rest, entries, broke)) output written =
+        let h = broke_is v prefix next broke in
+        some_printed accepted u n v r place output written (prefix ++ next ∷ []) rest h.left (entries ∙ sym (append_assoc prefix (next ∷ []) rest)) h.passes
         (λ clear. (let bad : true ≡ false = sym h.failed ∙ clear in cc))
 
     by : (read : Result CountSink Refusal) → ReadsTwice g k s begun c.budget page v read → MatchResult read (λ _. Closes o v u n) (λ _. (u ≡ v.outlet) × (n ≡ v.written)) → Leaves u n read

@@ -34,8 +34,8 @@ module _ (p q : List ℕ) (seen : Reading) where
 
 -- The output failed.
 
-front_length : (n : ℕ) (xs : List ℕ) → n ≤ length xs → length (take n xs) ≡ n
-front_length n xs h = omega (arith, length-take n xs, h)
+prefix_length : (n : ℕ) (xs : List ℕ) → n ≤ length xs → length (take n xs) ≡ n
+prefix_length n xs h = omega (arith, length-take n xs, h)
 
 take_of_nothing : (n : ℕ) → let nothing : List ℕ = [] in take n nothing ≡ nothing
 take_of_nothing zero = refl
@@ -47,13 +47,13 @@ module _ (p : List ℕ) (seen : Reading) where
   broken text old new b n k e partly = (
     take n text,
     k.1,
-    subst (λ (x : Bool). EndsMadeWhole p seen (take n text) x (Err (failure.Write n))) (sym e) (sym (front_length n text k.0), partly),
+    subst (λ (x : Bool). EndsMadeWhole p seen (take n text) x (Err (failure.Write n))) (sym e) (sym (prefix_length n text k.0), partly),
   )
 
   -- the output failed during the page
   pub page_amid : (text : List ℕ) (old new : Option (List ℕ)) (b : Bool) (f : Failure) → FindsPage p seen text → Takes old new text (Err f) → b ≡ true →
       (q : List ℕ) × Appends old new q × EndsMadeWhole p seen q b (Err f)
-  page_amid text old new b (failure.Write n) h k e = broken text old new b n k e (inl (text, h, subst (λ (m : ℕ). take m text ≡ take n text) (sym (front_length n text k.0)) refl))
+  page_amid text old new b (failure.Write n) h k e = broken text old new b n k e (inl (text, h, subst (λ (m : ℕ). take m text ≡ take n text) (sym (prefix_length n text k.0)) refl))
   page_amid text old new b _ h k e = absurd k
 
   -- the output failed after the lines were refused

@@ -10,8 +10,8 @@ use Rattle.nap_command.specs.Failures.{status_of, reported_text}
 
 -- What standard error took of a line that was written.
 
-front_of_front : (n : ℕ) (xs : List ℕ) → n ≤ length xs → take (length (take n xs)) xs ≡ take n xs
-front_of_front n xs h =
+prefix_of_prefix : (n : ℕ) (xs : List ℕ) → n ≤ length xs → take (length (take n xs)) xs ≡ take n xs
+prefix_of_prefix n xs h =
     let long : length (take n xs) ≡ n = omega (arith, length-take n xs, h) in
     subst (λ (m : ℕ). take m xs ≡ take n xs) (sym long) refl
 
@@ -20,11 +20,11 @@ pub tells_written : (old new : Option (List ℕ)) (r : Result (Unit {0}) Failure
 tells_written old new (Ok done) was now f status h flag is = (
   reported_text (Err f),
   h,
-  record { front = take_all (length (reported_text (Err f))) (reported_text (Err f)) (omega arith); all = λ _. refl; status_is = is },
+  record { prefix = take_all (length (reported_text (Err f))) (reported_text (Err f)) (omega arith); all = λ _. refl; status_is = is },
 )
 tells_written old new (Err (failure.Write n)) was now f status h flag is = (
   take n (reported_text (Err f)),
   h.1,
-  record { front = front_of_front n (reported_text (Err f)) h.0; all = λ works. cc (or-true was); status_is = is },
+  record { prefix = prefix_of_prefix n (reported_text (Err f)) h.0; all = λ works. cc (or-true was); status_is = is },
 )
 tells_written old new _ was now f status h flag is = absurd h

@@ -197,7 +197,7 @@ flushed_by true true write_failed n = n
 -- Standard error took e when a command ended like this: all of the line, unless standard error failed. The exit status
 -- says the same.
 pub record Reports (e : List ℕ) (failed : Bool) (ended : Result Verdict Failure) (status : ℕ) : Type 0 where
-  pub front : take (length e) (reported_text ended) ≡ e
+  pub prefix : take (length e) (reported_text ended) ≡ e
   pub all : failed ≡ false → e ≡ reported_text ended
   pub status_is : status ≡ exit_status ended
 
@@ -214,7 +214,7 @@ pub record Ran {I : Type 0} (i : inlet.Ghosts I) (c : Command) (start end : I) (
   pub ended : Result Verdict Failure
   pub read : Consumes before.left after.left p
   pub printed : Appends before.taken after.taken q
-  pub told : Appends before.told after.told e
+  pub reported : Appends before.reported after.reported e
   pub few : after.reads ≤ before.reads + reads_limit
   pub ends : Ends c p (reading_of before after) q after.output_failed ended
   pub stops : StreamsAtOnce i c p start end q

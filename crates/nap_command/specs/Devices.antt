@@ -18,7 +18,7 @@ pub record Devices : Type 0 where
   pub output_failed : Bool
   pub write_failed : Bool
   pub flushes : ℕ
-  pub told : Option (List ℕ)
+  pub reported : Option (List ℕ)
   pub errors_failed : Bool
 
 abbrev pub devices : {I O E : Type 0} → inlet.Ghosts I → outlet.Ghosts O → outlet.Ghosts E → I → O → E → Devices
@@ -31,7 +31,7 @@ devices i o e input output errors = record {
   output_failed = o.failed output;
   write_failed = o.write_failed output;
   flushes = o.flushes output;
-  told = e.taken errors;
+  reported = e.taken errors;
   errors_failed = e.failed errors;
 }
 

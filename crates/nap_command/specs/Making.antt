@@ -83,7 +83,7 @@ pub record Made (stream : Bool) (before after : Devices) (status : ℕ) : Type 0
   pub ended : Result Verdict Failure
   pub read : Consumes before.left after.left p
   pub printed : Appends before.taken after.taken q
-  pub told : Appends before.told after.told e
+  pub reported : Appends before.reported after.reported e
   pub few : after.reads ≤ before.reads + reads_limit
   pub ends : EndsMade stream p (reading_of before after) q after.output_failed ended
   pub sends : after.output_failed ≡ false → after.sent ≡ true

@@ -29,7 +29,7 @@ pub enum Failure {
     Misfit(u64),
     /// The lines end with the first number, inside the definition that the line of the second opens.
     Open(u64, u64),
-    /// The output failed after it had taken this many bytes.
+    /// The output failed, after it had taken this number of bytes.
     Write(u64),
     /// Memory ran out, but not in reading the stream.
     Memory,

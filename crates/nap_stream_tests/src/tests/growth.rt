@@ -117,14 +117,14 @@ const PAGES: &[(&[u8], &[u8], usize)] = &[
 ];
 
 #[test]
-fn short_pages_survive_lack_of_memory(rt: HostRuntime) {
+fn short_pages_survive_want_of_memory(rt: HostRuntime) {
     for (bytes, want, entries) in PAGES {
         assert!(rt; survives(rt.alloc(), bytes, want, *entries), "{bytes:?}");
     }
 }
 
 #[test]
-fn a_large_shape_survives_lack_of_memory(rt: HostRuntime) {
+fn a_large_shape_survives_want_of_memory(rt: HostRuntime) {
     let mut page = [0x40; 2_004];
     let mut want = [0x40; 16_012];
     page[..4].copy_from_slice(b"\x0E!@4");
@@ -133,7 +133,7 @@ fn a_large_shape_survives_lack_of_memory(rt: HostRuntime) {
 }
 
 #[test]
-fn a_full_store_survives_lack_of_memory(rt: HostRuntime) {
+fn a_full_store_survives_want_of_memory(rt: HostRuntime) {
     let alloc = rt.alloc();
     let Ok(mut page) = Vec::with_capacity(alloc, 1_048_581) else {
         return;

@@ -21,7 +21,7 @@ returns-in-Ok-Whole-clause-exchanged g c =
     let (text, is, sends) = c.answer_front.ensures.answers in
     let end = w.start + w.line.size in
     let parts : all ≡ take end buffer ++ new =
-    sym same ∙ (parts_of buffer w.line w.start front _ refl text is ∙ ap (λ (back : List ℕ). take end buffer ++ back) (sym c.answer_front.ensures.held)) in
+    sym same ∙ (parts_of buffer w.line w.start front _ refl text is ∙ ap (λ (back : List ℕ). take end buffer ++ back) (sym c.answer_front.ensures.buffered)) in
     answered I O c.args.written c.args.buffer.now new h.bytes c.args.input.now c.wait.new.input c.args.output.now c.answer_front.new.output h.read works
     (exchange_of buffer w.line w.start front _ refl text is) (is_exchange buffer w.line w.start front _ refl text is) parts c.answer_front.result sends.sends
 

@@ -2,7 +2,7 @@ use Rattle.std.proofs.Common.{ℕ, List, ◌≤◌, ◌∙◌, arith, drop, leng
 use Rattle.std.specs.Io.KnownBytes.{Appends}
 use Rattle.std.proofs.Math.Bool.{or-false, or-true}
 use Rattle.nap_batch.proofs.SendLemmas.{rest_of, taken_more, write_fails}
-use Rattle.nap_batch.proofs.service.lead.Goals as goal
+use Rattle.nap_batch.proofs.service.send_head.Goals as goal
 
 pub returns-in_default : goal.returns-in_default
 returns-in_default g c =
@@ -11,7 +11,7 @@ returns-in_default g c =
     let at = c.loop-taken.output in
     let fails = c.in_default.ensures in
     record {
-      leads =
+      sends_head =
           write_fails O c.args.written c.args.head.now c.args.head.now c.args.output.now at c.write.new.self c.loop-taken.taken c.saturating_add.result inv.within inv.sent fails.bytes
           c.saturating_add.ensures (fails.failed ∙ or-true (O.failed at)) (fails.write_failed ∙ or-true (O.write_failed at)) (fails.flushes ∙ inv.flushes);
     }

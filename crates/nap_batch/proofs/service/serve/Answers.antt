@@ -1,6 +1,6 @@
 use Rattle.std.proofs.Common.{List, ℕ, refl, sym, subst, arith}
 use Rattle.nap_batch.specs.Sessions.{pipes}
-use Rattle.nap_batch.proofs.GoingLemmas.{Going, ends, ends_full, ends_unbegun, goes_on, starts}
+use Rattle.nap_batch.proofs.GoingLemmas.{Going, ends, ends_full, ends_unbegun, one_more_answered, starts}
 use Rattle.nap_batch.proofs.service.serve.Goals as goal
 
 pub returns-in_default : goal.returns-in_default
@@ -13,7 +13,7 @@ loop-init g c =
 
 pub loop-preserved : goal.loop-preserved
 loop-preserved g c =
-    record { scratch = c.exchange.ensures.space; going = goes_on _ _ _ _ _ _ _ _ c.loop.invariant.going c.in-Ok-exchange.ensures.exchanged }
+    record { scratch = c.exchange.ensures.space; going = one_more_answered _ _ _ _ _ _ _ _ c.loop.invariant.going c.in-Ok-exchange.ensures.exchanged }
 
 pub returns-in-Err : goal.returns-in-Err
 returns-in-Err g c = ends _ _ _ _ _ _ _ c.loop.invariant.going c.in-Err.ensures.exchanged

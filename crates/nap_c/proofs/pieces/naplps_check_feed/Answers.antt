@@ -13,6 +13,6 @@ returns c =
     subst (λ (before : Option Check). Feeds before c.put.new.self.check piece c.feed-answer.result) (sym c.in-Some.ensures.known) (record {
       check = c.feed-answer.new.self;
       begun = c.put.ensures;
-      has_read = λ budget p h. c.feed-answer.ensures.has_read budget p (old budget p h);
+      has_checked = λ budget p h. c.feed-answer.ensures.has_checked budget p (old budget p h);
       answer = λ budget p h. c.feed-answer.ensures.answer budget p (old budget p h);
     })

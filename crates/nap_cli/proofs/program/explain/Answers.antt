@@ -11,7 +11,7 @@ use Rattle.nap_cli.proofs.program.explain.Goals as goal
 pub returns-in_default : goal.returns-in_default
 returns-in_default g c =
     let t = c.report.ensures in
-    explains_memory (kind_of c.args.error) _ _ _ (record { unprinted = record { taken = refl; sent = refl; failed = refl; write_failed = refl; flushes = refl }; e = t.0; told = t.1; tells = t.2 })
+    explains_memory (kind_of c.args.error) _ _ _ (record { unprinted = record { taken = refl; sent = refl; failed = refl; write_failed = refl; flushes = refl }; e = t.0; reported = t.1; tells = t.2 })
 
 pub returns-in-Ok-write_whole : goal.returns-in-Ok-write_whole
 returns-in-Ok-write_whole g c =
@@ -21,22 +21,22 @@ returns-in-Ok-write_whole g c =
       e = [];
       ended = Ok verdict.Accepted;
       shown = (write.takes, write.failed ∙ or-false _, write.sent, write.flushes);
-      told = Appends-nil (g.E.Outlet.taken c.args.errors.now);
-      tells = record { front = refl; all = λ _. refl; status_is = refl };
+      reported = Appends-nil (g.E.Outlet.taken c.args.errors.now);
+      tells = record { prefix = refl; all = λ _. refl; status_is = refl };
     })
 
 pub returns : goal.returns
 returns g c =
     let write = c.in-Err.ensures in
-    let t = c.report-told.ensures in
+    let t = c.report-status.ensures in
     let before = outputs g.O.Outlet g.E.Outlet c.args.output c.args.errors.now in
-    let after = outputs g.O.Outlet g.E.Outlet c.write_whole-2.new.output c.report-told.new.errors in
+    let after = outputs g.O.Outlet g.E.Outlet c.write_whole-2.new.output c.report-status.new.errors in
     explains_help (kind_of c.args.error) before after _ (λ h. true_or_false c.use_stderr.result c.if-use_stderr.false (c.use_stderr.ensures.1 h)) (record {
       text = c.as_bytes-2.result.now;
       e = t.0;
       ended = Err c.in-Err.fault;
       shown = shows_failing before after c.as_bytes-2.result.now c.in-Err.fault write.takes write.failed write.flushes;
-      told = t.1;
+      reported = t.1;
       tells = t.2;
     })
 

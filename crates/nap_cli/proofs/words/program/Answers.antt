@@ -18,9 +18,9 @@ returns c =
     let usual = string_bytes c.args.texts.now.usual in
     let named : app_of c.in_ok-bin_name.field-0 ≡ new_app (codes "naplps") = ap app_of_fields c.in_ok-bin_name.ensures.0 ∙ c.new.ensures.app in
     let versioned : app_of c.version.result ≡ with_version (new_app (codes "naplps")) = ap app_of_fields c.version.ensures ∙ ap with_version named in
-    let told : app_of c.after_help.result ≡ with_version (new_app (codes "naplps")) = ap app_of_fields c.after_help.ensures ∙ (ap app_of_fields c.about.ensures ∙ (ap app_of_fields c.override_usage.ensures ∙ versioned)) in
+    let reported : app_of c.after_help.result ≡ with_version (new_app (codes "naplps")) = ap app_of_fields c.after_help.ensures ∙ (ap app_of_fields c.about.ensures ∙ (ap app_of_fields c.override_usage.ensures ∙ versioned)) in
     let start_is : app_of c.subcommand_required.result ≡ program_app =
-    ap app_of_fields c.subcommand_required.ensures ∙ (ap (λ f. app_of_fields (record f { subcommand_required = true })) c.no_binary_name.ensures ∙ ap with_command told) in
+    ap app_of_fields c.subcommand_required.ensures ∙ (ap (λ f. app_of_fields (record f { subcommand_required = true })) c.no_binary_name.ensures ∙ ap with_command reported) in
     let one : app_of c.in_ok-subcommand-2.field-0 ≡ with_subcommand program_app (command_app usual (codes "list")).top =
     c.in_ok-subcommand-2.ensures.shape c.in_ok-subcommand.ensures.local ∙ ap₂ with_subcommand start_is (ap (λ (a : App). a.top) c.in_ok-subcommand.ensures.app) in
     let two : app_of c.in_ok-subcommand-4.field-0 ≡ with_subcommand (with_subcommand program_app (command_app usual (codes "list")).top) (command_app usual (codes "check")).top =

@@ -6,7 +6,7 @@ use Rattle.nap_command.proofs.execution.execute.Goals as goal
 -- hexadecimal text isn't converted
 pub returns-then-command : goal.returns-then-command
 returns-then-command g c =
-    let (e, told, tells) = c.report_end-status-then-command.ensures in
+    let (e, reported, tells) = c.report_end-status-then-command.ensures in
     record {
       p = [];
       q = [];
@@ -14,7 +14,7 @@ returns-then-command g c =
       ended = Err failure.Excluded;
       read = Consumes-nil _;
       printed = Appends-nil _;
-      told = told;
+      reported = reported;
       few = omega arith;
       ends = rw (c.if-not-command.false, c.if-command.true) (record { nothing = refl; unread = omega arith; none_failed = refl; unprinted = refl; works = c.requires.works; ended_is = refl });
       stops = λ _ bytes. let bad : true ≡ false = sym c.if-command.true ∙ bytes in let none : ⊥ = cc in absurd none;

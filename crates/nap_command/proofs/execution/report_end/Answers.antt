@@ -3,4 +3,4 @@ use Rattle.std.proofs.KnownBytes.{Appends-nil}
 use Rattle.nap_command.proofs.execution.report_end.Goals as goal
 
 pub returns-in-Ok : goal.returns-in-Ok
-returns-in-Ok g c = ([], Appends-nil _, rw (c.in-Ok.is) (record { front = refl; all = λ _. refl; status_is = c.status.ensures }))
+returns-in-Ok g c = ([], Appends-nil _, rw (c.in-Ok.is) (record { prefix = refl; all = λ _. refl; status_is = c.status.ensures }))
