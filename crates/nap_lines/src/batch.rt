@@ -6,7 +6,8 @@ ghost use Rattle.nap_lines.specs.Batches.{point_front, point_end, line_front, ch
 ghost use Rattle.nap_lines.specs.Writing.{line_limit};
 
 use crate::backward_buffer::BackwardBuffer;
-use crate::letters::{slice_part, write_few, write_many};
+use crate::letters::{write_few, write_many};
+use crate::slices::slice_part;
 use nap_codes::{CharSet, TextStep, format_effector};
 use nap_list::{Batch, Colour, Hand, Pen, line_start};
 use nap_values::{Move, Point};

@@ -1,6 +1,6 @@
 //! The fields of a line, each prepended to what is there (PROFILE.md, Lines of list).
 ghost use Rattle.std.specs.Prelude.{◌≡◌, ◌+◌, ◌≤◌, [], ◌∷◌, ◌++◌, codes, decimal, length};
-ghost use Rattle.nap_lines.specs.Lines.{point_text, move_text, grb_text, colour_text, pen_text, texture_text, mask_size_text, ink_text, size_text, flag_text, flags_text, look_text, hand_text, fill_text, set_text, step_text, area_text, mark_text, cursor_text, mask_text};
+ghost use Rattle.nap_lines.specs.Lines.{point_text, points_text, move_text, grb_text, colour_text, pen_text, texture_text, mask_size_text, ink_text, size_text, flag_text, flags_text, look_text, hand_text, fill_text, set_text, step_text, area_text, mark_text, cursor_text, mask_text};
 ghost use Rattle.std.specs.Str.{IsUtf8};
 ghost use Rattle.nap_lines.specs.Batches.{hand_text_without_pen};
 ghost use Rattle.nap_lines.specs.Writing.{line_limit};
@@ -9,6 +9,9 @@ use crate::backward_buffer::{BackwardBuffer, CopiedText};
 use nap_codes::{CharSet, CursorKind, Mask, Size, TextStep};
 use nap_list::{Area, CharSize, Colour, Hand, Ink, Origin, Pen, Preset, TextLook, Texture};
 use nap_values::{Addr, Grb, Move, Point, Word};
+
+/// The most points that are prepended at once.
+pub(crate) const POINTS_AT_ONCE: usize = 8;
 
 impl BackwardBuffer {
     /// Prepends the number of a word.
@@ -40,6 +43,18 @@ impl BackwardBuffer {
         self.push_number(point.y());
         self.push(",");
         self.push_number(point.x());
+    }
+
+    /// Prepends points, each after a space.
+    pub(crate) fn push_points(&mut self, points: &[Point])
+        requires few { length points.now ≤ 8 }
+        requires space { length self.old + 133 ≤ line_limit }
+        ensures { self.new ≡ points_text points.now ++ self.old }
+    {
+        for i in 0..points.len() {
+            self.push_point(points[points.len() - 1 - i]);
+            self.push(" ");
+        }
     }
 
     /// Prepends a point, and returns a copy of its text.

@@ -6,17 +6,9 @@ ghost use Rattle.nap_lines.specs.Writing.{line_limit};
 
 use crate::backward_buffer::BackwardBuffer;
 use crate::block::{BLOCK, fill_lines, recode_lines};
+use crate::slices::slice_part;
 use nap_codes::CharSet;
 use std::alloc::AllocError;
-
-/// Returns `count` items from `first`.
-#[inline(always)]
-pub(crate) fn slice_part<X>(items: &[X], first: usize, count: usize) -> &[X]
-    requires { first + count ≤ length items.now }
-    ensures { result.now ≡ take count (drop first items.now) }
-{
-    &items[first..first + count]
-}
 
 /// Appends the line of a byte of a text that may be a format effector, with the last bytes of the buffer as its end.
 /// Afterwards the buffer has the beginning of a Char's line again.

@@ -11,6 +11,7 @@ mod line_sink;
 mod printer;
 mod sending;
 mod shape;
+mod slices;
 
 pub use line::{append_line, line_of};
 pub use line_sink::LineSink;

@@ -6,7 +6,8 @@ ghost use Rattle.nap_lines.specs.Parts.{first_part, last_part};
 ghost use Rattle.nap_lines.specs.Writing.{Writes, line_limit};
 
 use crate::backward_buffer::BackwardBuffer;
-use crate::field::{fill_name, mark_name};
+use crate::field::{POINTS_AT_ONCE, fill_name, mark_name};
+use crate::slices::slice_part;
 use nap_codes::{CharSet, CursorKind, Mask, TextStep};
 use nap_list::{Area, Colour, Entry, Hand, Ink, Pen, Points};
 use nap_values::{Addr, Grb, Move, Point, Word};
@@ -233,11 +234,13 @@ pub(crate) fn write_points(
 ) -> Result<(), AllocError>
     ensures { Writes text.old.items (points_text points.now) text.new.items result }
 {
-    for point in points {
+    let mut written = 0;
+    while written < points.len() {
+        let count = (points.len() - written).min(POINTS_AT_ONCE);
         buffer.clear();
-        buffer.push_point(*point);
-        buffer.push(" ");
+        buffer.push_points(slice_part(points, written, count));
         text.extend_from_slice(buffer.as_slice())?;
+        written += count;
     }
     Ok(())
 }
