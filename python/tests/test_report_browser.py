@@ -450,10 +450,12 @@ def choose(page, name, value):
 @pytest.mark.parametrize("width", [390, 1240])
 def test_the_way_past_the_head_is_seen_as_a_whole_where_the_focus_is(wall, width):
     wall.size(width, 900)
+    wall.call("Emulation.setFocusEmulationEnabled", enabled=True)  # (a test before may have left the page by Tab)
     wall.run("document.querySelector('.skip').focus()")
     left, top, right, bottom, head = wall.run(
         "((box, head) => [box.left, box.top, box.right, box.bottom, head.top])"
         "(...['.skip', 'h1'].map((each) => document.querySelector(each).getBoundingClientRect()))")
+    wall.call("Emulation.setFocusEmulationEnabled", enabled=False)
     around = 5  # (of its outline)
     assert around <= left < right <= width - around and around <= top < bottom <= head - around
 
