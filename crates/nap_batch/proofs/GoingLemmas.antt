@@ -49,7 +49,7 @@ pub record Going (before now : Pipes) (held : List ℕ) (written n : ℕ) : Type
   pub requests : length xs ≡ n
   pub input_works : now.input_failed ≡ before.input_failed
   pub output_works : now.output_failed ≡ before.output_failed
-  pub flush_count : xs ≢ [] → now.sent ≡ true
+  pub flushed : xs ≢ [] → now.sent ≡ true
   pub each_flushed : before.output_failed ≡ false → FlushedTimes n before.flushes now.flushes
 
 pub starts : (p : Pipes) → Going p p [] 0 0

@@ -1,6 +1,6 @@
 //! The bytes that were read and not answered yet.
 ghost use Rattle.std.specs.Prelude.{◌≡◌, ◌≤◌, [], IfOk, drop, length};
-ghost use Rattle.nap_batch.specs.declared.input_buffer.TheConstants.{ROOM};
+ghost use Rattle.nap_batch.specs.declared.input_buffer.TheConstants.{READ_SIZE};
 ghost use Rattle.nap_batch.specs.Waiting.{IsReadOn};
 
 use nap_list::Inlet;

@@ -1,7 +1,7 @@
 //! Laws about requests and answers. Each is the contract of a function that does nothing.
 ghost use Rattle.std.specs.Prelude.{◌≡◌};
-ghost use Rattle.nap_batch.specs.declared.request_front.TheConstants.{LINE};
-ghost use Rattle.nap_batch.specs.declared.request.TheConstants.{DIGITS, PAGE};
+ghost use Rattle.nap_batch.specs.declared.request_front.TheConstants.{LINE_LIMIT};
+ghost use Rattle.nap_batch.specs.declared.request.TheConstants.{DIGITS, PAGE_LIMIT};
 ghost use Rattle.nap_batch.specs.declared.service.TheConstants.{REQUESTS};
 ghost use Rattle.nap_batch.specs.Limits.{digits_limit, line_limit, page_limit, requests_limit};
 ghost use Rattle.nap_batch.specs.Laws.{AnswersAreThoseOfCommands, BegunRequestsAreNone, PlacesAreLines, RequestsAreCutOneWay};

@@ -1,7 +1,7 @@
 //! Requests, one after another, and their answers.
 ghost use Rattle.std.specs.Prelude.{◌≡◌, ◌+◌, ◌++◌, IfOk, drop, length, take};
 ghost use Rattle.nap_command.specs.Devices.{devices};
-ghost use Rattle.nap_batch.specs.declared.input_buffer.TheConstants.{ROOM};
+ghost use Rattle.nap_batch.specs.declared.input_buffer.TheConstants.{READ_SIZE};
 ghost use Rattle.nap_batch.specs.Requests.{IsWhole};
 ghost use Rattle.nap_batch.specs.Sessions.{IsAnswered, IsExchanged, IsLed, IsSent, Replies, Served, Session, pipes};
 

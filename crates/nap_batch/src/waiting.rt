@@ -1,7 +1,7 @@
 //! Waiting for a complete request.
 ghost use Rattle.std.specs.Prelude.{◌≡◌, ◌+◌, ◌≤◌, length};
 ghost use Rattle.nap_list.specs.Limits.{reads_limit};
-ghost use Rattle.nap_batch.specs.declared.input_buffer.TheConstants.{ROOM};
+ghost use Rattle.nap_batch.specs.declared.input_buffer.TheConstants.{READ_SIZE};
 ghost use Rattle.nap_batch.specs.Requests.{IsMore};
 ghost use Rattle.nap_batch.specs.Waiting.{IsFound, IsLast, IsStep, end_of};
 

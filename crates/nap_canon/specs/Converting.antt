@@ -72,4 +72,4 @@ Converts budget p seen q failed answer = ⊥
 -- a failed write or a refusal.
 pub record StopsAtOnce {I : Type 0} (i : inlet.Ghosts I) (budget : ℕ) (p : List ℕ) (start end : I) (q : List ℕ) : Type 0 where
   pub last : LastRead i budget p start end
-  pub pieces_bytes : i.calls start < i.calls end → IsFrontOf (text (begun budget last.before).entries) q
+  pub written : i.calls start < i.calls end → IsFrontOf (text (begun budget last.before).entries) q

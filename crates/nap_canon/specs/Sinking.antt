@@ -30,7 +30,7 @@ Sends s bytes false t = TakesAll s bytes t
 -- the next entry has to fit.
 pub record Canonical (O : Type 0) : Type 0 where
   pub outlet : O
-  pub pieces_bytes : ℕ
+  pub written : ℕ
   pub form : Form
   pub text_end : TextEnd
   pub state : State

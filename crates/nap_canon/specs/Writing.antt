@@ -18,7 +18,7 @@ use Rattle.nap_canon.specs.Text.{piece_bytes, text_end_after_piece, pieces_bytes
 
 -- these bytes were appended, and this is the end of the text
 pub record AppendsBytes (bytes : List ℕ) (end : TextEnd) (w t : Pending) : Type 0 where
-  pub with_bytes_at : t.bytes ≡ w.bytes ++ bytes
+  pub laid : t.bytes ≡ w.bytes ++ bytes
   pub text_end : t.text_end ≡ end
 
 -- a piece was appended
@@ -56,7 +56,7 @@ Stays w t = (t.form ≡ w.form) × (t.state ≡ w.state)
 
 -- these bytes were sent, and this is the end of the text
 pub record WritesBytes {T F E : Type 0} (sends : T → List ℕ → Bool → T → Type 0) (bytes : List ℕ) (end : TextEnd) (w t : Writer T F) (r : Result (Unit {0}) E) : Type 0 where
-  pub sent : sends w.to bytes (is_err r) t.to
+  pub sent : sends w.target bytes (is_err r) t.target
   pub text_end : t.pending.text_end ≡ end
   pub kept : Stays w t
 
@@ -70,13 +70,13 @@ WritesPieces sends ps w t r = WritesBytes sends (w.pending.bytes ++ pieces_bytes
 
 -- the opening and all entries of this size were sent, with this end of the text, or this many of them
 pub record WritesWhole {T F : Type 0} (sends : T → List ℕ → Bool → T → Type 0) (opening : List ℕ) (size : ℕ) (bytes : List ℕ) (end : TextEnd) (w t : Writer T F) (r : Result (Unit {0}) ℕ) : Type 0 where
-  pub sent : SentWhole sends w.to opening size bytes t.to r
+  pub sent : SentWhole sends w.target opening size bytes t.target r
   pub text_end : OnOk r (t.pending.text_end ≡ end)
   pub kept : Stays w t
 
 -- an entry was put: its pieces were sent, and the state is that after it; or a write failed, and the state is unchanged
 pub record Puts {T F E : Type 0} (sends : T → List ℕ → Bool → T → Type 0) (e : Entry) (w t : Writer T F) (r : Result (Unit {0}) E) : Type 0 where
-  pub sent : sends w.to (pieces_bytes w.pending.text_end (entry_pieces w.form w.state e)) (is_err r) t.to
+  pub sent : sends w.target (pieces_bytes w.pending.text_end (entry_pieces w.form w.state e)) (is_err r) t.target
   pub text_end : OnOk r (t.pending.text_end ≡ text_end_after w.pending.text_end (entry_pieces w.form w.state e))
   pub form : t.form ≡ w.form
   pub state : OnOk r (t.state ≡ after w.state e)
@@ -86,7 +86,7 @@ pub record Puts {T F E : Type 0} (sends : T → List ℕ → Bool → T → Type
 pub record WritesFront {T F : Type 0} (sends : T → List ℕ → Bool → T → Type 0) (list : List Entry) (w t : Writer T F) (count : ℕ) : Type 0 where
   pub some : 0 < count
   pub few : count ≤ length list
-  pub sent : sends w.to (pieces_bytes w.pending.text_end (pieces w.form w.state (take count list))) false t.to
+  pub sent : sends w.target (pieces_bytes w.pending.text_end (pieces w.form w.state (take count list))) false t.target
   pub text_end : t.pending.text_end ≡ text_end_after w.pending.text_end (pieces w.form w.state (take count list))
   pub form : t.form ≡ w.form
   pub state : t.state ≡ walk w.state (take count list)
@@ -97,7 +97,7 @@ pub record CutsFront {T F : Type 0} (sends : T → List ℕ → Bool → T → T
   pub few : count ≤ length list
   pub less : whole < count
   pub far : ℕ
-  pub cut : CutAfter sends w.to (pieces_bytes w.pending.text_end (pieces w.form w.state (take count list))) far t.to
+  pub cut : CutAfter sends w.target (pieces_bytes w.pending.text_end (pieces w.form w.state (take count list))) far t.target
   pub parted : Parted w.form w.pending.text_end w.state (take count list) whole far
   pub state : t.state ≡ walk w.state (take whole list)
 

@@ -25,7 +25,7 @@ impl<O: Outlet + Drop> Model for CanonSink<O> {
 
     ghost Value = { Canonical O };
 
-    ghost view = { λ s. record { outlet = s.writer.to.outlet; written = s.writer.to.written; form = s.writer.form; text_end = s.writer.pending.text_end; state = s.writer.state } };
+    ghost view = { λ s. record { outlet = s.writer.target.outlet; written = s.writer.target.written; form = s.writer.form; text_end = s.writer.pending.text_end; state = s.writer.state } };
 }
 
 impl<O: Outlet + Drop> CanonSink<O> {

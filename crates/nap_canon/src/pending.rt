@@ -1,7 +1,7 @@
 //! Pending text: pieces of canonical text that aren't written yet.
 ghost use Rattle.std.specs.Prelude.{◌≡◌, ◌≤◌, ◌+◌, ◌++◌, [], ◌∷◌, length};
 ghost use Rattle.nap_codes.specs.declared.code_set.GSet.TheVariants.{G0};
-ghost use Rattle.nap_canon.specs.declared.text_end.TextEnd.TheVariants.{Apart, InRun};
+ghost use Rattle.nap_canon.specs.declared.text_end.TextEnd.TheVariants.{NoRun, InRun};
 ghost use Rattle.nap_canon.specs.Batches.{run_opening};
 ghost use Rattle.nap_canon.specs.Spelling.{word_byte, opcode, control, joinable_piece};
 ghost use Rattle.nap_canon.specs.Text.{gl_of, shift_to_opcodes, shift_to_primary, run_after, header};
@@ -155,7 +155,7 @@ impl Pending {
         requires space { length self.old.bytes + 1 ≤ buffer_limit }
         ensures bytes { self.new.bytes ≡ self.old.bytes ++ shift_to_primary (gl_of self.old.text_end) }
         ensures most { length self.new.bytes ≤ length self.old.bytes + 1 }
-        ensures tail { self.new.text_end ≡ Apart G0 }
+        ensures tail { self.new.text_end ≡ NoRun G0 }
     {
         if self.text_end.gl() != GSet::G0 {
             self.bytes.push(0x0F);

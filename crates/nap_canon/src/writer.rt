@@ -1,7 +1,7 @@
 //! Writing of the canonical text of entries, one after another.
 ghost use Rattle.std.specs.Prelude.{◌≡◌, ◌≤◌, ◌+◌, ◌∷◌, length};
 ghost use Rattle.nap_codes.specs.declared.code_set.GSet.TheVariants.{G1};
-ghost use Rattle.nap_canon.specs.declared.text_end.TextEnd.TheVariants.{Apart};
+ghost use Rattle.nap_canon.specs.declared.text_end.TextEnd.TheVariants.{NoRun};
 ghost use Rattle.nap_list.specs.declared.entry.Entry.TheVariants.{Rect};
 ghost use Rattle.nap_list.specs.Entry.{attributes};
 ghost use Rattle.nap_list.specs.Shapes.{entry_of_shape, circle_closed};
@@ -60,7 +60,7 @@ impl<T: ByteSink + Drop> Writer<T> {
 
     /// Writes the header: SO puts the PDI set into GL, and DOMAIN sets the operand lengths to eight and four.
     pub(crate) fn write_header(&mut self) -> Result<(), T::Fault>
-        ensures { WritesBytes T.sent header (Apart (gl_of self.old.pending.text_end)) self.old self.new result }
+        ensures { WritesBytes T.sent header (NoRun (gl_of self.old.pending.text_end)) self.old self.new result }
     {
         self.pending.bytes.clear();
         self.pending.append_header();

@@ -68,7 +68,7 @@ listed_after c p seen before old new b _ h k e = absurd k
 
 module _ {O : Type 0} (o : outlet.Ghosts O) (w : O) (works : o.failed w ≡ false) (c : Command) (list : c.action ≡ action.List) (page : List ℕ) where
   abbrev begun : Printing O
-  begun = record { outlet = w; written = 0; held = []; state = start }
+  begun = record { outlet = w; written = 0; buffered = []; state = start }
 
   -- for any input that is this page
   abbrev ForPage : (List ℕ → Reading → Type 0) → Type 0
@@ -102,7 +102,7 @@ module _ {O : Type 0} (o : outlet.Ghosts O) (w : O) (works : o.failed w ≡ fals
 
     all_printed : (t : CountSink) → Took o begun (list_of c.budget page) v → Closes o v u n → Leaves u n (Ok t)
     all_printed t took closes =
-        let all = passes_more (sending o w 0) (sending_of o v) (sending o u n) [] v.held closes.left (lines (list_of c.budget page)) [] took.passes closes.passes in
+        let all = passes_more (sending o w 0) (sending_of o v) (sending o u n) [] v.buffered closes.left (lines (list_of c.budget page)) [] took.passes closes.passes in
         let parts = sym (append-nil (lines (list_of c.budget page))) ∙ all.parts in
         record {
           q = all.sent;
@@ -142,7 +142,7 @@ module _ {O : Type 0} (o : outlet.Ghosts O) (w : O) (works : o.failed w ≡ fals
         TookFront k begun [] (means c.budget page).entries v cause → u ≡ v.outlet → n ≡ v.written → Leaves u n (Err r)
     breaks accepted r stream is place part output written = absurd part
     breaks accepted r memory is place (first, rest, entries, took) output written =
-        some_printed accepted u n v r place output written first rest v.held entries (took_is v first took).passes (λ _. memory_fault r.fault is)
+        some_printed accepted u n v r place output written first rest v.buffered entries (took_is v first took).passes (λ _. memory_fault r.fault is)
     breaks accepted r device is place (inl (failed, part)) output written = let bad : ⊥ = cc in absurd bad
     breaks accepted r device is place (inr (front, next, rest, entries, broke)) output written =
         let h = broke_is v front next broke in

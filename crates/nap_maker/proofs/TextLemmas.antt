@@ -29,15 +29,15 @@ module _ {O : Type 0} (o : outlet.Ghosts O) (w : O) (s : Canonical O) (begins : 
   -- the bytes of entries are those of a text behind its header
   behind_header : (d : List Entry) → entry_bytes s d ≡ pieces_bytes text_end_after_header (pieces Two start d)
   behind_header d =
-      ap (λ (f : Form). pieces_bytes s.tail (pieces f s.state d)) begins.form_is
-      ∙ ap (λ (t : TextEnd). pieces_bytes t (pieces Two s.state d)) begins.tail
+      ap (λ (f : Form). pieces_bytes s.text_end (pieces f s.state d)) begins.form_is
+      ∙ ap (λ (t : TextEnd). pieces_bytes t (pieces Two s.state d)) begins.text_end
       ∙ ap (λ (u : State). pieces_bytes text_end_after_header (pieces Two u d)) begins.state
 
   -- the bytes of one more entry
   behind_entries : (d : List Entry) (e : Entry) → entry_bytes_after s d e ≡ pieces_bytes (text_end_after text_end_after_header (pieces Two start d)) (entry_pieces Two (walk start d) e)
   behind_entries d e =
-      ap (λ (f : Form). pieces_bytes (text_end_after s.tail (pieces f s.state d)) (entry_pieces f (walk s.state d) e)) begins.form_is
-      ∙ ap (λ (t : TextEnd). pieces_bytes (text_end_after t (pieces Two s.state d)) (entry_pieces Two (walk s.state d) e)) begins.tail
+      ap (λ (f : Form). pieces_bytes (text_end_after s.text_end (pieces f s.state d)) (entry_pieces f (walk s.state d) e)) begins.form_is
+      ∙ ap (λ (t : TextEnd). pieces_bytes (text_end_after t (pieces Two s.state d)) (entry_pieces Two (walk s.state d) e)) begins.text_end
       ∙ ap (λ (u : State). pieces_bytes (text_end_after text_end_after_header (pieces Two u d)) (entry_pieces Two (walk u d) e)) begins.state
 
   one_piece : (u : State) (e : Entry) → pieces Two u (e ∷ []) ≡ entry_pieces Two u e

@@ -32,7 +32,7 @@ leads_by {u = u} {h' = h'} next sink held some left store_bound passes = record 
 -- An opcode, where no code is half read.
 pub record StartsRun (h : ReadingState) (x : Placed) (op : Opcode) : Type 0 where
   pub between : h.open_body ≡ None
-  pub store_bound : h.open_run ≡ None
+  pub closed : h.open_run ≡ None
   pub is : IsOpcodeByte h.half h.machine.sets x.byte op
 
 -- what is held once its run is open
@@ -64,7 +64,7 @@ drawn_by entries work = record { entries = entries; work = work; clears = false 
 -- A byte ends a code.
 pub record EndsCode (h : ReadingState) (x : Placed) (c : Code) (after : CodeSets) : Type 0 where
   pub between : h.open_body ≡ None
-  pub store_bound : h.open_run ≡ None
+  pub closed : h.open_run ≡ None
   pub count : ℕ
   pub whole : codes.front h.machine.sets (h.half ++ x.byte ∷ []) ≡ codes.whole c count after
   pub length_is : count ≡ length (h.half ++ x.byte ∷ [])
@@ -198,7 +198,7 @@ fault_takes {g = g} {old = old} {x = x} {zs = zs} fault index refused there stor
 
 -- It ends a code.
 pub record Lexes {S : Type 0} {g : Ghosts S} (old : Machine S g) (x : Placed) (c : Code) (after : CodeSets) : Type 0 where
-  pub store_bound : old.open_run ≡ None
+  pub closed : old.open_run ≡ None
   pub count : ℕ
   pub whole : codes.front old.lexer.sets (old.lexer.half ++ x.byte ∷ []) ≡ codes.whole c count after
   pub length_is : count ≡ length (old.lexer.half ++ x.byte ∷ [])
@@ -264,7 +264,7 @@ pub record IsAlone {S : Type 0} {g : Ghosts S} (old : Machine S g) (c : Code) (a
   pub byte : ℕ
   pub rest : List ℕ
   pub is : bytes ≡ byte ∷ rest
-  pub store_bound : old.open_run ≡ None
+  pub closed : old.open_run ≡ None
   pub half : old.lexer.half ≡ []
   pub front : codes.front old.lexer.sets (byte ∷ []) ≡ codes.whole c 1 after
 
@@ -319,7 +319,7 @@ pub record IsTextOf {S : Type 0} {g : Ghosts S} (old : Machine S g) (set : CharS
   pub few : length chars ≤ length bytes
   pub some : 0 < length chars
   pub typed : All IsTextByte chars
-  pub store_bound : old.open_run ≡ None
+  pub closed : old.open_run ≡ None
   pub are : AreCharacters old.lexer set
 
 module _ {S : Type 0} {g : Ghosts S} {old : Machine S g} {set : CharSet} {bytes chars : List ℕ} (k : IsTextOf old set bytes chars) where

@@ -135,7 +135,7 @@ pub record PassedTo (input after : Input) (piece : List ℕ) (many index : ℕ) 
   pub long : length text ≡ many
   pub few : index ≤ many
   pub budget : after.budget ≡ input.budget
-  pub after_charge : after.charged ≡ input.charged
+  pub charged : after.charged ≡ input.charged
   pub turns : input.turns ≤ after.turns
   pub fed : after.fed ≡ input.fed + (index + 1 - length (unread_of input))
 

@@ -223,7 +223,7 @@ module _ {S : Type 0} {g : Ghosts S} {old mid : Machine S g} {open_run : OpenRun
 
 -- It is at the front, where no code is half read.
 pub record AtOpcode {S : Type 0} {g : Ghosts S} (old : Machine S g) (byte : ℕ) (op : Opcode) : Type 0 where
-  pub store_bound : old.open_run ≡ None
+  pub closed : old.open_run ≡ None
   pub is : IsOpcodeByte old.lexer.half old.lexer.sets byte op
 
 -- where this byte is it

@@ -72,7 +72,7 @@ is_character _ = false
 not_pdi : (sets : CodeSets) (bytes : List ℕ) (c : Code) (after : CodeSets) → Spells sets bytes c after → get_or bytes 0 0 ≡ 0x20 → is_character c ≡ true → set_at sets sets.gl ≡ code_sets.Pdi → ⊥
 unfolding row_of control0_rows codes.non_pdi_code
 not_pdi sets _ _ _ (spelling.control0 {code = c} row differs) first is pdi = let bad : None ≡ Some (Whole c) = ap (row_of control0_rows) (sym first) ∙ row in cc
-not_pdi sets _ _ _ (spelling.in_gl {byte = byte} {code = c} range e) first is pdi = let bad : None ≡ Some c = ap (λ (set : CodeSet). codes.plain_code set byte) (sym pdi) ∙ e in cc
+not_pdi sets _ _ _ (spelling.in_gl {byte = byte} {code = c} range e) first is pdi = let bad : None ≡ Some c = ap (λ (set : CodeSet). codes.non_pdi_code set byte) (sym pdi) ∙ e in cc
 not_pdi sets _ _ _ (spelling.opcode pdi row kept) first is pdi' = cc
 not_pdi sets _ _ _ (spelling.operand pdi least most) first is pdi' = cc
 not_pdi sets _ _ _ _ first is pdi = omega arith
@@ -86,7 +86,7 @@ opcode_alone sets b op is set all =
 
 macro_call : (sets : CodeSets) (set : CodeSet) (b : ℕ) → set ≡ code_sets.Macros → codes.non_pdi_code set b ≡ Some (code.Call b)
 unfolding codes.non_pdi_code
-macro_call sets set b macros = ap (λ (set : CodeSet). codes.plain_code set b) macros
+macro_call sets set b macros = ap (λ (set : CodeSet). codes.non_pdi_code set b) macros
 
 pub byte_calls : (sets : CodeSets) (b : ℕ) → set_at sets sets.gl ≡ code_sets.Macros → IsGraphic b → codes.front sets (b ∷ []) ≡ codes.whole (code.Call b) 1 sets
 byte_calls sets b macros graphic = (whole_is_spelled sets (b ∷ []) (code.Call b) 1 sets).1 (omega arith, spelling.in_gl graphic (macro_call sets (set_at sets sets.gl) b macros))

@@ -31,7 +31,7 @@ asked_is h drawn = at drawn.clears
 -- No run is open, before or then, and the machine has this work and this lexer then.
 pub record LeftBy {S : Type 0} {g : Ghosts S} (old new : Machine S g) (work : Work) (lexer : LexerState) : Type 0 where
   pub before : old.open_run ≡ None
-  pub store_bound : new.open_run ≡ None
+  pub closed : new.open_run ≡ None
   pub work_is : new.work ≡ work
   pub lexer_is : new.lexer ≡ lexer
 

@@ -103,8 +103,8 @@ halts_in g s set q i t u sink_faults.Write some (inr h) = record { es = h.front;
 pub record IsTextOf (s : State) (set : CharSet) (q : List ℕ) (es : List Entry) (e : Entry) : Type 0 where
   pub before : List ℕ
   pub byte : ℕ
-  pub bytes_after : List ℕ
-  pub parts : q ≡ before ++ byte ∷ bytes_after
+  pub behind : List ℕ
+  pub parts : q ≡ before ++ byte ∷ behind
   pub front : es ≡ text s set before
   pub next : e ≡ typed_in (walk s (text s set before)) set byte
   pub count : length es ≡ length before

@@ -94,7 +94,7 @@ pub record BreaksBetween {S : Type 0} (g : Ghosts S) (s : S) (before after : Out
   pub more : List Entry
   pub adds : after.entries ≡ before.entries ++ more
   pub unrefused : after.refusal ≡ None
-  pub sublist : TookPart g s before.entries more t cause
+  pub part : TookPart g s before.entries more t cause
 
 -- a prefix of a list was taken, or all of it
 abbrev pub TakesPart : {S : Type 0} → Ghosts S → S → List Entry → List Entry → S → Type 0
@@ -112,12 +112,12 @@ TookFront g s known more t device =
 pub record BreaksFrom {S : Type 0} (g : Ghosts S) (s : S) (known : List Entry) (o : Outcome) (t : S) (cause : Cause) : Type 0 where
   pub more : List Entry
   pub adds : o.entries ≡ known ++ more
-  pub sublist : TookFront g s known more t cause
+  pub part : TookFront g s known more t cause
 
 -- the opcode whose run is open after p acts, and breaks
 pub record BreaksInRun {S : Type 0} (g : Ghosts S) (s : S) (budget : ℕ) (p : List ℕ) (t : S) (r : Refusal) : Type 0 where
   pub place : open_place (begun budget p) ≡ Some r.place
-  pub sublist : BreaksBetween g s (begun budget p) (with_run (begun budget p)) t (cause_of r.fault)
+  pub part : BreaksBetween g s (begun budget p) (with_run (begun budget p)) t (cause_of r.fault)
 
 -- The sink has the entries known once the byte after p shows whether a run is over, and a part of those known with the
 -- byte, not all; or the entries known before, and those that came of a body that is charged.
@@ -132,7 +132,7 @@ pub record BreaksAtByte {S : Type 0} (g : Ghosts S) (s : S) (budget : ℕ) (p : 
   pub place : r.place ≡ length p
   pub brings : AddsEntries budget p b
   pub wants : cause_of r.fault ≡ memory → WantsMemory budget p b ⊎ g.wants s (begun budget (p ++ b ∷ [])).entries
-  pub sublist : BreaksWith g s budget p b t (cause_of r.fault)
+  pub part : BreaksWith g s budget p b t (cause_of r.fault)
 
 -- the entries of the one outcome are the first of the other's
 abbrev pub Begins : Outcome → Outcome → Type 0

@@ -16,8 +16,8 @@ pub record Reads (input : Input) (piece : List ℕ) : Type 0 where
   pub small : length piece < 2 ^ 63
   pub few : input.fed + (length piece - input.at) < 2 ^ 63
 
--- These bytes come next, the first at this place and each further one this far after the one before; `store_bound` says that
--- no operand comes after them.
+-- These bytes come next, the first at this place and each further one this far after the one before. If `ended`, no
+-- operand comes after them.
 pub record IsNext (input : Input) (piece : List ℕ) (place step : ℕ) (text : List ℕ) (ended : Bool) : Type 0 where
   pub comes : AreNextBytes input.store.bytes input.frames.stack.items piece input.at input.fed text place
   pub of_piece : input.frames.stack.items ≡ [] → step ≡ 1
@@ -39,7 +39,7 @@ pub record Passed (old new : Input) (count : ℕ) : Type 0 where
   pub moves : MovesOn old.store.bytes old.frames.stack.items new.frames.stack.items old.at new.at old.fed new.fed count
   pub turns : new.turns ≡ old.turns + count
   pub budget : new.budget ≡ old.budget
-  pub after_charge : new.charged ≡ old.charged
+  pub charged : new.charged ≡ old.charged
 
 -- This many bytes were passed, and nothing else was done.
 pub record Advances (old new : Input) (count : ℕ) : Type 0 where
@@ -58,7 +58,7 @@ pub record Stays (old new : Input) : Type 0 where
 pub record KeepsNextBytes (old new : Input) : Type 0 where
   pub same : Stays old new
   pub frames : new.frames.stack.items ≡ old.frames.stack.items
-  pub after_charge : new.charged ≡ old.charged
+  pub charged : new.charged ≡ old.charged
 
 -- These bodies are stored, and this body is open; the bytes that come next are unchanged.
 pub record StoresBody (old new : Input) (store : StoreState) (opened : Option OpenBody) : Type 0 where
@@ -76,7 +76,7 @@ pub record Keeps (old new : Input) (piece : List ℕ) (count : ℕ) : Type 0 whe
 -- this body is open.
 pub record Shows (old new : Input) (store : StoreState) (opened : Option OpenBody) (bytes : List ℕ) (place : ℕ) : Type 0 where
   pub few : length bytes ≤ old.budget - old.charged
-  pub after_charge : new.charged ≡ old.charged + length bytes
+  pub charged : new.charged ≡ old.charged + length bytes
   pub unread : unread_of new ≡ all_at place bytes ++ unread_of old
   pub names : new.store.names ≡ store.names
   pub stored : new.store.stored ≡ store.stored

@@ -164,7 +164,7 @@ pub record BreaksNext {S : Type 0} (g : Ghosts S) (s : S) (known : List Entry) (
   pub more : List Entry
   pub adds : o.entries ≡ known ++ more
   pub unrefused : o.refusal ≡ None
-  pub sublist : TookPart g s known more t cause
+  pub part : TookPart g s known more t cause
 
 -- There are entries after the known ones. If memory was lacking, the sink may lack it for these.
 pub record BreaksPast {S : Type 0} (g : Ghosts S) (s : S) (known : List Entry) (o : Outcome) (t : S) (cause : Cause) : Type 0 where

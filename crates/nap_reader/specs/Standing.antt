@@ -56,7 +56,7 @@ pub record IsBroken {S : Type 0} (g : Ghosts S) (s : S) (budget : ℕ) (p : List
   pub before : (begun budget p).refusal ≡ None
   pub breaks : BreaksAt g s budget p b t r
   pub left : n ≤ (begun budget p).machine.left
-  pub after_charge : (begun budget (p ++ b ∷ [])).machine.left ≤ n
+  pub charged : (begun budget (p ++ b ∷ [])).machine.left ≤ n
 
 -- Reading stopped at the byte after p with this refusal: the stream's own, or it broke.
 abbrev pub StopsBy : {S : Type 0} → Ghosts S → S → ℕ → List ℕ → ℕ → S → ℕ → Refusal → Cause → Type 0

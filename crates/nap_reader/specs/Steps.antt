@@ -58,7 +58,7 @@ pub record Binds (h h' : ReadingState) : Type 0 where
   pub holds : h.half ≡ [] → h' ≡ record h { machine = model.after_body h.machine body.name h.body; half = 0x1B ∷ []; open_run = None; run = []; open_body = None; body = [] }
   pub left : h'.machine.left ≡ h.machine.left
   pub between : h'.open_body ≡ None
-  pub store_bound : h'.open_run ≡ None
+  pub closed : h'.open_run ≡ None
   pub waits : h'.half ≢ []
 
 -- The sink and the pending bytes are unchanged; or, before the byte that ends it, the opcode of the open run has acted
@@ -83,14 +83,14 @@ pub record LacksWord {S : Type 0} (t : S) (h : ReadingState) (x : Placed) (u : S
 -- not all entries of the code that a byte ends are in the sink
 pub record BreaksCode {S : Type 0} (g : Ghosts S) (t : S) (h : ReadingState) (x : Placed) (u : S) (r : Refusal) : Type 0 where
   pub place : r.place ≡ x.place
-  pub sublist : (s : S) (known : List Entry) (o : Outcome) → ContinuesPast g s known o t h (x ∷ []) → BreaksSome g s known o u h.machine.left (cause_of r.fault)
+  pub part : (s : S) (known : List Entry) (o : Outcome) → ContinuesPast g s known o t h (x ∷ []) → BreaksSome g s known o u h.machine.left (cause_of r.fault)
 
 -- not all that a byte of a body adds is there
 pub record BreaksBody {S : Type 0} (g : Ghosts S) (t : S) (h : ReadingState) (x : Placed) (u : S) (r : Refusal) : Type 0 where
   pub body : OpenBody
   pub is : h.open_body ≡ Some body
   pub place : r.place ≡ x.place
-  pub sublist : (s : S) (known : List Entry) (o : Outcome) → ContinuesPast g s known o t h (x ∷ []) → BreaksInBody g s known o u h.machine.left (cause_of r.fault)
+  pub part : (s : S) (known : List Entry) (o : Outcome) → ContinuesPast g s known o t h (x ∷ []) → BreaksInBody g s known o u h.machine.left (cause_of r.fault)
 
 -- Reading breaks at a byte: at a word of the open run; in the opcode whose run the byte ends; in the code that it ends,
 -- after such a run or not; or in a body.
@@ -109,7 +109,7 @@ pub record StopsByte {S : Type 0} (g : Ghosts S) (t : S) (h : ReadingState) (x :
 -- These bytes are characters, or moves among them, and nothing is pending before them.
 pub record IsText (h : ReadingState) (set : CharSet) (text : List ℕ) : Type 0 where
   pub between : h.open_body ≡ None
-  pub store_bound : h.open_run ≡ None
+  pub closed : h.open_run ≡ None
   pub rested : h.half ≡ []
   pub chars : AllCharacters h.machine.sets set
   pub some : 0 < length text
@@ -189,12 +189,12 @@ clear_request_if clears = if clears then requests.Clear else requests.Nothing
 -- The bytes before this index lead to a state in which the byte there completes a call of the macro of this name.
 pub record Calls {S : Type 0} (g : Ghosts S) (t : S) (h : ReadingState) (u : S) (h' : ReadingState) (all : List Placed) (index name : ℕ) : Type 0 where
   pub byte : Placed
-  pub bytes_after : List Placed
-  pub is : drop index all ≡ byte ∷ bytes_after
+  pub behind : List Placed
+  pub is : drop index all ≡ byte ∷ behind
   pub holding : ReadingState
   pub leads : LeadsOn g t h u holding (take index all) (bytes_of (drop index all))
   pub between : holding.open_body ≡ None
-  pub store_bound : holding.open_run ≡ None
+  pub closed : holding.open_run ≡ None
   pub left : holding.machine.left ≡ h'.machine.left
   pub front_is : (s : S) (o : Outcome) (pending : List Placed) (k : Continues g s o u holding (byte ∷ pending)) →
       front holding.machine (k.rest ++ byte ∷ pending) ≡ shown_front h'.machine byte.place (body_of h'.machine.names name) pending
@@ -261,7 +261,7 @@ pub record Takes {S : Type 0} {g : Ghosts S} (old new : Machine S g) (bytes : Li
   pub within : count ≤ length bytes
   pub leaves : Leaves old new request
   pub goes : 0 < length bytes → Progresses old new count request
-  pub store_bound : request ≡ requests.Nothing → count < length bytes → new.open_run ≡ None
+  pub closed : request ≡ requests.Nothing → count < length bytes → new.open_run ≡ None
   pub by : (h : ReadingState) (bytes_after : List Placed) → h.open_body ≡ None → (ended ≡ true → IsOver (bytes_of bytes_after)) →
       TakesBy g old.sink (with_machine h old) new.sink (with_machine h new) (bytes ++ bytes_after) (length bytes) count new.refusal request
 
@@ -291,8 +291,8 @@ IsFrontCode lexer byte fronts.Other = ⊤
 pub record CallsBy (lexer : LexerState) (bytes : List ℕ) (count : ℕ) : Type 0 where
   pub before : List ℕ
   pub name : ℕ
-  pub bytes_after : List ℕ
-  pub is : bytes ≡ before ++ name ∷ bytes_after
+  pub behind : List ℕ
+  pub is : bytes ≡ before ++ name ∷ behind
   pub counted : count ≡ length before + 1
   pub rested : lexer.half ≡ []
   pub named : IsGraphic name
@@ -319,7 +319,7 @@ CodeTakes old new xs ended _ = ⊤
 -- ended.
 pub record Codes {S : Type 0} {g : Ghosts S} (old new : Machine S g) (bytes : List ℕ) (ended : Bool) (outcome : CodeOutcome) : Type 0 where
   pub within : CodeWithin old new bytes outcome
-  pub store_bound : new.open_run ≡ old.open_run
+  pub closed : new.open_run ≡ old.open_run
   pub by : (xs : List Placed) → bytes_of xs ≡ bytes → CodeTakes old new xs ended outcome
 
 -- The opcode of the open run acted, and may have unbound all names; or it is refused, or breaks.

@@ -13,7 +13,7 @@ pub record BreaksOff {S : Type 0} (g : Ghosts S) (s : S) (budget : ℕ) (p : Lis
   pub place : BreaksWithin budget p r.place
   pub wants : cause_of r.fault ≡ memory → LacksMemoryFor g s budget p r.place
   pub failed : cause_of r.fault ≡ device → g.failed t ≡ true
-  pub sublist : TookFront g s [] (means budget p).entries t (cause_of r.fault)
+  pub part : TookFront g s [] (means budget p).entries t (cause_of r.fault)
 
 -- a page is refused by itself, or its reading broke
 abbrev pub EndsEarly : {S : Type 0} → Ghosts S → S → ℕ → List ℕ → S → Refusal → Cause → Type 0

@@ -91,7 +91,7 @@ module _ {O : Type 0} (o : outlet.Ghosts O) (w : O) (s : Canonical O) (begins : 
       pub grows : Grows (sending o w 0) q (sending_of o t)
       pub front : IsFrontOf q (text (list_of budget p))
       pub left : IsReadWhole seen p ⊎ IsFrontOf q (text (begun budget p).entries)
-      pub pieces_bytes : IsFrontOf (text (begun budget before).entries) q
+      pub written : IsFrontOf (text (begun budget before).entries) q
 
     -- how a conversion ends that left the sink so
     abbrev pub Leaves : Canonical O → Result (Unit {0}) FeedFault → Type 0

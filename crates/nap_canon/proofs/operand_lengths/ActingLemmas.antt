@@ -75,7 +75,7 @@ next_plain : (work w : Work) (c : Code) (rest : List Code) → (Stage work (c �
 unfolding AllMayFollow
 next_plain work w c rest turn asks = record {
   stage = turn asks.stage;
-  each = All-text_end IsPlainCode c rest asks.each;
+  each = All-tail IsPlainCode c rest asks.each;
   behind = asks.behind.1;
 }
 
@@ -86,7 +86,7 @@ nothing_lexed sets = ap (λ (l : LexResult). l.codes) (lexed_front sets [] ∙ a
 
 each_behind : (words : List ℕ) (rest : List Code) → All IsPlainCode (operands_of words ++ rest) → All IsPlainCode rest
 each_behind [] rest each = each
-each_behind (word ∷ words) rest each = each_behind words rest (All-text_end IsPlainCode (code.Operand word) (operands_of words ++ rest) each)
+each_behind (word ∷ words) rest each = each_behind words rest (All-tail IsPlainCode (code.Operand word) (operands_of words ++ rest) each)
 
 come_behind : (words : List ℕ) (rest : List Code) → AllMayFollow (operands_of words ++ rest) → AllMayFollow rest
 unfolding AllMayFollow
@@ -123,7 +123,7 @@ module _ (fuel : ℕ) (m : Machine) (op : Opcode) (place : ℕ) (xs : List Place
       let list : List Code = (lex_result m.sets (bytes_of rest)).codes in
       let asked : Asks d.work list = record {
         stage = opcode_stage m.work op words list d e asks.stage asks.behind.0;
-        each = each_behind words list (All-text_end IsPlainCode (code.Op op) (operands_of words ++ list) asks.each);
+        each = each_behind words list (All-tail IsPlainCode (code.Op op) (operands_of words ++ list) asks.each);
         behind = come_behind words list asks.behind.1;
       } in
       known_opcode m.work op words list (acting_within fuel (after_drawing m d) rest) asks.stage (ih (after_drawing m d) (drawing_stands m d standing) going asked)

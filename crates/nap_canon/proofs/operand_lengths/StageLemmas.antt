@@ -177,7 +177,7 @@ no_domain_next _ rest quiet next = next
 pub quiet_stage : (work w : Work) (c : Code) (rest : List Code) → IsQuiet c → w.domain ≡ work.domain → w.saved ≡ work.saved →
     w.state.definition ≡ work.state.definition → Stage work (c ∷ rest) → Stage w rest
 quiet_stage work w c rest quiet domain saved definition (before closed first) = before (definition ∙ closed) (first_behind c rest quiet first)
-quiet_stage work w c rest quiet domain saved definition (defining none) = defining (All-text_end IsNoOpcode c rest none)
+quiet_stage work w c rest quiet domain saved definition (defining none) = defining (All-tail IsNoOpcode c rest none)
 quiet_stage work w c rest quiet domain saved definition (behind (inl is) back) = behind (inl (domain ∙ is)) (comes_back work w saved definition back)
 quiet_stage work w c rest quiet domain saved definition (behind (inr next) back) = absurd (no_domain_next c rest quiet next)
 
@@ -203,7 +203,7 @@ ended_closed work (Some opened) e = refl
 pub opens_stage : (work : Work) (c : Code) (rest : List Code) (e : Entry) → (DomainFirst (c ∷ rest) → All IsNoOpcode rest) → (DomainNext (c ∷ rest) → ⊥) →
     Stage work (c ∷ rest) → Stage (definition_opened (definition_ended work) e).work rest
 opens_stage work c rest e first_none next_none (before closed first) = defining (first_none first)
-opens_stage work c rest e first_none next_none (defining none) = defining (All-text_end IsNoOpcode c rest none)
+opens_stage work c rest e first_none next_none (defining none) = defining (All-tail IsNoOpcode c rest none)
 opens_stage work c rest e first_none next_none (behind (inl is) back) =
     let stand = ended_lengths work work.state.definition refl is back in
     behind (inl stand) (inl stand)
@@ -212,7 +212,7 @@ opens_stage work c rest e first_none next_none (behind (inr next) back) = absurd
 pub end_stage : (work : Work) (rest : List Code) → Stage work (codes.End ∷ rest) → Stage (definition_ended work).work rest
 unfolding DomainFirst DomainNext
 end_stage work rest (before closed first) = before (ended_closed work work.state.definition refl) first
-end_stage work rest (defining none) = defining (All-text_end IsNoOpcode codes.End rest none)
+end_stage work rest (defining none) = defining (All-tail IsNoOpcode codes.End rest none)
 end_stage work rest (behind (inl is) back) =
     behind (inl (ended_lengths work work.state.definition refl is back)) (ended_back work work.state.definition refl back)
 end_stage work rest (behind (inr next) back) = absurd next

@@ -68,7 +68,7 @@ first_turns begun.Nothing (codes.DefGlyph byte) = λ rest. (λ h. h, λ h. h)
 first_turns begun.Nothing (codes.DefMask mask) = λ rest. (λ h. h, λ h. h)
 first_turns begun.Nothing _ = λ rest. (λ h. h, λ h. h)
 first_turns begun.Definition (codes.Op op) = λ rest h. All-head IsNoOpcode (codes.Op op) rest h
-first_turns begun.Definition code = λ rest. (λ h. All-text_end IsNoOpcode code rest h, λ h. All-cons IsNoOpcode code rest tt h)
+first_turns begun.Definition code = λ rest. (λ h. All-tail IsNoOpcode code rest h, λ h. All-cons IsNoOpcode code rest tt h)
 first_turns begun.Drawing code = λ rest. (λ h. tt, λ h. tt)
 
 -- what comes next
@@ -115,7 +115,7 @@ joined : (check : PlainCheck) (code : Code) (plain : Bool) (b : Option CodesSeen
     Turns AsksBehind check.next code n → Turns Asks check code (check_of_parts plain b n)
 joined check code true (Some b) (Some n) told first behind = λ rest. (
   λ asks. record {
-    each = All-text_end IsPlainCode code rest asks.each;
+    each = All-tail IsPlainCode code rest asks.each;
     first = (first rest).0 asks.first;
     next = ((behind rest).0 (asks.next, asks.behind)).0;
     behind = ((behind rest).0 (asks.next, asks.behind)).1;

@@ -96,7 +96,7 @@ operands_spelled : (bytes : List ℕ) → All IsOperandByte bytes → AllSpelled
 operands_spelled [] all = no_code
 operands_spelled (b ∷ bytes) all =
     let first = All-head IsOperandByte b bytes all in
-    one_code (spells.operand refl first.0 first.1) (operands_spelled bytes (All-text_end IsOperandByte b bytes all))
+    one_code (spells.operand refl first.0 first.1) (operands_spelled bytes (All-tail IsOperandByte b bytes all))
 
 operands_each : (bytes : List ℕ) → All IsPlainCode (operand_codes bytes)
 operands_each [] = All-nil IsPlainCode

@@ -49,7 +49,7 @@ module _ {T F : Type 0} (sends : T → List ℕ → Bool → T → Type 0) (w v 
   joined_whole put s is = record {
     some = some;
     few = within_list;
-    sent = subst (λ (bs : List ℕ). sends w.to bs false v.to) (sym as_joined.writes) put.sent;
+    sent = subst (λ (bs : List ℕ). sends w.target bs false v.target) (sym as_joined.writes) put.sent;
     text_end = put.text_end ∙ sym as_joined.ends;
     form = put.kept.0;
     state = is ∙ ap (λ (s : State). walk s (take count from)) put.kept.1;
@@ -58,7 +58,7 @@ module _ {T F : Type 0} (sends : T → List ℕ → Bool → T → Type 0) (w v 
   pub joined_cut : (k : ℕ) → Wrote (Err k) → (s : State) → s ≡ walk v.state (take k from) → CutsFront sends from w (record v { state = s }) k
   joined_cut k put s is =
       let n : ℕ = put.sent.0 in
-      let cut : CutAfter sends w.to sent_bytes n v.to = put.sent.2 in
+      let cut : CutAfter sends w.target sent_bytes n v.target = put.sent.2 in
       let j : ℕ = (n - length opens) / each_size in
       let some_whole : j < count = whole_less opens batch first count n few some cut.less in
       let parted : Parted w.form w.pending.text_end w.state (take count from) j n =
@@ -69,7 +69,7 @@ module _ {T F : Type 0} (sends : T → List ℕ → Bool → T → Type 0) (w v 
         few = within_list;
         less = omega (arith, some_whole, put.sent.1);
         far = n;
-        cut = subst (λ (bs : List ℕ). CutAfter sends w.to bs n v.to) (sym as_joined.writes) cut;
+        cut = subst (λ (bs : List ℕ). CutAfter sends w.target bs n v.target) (sym as_joined.writes) cut;
         parted = subst (λ (k : ℕ). Parted w.form w.pending.text_end w.state (take count from) k n) (sym put.sent.1) parted;
         state = is ∙ ap (λ (s : State). walk s (take k from)) put.kept.1;
       }
@@ -276,12 +276,12 @@ module _ {T F : Type 0} (sends : T → List ℕ → Bool → T → Type 0) (w : 
   enough : more + 1 ≤ length list
   enough = omega (arith, few, length-drop index (batch_entries batch))
 
-  pub puts_whole : (to : T) → sends w.to u.bytes false to → (s : State) → s ≡ walk w.state (take (more + 1) list) →
-      WritesFront sends list w (record { to = to; form = w.form; pending = u; state = s }) (more + 1)
+  pub puts_whole : (to : T) → sends w.target u.bytes false to → (s : State) → s ≡ walk w.state (take (more + 1) list) →
+      WritesFront sends list w (record { target = to; form = w.form; pending = u; state = s }) (more + 1)
   puts_whole to sent s is = record {
     some = omega arith;
     few = enough;
-    sent = subst (λ (bs : List ℕ). sends w.to bs false to) all_written sent;
+    sent = subst (λ (bs : List ℕ). sends w.target bs false to) all_written sent;
     text_end =
         ends
         ∙ ap (λ (t : TextEnd). text_end_after_rest t batch more) own_ends
@@ -290,15 +290,15 @@ module _ {T F : Type 0} (sends : T → List ℕ → Bool → T → Type 0) (w : 
     state = is;
   }
 
-  module _ (to : T) (n : ℕ) (cut : CutAfter sends w.to u.bytes n to) where
-    pub puts_none : n < length r.bytes → CutsFront sends list w (record { to = to; form = w.form; pending = u; state = w.state }) 0
+  module _ (to : T) (n : ℕ) (cut : CutAfter sends w.target u.bytes n to) where
+    pub puts_none : n < length r.bytes → CutsFront sends list w (record { target = to; form = w.form; pending = u; state = w.state }) 0
     unfolding walk
     puts_none less = record {
       count = more + 1;
       few = enough;
       less = omega arith;
       far = n;
-      cut = subst (λ (bs : List ℕ). CutAfter sends w.to bs n to) all_written cut;
+      cut = subst (λ (bs : List ℕ). CutAfter sends w.target bs n to) all_written cut;
       parted = front_none w.form w.pending.text_end w.state batch index more front.first front.rest front.is stand few joins_own n (omega (arith, less, ap length own_laid));
       state = refl;
     }
@@ -316,13 +316,13 @@ module _ {T F : Type 0} (sends : T → List ℕ → Bool → T → Type 0) (w : 
       pub puts_less : k < more
       puts_less = front_less w.form w.pending.text_end w.state batch index more front.first front.rest front.is stand few joins_own n k low_own within_all counted
 
-      pub puts_cut : (s : State) → s ≡ walk w.state (take (k + 1) list) → CutsFront sends list w (record { to = to; form = w.form; pending = u; state = s }) (k + 1)
+      pub puts_cut : (s : State) → s ≡ walk w.state (take (k + 1) list) → CutsFront sends list w (record { target = to; form = w.form; pending = u; state = s }) (k + 1)
       puts_cut s state = record {
         count = more + 1;
         few = enough;
         less = omega (arith, puts_less);
         far = n;
-        cut = subst (λ (bs : List ℕ). CutAfter sends w.to bs n to) all_written cut;
+        cut = subst (λ (bs : List ℕ). CutAfter sends w.target bs n to) all_written cut;
         parted = front_parted w.form w.pending.text_end w.state batch index more front.first front.rest front.is stand few joins_own n k low_own within_all counted;
         state = state;
       }

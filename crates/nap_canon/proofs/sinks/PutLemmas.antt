@@ -143,7 +143,7 @@ module _ {O S : Type 0} (o : outlet.Ghosts O) (view : S → Sending) (a b : S) (
         breaks_at o s t works list front (parted.rest ++ drop count list) next k is (length-take-le k those (omega (arith, less, length-take-le count list few))) broke
 
 -- what a writer put as one
-module _ {O T F : Type 0} (o : outlet.Ghosts O) (view : T → Sending) (w v : Writer T F) (s t : Canonical O) (from : view w.to ≡ sending_of o s) (to : view v.to ≡ sending_of o t)
+module _ {O T F : Type 0} (o : outlet.Ghosts O) (view : T → Sending) (w v : Writer T F) (s t : Canonical O) (from : view w.target ≡ sending_of o s) (to : view v.target ≡ sending_of o t)
     (works : o.failed s.outlet ≡ false) (list : List Entry) where
   abbrev before : Canonical O
   before = record { outlet = s.outlet; written = s.written; form = w.form; text_end = w.pending.text_end; state = w.state }
@@ -155,11 +155,11 @@ module _ {O T F : Type 0} (o : outlet.Ghosts O) (view : T → Sending) (w v : Wr
   next_put is ends (Ok count) put =
       subst (λ (s : Canonical O). PutsSome o list s t (Ok count)) (sym is)
       (subst (λ (t : Canonical O). PutsSome o list before t (Ok count)) (sym ends)
-      (front_took o view w.to v.to before behind from to works list count put.few put.some put.sent put.form put.text_end put.state))
+      (front_took o view w.target v.target before behind from to works list count put.few put.some put.sent put.form put.text_end put.state))
   next_put is ends (Err k) put =
       subst (λ (s : Canonical O). PutsSome o list s t (Err k)) (sym is)
       (subst (λ (t : Canonical O). PutsSome o list before t (Err k)) (sym ends)
-      (front_cut o view w.to v.to before behind from to works list put.count put.few k put.far put.less put.cut put.parted put.state))
+      (front_cut o view w.target v.target before behind from to works list put.count put.few k put.far put.less put.cut put.parted put.state))
 
 -- a list that is put part by part
 

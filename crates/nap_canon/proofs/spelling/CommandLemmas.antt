@@ -129,4 +129,4 @@ pub commands_behind : (saved : OperandLengths) (s : State) (cs : List Command) (
 commands_behind saved s [] qs es left inside all behind = behind
 commands_behind saved s (c ∷ cs) qs es left inside all behind =
     next (command_conveys saved s c (All-head CommandInRange c cs inside) all.0)
-    (commands_behind saved (record s { drawing = effect c s.drawing }) cs qs es left (All-text_end CommandInRange c cs inside) all.1 behind)
+    (commands_behind saved (record s { drawing = effect c s.drawing }) cs qs es left (All-tail CommandInRange c cs inside) all.1 behind)

@@ -79,7 +79,7 @@ module _ (saved : OperandLengths) (s : State) (e : Entry) (es : List Entry) (may
   pub next_may : MayCome (saved_after saved e) (after s e) es
   unfolding AllFit
   next_may = record {
-    inside = All-text_end InRange e es may.inside;
+    inside = All-tail InRange e es may.inside;
     fits = may.fits.1;
     mode = in_mode_after s e may.mode may.fits.0;
     saves = saves_after saved s e may.saves;

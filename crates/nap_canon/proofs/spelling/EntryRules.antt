@@ -42,7 +42,7 @@ steps_read p [] inside all = no_moves
 steps_read p (q ∷ qs) inside all =
     let next : IsInSquare q = All-head IsInSquare q qs all in
     move_first (displacement_to p q) (displacement_bytes q qs) (displacements_lead_there p q inside next).0
-    ∙ ap (λ (ms : List Displacement). displacement_to p q ∷ ms) (steps_read q qs next (All-text_end IsInSquare q qs all))
+    ∙ ap (λ (ms : List Displacement). displacement_to p q ∷ ms) (steps_read q qs next (All-tail IsInSquare q qs all))
 
 shape_read : (p : Coordinates) (qs : List Coordinates) → IsInSquare p → All IsInSquare qs →
     moves 8 (words_of (shape_bytes (p ∷ qs))) ≡ from_origin p ∷ steps_from p qs
@@ -54,7 +54,7 @@ unfolding points_reached steps_from
 steps_lead p [] inside all = refl
 steps_lead p (q ∷ qs) inside all =
     let next : IsInSquare q = All-head IsInSquare q qs all in
-    rw ((displacements_lead_there p q inside next).1, steps_lead q qs next (All-text_end IsInSquare q qs all)) refl
+    rw ((displacements_lead_there p q inside next).1, steps_lead q qs next (All-tail IsInSquare q qs all)) refl
 
 length-steps : (p : Coordinates) (qs : List Coordinates) → length (steps_from p qs) ≡ length qs
 unfolding steps_from

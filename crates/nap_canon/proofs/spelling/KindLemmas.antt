@@ -96,7 +96,7 @@ module _ (saved : OperandLengths) (s : State) (e : Entry) where
       ((ms : List Displacement) → points_reached p ms ≡ Some (q ∷ qs) → points p ms ≡ Some (p ∷ q ∷ qs)) → OnePiece (opcode byte (shape_bytes (p ∷ q ∷ qs)))
   shape_draws byte op entry points p q qs is comes by same all few leads =
       let first : IsInSquare p = All-head IsInSquare p (q ∷ qs) all in
-      let others : All IsInSquare (q ∷ qs) = All-text_end IsInSquare p (q ∷ qs) all in
+      let others : All IsInSquare (q ∷ qs) = All-tail IsInSquare p (q ∷ qs) all in
       opcode_draws byte op (shape_bytes (p ∷ q ∷ qs)) (8 + 8 * length (q ∷ qs)) is (shape_operands p (q ∷ qs) first others) (omega (arith, few)) comes
       (by (words_of (shape_bytes (p ∷ q ∷ qs)))
       ∙ rules.shape_rule saved (holding s e) entry points p q qs first others (omega (arith, few)) leads

@@ -15,7 +15,7 @@ onward_operands p (q ∷ qs) inside all =
     let next : IsInSquare q = All-head IsInSquare q qs all in
     let step = (displacements_lead_there p q inside next).0 in
     let more = both_bytes (move_bytes (displacement_to p q)) (displacement_bytes q qs) 8 (8 * length qs)
-    (move_operand (displacement_to p q) step) (onward_operands q qs next (All-text_end IsInSquare q qs all)) in
+    (move_operand (displacement_to p q) step) (onward_operands q qs next (All-tail IsInSquare q qs all)) in
     record { size_is = omega (arith, more.size_is); carriers = more.carriers }
 
 pub shape_operands : (p : Coordinates) (qs : List Coordinates) → IsInSquare p → All IsInSquare qs → AreOperands (shape_bytes (p ∷ qs)) (8 + 8 * length qs)

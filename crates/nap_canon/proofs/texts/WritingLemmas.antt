@@ -62,7 +62,7 @@ lays_one form s e piece w t is put = subst (λ (ps : List Piece). AppendsPieces 
 pub one_written : {T F E : Type 0} (sent : T → List ℕ → Bool → T → Type 0) (p : Piece) (w t : Writer T F) (r : Result (Unit {0}) E) → WritesPendingAnd sent p w t r → WritesPieces sent (p ∷ []) w t r
 unfolding pieces_bytes text_end_after
 one_written sent p w t r piece = record {
-  sent = subst (λ (bs : List ℕ). sent w.to (w.pending.bytes ++ bs) (is_err r) t.to) (sym (append-nil (piece_bytes w.pending.text_end p))) piece.sent;
+  sent = subst (λ (bs : List ℕ). sent w.target (w.pending.bytes ++ bs) (is_err r) t.target) (sym (append-nil (piece_bytes w.pending.text_end p))) piece.sent;
   text_end = piece.text_end;
   kept = piece.kept;
 }
@@ -97,12 +97,12 @@ module _ {T F : Type 0} (sent : T → List ℕ → Bool → T → Type 0) (w : W
 
   -- the write failed
   pub led_fails : {D E : Type 0} {y : D} (x : E) → WritesPieces sent own (record w { pending = r }) u (Err y) → Puts sent e w u (Err x)
-  led_fails x put = record { sent = subst (λ (bs : List ℕ). sent w.to bs true u.to) all put.sent; text_end = tt; form = put.kept.0; state = tt; still = put.kept.1 }
+  led_fails x put = record { sent = subst (λ (bs : List ℕ). sent w.target bs true u.target) all put.sent; text_end = tt; form = put.kept.0; state = tt; still = put.kept.1 }
 
   -- it didn't fail
   pub led : {D E : Type 0} → WritesPieces {E = D} sent own (record w { pending = r }) u (Ok tt) → (next : State) → next ≡ after u.state e → Puts {E = E} sent e w (record u { state = next }) (Ok tt)
   led put next is = record {
-    sent = subst (λ (bs : List ℕ). sent w.to bs false u.to) all put.sent;
+    sent = subst (λ (bs : List ℕ). sent w.target bs false u.target) all put.sent;
     text_end = put.text_end ∙ ap (λ (t : TextEnd). text_end_after t own) brought.text_end ∙ sym (text_end_after-append w.pending.text_end before own) ∙ ap (text_end_after w.pending.text_end) parts;
     form = put.kept.0;
     state = is ∙ ap (λ (s : State). after s e) put.kept.1;

@@ -1,7 +1,7 @@
 //! Entries of a batch whose attributes are current. Several that join the last run or text, or open one, are one write.
 ghost use Rattle.std.specs.Prelude.{◌≡◌, ◌<◌, ◌≤◌, ◌+◌, ◌*◌, ◌⊎◌, length, drop, IsTrue, ◌↔◌};
 ghost use Rattle.nap_list.specs.Batches.{EachIsCurrent, FirstIsCurrent, batch_entries};
-ghost use Rattle.nap_canon.specs.declared.text_end.TextEnd.TheVariants.{Apart, InRun};
+ghost use Rattle.nap_canon.specs.declared.text_end.TextEnd.TheVariants.{NoRun, InRun};
 ghost use Rattle.nap_codes.specs.declared.code_set.GSet.TheVariants.{G0};
 ghost use Rattle.nap_canon.specs.Batches.{Joins, JoinsAfter, PointsJoin, TextJoins, entry_size, joined_bytes, text_end_after_joined, opening, points_bytes, run_opening};
 ghost use Rattle.nap_canon.specs.Text.{gl_of, run_after, shift_to_primary};
@@ -176,7 +176,7 @@ impl<T: ByteSink + Drop> Writer<T> {
     /// Writes codes of primary characters that open a text. The error has the number taken.
     fn write_text_start(&mut self, codes: &[u8]) -> Result<(), usize>
         requires few { length codes.now ≤ 1023 }
-        ensures { WritesWhole T.sent (shift_to_primary (gl_of self.old.pending.text_end)) 1 codes.now (Apart G0) self.old self.new result }
+        ensures { WritesWhole T.sent (shift_to_primary (gl_of self.old.pending.text_end)) 1 codes.now (NoRun G0) self.old self.new result }
     {
         self.pending.bytes.clear();
         self.pending.append_shift_in();
@@ -190,8 +190,8 @@ impl<T: ByteSink + Drop> Writer<T> {
     /// Writes codes of primary characters that join the text at the end or open one. The error has the number taken.
     #[inline(always)]
     fn write_text(&mut self, codes: &[u8]) -> Result<(), usize>
-        requires few { (self.old.pending.text_end ≡ Apart G0) ⊎ (length codes.now ≤ 1023) }
-        ensures { WritesWhole T.sent (shift_to_primary (gl_of self.old.pending.text_end)) 1 codes.now (Apart G0) self.old self.new result }
+        requires few { (self.old.pending.text_end ≡ NoRun G0) ⊎ (length codes.now ≤ 1023) }
+        ensures { WritesWhole T.sent (shift_to_primary (gl_of self.old.pending.text_end)) 1 codes.now (NoRun G0) self.old self.new result }
     {
         if self.pending.text_end == TextEnd::NoRun(GSet::G0) {
             return self.target.write_counted(codes);

@@ -72,14 +72,14 @@ impl<S: Sink> Machine<S> {
             input.advance(1);
             return Ok(());
         }
-        let room = input.store.space_left();
+        let space = input.store.space_left();
         let Some((slice, _)) = input.next_slice(piece) else {
             return Ok(());
         };
         let count = body_prefix_len(slice.bytes);
-        if count > room {
-            let place = slice.place_of(room);
-            input.advance(room);
+        if count > space {
+            let place = slice.place_of(space);
+            input.advance(space);
             input.advance(1);
             return self.refuse(Fault::Store, place);
         }

@@ -32,12 +32,12 @@ impl<S: Sink> Machine<S> {
         ensures same { OnOk result (self.new ≡ self.old) }
         ensures goes { MatchResult result (λ _. Goes piece.now 1 self.old input.old self.new input.new) (λ _. StopsFrom piece.now self.old input.old self.new input.new) }
     {
-        let room = input.store.space_left();
-        if room == 0 {
+        let space = input.store.space_left();
+        if space == 0 {
             input.advance(1);
             return self.refuse(Fault::Store, body.escape.unwrap_or(next.place));
         }
-        if room == 1 && next.byte != 0x1B {
+        if space == 1 && next.byte != 0x1B {
             input.advance(1);
             return self.refuse(Fault::Store, next.place);
         }

@@ -1,5 +1,5 @@
 use Rattle.std.proofs.Common.{◌≡◌, length}
-use Rattle.nap_batch.specs.declared.input_buffer.TheConstants.{ROOM}
+use Rattle.nap_batch.specs.declared.input_buffer.TheConstants.{READ_SIZE}
 use Rattle.nap_batch.specs.Sessions.{pipes}
 use Rattle.nap_batch.proofs.GoingLemmas.{Going}
 use Rattle.nap_batch.proofs.service.serve.Given as goal

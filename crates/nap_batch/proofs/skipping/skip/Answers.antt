@@ -8,7 +8,7 @@ loop-preserved g c =
     let (piece, read, size, most, end, flag) = c.in-Ok.ensures.reads in
     let all = length-append inv.bytes piece in
     record {
-      space = c.read_some.ensures.space ∙ inv.scratch;
+      scratch = c.read_some.ensures.space ∙ inv.scratch;
       bytes = inv.bytes ++ piece;
       read = Consumes-trans _ _ _ inv.bytes piece inv.read read;
       size = omega (arith, all, size, most, inv.size);

@@ -1,6 +1,6 @@
 use Rattle.std.proofs.Common.{ℕ, List, ◌≡◌, ◌++◌, ◌≤◌, length}
 use Rattle.std.specs.Io.KnownBytes.{Consumes}
-use Rattle.nap_batch.specs.declared.input_buffer.TheConstants.{ROOM}
+use Rattle.nap_batch.specs.declared.input_buffer.TheConstants.{READ_SIZE}
 use Rattle.nap_batch.proofs.waiting.wait.Given as goal
 
 abbrev pub invariant-loop-reads : goal.invariant-loop-reads

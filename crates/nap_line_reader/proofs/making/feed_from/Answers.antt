@@ -30,15 +30,15 @@ returns-in_default-clause-feeds g c =
 pub returns-then-count-eq0-clause-feeds : goal.returns-then-count-eq0-clause-feeds
 returns-then-count-eq0-clause-feeds g c =
     let (p, read, gave, stands) = c.loop.invariant.read in
-    let piece = take c.in-Ok.count c.read.new.buffer in
-    let none : piece ≡ [] = ap (λ (n : ℕ). take n c.read.new.buffer) c.if-count-eq0.true in
+    let piece = take c.in-Ok.count c.read.new.room in
+    let none : piece ≡ [] = ap (λ (n : ℕ). take n c.read.new.room) c.if-count-eq0.true in
     let same : p ++ piece ≡ p = ap (λ (bytes : List ℕ). p ++ bytes) none ∙ append-nil p in (
       p,
       subst (Consumes (g.I.Inlet.left c.args.input.now) (g.I.Inlet.left c.read.new.self)) same (Consumes-trans _ _ _ p piece read c.in-Ok.ensures.bytes.0),
       λ s h. (
         record {
           none_failed = flag_stays _ _ _ c.loop.invariant.flag c.in-Ok.ensures.failed;
-          end = c.in-Ok.ensures.bytes.1 c.if-count-eq0.true (omega (arith, c.read.auto.buffer, c.loop.invariant.buffer));
+          end = c.in-Ok.ensures.bytes.1 c.if-count-eq0.true (omega (arith, c.read.auto.room, c.loop.invariant.buffer));
           gave = omega (arith, c.in-Ok.ensures.calls, c.loop.invariant.calls, c.requires.calls, gave);
         },
         stands s h,
@@ -49,7 +49,7 @@ returns-then-count-eq0-clause-feeds g c =
 pub returns-in_err-feed-clause-feeds : goal.returns-in_err-feed-clause-feeds
 returns-in_err-feed-clause-feeds g c =
     let (p, read, gave, stands) = c.loop.invariant.read in
-    let piece = take c.in-Ok.count c.read.new.buffer in
+    let piece = take c.in-Ok.count c.read.new.room in
     let few : c.in-Ok.count ≡ length piece = c.in-Ok.ensures.bound.1 in
     let fault = err_from_is_err_and c.from_residual.result c.from_residual.ensures.1 in (
       p ++ piece,
@@ -64,10 +64,10 @@ returns-in_err-feed-clause-feeds g c =
 pub loop-preserved : goal.loop-preserved
 loop-preserved g c =
     let (p, read, gave, stands) = c.loop.invariant.read in
-    let piece = take c.in-Ok.count c.read.new.buffer in
+    let piece = take c.in-Ok.count c.read.new.room in
     let few : c.in-Ok.count ≡ length piece = c.in-Ok.ensures.bound.1 in
     record {
-      buffer = omega (arith, c.read.auto.buffer, c.loop.invariant.buffer);
+      buffer = omega (arith, c.read.auto.room, c.loop.invariant.buffer);
       calls = omega (arith, c.in-Ok.ensures.calls, c.loop.invariant.calls, c.requires.calls, gave, c.loop-test.true);
       flag = flag_stays _ _ _ c.loop.invariant.flag c.in-Ok.ensures.failed;
       ready = c.in_ok-feed.ensures.ready;

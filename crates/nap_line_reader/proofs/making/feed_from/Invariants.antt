@@ -1,6 +1,6 @@
 use Rattle.std.proofs.Common.{◌≡◌, ◌+◌, ◌≤◌, ℕ, List, [], length}
 use Rattle.std.specs.Io.KnownBytes.{Consumes}
-use Rattle.nap_line_reader.specs.declared.making.TheConstants.{ROOM}
+use Rattle.nap_line_reader.specs.declared.making.TheConstants.{READ_SIZE}
 use Rattle.nap_line_reader.specs.Making.{IsReady, HasRead}
 use Rattle.nap_line_reader.proofs.making.feed_from.Given as goal
 

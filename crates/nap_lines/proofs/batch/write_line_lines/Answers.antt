@@ -18,7 +18,7 @@ made_front from to end pointed spaced started named kept point space start name 
 
 pub loop-to-init : goal.loop-to-init
 unfolding lines_with
-loop-to-init c = record { front = point_text c.args.from; space = c.push_point_copied-kept.ensures.text; written = refl; at = c.args.from; kept = c.push_point_copied-kept.ensures.kept; few = c.push_point_copied-kept.ensures.few; text = sym (append-nil c.args.text.now.items); goes = goes_first c.args.buffer.now c.args.from }
+loop-to-init c = record { front = point_text c.args.from; buffer = c.push_point_copied-kept.ensures.text; written = refl; at = c.args.from; kept = c.push_point_copied-kept.ensures.kept; few = c.push_point_copied-kept.ensures.few; text = sym (append-nil c.args.text.now.items); goes = goes_first c.args.buffer.now c.args.from }
 
 pub keep_last-requires-clause-within : goal.keep_last-requires-clause-within
 keep_last-requires-clause-within c =
@@ -41,7 +41,7 @@ loop-to-preserved c =
     let line = c.as_slice.ensures.bytes ∙ buffer in
     record {
       front = line_front at to;
-      space = buffer;
+      buffer = buffer;
       written = ap (λ n. n + 1) invariant.written;
       at = to;
       kept = c.push_point_copied-next.ensures.kept;

@@ -23,7 +23,7 @@ loop-at-preserved c =
     let f = λ (at : Coordinates). point_front at ++ end in
     record {
       front = point_front at;
-      space = buffer;
+      buffer = buffer;
       written = ap (λ n. n + 1) invariant.written;
       text =
           text_goes c.args.text.now.items c.loop-at.text.items c.extend_from_slice.new.self.items (flat_map f (take c.loop-at.at-index c.args.points.now)) (flat_map f (take (c.loop-at.at-index + 1) c.args.points.now)) (f at) invariant.text

@@ -14,7 +14,7 @@ recoded start end old buffer last all rest place is count ends at now =
     (omega (arith, front, ap length now, length-append (start ++ code_text last) end, length-append start (code_text last)), parts.0, parts.1)
 
 pub loop-code-init : goal.loop-code-init
-loop-code-init c = record { last = 0; space = c.push_char_front.ensures; written = refl; text = sym (append-nil c.args.text.now.items) }
+loop-code-init c = record { last = 0; buffer = c.push_char_front.ensures; written = refl; text = sym (append-nil c.args.text.now.items) }
 
 pub overflow_sub-place : goal.overflow_sub-place
 overflow_sub-place c =
@@ -64,7 +64,7 @@ loop-code-preserved c =
           let line = worked w.write_text_byte.result _ w.is_err.result w.is_err.ensures.value w.if-is_err.false w.write_text_byte.ensures.ok in
           record {
             last = 0;
-            space = w.buffer-is ∙ w.write_text_byte.ensures.space ∙ ap (λ (bytes : List ℕ). char_front set 0 ++ bytes) left;
+            buffer = w.buffer-is ∙ w.write_text_byte.ensures.space ∙ ap (λ (bytes : List ℕ). char_front set 0 ++ bytes) left;
             written = ap (λ n. n + 1) invariant.written;
             text = goes _ (ap (λ t. t.items) w.text-is ∙ line ∙ ap (λ (bytes : List ℕ). c.loop-code.text.items ++ (text_byte_front set code ++ bytes)) left);
           }
@@ -80,7 +80,7 @@ loop-code-preserved c =
           w.is_err-else-code-lt32.ensures.value w.if-is_err-2.false in
           record {
             last = code;
-            space = w.buffer-is ∙ buffer;
+            buffer = w.buffer-is ∙ buffer;
             written = ap (λ n. n + 1) invariant.written;
             text = goes _ (ap (λ t. t.items) w.text-is ∙ more ∙ ap (λ (bytes : List ℕ). c.loop-code.text.items ++ bytes) line);
           }

@@ -14,7 +14,7 @@ loop-written-init c =
     let end = c.args.buffer.now in
     let line = c.as_slice.ensures.bytes ∙ c.push_char_front.ensures ∙ append_assoc start (code_text 0) end in
     let (digits, (rest, (ready, block))) = filled start end c.as_slice.result.now _ c.fill_lines.new.block c.min-ready.result c.fill_lines.ensures line in
-    record { within = omega arith; space = c.push_char_front.ensures; digits = digits; rest = rest; ready = ready; block = block; text = sym (append-nil c.args.text.now.items) }
+    record { within = omega arith; buffer = c.push_char_front.ensures; digits = digits; rest = rest; ready = ready; block = block; text = sym (append-nil c.args.text.now.items) }
 
 -- no line of the block was asked for
 pub loop-written-preserved-then-count-eq0 : goal.loop-written-preserved-then-count-eq0
@@ -34,7 +34,7 @@ loop-written-preserved-then-count-eq0 c =
     let none : c.recode_lines-count.result ≡ 0 = omega (arith, c.if-count-eq0.true) in
     record {
       within = omega (arith, c.loop-written-test.true);
-      space = c.write_text_byte.ensures.space ∙ ap (λ (bytes : List ℕ). char_front set 0 ++ bytes) left;
+      buffer = c.write_text_byte.ensures.space ∙ ap (λ (bytes : List ℕ). char_front set 0 ++ bytes) left;
       digits = at.digits;
       rest = at.rest;
       ready = at.ready;
@@ -77,7 +77,7 @@ loop-written-preserved c =
     c.is_err-else-count-eq0.ensures.value c.if-is_err-2.false in
     record {
       within = omega (arith, c.recode_lines-count.ensures.count, short, c.min-most.ensures, c.loop-written-test.true);
-      space = at.buffer;
+      buffer = at.buffer;
       digits = now ++ left;
       rest = at.rest;
       ready = omega (arith, length-append now left, length-drop (length now) at.digits, less, at.ready);

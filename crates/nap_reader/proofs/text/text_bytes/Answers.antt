@@ -1,4 +1,4 @@
-use Rattle.nap_reader.proofs.{IsTyped, ap, arith, drop, get_or, get_or-take, is_from, is_of_text, is_some, length-drop, length-take-le, of_text_is, past_effector, past_graphic, prefix_len, prefix_len-le-length, prefix_len_passes, subst, sym, ◌+◌, ◌<◌, ◌∙◌, ◌≡◌}
+use Rattle.nap_reader.proofs.{IsTextByte, ap, arith, drop, get_or, get_or-take, is_from, is_of_text, is_some, length-drop, length-take-le, of_text_is, past_effector, past_graphic, prefix_len, prefix_len-le-length, prefix_len_passes, subst, sym, ◌+◌, ◌<◌, ◌∙◌, ◌≡◌}
 use Rattle.nap_reader.proofs.text.text_bytes.Goals as goal
 
 pub loop-at-init : goal.loop-at-init
@@ -27,4 +27,4 @@ returns-clause-typed c i d less =
     let piece = c.args.piece.now in
     let n = c.loop-at.at in
     let fewer : i < n = omega (arith, less, length-take-le n piece c.loop-at.invariant.2) in
-    subst IsTyped (sym (get_or-take n piece i d fewer)) (of_text_is (get_or piece i d) (prefix_len_passes is_of_text piece i d (omega (arith, fewer, c.loop-at.invariant.0))))
+    subst IsTextByte (sym (get_or-take n piece i d fewer)) (of_text_is (get_or piece i d) (prefix_len_passes is_of_text piece i d (omega (arith, fewer, c.loop-at.invariant.0))))

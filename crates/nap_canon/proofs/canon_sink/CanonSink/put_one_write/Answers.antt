@@ -11,8 +11,8 @@ returns-then-count-eq0 g c =
     let o = g.O.Outlet in
     let w = c.self.inside.writer in
     let v = c.put_next.new.self in
-    let s : Canonical _ = record { outlet = w.to.outlet; written = w.to.written; form = w.form; text_end = w.pending.text_end; state = w.state } in
-    let t : Canonical _ = record { outlet = v.to.outlet; written = v.to.written; form = v.form; text_end = v.pending.text_end; state = v.state } in
+    let s : Canonical _ = record { outlet = w.target.outlet; written = w.target.written; form = w.form; text_end = w.pending.text_end; state = w.state } in
+    let t : Canonical _ = record { outlet = v.target.outlet; written = v.target.written; form = v.form; text_end = v.pending.text_end; state = v.state } in
     let list = drop c.args.first (batch_entries c.args.batch.now) in
     let works : o.failed s.outlet ≡ false = subst (λ (s : Canonical _). o.failed s.outlet ≡ false) (sym c.self.view_is) c.requires.works in
     subst (λ (s : Canonical _). PutsSome o list s t c.put_next.result) c.self.view_is
@@ -23,8 +23,8 @@ returns g c =
     let o = g.O.Outlet in
     let w = c.self.inside.writer in
     let v = c.put_joined.new.self in
-    let s : Canonical _ = record { outlet = w.to.outlet; written = w.to.written; form = w.form; text_end = w.pending.text_end; state = w.state } in
-    let t : Canonical _ = record { outlet = v.to.outlet; written = v.to.written; form = v.form; text_end = v.pending.text_end; state = v.state } in
+    let s : Canonical _ = record { outlet = w.target.outlet; written = w.target.written; form = w.form; text_end = w.pending.text_end; state = w.state } in
+    let t : Canonical _ = record { outlet = v.target.outlet; written = v.target.written; form = v.form; text_end = v.pending.text_end; state = v.state } in
     let list = drop c.args.first (batch_entries c.args.batch.now) in
     let works : o.failed s.outlet ≡ false = subst (λ (s : Canonical _). o.failed s.outlet ≡ false) (sym c.self.view_is) c.requires.works in
     subst (λ (s : Canonical _). PutsSome o list s t c.put_joined.result) c.self.view_is

@@ -6,7 +6,7 @@ use Rattle.nap_canon.proofs.writer.Writer.put_joined.Goals as goal
 pub step_from-requires-in-Err-clause-few : goal.step_from-requires-in-Err-clause-few
 step_from-requires-in-Err-clause-few g c =
     let w = c.args.self.now in
-    whole_few g.T.ByteSink.sent w.to c.write_joined.new.self.to (opening w.pending.text_end c.args.batch.now c.args.count) c.args.batch.now c.args.first c.args.count c.in-Err.whole
+    whole_few g.T.ByteSink.sent w.target c.write_joined.new.self.target (opening w.pending.text_end c.args.batch.now c.args.count) c.args.batch.now c.args.first c.args.count c.in-Err.whole
     c.requires.some c.requires.few c.in-Err.ensures.sent
 
 pub returns-in-Ok : goal.returns-in-Ok

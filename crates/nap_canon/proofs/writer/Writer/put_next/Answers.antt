@@ -27,8 +27,8 @@ returns-in-Ok g c =
     let more = c.joining_count_after-more.result in
     let some : 0 < length (drop c.args.index (batch_entries batch)) = omega (arith, c.requires.some, length-drop c.args.index (batch_entries batch)) in
     let u = c.append_joined.new.self in
-    let sent : g.T.ByteSink.sent w.to u.bytes false c.write_counted.new.self =
-    subst (λ (bs : List ℕ). g.T.ByteSink.sent w.to bs false c.write_counted.new.self) c.as_slice.ensures c.in-Ok.ensures in
+    let sent : g.T.ByteSink.sent w.target u.bytes false c.write_counted.new.self =
+    subst (λ (bs : List ℕ). g.T.ByteSink.sent w.target bs false c.write_counted.new.self) c.as_slice.ensures c.in-Ok.ensures in
     puts_whole g.T.ByteSink.sent w batch c.args.index more some c.requires.stand c.joining_count_after-more.ensures.few c.clear.new.self c.clear.ensures c.append_next.new.self c.append_next.ensures
     c.joining_count_after-more.ensures.joins u c.append_joined.ensures.bytes c.append_joined.ensures.tail c.write_counted.new.self sent c.step_from.new.self c.step_from.ensures
 
@@ -39,8 +39,8 @@ returns-then-taken-lead g c =
     let more = c.joining_count_after-more.result in
     let some : 0 < length (drop c.args.index (batch_entries batch)) = omega (arith, c.requires.some, length-drop c.args.index (batch_entries batch)) in
     let u = c.append_joined.new.self in
-    let cut : CutAfter g.T.ByteSink.sent w.to u.bytes c.in-Err.taken c.write_counted.new.self =
-    subst (λ (bs : List ℕ). CutAfter g.T.ByteSink.sent w.to bs c.in-Err.taken c.write_counted.new.self) c.as_slice.ensures c.in-Err.ensures in
+    let cut : CutAfter g.T.ByteSink.sent w.target u.bytes c.in-Err.taken c.write_counted.new.self =
+    subst (λ (bs : List ℕ). CutAfter g.T.ByteSink.sent w.target bs c.in-Err.taken c.write_counted.new.self) c.as_slice.ensures c.in-Err.ensures in
     puts_none g.T.ByteSink.sent w batch c.args.index more some c.requires.stand c.joining_count_after-more.ensures.few c.clear.new.self c.clear.ensures c.append_next.new.self c.append_next.ensures
     c.joining_count_after-more.ensures.joins u c.append_joined.ensures.bytes c.append_joined.ensures.tail c.write_counted.new.self c.in-Err.taken cut (omega (arith, c.if-taken-lead.true, c.len-lead.ensures))
 
@@ -52,8 +52,8 @@ returns-else-taken-lead g c =
     let some : 0 < length (drop c.args.index (batch_entries batch)) = omega (arith, c.requires.some, length-drop c.args.index (batch_entries batch)) in
     let u = c.append_joined.new.self in
     let taken = c.in-Err.taken in
-    let cut : CutAfter g.T.ByteSink.sent w.to u.bytes taken c.write_counted.new.self =
-    subst (λ (bs : List ℕ). CutAfter g.T.ByteSink.sent w.to bs taken c.write_counted.new.self) c.as_slice.ensures c.in-Err.ensures in
+    let cut : CutAfter g.T.ByteSink.sent w.target u.bytes taken c.write_counted.new.self =
+    subst (λ (bs : List ℕ). CutAfter g.T.ByteSink.sent w.target bs taken c.write_counted.new.self) c.as_slice.ensures c.in-Err.ensures in
     let whole : c.saturating_sub.result / c.entry_size-size.result ≡ (taken - (length u.bytes - entry_size batch * more)) / entry_size batch =
     ap (λ (n : ℕ). n / c.entry_size-size.result) c.saturating_sub.ensures
     ∙ ap (λ (n : ℕ). (taken - (n - c.entry_size-size.result * more)) / c.entry_size-size.result) c.len.ensures

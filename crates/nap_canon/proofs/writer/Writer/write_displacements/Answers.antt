@@ -16,7 +16,7 @@ loop-chunk-init g c =
       can = omega arith;
       finite = tt;
       size = size;
-      sent = ([], g.met.T.ByteSink.sent_none c.args.self.now.to, ap (displacement_bytes c.args.first) all);
+      sent = ([], g.met.T.ByteSink.sent_none c.args.self.now.target, ap (displacement_bytes c.args.first) all);
       text_end = refl;
       kept = (refl, refl);
     }
@@ -36,7 +36,7 @@ loop-chunk-preserved g c =
       size = steps.0 ∙ inv.size;
       sent = (
         so_far.0 ++ piece,
-        g.met.T.ByteSink.sent_more c.args.self.now.to c.loop-chunk.self.to c.write_all.new.self so_far.0 piece false so_far.1 c.in_ok-write_all.ensures,
+        g.met.T.ByteSink.sent_more c.args.self.now.target c.loop-chunk.self.target c.write_all.new.self so_far.0 piece false so_far.1 c.in_ok-write_all.ensures,
         onward_part so_far.0 piece (displacement_bytes c.args.first c.args.others.now) c.loop-chunk.from c.line_start-from.result _ c.in-Some.chunk.now (chunks_rest c.next.new.self)
             steps.1.0 (c.as_slice.ensures ∙ c.append_displacements.ensures.bytes ∙ ap (λ (bs : List ℕ). bs ++ displacement_bytes c.loop-chunk.from c.in-Some.chunk.now) c.clear.ensures) last so_far.2,
       );
@@ -53,7 +53,7 @@ returns-in_err-write_all g c =
     let part = c.in-Some.chunk.now in
     let failure = err_from_is_err_and c.from_residual.result c.from_residual.ensures.1 in
     rw failure.1 (record {
-      sent = sent_second g.T.ByteSink.sent g.met.T.ByteSink.sent_more g.met.T.ByteSink.sent_cut c.args.self.now.to c.loop-chunk.self.to c.write_all.new.self so_far.0 piece _ whole
+      sent = sent_second g.T.ByteSink.sent g.met.T.ByteSink.sent_more g.met.T.ByteSink.sent_cut c.args.self.now.target c.loop-chunk.self.target c.write_all.new.self so_far.0 piece _ whole
           (onward_part so_far.0 piece whole from (last_point from part) _ part (chunks_rest c.next.new.self) c.in-Some.ensures.steps.1.0 (c.as_slice.ensures ∙ c.append_displacements.ensures.bytes ∙ ap (λ (bs : List ℕ). bs ++ displacement_bytes c.loop-chunk.from c.in-Some.chunk.now) c.clear.ensures) refl so_far.2)
           so_far.1 c.in_err-write_all.ensures;
       text_end = c.loop-chunk.invariant.text_end;
@@ -70,7 +70,7 @@ returns g c =
     ∙ ap (λ (qs : List Coordinates). so_far.0 ++ displacement_bytes c.loop-chunk.from qs) (sym none)
     ∙ so_far.2 in
     record {
-      sent = subst (λ (bytes : List ℕ). g.T.ByteSink.sent c.args.self.now.to bytes false c.loop-chunk.self.to) all so_far.1;
+      sent = subst (λ (bytes : List ℕ). g.T.ByteSink.sent c.args.self.now.target bytes false c.loop-chunk.self.target) all so_far.1;
       text_end = c.loop-chunk.invariant.text_end;
       kept = c.loop-chunk.invariant.kept;
     }

@@ -9,7 +9,7 @@ invariant-loop-chunk g l = record {
   can : (goal.iterator-loop-chunk g).can_next l.chunk-iterator;
   finite : (goal.iterator-loop-chunk g).is_finite l.chunk-iterator;
   size : chunks_size l.chunk-iterator ≡ 128;
-  sent : (done : List ℕ) × g.T.ByteSink.sent l.fn.self.to done false l.self.to
+  sent : (done : List ℕ) × g.T.ByteSink.sent l.fn.self.target done false l.self.target
       × (done ++ displacement_bytes l.from (chunks_rest l.chunk-iterator) ≡ displacement_bytes l.fn.first l.others);
   text_end : l.self.pending.text_end ≡ l.fn.self.pending.text_end;
   kept : (l.self.form ≡ l.fn.self.form) × (l.self.state ≡ l.fn.self.state);

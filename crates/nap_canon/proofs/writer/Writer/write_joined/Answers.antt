@@ -24,7 +24,7 @@ returns-in-Lines g c =
     ∙ length-take-le c.args.count (drop c.args.first ps) (omega (arith, c.requires.few, sized_lines _ _ _ _ c.in-Lines.is, length-drop c.args.first ps)) in
     rw c.in-Lines.is (record {
       sent = search rules;
-      text_end = subst (λ (n : ℕ). OnOk c.write_run-in-Lines.result (c.write_run-in-Lines.new.self.pending.text_end ≡ InRun (run_after c.args.self.now.pending.text_end 0x28 (8 * n)))) size c.write_run-in-Lines.ensures.tail;
+      text_end = subst (λ (n : ℕ). OnOk c.write_run-in-Lines.result (c.write_run-in-Lines.new.self.pending.text_end ≡ InRun (run_after c.args.self.now.pending.text_end 0x28 (8 * n)))) size c.write_run-in-Lines.ensures.text_end;
       kept = c.write_run-in-Lines.ensures.kept;
     })
 

@@ -11,7 +11,7 @@ returns-then-eq g c =
     let r = c.write_counted.result in
     let is : w.pending.text_end ≡ NoRun G0 = search rules in
     rw is (record {
-      sent = whole_bytes g.T.ByteSink.sent w.to c.write_counted.new.self c.args.codes.now r c.write_counted.ensures;
+      sent = whole_bytes g.T.ByteSink.sent w.target c.write_counted.new.self c.args.codes.now r c.write_counted.ensures;
       text_end = on_ok_from r refl;
       kept = (refl, refl);
     })

@@ -1,4 +1,4 @@
-use Rattle.nap_reader.proofs.{CountedSink, Put, ap, length, listed, made, puts, subst, sym, taken_of, ◌∙◌, ◌≡◌}
+use Rattle.nap_reader.proofs.{CountedSink, Put, ap, batch_entries, length, made, puts, subst, sym, taken_of, ◌∙◌, ◌≡◌}
 use Rattle.nap_reader.proofs.Common.{counting_sink_model}
 use Rattle.nap_reader.proofs.counting.CountingSinkSink.put_batch.Goals as goal
 
@@ -6,7 +6,7 @@ pub returns : goal.returns
 returns g c =
     let s = made c.self.inside.sink c.self.inside.count in
     let put = c.put_batch-put.result in
-    let list = listed c.args.batch.now in
+    let list = batch_entries c.args.batch.now in
     let t = made c.put_batch-put.new.self c.count_plus-self-inside.result in
     let is : c.match-put.taken ≡ taken_of (length list) put =
     elim c.match-put.branch [

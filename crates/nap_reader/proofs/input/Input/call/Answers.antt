@@ -1,4 +1,4 @@
-use Rattle.nap_reader.proofs.{Frame, FramesIn, List, Shows, [], all_at, ap, arith, body_of, frames-push, inl, inr, length, length-part, length-unread-push, nil_from_length, refl, subst, sym, unread, unread-push, ℕ, ◌++◌, ◌+◌, ◌∙◌, ◌∷◌, ◌≡◌}
+use Rattle.nap_reader.proofs.{Frame, FramesIn, List, Shows, [], all_at, ap, arith, body_of, frames-push, inl, inr, length, length-sublist, length-unread-push, nil_from_length, refl, subst, sym, unread, unread-push, ℕ, ◌++◌, ◌+◌, ◌∙◌, ◌∷◌, ◌≡◌}
 use Rattle.nap_reader.proofs.input.Input.call.Goals as goal
 use Rattle.nap_reader.proofs.input.Input.call.Goals.{After-span-span}
 
@@ -7,7 +7,7 @@ counted : (c : After-span-span) → length (body_of c.args.self.now.store.names 
 counted c =
     let span = c.span-span.result in
     let within = c.span-span.ensures.within in
-    omega (arith, within.0, ap length c.span-span.ensures.body, length-part c.args.self.now.store.bytes span.start span.end within.0 within.1)
+    omega (arith, within.0, ap length c.span-span.ensures.body, length-sublist c.args.self.now.store.bytes span.start span.end within.0 within.1)
 
 pub invariant_of-self-2-clause-framed : goal.invariant_of-self-2-clause-framed
 invariant_of-self-2-clause-framed c =

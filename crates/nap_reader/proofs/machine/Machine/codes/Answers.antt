@@ -1,4 +1,4 @@
-use Rattle.nap_reader.proofs.{Bool, Ghosts, List, None, Refuses, Request, Takes, TookMore, ap, arith, bytes_of, bytes_of-spaced, drop, inr, left_bytes, length, length-drop, length-spaced, place_at, place_at-drop, place_at-spaced, refl, refusal, placed_by_step, subst, sym, take, take_all, takes_then, took, took_all, took_none, ℕ, ◌+◌, ◌-◌, ◌<◌, ◌∙◌, ◌≡◌}
+use Rattle.nap_reader.proofs.{Bool, Ghosts, List, None, Refuses, Request, Takes, TookMore, ap, arith, bytes_of, bytes_of-placed_by_step, drop, inr, left_bytes, length, length-drop, length-placed_by_step, place_at, place_at-drop, place_at-placed_by_step, placed_by_step, refl, refusal, subst, sym, take, take_all, takes_then, took, took_all, took_none, ℕ, ◌+◌, ◌-◌, ◌<◌, ◌∙◌, ◌≡◌}
 use Rattle.nap_reader.specs.declared.machine.Machine.{Machine}
 use Rattle.nap_reader.proofs.TakingLemmas.{Took}
 use Rattle.nap_reader.proofs.machine.Machine.codes.Goals as goal
@@ -6,13 +6,13 @@ use Rattle.nap_reader.proofs.machine.Machine.codes.Goals as goal
 -- the bytes behind so many
 bytes_at : (place step : ℕ) (bytes : List ℕ) (count : ℕ) → take (length bytes - count) (drop count bytes) ≡ bytes_of (drop count (placed_by_step place step bytes))
 bytes_at place step bytes count =
-    take_all (length bytes - count) (drop count bytes) (omega (arith, length-drop count bytes)) ∙ ap (drop count) (sym (bytes_of-spaced place step bytes)) ∙ sym (left_bytes (placed_by_step place step bytes) count)
+    take_all (length bytes - count) (drop count bytes) (omega (arith, length-drop count bytes)) ∙ ap (drop count) (sym (bytes_of-placed_by_step place step bytes)) ∙ sym (left_bytes (placed_by_step place step bytes) count)
 
 -- It takes more.
 further : {S : Type 0} {g : Ghosts S} {old mid mid' new : Machine S g} {ended : Bool} {count n : ℕ} {request : Request} (place step : ℕ) (bytes : List ℕ) → Took old mid (placed_by_step place step bytes) ended count → TookMore g → count < length bytes → mid.open_run ≡ None → mid' ≡ mid →
     Takes mid' new (drop count (placed_by_step place step bytes)) ended n request → Takes old new (placed_by_step place step bytes) ended (count + n) request
 further {new = new} {ended = ended} {count = count} {n = n} {request = request} place step bytes t more less closed same takes =
-    takes_then t more (inr (omega (arith, less, length-spaced place step bytes), closed)) (subst (λ (m : Machine _ _). Takes m new (drop count (placed_by_step place step bytes)) ended n request) same takes)
+    takes_then t more (inr (omega (arith, less, length-placed_by_step place step bytes), closed)) (subst (λ (m : Machine _ _). Takes m new (drop count (placed_by_step place step bytes)) ended n request) same takes)
 
 pub loop-count-init : goal.loop-count-init
 loop-count-init g c = record { took = took_none _ _ c.requires.live c.requires.closed; live = c.requires.live; closed = λ less. c.requires.closed }
@@ -65,7 +65,7 @@ returns-in-Stopped g c =
     let xs = placed_by_step slice.place slice.step bytes in
     let code = rw (bytes_at slice.place slice.step bytes count) at c.in-Stopped.ensures in
     let within : count + index < length bytes = omega (arith, c.in-Stopped.ensures.within.1, less, length-drop count bytes, ap length (bytes_at slice.place slice.step bytes count)) in
-    let place : c.place_of.result ≡ place_at (drop count xs) index = c.place_of.ensures ∙ sym (place_at-drop xs count index ∙ place_at-spaced slice.place slice.step bytes (count + index) within) in
+    let place : c.place_of.result ≡ place_at (drop count xs) index = c.place_of.ensures ∙ sym (place_at-drop xs count index ∙ place_at-placed_by_step slice.place slice.step bytes (count + index) within) in
     rw c.stop.ensures.answer
     (further slice.place slice.step bytes so.took g.met.S.Sink.took_more less (so.closed less) refl
     (code.by (drop count xs) refl c.stop.new.self (subst (λ (place : ℕ). Refuses c.code.new.self c.stop.new.self (refusal c.in-Stopped.fault place)) place c.stop.ensures.kept)))
@@ -95,10 +95,10 @@ loop-count-preserved g c =
     record {
       took = subst (Took c.args.self.now c.other-taken.new.self xs c.args.ended) e (took (further slice.place slice.step slice.bytes.now so.took g.met.S.Sink.took_more less (so.closed less) c.in-Other.ensures.within takes));
       live = takes.leaves.live;
-      closed = λ few. takes.closed refl (omega (arith, few, length-drop count xs, length-spaced slice.place slice.step slice.bytes.now));
+      closed = λ few. takes.closed refl (omega (arith, few, length-drop count xs, length-placed_by_step slice.place slice.step slice.bytes.now));
     }
 
 pub returns : goal.returns
 returns g c =
     let slice = c.args.slice.now in
-    rw c.took.ensures (took_all c.loop-count.invariant.took (omega (arith, c.loop-count-test.false, length-spaced slice.place slice.step slice.bytes.now)))
+    rw c.took.ensures (took_all c.loop-count.invariant.took (omega (arith, c.loop-count-test.false, length-placed_by_step slice.place slice.step slice.bytes.now)))

@@ -1,11 +1,11 @@
-use Rattle.nap_reader.proofs.{Ghosts, Joins, List, Memory, OpenRun, Some, ap, ap₂, arith, clear_request_if, bytes_of-spaced, is_operand_byte, lacked, length, length-spaced, length-take-le, operands_in, place_at, place_at-spaced, prefix_len, prefix_len-le-length, refl, refusal, run_acts, run_lacks, run_limit, run_stops, run_too_long, run_waits, placed_by_step, sym, take, true, worked, ℕ, ◌*◌, ◌++◌, ◌+◌, ◌<◌, ◌∙◌, ◌≡◌, ◌≤◌}
+use Rattle.nap_reader.proofs.{Ghosts, Joins, List, Memory, OpenRun, Some, ap, ap₂, arith, bytes_of-placed_by_step, clear_request_if, is_operand_byte, lacked, length, length-placed_by_step, length-take-le, operands_in, place_at, place_at-placed_by_step, placed_by_step, prefix_len, prefix_len-le-length, refl, refusal, run_acts, run_lacks, run_limit, run_stops, run_too_long, run_waits, sym, take, true, worked, ℕ, ◌*◌, ◌++◌, ◌+◌, ◌<◌, ◌∙◌, ◌≡◌, ◌≤◌}
 use Rattle.nap_reader.specs.declared.machine.Machine.{Machine}
 use Rattle.nap_reader.proofs.machine.Machine.join.Goals as goal
 use Rattle.nap_reader.proofs.machine.Machine.join.Goals.{After-execute, Else-is_err}
 
 -- how many operands there are
 counted : (place step : ℕ) (bytes : List ℕ) (count : ℕ) → count ≡ prefix_len is_operand_byte bytes → operands_in (placed_by_step place step bytes) ≡ count
-counted place step bytes count is = ap (prefix_len is_operand_byte) (bytes_of-spaced place step bytes) ∙ sym is
+counted place step bytes count is = ap (prefix_len is_operand_byte) (bytes_of-placed_by_step place step bytes) ∙ sym is
 
 -- They joined the run.
 joined : {S : Type 0} {g : Ghosts S} {m mid : Machine S g} {open_run : OpenRun} (place step : ℕ) (bytes : List ℕ) (count : ℕ) → count ≡ prefix_len is_operand_byte bytes → m.open_run ≡ Some open_run → length m.run.items + count ≤ run_limit →
@@ -13,7 +13,7 @@ joined : {S : Type 0} {g : Ghosts S} {m mid : Machine S g} {open_run : OpenRun} 
 joined {m = m} place step bytes count is open_run short items (work, lexer, run, sink) = record {
   is = open_run;
   short = omega (arith, short, counted place step bytes count is);
-  items = items ∙ ap₂ (λ (k : ℕ) (bs : List ℕ). m.run.items ++ take k bs) (sym (counted place step bytes count is)) (sym (bytes_of-spaced place step bytes));
+  items = items ∙ ap₂ (λ (k : ℕ) (bs : List ℕ). m.run.items ++ take k bs) (sym (counted place step bytes count is)) (sym (bytes_of-placed_by_step place step bytes));
   work = work;
   lexer = lexer;
   open_run_is = run;
@@ -36,7 +36,7 @@ returns-then-is_err g c =
     let most = prefix_len-le-length is_operand_byte bytes in
     let less : 0 < c.operand_prefix_len-count.result = omega (arith, failed.1, length-take-le c.operand_prefix_len-count.result bytes (omega (arith, c.operand_prefix_len-count.ensures, most))) in
     let first : slice.place ≡ place_at (placed_by_step slice.place slice.step bytes) 0 =
-    (let e : slice.place ≡ slice.place + slice.step * 0 = grind arith in e) ∙ sym (place_at-spaced slice.place slice.step bytes 0 (omega (arith, less, c.operand_prefix_len-count.ensures, most))) in
+    (let e : slice.place ≡ slice.place + slice.step * 0 = grind arith in e) ∙ sym (place_at-placed_by_step slice.place slice.step bytes 0 (omega (arith, less, c.operand_prefix_len-count.ensures, most))) in
     let kept = c.stop-then-is_err.ensures.kept in
     rw c.stop-then-is_err.ensures.answer
     (run_lacks c.args.ended c.requires.run (omega (arith, n, less)) (omega (arith, n, c.if-count-most.false, m.short))
@@ -59,7 +59,7 @@ ends_of : (g : _) (c : After-execute g) → operands_in (placed_by_step c.args.s
 ends_of g c = elim c.else-count-slice.branch [
   | goal.else-count-slice-via-then-count-slice+else-not-ended w ↦ λ all. w.if-not-ended.false
   | goal.else-count-slice-via-else-count-slice w ↦ λ all.
-      absurd (w.if-count-slice.false (omega (arith, all, counted c.args.slice.now.place c.args.slice.now.step c.args.slice.now.bytes.now c.operand_prefix_len-count.result c.operand_prefix_len-count.ensures, length-spaced c.args.slice.now.place c.args.slice.now.step c.args.slice.now.bytes.now)))
+      absurd (w.if-count-slice.false (omega (arith, all, counted c.args.slice.now.place c.args.slice.now.step c.args.slice.now.bytes.now c.operand_prefix_len-count.result c.operand_prefix_len-count.ensures, length-placed_by_step c.args.slice.now.place c.args.slice.now.step c.args.slice.now.bytes.now)))
 ]
 
 pub returns-then-not-ended : goal.returns-then-not-ended
@@ -67,7 +67,7 @@ returns-then-not-ended g c =
     let slice = c.args.slice.now in
     let place = (goal.at.returns-then-not-ended g c).Else-is_err in
     rw (c.took.ensures, ← (count_of g place))
-    (run_waits (join_of g place) c.args.ended (record { live = c.requires.live.live; agrees = c.requires.live.agrees }) (omega (arith, count_of g place, c.if-count-slice.true, length-spaced slice.place slice.step slice.bytes.now)))
+    (run_waits (join_of g place) c.args.ended (record { live = c.requires.live.live; agrees = c.requires.live.agrees }) (omega (arith, count_of g place, c.if-count-slice.true, length-placed_by_step slice.place slice.step slice.bytes.now)))
 
 pub returns-then-clears : goal.returns-then-clears
 returns-then-clears g c =

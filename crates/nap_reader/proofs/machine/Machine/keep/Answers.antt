@@ -23,10 +23,10 @@ pub returns-in_default : goal.returns-in_default
 returns-in_default g c = absurd (some_comes c.requires.next c.in_default.ensures)
 
 pub place_of-place-requires : goal.place_of-place-requires
-place_of-place-requires g c = omega (arith, c.body_prefix_len-count.ensures, prefix_len-le-length is_of_body c.in-Some.slice.bytes.now, c.if-count-space_left.true)
+place_of-place-requires g c = omega (arith, c.body_prefix_len-count.ensures, prefix_len-le-length is_of_body c.in-Some.slice.bytes.now, c.if-count-space.true)
 
-pub advance-requires-then-count-space_left : goal.advance-requires-then-count-space_left
-advance-requires-then-count-space_left g c =
+pub advance-requires-then-count-space : goal.advance-requires-then-count-space
+advance-requires-then-count-space g c =
     let next = c.in-Some.ensures in
     record {
       piece = c.args.piece.now;
@@ -34,31 +34,31 @@ advance-requires-then-count-space_left g c =
       place = c.in-Some.slice.place;
       text = c.in-Some.slice.bytes.now;
       comes = next.comes;
-      few = omega (arith, c.body_prefix_len-count.ensures, prefix_len-le-length is_of_body c.in-Some.slice.bytes.now, c.if-count-space_left.true);
+      few = omega (arith, c.body_prefix_len-count.ensures, prefix_len-le-length is_of_body c.in-Some.slice.bytes.now, c.if-count-space.true);
     }
 
-pub advance-requires-then-count-space_left-2 : goal.advance-requires-then-count-space_left-2
-advance-requires-then-count-space_left-2 g c =
-    fill_passes c.args.self.now c.requires.open c.requires.held c.requires.next.reads c.in-Some.ensures c.space_left-space_left.result (omega (arith, c.body_prefix_len-count.ensures, prefix_len-le-length is_of_body c.in-Some.slice.bytes.now, c.if-count-space_left.true))
-    c.advance-then-count-space_left.ensures
+pub advance-requires-then-count-space-2 : goal.advance-requires-then-count-space-2
+advance-requires-then-count-space-2 g c =
+    fill_passes c.args.self.now c.requires.open c.requires.held c.requires.next.reads c.in-Some.ensures c.space_left-space.result (omega (arith, c.body_prefix_len-count.ensures, prefix_len-le-length is_of_body c.in-Some.slice.bytes.now, c.if-count-space.true))
+    c.advance-then-count-space.ensures
 
-pub returns-then-count-space_left-clause-goes : goal.returns-then-count-space_left-clause-goes
-returns-then-count-space_left-clause-goes g c =
+pub returns-then-count-space-clause-goes : goal.returns-then-count-space-clause-goes
+returns-then-count-space-clause-goes g c =
     let laws : Lawful g.S.Sink = record { more = g.met.S.Sink.took_more; broken = g.met.S.Sink.took_broke; wants = g.met.S.Sink.wants_more; none = g.met.S.Sink.took_none } in
     let m = c.args.self.now in
     let input = c.args.input.now in
     let text = c.in-Some.slice.bytes.now in
     let next = c.in-Some.ensures in
-    let room = c.space_left-space_left.result in
-    let first = c.advance-then-count-space_left.ensures in
-    let mid = c.advance-then-count-space_left.new.self in
+    let room = c.space_left-space.result in
+    let first = c.advance-then-count-space.ensures in
+    let mid = c.advance-then-count-space.new.self in
     let is = c.refuse.ensures.latched.is ∙ ap (λ (n : ℕ). Some (refusal Store n)) c.place_of-place.ensures in
     rw c.refuse.ensures.answer
     (stops_from laws (latches_own is c.refuse.ensures.latched.sink store_other) is
-    (passed_then c.requires.next.reads next.comes (omega (arith, c.body_prefix_len-count.ensures, prefix_len-le-length is_of_body text, c.if-count-space_left.true)) first.passed
-    (ap (λ (store : StoreState). unread store.bytes mid.frames.stack.items) (sym first.store)) c.advance-then-count-space_left-2.ensures.passed)
+    (passed_then c.requires.next.reads next.comes (omega (arith, c.body_prefix_len-count.ensures, prefix_len-le-length is_of_body text, c.if-count-space.true)) first.passed
+    (ap (λ (store : StoreState). unread store.bytes mid.frames.stack.items) (sym first.store)) c.advance-then-count-space-2.ensures.passed)
     (subst (λ t. Stops g.S.Sink m.sink (reading_state_by m input) (next_bytes input c.args.piece.now) (length text) room t (refusal Store (c.in-Some.slice.place + c.in-Some.slice.step * room))) (sym c.refuse.ensures.latched.sink)
-    (body_fills m c.requires.open c.requires.held c.requires.next.reads next room (omega (arith, c.body_prefix_len-count.ensures, c.if-count-space_left.true)) (omega (arith, c.space_left-space_left.ensures)))))
+    (body_fills m c.requires.open c.requires.held c.requires.next.reads next room (omega (arith, c.body_prefix_len-count.ensures, c.if-count-space.true)) (omega (arith, c.space_left-space.ensures)))))
 
 pub keep-requires-clause-next : goal.keep-requires-clause-next
 keep-requires-clause-next g c = (
@@ -69,7 +69,7 @@ keep-requires-clause-next g c = (
 )
 
 pub keep-requires-clause-few : goal.keep-requires-clause-few
-keep-requires-clause-few g c = omega (arith, c.space_left-space_left.ensures, c.if-count-space_left.false)
+keep-requires-clause-few g c = omega (arith, c.space_left-space.ensures, c.if-count-space.false)
 
 pub advance-requires-in_default-keep : goal.advance-requires-in_default-keep
 advance-requires-in_default-keep g c = subst (λ (input : Input). CanAdvance input 1) (sym c.in_default-keep.ensures.err) (can_pass c.requires.next)
@@ -85,7 +85,7 @@ returns-in_default-keep-clause-goes g c =
     (byte_stops laws c.requires.next c.refuse-in_default-keep.ensures.latched.is c.refuse-in_default-keep.ensures.latched.sink memory_other
     (byte_passed c.requires.next adv.passed)
     (byte_lacks g.S.Sink m.sink (reading_state_by m c.args.input.now) c.requires.open c.requires.held (placed_at c.args.next.byte c.args.next.place) (record { low = c.requires.low; other = c.if-next-eq27.false })
-    (omega (arith, some, c.body_prefix_len-count.ensures, c.space_left-space_left.ensures, c.if-count-space_left.false))))
+    (omega (arith, some, c.body_prefix_len-count.ensures, c.space_left-space.ensures, c.if-count-space.false))))
 
 pub returns : goal.returns
 returns g c =
@@ -94,5 +94,5 @@ returns g c =
     let first = first_plain m c.requires.open c.requires.held c.requires.next.reads next c.requires.next (record { low = c.requires.low; other = c.if-next-eq27.false }) in
     record {
       same = refl;
-      goes = goes_less 1 (omega (arith, first, c.body_prefix_len-count.ensures)) (keeps_goes m c.requires.open c.requires.held c.requires.next.reads next c.in-Ok.ensures.ok (omega (arith, first, c.body_prefix_len-count.ensures), omega (arith, c.body_prefix_len-count.ensures)) g.met.S.Sink.took_more c.requires.live (omega (arith, c.space_left-space_left.ensures, c.if-count-space_left.false)));
+      goes = goes_less 1 (omega (arith, first, c.body_prefix_len-count.ensures)) (keeps_goes m c.requires.open c.requires.held c.requires.next.reads next c.in-Ok.ensures.ok (omega (arith, first, c.body_prefix_len-count.ensures), omega (arith, c.body_prefix_len-count.ensures)) g.met.S.Sink.took_more c.requires.live (omega (arith, c.space_left-space.ensures, c.if-count-space.false)));
     }

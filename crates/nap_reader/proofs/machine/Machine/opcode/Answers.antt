@@ -1,4 +1,4 @@
-use Rattle.nap_reader.proofs.{Drawn, Err, IsWholeRun, List, RunsWhole, ap, arith, draw_fault, drop, length, length-drop, opcode_acts, opcode_stops, refl, sink_fault, subst, take_all, ℕ, ◌-◌, ◌∙◌}
+use Rattle.nap_reader.proofs.{Err, IsWholeRun, List, RuleResult, RunsWhole, ap, arith, draw_fault, drop, length, length-drop, opcode_acts, opcode_stops, refl, sink_fault, subst, take_all, ℕ, ◌-◌, ◌∙◌}
 use Rattle.nap_reader.proofs.machine.Machine.opcode.Goals as goal
 use Rattle.nap_reader.proofs.machine.Machine.opcode.Goals.{In-Some}
 
@@ -19,7 +19,7 @@ runs_whole g c =
 pub returns-in-Ok : goal.returns-in-Ok
 returns-in-Ok g c =
     let acted = c.in-Ok.ensures.acts in
-    let drawn : Drawn = record { entries = acted.0; work = c.act.new.self; clears = c.in-Ok.clears } in
+    let drawn : RuleResult = record { entries = acted.0; work = c.act.new.self; clears = c.in-Ok.clears } in
     opcode_acts (runs_whole g (goal.at.returns-in-Ok g c).In-Some) drawn (record { before = c.requires.closed; closed = c.requires.closed; work_is = refl; lexer_is = refl })
     (record { is = acted.1; took = acted.2; clear = c.in-Ok.ensures.clear }) (record { live = c.requires.live.live; agrees = acted.4 }) g.met.S.Sink.took_more
 

@@ -1,4 +1,4 @@
-use Rattle.nap_reader.proofs.{List, Some, ap, arith, drop, length, length-drop, length-spaced, open_takes, refl, take, take_all, takes_at, ℕ, ◌+◌, ◌-◌, ◌≡◌}
+use Rattle.nap_reader.proofs.{List, Some, ap, arith, drop, length, length-drop, length-placed_by_step, open_takes, refl, take, take_all, takes_at, ℕ, ◌+◌, ◌-◌, ◌≡◌}
 use Rattle.nap_reader.proofs.machine.Machine.open.Goals as goal
 
 -- the bytes behind the opcode
@@ -10,7 +10,7 @@ overflow_add-result-2 g c =
     let slice = c.args.slice.now in
     let bytes = slice.bytes.now in
     let at = c.args.at in
-    omega (arith, c.join-taken.ensures.within, length-spaced c.place_of-2.result slice.step (take (length bytes - (at + 1)) (drop (at + 1) bytes)), ap length (bytes_after bytes at), length-drop (at + 1) bytes, c.requires.within)
+    omega (arith, c.join-taken.ensures.within, length-placed_by_step c.place_of-2.result slice.step (take (length bytes - (at + 1)) (drop (at + 1) bytes)), ap length (bytes_after bytes at), length-drop (at + 1) bytes, c.requires.within)
 
 pub returns : goal.returns
 returns g c =

@@ -1,4 +1,4 @@
-use Rattle.nap_reader.proofs.{Call, CodeSets, Err, Fault, IsOpcodeByte, IsRuled, LexerState, Lexes, List, Placed, Some, Stray, Takes, acts, ap, ap₂, arith, binds, bytes_of, bytes_of-spaced, call_takes, code_of, draw_fault, drop, drop-map, fault_takes, front_made, get_or, get_or-append_seam, get_or-drop, half_takes, inl, length, length-drop, length-spaced, macro_takes, more_of, nothing_takes, opcode_read, placed_at, refl, refusal, rested, ruled_stops, ruled_takes, sink_fault, placed_by_step, strays_takes, subst, sym, take_all, takes_at, takes_same, ℕ, ◌*◌, ◌+◌, ◌-◌, ◌∙◌, ◌≡◌}
+use Rattle.nap_reader.proofs.{Call, CodeSets, Err, Fault, IsOpcodeByte, IsRuled, LexerState, Lexes, List, Placed, Some, Stray, Takes, acts, ap, ap₂, arith, binds, bytes_of, bytes_of-placed_by_step, call_takes, code_of, draw_fault, drop, drop-map, fault_takes, front_made, get_or, get_or-append_seam, get_or-drop, half_takes, inl, length, length-drop, length-placed_by_step, macro_takes, more_of, nothing_takes, opcode_read, placed_at, placed_by_step, refl, refusal, rested, ruled_stops, ruled_takes, sink_fault, strays_takes, subst, sym, take_all, takes_at, takes_same, ℕ, ◌*◌, ◌+◌, ◌-◌, ◌∙◌, ◌≡◌}
 use Rattle.nap_reader.proofs.ReadingLemmas.{fault_of}
 use Rattle.nap_reader.proofs.machine.Machine.other.Goals as goal
 use Rattle.nap_reader.proofs.machine.Machine.other.Goals.{After-control, In-Code}
@@ -22,7 +22,7 @@ returns-in-Some g c =
     let more = c.in-Some.more in
     let xs = drop at (placed_by_step slice.place slice.step bytes) in
     let k = rw (take_all (length bytes - at) (drop at bytes) (omega (arith, length-drop at bytes))) at c.in-Some.ensures in
-    let is : bytes_of xs ≡ drop at bytes = sym (drop-map (λ (x : Placed). x.byte) at (placed_by_step slice.place slice.step bytes)) ∙ ap (drop at) (bytes_of-spaced slice.place slice.step bytes) in
+    let is : bytes_of xs ≡ drop at bytes = sym (drop-map (λ (x : Placed). x.byte) at (placed_by_step slice.place slice.step bytes)) ∙ ap (drop at) (bytes_of-placed_by_step slice.place slice.step bytes) in
     let name : k.name ≡ get_or bytes (at + more - 1) 0 =
     sym (get_or-append_seam k.before k.name k.behind 0) ∙ ap (λ (bs : List ℕ). get_or bs (length k.before) 0) (sym k.is) ∙ get_or-drop at bytes (length k.before) 0
     ∙ ap (λ (i : ℕ). get_or bytes i 0) (let e : at + length k.before ≡ at + more - 1 = omega (arith, k.counted) in e) in
@@ -63,7 +63,7 @@ returns-in-Opens-clause-takes g c =
     let (after, k, lexer) = lexes g (goal.at.returns-in-Opens-clause-takes g c).In-Code in
     let slice = c.args.slice.now in
     takes_same c.open.ensures.takes (record { before = c.requires.closed; closed = c.requires.closed; work_is = refl; lexer_is = lexer ∙ (opcode_read k (sym c.in-Opens.ensures)).0 }) refl
-    (record { live = c.requires.live.live; agrees = c.requires.live.agrees }) g.met.S.Sink.took_more (omega (arith, c.requires.within, length-drop c.args.at (placed_by_step slice.place slice.step slice.bytes.now), length-spaced slice.place slice.step slice.bytes.now))
+    (record { live = c.requires.live.live; agrees = c.requires.live.agrees }) g.met.S.Sink.took_more (omega (arith, c.requires.within, length-drop c.args.at (placed_by_step slice.place slice.step slice.bytes.now), length-placed_by_step slice.place slice.step slice.bytes.now))
 
 pub returns-in-Strays-clause-takes : goal.returns-in-Strays-clause-takes
 returns-in-Strays-clause-takes g c =

@@ -1,4 +1,4 @@
-use Rattle.nap_reader.proofs.{ReadsTo, TakesSlice, ap, arith, begin_reads, comes_rested, err_from_is_err_and, leaves_live, length-spaced, reads_piece, smaller, stops_piece, stops_then, subst, sym, turn_is, turn_less, ℕ, ◌*◌, ◌+◌, ◌-◌, ◌∙◌, ◌≡◌}
+use Rattle.nap_reader.proofs.{ReadsTo, TakesSlice, ap, arith, begin_reads, comes_rested, err_from_is_err_and, leaves_live, length-placed_by_step, reads_piece, smaller, stops_piece, stops_then, subst, sym, turn_is, turn_less, ℕ, ◌*◌, ◌+◌, ◌-◌, ◌∙◌, ◌≡◌}
 use Rattle.nap_reader.proofs.machine.Machine.read.Goals as goal
 use Rattle.nap_reader.proofs.machine.Machine.read.Goals.{After-place_of-place}
 
@@ -25,7 +25,7 @@ returns-in_err-define-clause-reads g c =
     rw e.1 (stops_piece c.begin_piece.ensures c.requires.rested c.requires.live.live (omega (arith, c.requires.few)) c.requires.few c.in_err-define.ensures.goes)
 
 pub place_of-place-requires : goal.place_of-place-requires
-place_of-place-requires g c = omega (arith, c.take-taken.ensures.within, length-spaced c.in-Some.slice.place c.in-Some.slice.step c.in-Some.slice.bytes.now, c.saturating_sub.ensures)
+place_of-place-requires g c = omega (arith, c.take-taken.ensures.within, length-placed_by_step c.in-Some.slice.place c.in-Some.slice.step c.in-Some.slice.bytes.now, c.saturating_sub.ensures)
 
 pub answer-requires-clause-live : goal.answer-requires-clause-live
 answer-requires-clause-live g c = λ other. leaves_live c.loop-slice.self c.take-taken.new.self c.take-taken.result.request c.take-taken.ensures.leaves other
@@ -48,7 +48,7 @@ loop-slice-smaller g c =
     let next = c.in-Some.ensures in
     let text = next.some in
     smaller c.loop-slice.invariant.reads (c.in_ok-answer.ensures.goes c.loop-slice.self (turned g (goal.at.loop-slice-smaller g c).After-place_of-place)).counts
-    (turn_less c.loop-slice.self c.take-taken.new.self c.answer.new.self c.take-taken.ensures (omega (arith, text, length-spaced c.in-Some.slice.place c.in-Some.slice.step c.in-Some.slice.bytes.now)) c.in_ok-answer.ensures.on
+    (turn_less c.loop-slice.self c.take-taken.new.self c.answer.new.self c.take-taken.ensures (omega (arith, text, length-placed_by_step c.in-Some.slice.place c.in-Some.slice.step c.in-Some.slice.bytes.now)) c.in_ok-answer.ensures.on
     c.in_ok-answer.ensures.run)
 
 pub returns-in_err-answer-clause-reads : goal.returns-in_err-answer-clause-reads

@@ -1,9 +1,9 @@
-use Rattle.nap_reader.proofs.{All, All-cons, All-head, All-nil, Codes, IsGraphic, IsTextOf, IsTyped, List, None, Option, Some, TextStep, [], ap, arith, at_front, drop, format_effector, format_effector_front, get_or, is_of_text, length, refl, slice_index, subst, sym, take, take-append-drop, text_halts, text_taken, ℕ, ◌++◌, ◌<◌, ◌∙◌, ◌∷◌, ◌≡◌, ◌≤◌}
+use Rattle.nap_reader.proofs.{All, All-cons, All-head, All-nil, Codes, IsGraphic, IsTextByte, IsTextOf, List, None, Option, Some, TextStep, [], ap, arith, at_front, drop, format_effector, format_effector_front, get_or, is_of_text, length, refl, slice_index, subst, sym, take, take-append-drop, text_halts, text_taken, ℕ, ◌++◌, ◌<◌, ◌∙◌, ◌∷◌, ◌≡◌, ◌≤◌}
 use Rattle.nap_reader.proofs.machine.Machine.text.Goals as goal
 use Rattle.nap_reader.proofs.machine.Machine.text.Goals.{Else-text-lt2}
 
 -- a byte of a text that is no format effector is graphic
-typed_graphic : (b : ℕ) → IsTyped b → 0x20 ≤ b → IsGraphic b
+typed_graphic : (b : ℕ) → IsTextByte b → 0x20 ≤ b → IsGraphic b
 typed_graphic b typed from = by (format_effector b) refl
   where
     by : (step : Option TextStep) → format_effector b ≡ step → IsGraphic b
@@ -11,10 +11,10 @@ typed_graphic b typed from = by (format_effector b) refl
     by None is = (from, omega (arith, (typed is).1))
 
 -- so is a text of one byte
-one_graphic : (text rest bytes : List ℕ) → text ++ rest ≡ bytes → 0x20 ≤ slice_index bytes 0 → length text < 2 → All IsTyped text → All IsGraphic text
+one_graphic : (text rest bytes : List ℕ) → text ++ rest ≡ bytes → 0x20 ≤ slice_index bytes 0 → length text < 2 → All IsTextByte text → All IsGraphic text
 one_graphic [] rest bytes is from few typed = All-nil IsGraphic
 one_graphic (b ∷ []) rest bytes is from few typed =
-    All-cons IsGraphic b [] (typed_graphic b (All-head IsTyped b [] typed) (omega (arith, from, ap (λ (bs : List ℕ). get_or bs 0 0) is))) (All-nil IsGraphic)
+    All-cons IsGraphic b [] (typed_graphic b (All-head IsTextByte b [] typed) (omega (arith, from, ap (λ (bs : List ℕ). get_or bs 0 0) is))) (All-nil IsGraphic)
 one_graphic (b ∷ c ∷ more) rest bytes is from few typed = absurd (omega (arith, few))
 
 -- the text and the bytes behind it
