@@ -7,62 +7,62 @@ use Rattle.nap_codes.specs.declared.code_set.CodeSets.{CodeSets}
 use Rattle.nap_codes.specs.declared.opcode.Left.{Left}
 use Rattle.nap_codes.specs.declared.opcode.Opcode.{Opcode}
 use Rattle.nap_codes.specs.CodeSets.{char_set_of, set_at}
-use Rattle.nap_codes.specs.Front.{whole, non_pdi_code, opcode_front, pdi_front, gl_front, control0_front, front}
+use Rattle.nap_codes.specs.Front.{complete, non_pdi_code, opcode_front, pdi_front, gl_front, control0_front, front}
 use Rattle.nap_codes.specs.Laws.{IsGraphic}
 use Rattle.nap_codes.specs.Lexer.{LexerState, IsCharacter}
 use Rattle.nap_codes.specs.Tables.{row_of, opcode_rows, left_out_opcode}
 use Rattle.nap_codes.proofs.TableLemmas.{graphic_test, no_control0, space}
 use Rattle.nap_codes.proofs.CodeRanges.{code_ranges}
 
--- Which bytes are characters by themselves.
+-- Which bytes are complete codes of a character.
 
 -- an opcode is no character
 no_char_of_opcode : (sets : CodeSets) (op : Opcode) (left : Option Left) (set : CharSet) (byte : ℕ) →
-    opcode_front sets op left ≡ whole (codes.Char set byte) 1 sets → ⊥
+    opcode_front sets op left ≡ complete (codes.Char set byte) 1 sets → ⊥
 unfolding opcode_front
 no_char_of_opcode sets op None set byte e = cc
 no_char_of_opcode sets op (Some name) set byte e = cc
 
--- no code of the PDI set is
+-- a code of the PDI set is no character
 no_char_of_pdi : (sets : CodeSets) (found : Option Opcode) (set : CharSet) (byte : ℕ) →
-    pdi_front sets byte found ≡ whole (codes.Char set byte) 1 sets → ⊥
+    pdi_front sets byte found ≡ complete (codes.Char set byte) 1 sets → ⊥
 unfolding pdi_front
 no_char_of_pdi sets None set byte e = cc
 no_char_of_pdi sets (Some op) set byte e = no_char_of_opcode sets op (left_out_opcode op) set byte e
 
--- the code of a set is a character where the set is one of characters
+-- a code of a set is a character if the set is a character set
 in_set : (sets : CodeSets) (byte : ℕ) (at : CodeSet) (set : CharSet) →
-    (char_set_of at ≡ Some set) ↔ (gl_front sets byte (non_pdi_code at byte) ≡ whole (codes.Char set byte) 1 sets)
+    (char_set_of at ≡ Some set) ↔ (gl_front sets byte (non_pdi_code at byte) ≡ complete (codes.Char set byte) 1 sets)
 unfolding non_pdi_code gl_front
 in_set sets byte code_sets.Pdi set = (λ e. cc, λ e. absurd (no_char_of_pdi sets (row_of opcode_rows byte) set byte e))
 in_set sets byte _ set = (λ e. cc, λ e. cc)
 
--- a byte from 20 to 7F is a character where a set of characters is in GL
+-- a byte from 20 to 7F is a character if a character set is in GL
 pub in_gl : (sets : CodeSets) (byte : ℕ) (set : CharSet) → IsGraphic byte →
-    (char_set_of (set_at sets sets.gl) ≡ Some set) ↔ (front sets (byte ∷ []) ≡ whole (codes.Char set byte) 1 sets)
+    (char_set_of (set_at sets sets.gl) ≡ Some set) ↔ (front sets (byte ∷ []) ≡ complete (codes.Char set byte) 1 sets)
 unfolding front control0_front
 in_gl sets byte set range =
     rw (no_control0 byte range.0, graphic_test byte range)
     (in_set sets byte (set_at sets sets.gl) set)
 
--- where one of them is a character, all are, and of the same set
+-- if one graphic byte is a character, all are, and of one set
 pub all_alike : (lexer : LexerState) (byte : ℕ) (set : CharSet) → IsGraphic byte → IsCharacter lexer byte set →
     (other : ℕ) → IsGraphic other → IsCharacter lexer other set
 all_alike lexer byte set range k other range' =
     (k.0, (in_gl lexer.sets other set range').0 ((in_gl lexer.sets byte set range).1 k.1))
 
--- no code is half read: all are where a set of characters is in GL
+-- with no incomplete code, all graphic bytes are characters exactly if a character set is in GL
 pub all_in_gl : (lexer : LexerState) (set : CharSet) → lexer.half ≡ [] →
     (char_set_of (set_at lexer.sets lexer.sets.gl) ≡ Some set) ↔ ((byte : ℕ) → IsGraphic byte → IsCharacter lexer byte set)
 all_in_gl lexer set rests =
     (λ e byte range. (rests, (in_gl lexer.sets byte set range).0 e), λ k. (in_gl lexer.sets 0x20 set space).1 (k 0x20 space).1)
 
--- no byte is one amid a code
+-- no byte is a character within a code
 pub all_amid : (lexer : LexerState) (set : CharSet) → (lexer.half ≡ [] → ⊥) →
     (None ≡ Some set) ↔ ((byte : ℕ) → IsGraphic byte → IsCharacter lexer byte set)
 all_amid lexer set some = (λ e. cc, λ k. absurd (some (k 0x20 space).0))
 
--- no other byte is one
+-- no byte outside 20 to 7F is a character
 pub none_beyond : (lexer : LexerState) (byte : ℕ) (set : CharSet) → (IsGraphic byte → ⊥) → (None ≡ Some set) ↔ IsCharacter lexer byte set
 none_beyond lexer byte set other =
     (λ e. cc, λ k. absurd (other (code_ranges lexer.sets (byte ∷ []) (codes.Char set byte) 1 lexer.sets k.1)))

@@ -6,18 +6,18 @@ use Rattle.nap_codes.specs.declared.code_set.CodeSet.{CodeSet}
 use Rattle.nap_codes.specs.declared.code_set.CodeSet.TheVariants as code_sets
 use Rattle.nap_codes.specs.declared.code_set.CodeSets.{CodeSets}
 use Rattle.nap_codes.specs.declared.control.Row.{Row}
-use Rattle.nap_codes.specs.declared.control.Row.TheVariants.{Whole}
+use Rattle.nap_codes.specs.declared.control.Row.TheVariants.{Complete}
 use Rattle.nap_codes.specs.CodeSets.{set_at}
 use Rattle.nap_codes.specs.Tables.{row_of, number_rows, control0_rows, control1_rows}
-use Rattle.nap_codes.specs.Front.{whole, non_pdi_code, front}
+use Rattle.nap_codes.specs.Front.{complete, non_pdi_code, front}
 use Rattle.nap_codes.specs.Laws.{IsGraphic, IsInRange, CodeRanges, OneByteOpcode, OneByteOperand}
 use Rattle.nap_codes.specs.Spelling.{Spells}
 use Rattle.nap_codes.specs.Spelling as spelling
 use Rattle.nap_codes.proofs.RowLemmas.{row_found}
-use Rattle.nap_codes.proofs.FrontLaws.{whole_length}
-use Rattle.nap_codes.proofs.SpellingLaws.{whole_is_spelled}
+use Rattle.nap_codes.proofs.FrontLaws.{code_length}
+use Rattle.nap_codes.proofs.SpellingLaws.{code_is_spelled}
 
--- The ranges of a code's numbers.
+-- The parameters of a code are in range.
 
 -- whether a code is of the PDI set
 abbrev is_pdi : Code → Bool
@@ -25,22 +25,22 @@ is_pdi (codes.Op op) = true
 is_pdi (codes.Operand word) = true
 is_pdi _ = false
 
--- what is said of a code by itself, where it isn't of the PDI set
+-- the range of a code's parameters, for a code that isn't of the PDI set
 abbrev IsPlain : Code → Type 0
 IsPlain code = IsInRange code × (is_pdi code ≡ false)
 
--- The codes of the tables of controls have no numbers.
+-- The codes of the tables of controls have no parameters.
 abbrev PlainRow : ℕ → Row → Type 0
-PlainRow byte (Whole code) = IsPlain code
+PlainRow byte (Complete code) = IsPlain code
 PlainRow byte _ = Unit {0}
 
-control0_is_plain : (byte : ℕ) (code : Code) → row_of control0_rows byte ≡ Some (Whole code) → IsPlain code
+control0_is_plain : (byte : ℕ) (code : Code) → row_of control0_rows byte ≡ Some (Complete code) → IsPlain code
 unfolding control0_rows
-control0_is_plain byte code e = row_found PlainRow control0_rows byte (Whole code) (assumption) e
+control0_is_plain byte code e = row_found PlainRow control0_rows byte (Complete code) (assumption) e
 
-control1_is_plain : (byte : ℕ) (code : Code) → row_of control1_rows byte ≡ Some (Whole code) → IsPlain code
+control1_is_plain : (byte : ℕ) (code : Code) → row_of control1_rows byte ≡ Some (Complete code) → IsPlain code
 unfolding control1_rows
-control1_is_plain byte code e = row_found PlainRow control1_rows byte (Whole code) (assumption) e
+control1_is_plain byte code e = row_found PlainRow control1_rows byte (Complete code) (assumption) e
 
 number_below : (intermediate number : ℕ) → row_of number_rows intermediate ≡ Some number → number < 4
 unfolding number_rows
@@ -51,7 +51,7 @@ unfolding non_pdi_code
 plain_code_is_plain code_sets.Pdi byte range = tt
 plain_code_is_plain _ byte range = (range, refl)
 
--- A spelling has a code with its numbers in their ranges, and one byte where the code is of the PDI set.
+-- The parameters of a code that is spelled are in range, and a code of the PDI set has one byte.
 data IsSound (sets : CodeSets) (xs : List ℕ) (code : Code) (after : CodeSets) : Type 0 where
   plain : IsPlain code → IsSound sets xs code after
   pdi : IsInRange code → length xs ≡ 1 → after ≡ sets → IsSound sets xs code after
@@ -87,17 +87,17 @@ sound_one : {sets : CodeSets} {xs : List ℕ} {code : Code} {after : CodeSets} �
 sound_one (plain is) e = let other = is.1 in let bad : ⊥ = cc in absurd bad
 sound_one (pdi range one same) e = (one, same)
 
--- the code at a front
-front_is_sound : (sets : CodeSets) (xs : List ℕ) (code : Code) (n : ℕ) (after : CodeSets) → front sets xs ≡ whole code n after →
+-- the parameters of a code at the front are in range
+front_is_sound : (sets : CodeSets) (xs : List ℕ) (code : Code) (n : ℕ) (after : CodeSets) → front sets xs ≡ complete code n after →
     IsSound sets (take n xs) code after
 front_is_sound sets xs code n after e =
-    spelled_is_sound sets (take n xs) code after ((whole_is_spelled sets xs code n after).0 e).1
+    spelled_is_sound sets (take n xs) code after ((code_is_spelled sets xs code n after).0 e).1
 
 one_byte : (sets : CodeSets) (xs : List ℕ) (code : Code) (n : ℕ) (after : CodeSets) → is_pdi code ≡ true →
-    front sets xs ≡ whole code n after → (n ≡ 1) × (after ≡ sets)
+    front sets xs ≡ complete code n after → (n ≡ 1) × (after ≡ sets)
 one_byte sets xs code n after is e =
     let one = sound_one (front_is_sound sets xs code n after e) is in
-    (sym (length-take-le n xs (whole_length sets xs code n after e).1) ∙ one.0, one.1)
+    (sym (length-take-le n xs (code_length sets xs code n after e).1) ∙ one.0, one.1)
 
 pub code_ranges : CodeRanges
 code_ranges sets xs code n after e = sound_range (front_is_sound sets xs code n after e)

@@ -9,14 +9,14 @@ use Rattle.nap_codes.specs.declared.lexer.HalfRead.{HalfRead}
 use Rattle.nap_codes.specs.declared.lexer.HalfRead.TheVariants.{Control, Designation, SpacedDesignation, PositionRow}
 use Rattle.nap_codes.specs.CodeSets.{set_at}
 use Rattle.nap_codes.specs.Tables.{row_of, control0_rows, control1_rows, opcode_rows}
-use Rattle.nap_codes.specs.Front.{Front, unfinished, whole, refused, one_byte_later, non_pdi_code, pdi_front, gl_front, position_front, argument_of, designation_front, sequence_front, control1_front, escape_front, more_front, control0_front, front}
+use Rattle.nap_codes.specs.Front.{Front, unfinished, complete, refused, one_byte_later, non_pdi_code, pdi_front, gl_front, position_front, argument_of, designation_front, sequence_front, control1_front, escape_front, more_front, control0_front, front}
 use Rattle.nap_codes.specs.HalfReadCodes.{half_read_bytes, IsHalfRead, rest_front}
 use Rattle.nap_codes.specs.Laws.{IsGraphic}
 use Rattle.nap_codes.proofs.TableLemmas.{graphic_test, no_control0, no_control1}
 
--- What stands at the front of a list, by what stands at the front behind its first bytes.
+-- The front of a list, by the front of the bytes after its first ones.
 
--- a front so many bytes further
+-- a front, a number of bytes further
 abbrev pub further : ℕ → Front → Front
 further zero r = r
 further (suc n) r = one_byte_later (further n r)
@@ -26,11 +26,11 @@ unfolding one_byte_later
 further-unfinished zero = refl
 further-unfinished (suc n) = ap one_byte_later (further-unfinished n)
 
-pub further-whole : (n : ℕ) (code : Code) (m : ℕ) (after : CodeSets) → further n (whole code m after) ≡ whole code (n + m) after
+pub further-complete : (n : ℕ) (code : Code) (m : ℕ) (after : CodeSets) → further n (complete code m after) ≡ complete code (n + m) after
 unfolding one_byte_later
-further-whole zero code m after = ap (λ k. whole code k after) (omega arith)
-further-whole (suc n) code m after =
-    ap one_byte_later (further-whole n code m after) ∙ ap (λ k. whole code k after) (omega arith)
+further-complete zero code m after = ap (λ k. complete code k after) (omega arith)
+further-complete (suc n) code m after =
+    ap one_byte_later (further-complete n code m after) ∙ ap (λ k. complete code k after) (omega arith)
 
 pub further-refused : (n : ℕ) (fault : CodeFault) (i : ℕ) → further n (refused fault i) ≡ refused fault (n + i)
 unfolding one_byte_later
@@ -44,7 +44,7 @@ designation_begins sets intermediate bytes range =
     rw (no_control1 intermediate (omega arith), ne_eqb intermediate 0x6E (λ e. omega arith), ne_eqb intermediate 0x6F (λ e. omega arith), le-leb 0x28 intermediate range.0, le-leb intermediate 0x2F range.1)
     refl
 
--- a half-read code and the bytes behind it
+-- the front of an incomplete code followed by these bytes
 pub front_of_half : (sets : CodeSets) (half : HalfRead) (bytes : List ℕ) → IsHalfRead half →
     front sets (half_read_bytes half ++ bytes) ≡ further (length (half_read_bytes half)) (rest_front sets half bytes)
 unfolding front row_of control0_rows control0_front more_front escape_front control1_rows control1_front argument_of designation_front position_front
@@ -58,7 +58,7 @@ front_of_half sets (SpacedDesignation intermediate) bytes is = ap one_byte_later
 front_of_half sets (PositionRow row) bytes is = rw (graphic_test row is) refl
 front_of_half sets _ bytes is = refl
 
--- a code of the set in GL
+-- the front at a code of the set in GL
 pub gl_begins : (sets : CodeSets) (byte : ℕ) → IsGraphic byte →
     front sets (byte ∷ []) ≡ gl_front sets byte (non_pdi_code (set_at sets sets.gl) byte)
 unfolding front control0_front

@@ -6,15 +6,15 @@ use Rattle.nap_codes.specs.declared.code_set.CodeSet.{CodeSet}
 use Rattle.nap_codes.specs.declared.code_set.CodeSets.{CodeSets}
 use Rattle.nap_codes.specs.declared.control.Argument.{Argument}
 use Rattle.nap_codes.specs.declared.control.Row.{Row}
-use Rattle.nap_codes.specs.declared.control.Row.TheVariants.{Whole, More, Out}
+use Rattle.nap_codes.specs.declared.control.Row.TheVariants.{Complete, More, Out}
 use Rattle.nap_codes.specs.declared.opcode.Left.{Left}
 use Rattle.nap_codes.specs.declared.opcode.Opcode.{Opcode}
 use Rattle.nap_codes.specs.CodeSets.{set_at}
 use Rattle.nap_codes.specs.Tables.{row_of, control0_rows, control1_rows, opcode_rows, left_out_opcode, designation}
 use Rattle.nap_codes.specs.Front.{Front, is_graphic, bad_byte, last_byte, non_pdi_code, opcode_front, pdi_front, gl_front, shifted_front, single_shift_front, column_front, position_front, argument_of, with_argument, argument_front, designated_front, final_front, designation_front, sequence_front, control1_front, escape_front, more_front, control0_front, front}
-use Rattle.nap_codes.proofs.FrontLemmas.{Steady, Opens, ends, fails, goes_on, Opens-cond, opens-Steady}
+use Rattle.nap_codes.proofs.FrontLemmas.{Steady, Opens, ends, fails, continues, Opens-cond, opens-Steady}
 
--- What stands at the front of a list is decided by the bytes of its answer alone.
+-- The front of a list depends only on the bytes of its code or refusal.
 
 bad_byte-Opens : (fault : CodeFault) (byte : ℕ) → Opens (λ _. bad_byte fault byte)
 unfolding bad_byte
@@ -61,7 +61,7 @@ position_front-Steady : (sets : CodeSets) → Steady (position_front sets)
 unfolding position_front
 position_front-Steady sets =
     opens-Steady (position_front sets) refl (λ byte.
-    Opens-cond (is_graphic byte) (goes_on _ (column_front-Steady sets byte)) (bad_byte-Opens BadArgument byte))
+    Opens-cond (is_graphic byte) (continues _ (column_front-Steady sets byte)) (bad_byte-Opens BadArgument byte))
 
 argument_front-Steady : (sets : CodeSets) (argument : Argument) → Steady (argument_front sets argument)
 unfolding argument_front
@@ -87,20 +87,20 @@ designation_front-Steady : (sets : CodeSets) (intermediate : ℕ) → Steady (de
 unfolding designation_front
 designation_front-Steady sets intermediate =
     opens-Steady (designation_front sets intermediate) refl (λ byte.
-    Opens-cond (eqb byte 0x20) (goes_on _ (final_front-Steady sets intermediate)) (final_front-Opens sets intermediate byte))
+    Opens-cond (eqb byte 0x20) (continues _ (final_front-Steady sets intermediate)) (final_front-Opens sets intermediate byte))
 
 sequence_front-Opens : (sets : CodeSets) (byte : ℕ) → Opens (sequence_front sets byte)
 unfolding sequence_front
 sequence_front-Opens sets byte =
     Opens-cond (eqb byte 0x6E) (ends _ _) (
     Opens-cond (eqb byte 0x6F) (ends _ _) (
-    Opens-cond (leb 0x28 byte && leb byte 0x2F) (goes_on _ (designation_front-Steady sets byte)) (bad_byte-Opens BadEscape byte)))
+    Opens-cond (leb 0x28 byte && leb byte 0x2F) (continues _ (designation_front-Steady sets byte)) (bad_byte-Opens BadEscape byte)))
 
 control1_front-Opens : (sets : CodeSets) (byte : ℕ) (found : Option Row) → Opens (λ bytes. control1_front sets byte bytes found)
 unfolding control1_front
-control1_front-Opens sets byte (Some (Whole code)) = ends code sets
+control1_front-Opens sets byte (Some (Complete code)) = ends code sets
 control1_front-Opens sets byte (Some (Out name)) = fails _
-control1_front-Opens sets byte (Some More) = goes_on _ (argument_front-Steady sets (argument_of byte))
+control1_front-Opens sets byte (Some More) = continues _ (argument_front-Steady sets (argument_of byte))
 control1_front-Opens sets byte None = sequence_front-Opens sets byte
 
 escape_front-Steady : (sets : CodeSets) → Steady (escape_front sets)
@@ -121,13 +121,13 @@ more_front-Steady sets byte =
 
 control0_front-Opens : (sets : CodeSets) (byte : ℕ) (found : Option Row) → Opens (λ bytes. control0_front sets byte bytes found)
 unfolding control0_front
-control0_front-Opens sets byte (Some (Whole code)) = ends code _
+control0_front-Opens sets byte (Some (Complete code)) = ends code _
 control0_front-Opens sets byte (Some (Out name)) = fails _
-control0_front-Opens sets byte (Some More) = goes_on _ (more_front-Steady sets byte)
+control0_front-Opens sets byte (Some More) = continues _ (more_front-Steady sets byte)
 control0_front-Opens sets byte None =
     Opens-cond (is_graphic byte) (gl_front-Opens sets byte (non_pdi_code (set_at sets sets.gl) byte)) (fails EighthBit)
 
--- the front of a list decides by the bytes of its answer alone
+-- the front of a list depends only on the bytes of its code or refusal
 pub front-Steady : (sets : CodeSets) → Steady (front sets)
 unfolding front
 front-Steady sets =

@@ -2,30 +2,30 @@ use Rattle.std.proofs.Common.{ℕ, zero, suc, ◌≡◌, ◌≢◌, ◌≤◌, L
 use Rattle.nap_codes.specs.declared.code.Code.{Code}
 use Rattle.nap_codes.specs.declared.code.CodeFault.{CodeFault}
 use Rattle.nap_codes.specs.declared.code_set.CodeSets.{CodeSets}
-use Rattle.nap_codes.specs.Front.{Front, unfinished, whole, refused, front}
-use Rattle.nap_codes.specs.Laws.{WholeStays, RefusedStays, WholeLength, RefusedIndex, WholeByItsBytes, RefusedByItsBytes, EarlierUnfinished, UnfinishedBefore}
+use Rattle.nap_codes.specs.Front.{Front, unfinished, complete, refused, front}
+use Rattle.nap_codes.specs.Laws.{CodeStays, RefusedStays, CodeLength, RefusedIndex, CodeByItsBytes, RefusedByItsBytes, EarlierUnfinished, UnfinishedBefore}
 use Rattle.nap_codes.proofs.FrontLemmas.{size, from_taken, earlier}
 use Rattle.nap_codes.proofs.FrontIsSteady.{front-Steady}
 
--- The public laws of what stands at the front.
+-- The public laws of fronts.
 
--- an answer, to these bytes
+-- the code or refusal at the front of these bytes
 module _ (sets : CodeSets) (xs : List ℕ) where
-  pub is_whole : {code : Code} {n : ℕ} {after : CodeSets} → front sets xs ≡ whole code n after → front sets xs ≢ unfinished
-  is_whole e none = cc
+  pub is_complete : {code : Code} {n : ℕ} {after : CodeSets} → front sets xs ≡ complete code n after → front sets xs ≢ unfinished
+  is_complete e none = cc
 
   pub is_refused : {fault : CodeFault} {i : ℕ} → front sets xs ≡ refused fault i → front sets xs ≢ unfinished
   is_refused e none = cc
 
-pub whole_stays : WholeStays
-whole_stays sets xs ys code n after e = (front-Steady sets).stays xs ys (is_whole sets xs e) ∙ e
+pub code_stays : CodeStays
+code_stays sets xs ys code n after e = (front-Steady sets).stays xs ys (is_complete sets xs e) ∙ e
 
 pub refused_stays : RefusedStays
 refused_stays sets xs ys fault i e = (front-Steady sets).stays xs ys (is_refused sets xs e) ∙ e
 
-pub whole_taken : WholeByItsBytes
-whole_taken sets xs code n after e =
-    ap (λ r. front sets (take (size r) xs)) (sym e) ∙ (front-Steady sets).taken xs (is_whole sets xs e) ∙ e
+pub code_taken : CodeByItsBytes
+code_taken sets xs code n after e =
+    ap (λ r. front sets (take (size r) xs)) (sym e) ∙ (front-Steady sets).taken xs (is_complete sets xs e) ∙ e
 
 pub refused_taken : RefusedByItsBytes
 refused_taken sets xs fault i e =
@@ -36,9 +36,9 @@ unfolding front
 some_bytes sets xs zero some = absurd (some refl)
 some_bytes sets xs (suc m) some = omega arith
 
-pub whole_length : WholeLength
-whole_length sets xs code n after e = (
-  some_bytes sets xs n (is_whole sets (take n xs) (whole_taken sets xs code n after e)),
+pub code_length : CodeLength
+code_length sets xs code n after e = (
+  some_bytes sets xs n (is_complete sets (take n xs) (code_taken sets xs code n after e)),
   omega (arith, ap size e, (front-Steady sets).within xs),
 )
 
@@ -51,6 +51,6 @@ earlier_unfinished sets xs code n after k e less = earlier (front sets) (front-S
 pub unfinished_before : UnfinishedBefore
 unfinished_before sets xs fault i k e less = earlier (front sets) (front-Steady sets) xs k (omega (arith, ap size e, less))
 
--- What stands at the front of fewer bytes stands there.
+-- The front of a prefix, if it is a code or a refusal, is the front of the list.
 pub front_from_taken : (sets : CodeSets) (k : ℕ) (xs : List ℕ) {r : Front} → front sets (take k xs) ≡ r → r ≢ unfinished → front sets xs ≡ r
 front_from_taken sets k xs e some = from_taken (front sets) (front-Steady sets) k xs (rw e some) ∙ e

@@ -10,21 +10,21 @@ use Rattle.nap_codes.specs.declared.lexer.HalfRead.TheVariants.{Nothing, Escape,
 use Rattle.nap_codes.specs.declared.lexer.ByteOutcome.{ByteOutcome}
 use Rattle.nap_codes.specs.declared.lexer.ByteOutcome.TheVariants as turns
 use Rattle.nap_codes.specs.Tables.{row_of, control0_rows, control1_rows}
-use Rattle.nap_codes.specs.Front.{Front, unfinished, whole, refused, one_byte_later, non_pdi_code, gl_front, argument_of, argument_front, column_front, final_front, designation_front, control1_front, escape_front, position_front, single_shift_front, more_front, control0_front, front}
+use Rattle.nap_codes.specs.Front.{Front, unfinished, complete, refused, one_byte_later, non_pdi_code, gl_front, argument_of, argument_front, column_front, final_front, designation_front, control1_front, escape_front, position_front, single_shift_front, more_front, control0_front, front}
 use Rattle.nap_codes.specs.CodeSets.{set_at}
 use Rattle.nap_codes.specs.HalfReadCodes.{control_of, half_read_bytes, half_read_after, IsHalfRead, rest_front, IsLastOutcome, IsOutcomeBy, IsOutcomeOf}
 use Rattle.nap_codes.specs.Lexer.{LexerState, StepsBy, Steps}
-use Rattle.nap_codes.proofs.TableLemmas.{graphic_test, Leads, leads, shift2, escape, position, shift3, control_of-argument_of}
-use Rattle.nap_codes.proofs.FrontBegins.{further, further-unfinished, further-whole, further-refused, front_of_half}
+use Rattle.nap_codes.proofs.TableLemmas.{graphic_test, IsLongControl, long_control, shift2, escape, position, shift3, control_of-argument_of}
+use Rattle.nap_codes.proofs.FrontBegins.{further, further-unfinished, further-complete, further-refused, front_of_half}
 
--- What a byte makes of a half-read code.
+-- The effect of a byte on an incomplete code.
 
--- the last byte of a code, as any byte of it
+-- the last byte of a code is a byte of it
 IsLastOutcome-IsOutcomeBy : (r : Front) (half : HalfRead) (byte : ℕ) (turn : ByteOutcome) → IsLastOutcome r turn → IsOutcomeBy r half byte turn
 IsLastOutcome-IsOutcomeBy unfinished half byte turn e = absurd e
 IsLastOutcome-IsOutcomeBy _ half byte turn e = e
 
-first_led : (sets : CodeSets) (byte : ℕ) (more : HalfRead) → Leads byte → more ≡ half_read_after byte →
+first_led : (sets : CodeSets) (byte : ℕ) (more : HalfRead) → IsLongControl byte → more ≡ half_read_after byte →
     IsOutcomeBy (one_byte_later (more_front sets byte [])) Nothing byte (turns.More more)
 unfolding one_byte_later more_front escape_front position_front single_shift_front half_read_after
 first_led sets _ more shift2 is = (more, refl, ap half_read_bytes is, subst IsHalfRead (sym is) tt)
@@ -35,7 +35,7 @@ first_led sets _ more shift3 is = (more, refl, ap half_read_bytes is, subst IsHa
 pub first_more : (sets : CodeSets) (byte : ℕ) (more : HalfRead) → row_of control0_rows byte ≡ Some More → more ≡ half_read_after byte →
     IsOutcomeOf sets Nothing byte (turns.More more)
 unfolding front control0_front
-first_more sets byte more e is = rw e (first_led sets byte more (leads byte e) is)
+first_more sets byte more e is = rw e (first_led sets byte more (long_control byte e) is)
 
 pub first_graphic : (sets : CodeSets) (byte : ℕ) (turn : ByteOutcome) → row_of control0_rows byte ≡ None → 0x20 ≤ byte → byte < 0x80 →
     IsLastOutcome (gl_front sets byte (non_pdi_code (set_at sets sets.gl) byte)) turn → IsOutcomeOf sets Nothing byte turn
@@ -60,19 +60,19 @@ unfolding front escape_front argument_front designation_front final_front single
 rest_front-nothing sets Nothing = refl
 rest_front-nothing sets _ = refl
 
--- A half-read code is unfinished.
+-- An incomplete code is unfinished.
 pub half_unfinished : (sets : CodeSets) (half : HalfRead) → IsHalfRead half → front sets (half_read_bytes half) ≡ unfinished
 half_unfinished sets half is =
     ap (front sets) (sym (append-nil (half_read_bytes half))) ∙ front_of_half sets half [] is
     ∙ ap (further (length (half_read_bytes half))) (rest_front-nothing sets half) ∙ further-unfinished (length (half_read_bytes half))
 
--- what a turn answers
+-- the step that a byte's outcome gives
 abbrev pub step_of : ByteOutcome → Step
 step_of (turns.More half) = steps.More
 step_of (turns.Code code after) = steps.Code code
 step_of (turns.Fault fault) = steps.Fault fault
 
--- the lexer after a turn
+-- the lexer after a byte's outcome
 abbrev pub after_turn : CodeSets → HalfRead → ByteOutcome → LexerState
 after_turn sets half (turns.More more) = record { sets = sets; half = half_read_bytes more }
 after_turn sets half (turns.Code code after) = record { sets = after; half = [] }
@@ -82,12 +82,12 @@ at_rest_front : (sets : CodeSets) (half : HalfRead) (byte : ℕ) (turn : ByteOut
     StepsBy (further (length (half_read_bytes half)) r) (record { sets = sets; half = half_read_bytes half }) byte (step_of turn) (after_turn sets half turn)
 at_rest_front sets half byte turn unfinished e =
     rw (further-unfinished (length (half_read_bytes half)), e.1) (refl, ap (λ bytes. record { sets = sets; half = bytes }) e.2)
-at_rest_front sets half byte turn (whole code n after) e =
-    rw (further-whole (length (half_read_bytes half)) code n after, e.1) (refl, simp length-append (omega (arith, e.0)), refl)
+at_rest_front sets half byte turn (complete code n after) e =
+    rw (further-complete (length (half_read_bytes half)) code n after, e.1) (refl, simp length-append (omega (arith, e.0)), refl)
 at_rest_front sets half byte turn (refused fault i) e =
     rw (further-refused (length (half_read_bytes half)) fault i, e.1) (refl, omega (arith, e.0), refl)
 
--- A turn is a step of the lexer.
+-- A byte's outcome is a step of the lexer.
 pub turn-Steps : (sets : CodeSets) (half : HalfRead) (byte : ℕ) (turn : ByteOutcome) → IsHalfRead half → IsOutcomeOf sets half byte turn →
     Steps (record { sets = sets; half = half_read_bytes half }) byte (step_of turn) (after_turn sets half turn)
 turn-Steps sets half byte turn is e =
@@ -97,6 +97,6 @@ more_at : (half : HalfRead) (byte : ℕ) (more : HalfRead) (r : Front) → IsOut
 more_at half byte more unfinished e = let same : e.0 ≡ more = cc in subst IsHalfRead same e.3
 more_at half byte more _ e = cc
 
--- What is half read after a byte is a half-read code.
+-- A code that is incomplete after a byte has its parameters in range.
 pub turn_more-IsHalfRead : (sets : CodeSets) (half : HalfRead) (byte : ℕ) (more : HalfRead) → IsOutcomeOf sets half byte (turns.More more) → IsHalfRead more
 turn_more-IsHalfRead sets half byte more e = more_at half byte more (rest_front sets half (byte ∷ [])) e

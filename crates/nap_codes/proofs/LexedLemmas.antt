@@ -4,14 +4,14 @@ use Rattle.nap_codes.specs.declared.code.Code.{Code}
 use Rattle.nap_codes.specs.declared.code.CodeFault.{CodeFault}
 use Rattle.nap_codes.specs.declared.code.Step.TheVariants as steps
 use Rattle.nap_codes.specs.declared.code_set.CodeSets.{CodeSets}
-use Rattle.nap_codes.specs.Front.{Front, unfinished, whole, refused, front}
+use Rattle.nap_codes.specs.Front.{Front, unfinished, complete, refused, front}
 use Rattle.nap_codes.specs.Lexer.{LexerState, StepsBy}
 use Rattle.nap_codes.specs.LexResults.{LexResult, lex_result_by, lex_result_within, lex_result, StepsThrough, at_end, at_more, at_code, at_fault, StepsGiveLexResult}
-use Rattle.nap_codes.proofs.FrontLaws.{whole_stays, refused_stays, whole_length}
+use Rattle.nap_codes.proofs.FrontLaws.{code_stays, refused_stays, code_length}
 
 -- The steps of a lexer give the codes of a list.
 
--- a code in front of what is read later
+-- a code before the codes read after it
 abbrev with_code : Code → LexResult → LexResult
 with_code code rest = record rest { codes = code ∷ rest.codes }
 
@@ -29,12 +29,12 @@ lex_result_within-spare (suc f) (suc g) sets bytes hf hg =
         lex_result_by (lex_result_within f) sets bytes r ≡ lex_result_by (lex_result_within g) sets bytes r
     at unfinished e ih = refl
     at (refused fault i) e ih = refl
-    at (whole code n after) e ih =
-        let some = whole_length sets bytes code n after e in
+    at (complete code n after) e ih =
+        let some = code_length sets bytes code n after e in
         let less : length (drop n bytes) < length bytes = simp length-drop (omega arith) in
         ap (with_code code) (ih after (drop n bytes) (omega arith) (omega arith))
 
--- the codes of a list, by what stands at its front
+-- the codes of a list, by its front
 lex_result-front : (sets : CodeSets) (bytes : List ℕ) → lex_result sets bytes ≡ lex_result_by lex_result sets bytes (front sets bytes)
 unfolding lex_result lex_result_within
 lex_result-front sets bytes = at (front sets bytes) refl
@@ -43,12 +43,12 @@ lex_result-front sets bytes = at (front sets bytes) refl
         lex_result_by (lex_result_within (length bytes)) sets bytes r ≡ lex_result_by lex_result sets bytes r
     at unfinished e = refl
     at (refused fault i) e = refl
-    at (whole code n after) e =
-        let some = whole_length sets bytes code n after e in
+    at (complete code n after) e =
+        let some = code_length sets bytes code n after e in
         let less : length (drop n bytes) < length bytes = simp length-drop (omega arith) in
         ap (with_code code) (lex_result_within-spare (length bytes) (suc (length (drop n bytes))) after (drop n bytes) less (omega arith))
 
--- what a step says of the front
+-- the front that a step tells
 module _ (old new : LexerState) (byte : ℕ) where
   on_more : (r : Front) → StepsBy r old byte steps.More new →
       (r ≡ unfinished) × (new ≡ record { sets = old.sets; half = old.half ++ byte ∷ [] })
@@ -56,8 +56,8 @@ module _ (old new : LexerState) (byte : ℕ) where
   on_more _ e = cc
 
   on_code : (r : Front) (code : Code) → StepsBy r old byte (steps.Code code) new →
-      (r ≡ whole code (length (old.half ++ byte ∷ [])) new.sets) × (new.half ≡ [])
-  on_code (whole c n after) code e =
+      (r ≡ complete code (length (old.half ++ byte ∷ [])) new.sets) × (new.half ≡ [])
+  on_code (complete c n after) code e =
       let same : c ≡ code = cc in
       let sets : after ≡ new.sets = ap (λ s. s.sets) (sym e.2) in
       (rw (same, e.1, sets) refl, ap (λ s. s.half) e.2)
@@ -75,10 +75,10 @@ unfolding front
 front-nothing sets bytes e = rw e refl
 
 -- the codes of a list that begins with the bytes of a code
-lex_result-code : (sets : CodeSets) (read bytes : List ℕ) (code : Code) (after : CodeSets) → front sets read ≡ whole code (length read) after →
+lex_result-code : (sets : CodeSets) (read bytes : List ℕ) (code : Code) (after : CodeSets) → front sets read ≡ complete code (length read) after →
     lex_result sets (read ++ bytes) ≡ with_code code (lex_result after bytes)
 lex_result-code sets read bytes code after e =
-    rw (lex_result-front sets (read ++ bytes), whole_stays sets read bytes code (length read) after e, drop-append_seam read bytes) refl
+    rw (lex_result-front sets (read ++ bytes), code_stays sets read bytes code (length read) after e, drop-append_seam read bytes) refl
 
 -- the codes of a list that begins with the bytes up to a refused one
 lex_result-fault : (sets : CodeSets) (half : List ℕ) (byte : ℕ) (bytes : List ℕ) (fault : CodeFault) →
@@ -90,7 +90,7 @@ lex_result-fault sets half byte bytes fault e =
     (refused_stays sets (half ++ byte ∷ []) bytes fault (length half) e) in
     rw (lex_result-front sets (half ++ byte ∷ bytes), there, take-append_seam half (byte ∷ bytes)) refl
 
--- the steps of a lexer that has these bytes half read
+-- the steps of a lexer with these bytes of an incomplete code
 steps_lexed : (state end : LexerState) (bytes : List ℕ) (codes : List Code) (fault : Option CodeFault) →
     StepsThrough state bytes codes fault end → front state.sets state.half ≡ unfinished →
     record { codes = codes; fault = fault; state = end } ≡ lex_result state.sets (state.half ++ bytes)
@@ -112,7 +112,7 @@ steps_lexed state end _ _ _ (at_fault {byte = byte} {bytes = bytes} {fault = fau
     ap (λ s. record { codes = []; fault = Some fault; state = s }) is.1
     ∙ sym (lex_result-fault state.sets state.half byte bytes fault is.0)
 
--- From a lexer at rest, the steps give the codes of the list.
+-- From a lexer without an incomplete code, the steps give the codes of the list.
 pub steps_are_lexed : StepsGiveLexResult
 steps_are_lexed sets bytes codes fault end steps =
     steps_lexed (record { sets = sets; half = [] }) end bytes codes fault steps (front-nothing sets [] refl)

@@ -1,22 +1,22 @@
 use Rattle.std.proofs.Common.{ℕ, ◌≡◌, ◌↔◌, ◌<◌, ◌≤◌, [], ◌∷◌, Some, None, ap, ◌∙◌, arith}
 use Rattle.nap_codes.specs.declared.code.Code.TheVariants as codes
 use Rattle.nap_codes.specs.declared.opcode.Opcode.{Opcode}
-use Rattle.nap_codes.specs.Front.{whole, opcode_front, pdi_front, front}
+use Rattle.nap_codes.specs.Front.{complete, opcode_front, pdi_front, front}
 use Rattle.nap_codes.specs.Lexer.{LexerState, IsOpcode}
 use Rattle.nap_codes.proofs.FrontBegins.{pdi_begins}
 use Rattle.nap_codes.proofs.TableLemmas.{no_opcode, opcode_range}
 
--- Which bytes are opcodes by themselves.
+-- Which bytes are complete codes of an opcode.
 
--- a byte that is an opcode by itself stands at the front as that opcode
-pub opcode_alone : (lexer : LexerState) (byte : ℕ) (op : Opcode) → IsOpcode lexer byte op → front lexer.sets (byte ∷ []) ≡ whole (codes.Op op) 1 lexer.sets
+-- a byte that is an opcode is at the front as that opcode
+pub opcode_alone : (lexer : LexerState) (byte : ℕ) (op : Opcode) → IsOpcode lexer byte op → front lexer.sets (byte ∷ []) ≡ complete (codes.Op op) 1 lexer.sets
 unfolding pdi_front opcode_front
 opcode_alone lexer byte op is =
     pdi_begins lexer.sets byte (opcode_range byte op is.2) is.1
     ∙ ap (pdi_front lexer.sets byte) is.2
     ∙ ap (opcode_front lexer.sets op) is.3
 
--- no other byte is one
+-- no byte below 20 or from 40 on is an opcode
 pub none_below : (lexer : LexerState) (byte : ℕ) (op : Opcode) → byte < 0x20 → (None ≡ Some op) ↔ IsOpcode lexer byte op
 none_below lexer byte op less = (λ e. cc, λ k. let range = opcode_range byte op k.2 in absurd (omega (arith, range.0, less)))
 

@@ -1,5 +1,5 @@
-use Rattle.nap_codes.specs.Laws.{WholeStays, RefusedStays, WholeLength, RefusedIndex, WholeByItsBytes, RefusedByItsBytes, EarlierUnfinished, UnfinishedBefore, CodeRanges, OneByteOpcode, OneByteOperand, FormatEffectorFront, FormatEffectorKnown}
-use Rattle.nap_codes.specs.SpellingLaws.{WholeIsSpelled, RefusedIsSpelled, UnfinishedIsPrefix}
+use Rattle.nap_codes.specs.Laws.{CodeStays, RefusedStays, CodeLength, RefusedIndex, CodeByItsBytes, RefusedByItsBytes, EarlierUnfinished, UnfinishedBefore, CodeRanges, OneByteOpcode, OneByteOperand, FormatEffectorFront, FormatEffectorKnown}
+use Rattle.nap_codes.specs.SpellingLaws.{CodeIsSpelled, RefusedIsSpelled, UnfinishedIsPrefix}
 use Rattle.nap_codes.specs.LexResults.{StepsGiveLexResult}
 use Rattle.nap_codes.proofs.FrontLaws as fronts
 use Rattle.nap_codes.proofs.SpellingLaws as spellings
@@ -9,20 +9,20 @@ use Rattle.nap_codes.proofs.ControlLemmas as controls
 
 -- The laws that crates above cite.
 
-pub whole_stays : WholeStays
-whole_stays = fronts.whole_stays
+pub code_stays : CodeStays
+code_stays = fronts.code_stays
 
 pub refused_stays : RefusedStays
 refused_stays = fronts.refused_stays
 
-pub whole_length : WholeLength
-whole_length = fronts.whole_length
+pub code_length : CodeLength
+code_length = fronts.code_length
 
 pub refused_index : RefusedIndex
 refused_index = fronts.refused_index
 
-pub whole_taken : WholeByItsBytes
-whole_taken = fronts.whole_taken
+pub code_taken : CodeByItsBytes
+code_taken = fronts.code_taken
 
 pub refused_taken : RefusedByItsBytes
 refused_taken = fronts.refused_taken
@@ -33,8 +33,8 @@ earlier_unfinished = fronts.earlier_unfinished
 pub unfinished_before : UnfinishedBefore
 unfinished_before = fronts.unfinished_before
 
-pub whole_is_spelled : WholeIsSpelled
-whole_is_spelled = spellings.whole_is_spelled
+pub code_is_spelled : CodeIsSpelled
+code_is_spelled = spellings.code_is_spelled
 
 pub refused_is_spelled : RefusedIsSpelled
 refused_is_spelled = spellings.refused_is_spelled

@@ -4,12 +4,12 @@ use Rattle.nap_codes.specs.Tables.{row_of}
 
 -- What the rows of a table have in common, and which bytes have a row.
 
--- what is true of each row
+-- a statement about each row
 abbrev pub EachRow : {Entry : Type 0} → (ℕ → Entry → Type 0) → List (ℕ × Entry) → Type 0
 EachRow P [] = Unit {0}
 EachRow P (row ∷ rows) = P row.0 row.1 × EachRow P rows
 
--- It is true of the row that is found.
+-- A statement about each row is true of the row that is found.
 pub row_found : {Entry : Type 0} (P : ℕ → Entry → Type 0) (rows : List (ℕ × Entry)) (byte : ℕ) (found : Entry) → EachRow P rows →
     row_of rows byte ≡ Some found → P byte found
 unfolding row_of
@@ -23,7 +23,7 @@ row_found {Entry} P (row ∷ rows) byte found each e = at (eqb byte row.0) refl 
         subst (λ k. P k found) (sym (eqb-true byte row.0 is)) (subst (P row.0) entry each.0)
     at false is e ih = ih e
 
--- A byte of which something isn't true that is true of the byte of each row has no row.
+-- A byte has no row if a statement is true of the byte of each row and not of this byte.
 pub no_row : {Entry : Type 0} (P : ℕ → Type 0) (rows : List (ℕ × Entry)) (byte : ℕ) → EachRow (λ key _. P key) rows → (P byte → ⊥) →
     row_of rows byte ≡ None
 unfolding row_of
@@ -34,12 +34,12 @@ no_row {Entry} P (row ∷ rows) byte each none = at (eqb byte row.0) refl (no_ro
     at true is ih = absurd (none (subst P (sym (eqb-true byte row.0 is)) each.0))
     at false is ih = ih
 
--- There is a row for each of so many bytes from one on.
+-- Each of n bytes from one on has a row.
 abbrev pub Covers : {Entry : Type 0} → List (ℕ × Entry) → ℕ → ℕ → Type 0
 Covers rows from zero = Unit {0}
 Covers rows from (suc n) = (is_some (row_of rows (from + n)) ≡ true) × Covers rows from n
 
--- A byte with no row is none of those that the rows cover.
+-- A byte without a row is none of those that the rows cover.
 pub row_missing : {Entry : Type 0} (rows : List (ℕ × Entry)) (from n byte : ℕ) → Covers rows from n → row_of rows byte ≡ None → from ≤ byte →
     from + n ≤ byte
 row_missing rows from zero byte covered e least = omega arith

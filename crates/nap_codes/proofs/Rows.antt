@@ -7,18 +7,18 @@ use Rattle.nap_codes.specs.declared.code_set.GSet.TheVariants.{G1}
 use Rattle.nap_codes.specs.declared.opcode.Left.TheVariants as lefts
 use Rattle.nap_codes.specs.CodeSets.{start_sets, with_set, after_control0}
 use Rattle.nap_codes.specs.Tables.{row_of, number_rows, set_rows, designation, control0_rows, control1_rows, opcode_rows, left_out_opcode}
-use Rattle.nap_codes.specs.Front.{unfinished, whole, refused, one_byte_later, bad_byte, last_byte, non_pdi_code, opcode_front, pdi_front, gl_front, shifted_front, single_shift_front, column_front, position_front, argument_front, designated_front, final_front, designation_front, sequence_front, control1_front, escape_front, more_front, control0_front, front}
+use Rattle.nap_codes.specs.Front.{unfinished, complete, refused, one_byte_later, bad_byte, last_byte, non_pdi_code, opcode_front, pdi_front, gl_front, shifted_front, single_shift_front, column_front, position_front, argument_front, designated_front, final_front, designation_front, sequence_front, control1_front, escape_front, more_front, control0_front, front}
 use Rattle.nap_codes.specs.LexResults.{lex_result_within, lex_result}
 
 -- Worked rows of the definitions.
 
--- Worked rows: what stands at the front.
+-- Worked rows: the fronts of lists.
 fronts :
     (front start_sets [] ≡ unfinished)
     × (front start_sets (0x1B ∷ []) ≡ unfinished)
     × (front start_sets (0x1D ∷ []) ≡ unfinished)
     × (front start_sets (0x1C ∷ 0x40 ∷ []) ≡ unfinished)
-    × (front start_sets (0x41 ∷ []) ≡ whole (codes.Char chars.Primary 0x41) 1 start_sets)
+    × (front start_sets (0x41 ∷ []) ≡ complete (codes.Char chars.Primary 0x41) 1 start_sets)
     × (front start_sets (0x80 ∷ []) ≡ refused faults.EighthBit 0)
     × (front start_sets (0x18 ∷ []) ≡ refused (faults.LeftOut lefts.Can) 0)
     × (front start_sets (0x1B ∷ 0x42 ∷ []) ≡ refused (faults.LeftOut lefts.Deft) 1)
@@ -29,7 +29,7 @@ fronts :
 unfolding front row_of control0_rows control0_front non_pdi_code gl_front more_front escape_front control1_rows control1_front sequence_front argument_front designation_front final_front designation number_rows set_rows designated_front position_front column_front last_byte single_shift_front bad_byte one_byte_later after_control0
 fronts = (refl, refl, refl, refl, refl, refl, refl, refl, refl, refl, refl, refl)
 
--- Worked rows: the codes of a list. A code of the PDI set behind a single shift is refused, and so is an opcode that is
+-- Worked rows: the codes of a list. A code of the PDI set after a single shift is refused, and so is an opcode that is
 -- left out.
 lists :
     (lex_result start_sets (0x1B ∷ 0x2A ∷ 0x57 ∷ 0x19 ∷ 0x26 ∷ [])

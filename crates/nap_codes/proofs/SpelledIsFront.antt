@@ -7,24 +7,24 @@ use Rattle.nap_codes.specs.declared.control.Argument.TheVariants as arguments
 use Rattle.nap_codes.specs.declared.lexer.HalfRead.TheVariants.{Escape, Control, Designation, SpacedDesignation, SingleShift2, SingleShift3, PositionRow}
 use Rattle.nap_codes.specs.CodeSets.{after_control0}
 use Rattle.nap_codes.specs.Tables.{row_of, designation, control1_rows}
-use Rattle.nap_codes.specs.Front.{whole, refused, one_byte_later, last_byte, non_pdi_code, opcode_front, pdi_front, gl_front, shifted_front, single_shift_front, column_front, with_argument, argument_front, designated_front, final_front, designation_front, sequence_front, control1_front, escape_front, control0_front, front}
+use Rattle.nap_codes.specs.Front.{complete, refused, one_byte_later, last_byte, non_pdi_code, opcode_front, pdi_front, gl_front, shifted_front, single_shift_front, column_front, with_argument, argument_front, designated_front, final_front, designation_front, sequence_front, control1_front, escape_front, control0_front, front}
 use Rattle.nap_codes.specs.Spelling.{Spells, SpellsRefused}
 use Rattle.nap_codes.specs.Spelling as spelling
 use Rattle.nap_codes.proofs.TableLemmas.{graphic_test, no_opcode, opcode_range, intermediate_range, no_space, shift_out_row, shift_in_row}
 use Rattle.nap_codes.proofs.ControlLemmas.{no_shift_after}
 use Rattle.nap_codes.proofs.FrontBegins.{front_of_half, gl_begins, pdi_begins}
 
--- The bytes of a spelling have its code, or its fault, at the front.
+-- The front of the bytes of a spelling is its code or its fault.
 
 no_locking_row : (row_of control1_rows 0x6E ≡ None) × (row_of control1_rows 0x6F ≡ None)
 unfolding row_of control1_rows
 no_locking_row = (refl, refl)
 
 pub spelled : (sets : CodeSets) (xs : List ℕ) (code : Code) (after : CodeSets) → Spells sets xs code after →
-    front sets xs ≡ whole code (length xs) after
+    front sets xs ≡ complete code (length xs) after
 unfolding front control0_front after_control0 one_byte_later escape_front control1_front sequence_front argument_front with_argument last_byte column_front designation_front final_front designation designated_front single_shift_front shifted_front gl_front pdi_front opcode_front
 spelled sets _ _ _ (spelling.control0 {byte = byte} {code = code} row differs) =
-    rw row (ap (whole code 1) (no_shift_after sets byte code row differs))
+    rw row (ap (complete code 1) (no_shift_after sets byte code row differs))
 spelled sets _ _ _ spelling.shift_out = rw shift_out_row refl
 spelled sets _ _ _ spelling.shift_in = rw shift_in_row refl
 spelled sets _ _ _ spelling.locking_shift2 = rw (front_of_half sets Escape (0x6E ∷ []) tt, no_locking_row.0) refl
@@ -57,7 +57,7 @@ spelled sets _ _ _ (spelling.single_shift2 {byte = byte} range e) =
 spelled sets _ _ _ (spelling.single_shift3 {byte = byte} range e) =
     rw (front_of_half sets SingleShift3 (byte ∷ []) tt, graphic_test byte range, e) refl
 
--- A spelling that is refused is refused at its last byte.
+-- A refused spelling is refused at its last byte.
 pub spelled_refused : (sets : CodeSets) (xs : List ℕ) (fault : CodeFault) → SpellsRefused sets xs fault →
     (i : ℕ) × (length xs ≡ suc i) × (front sets xs ≡ refused fault i)
 unfolding front control0_front one_byte_later escape_front control1_front single_shift_front shifted_front non_pdi_code pdi_front opcode_front

@@ -6,28 +6,28 @@ use Rattle.nap_codes.specs.declared.code.Code.{Code}
 use Rattle.nap_codes.specs.declared.code.CodeFault.{CodeFault}
 use Rattle.nap_codes.specs.declared.code.CodeFault.TheVariants.{ShiftedCode, LeftOut}
 use Rattle.nap_codes.specs.declared.code_set.CodeSets.{CodeSets}
-use Rattle.nap_codes.specs.Front.{Front, unfinished, whole, refused, front}
+use Rattle.nap_codes.specs.Front.{Front, unfinished, complete, refused, front}
 use Rattle.nap_codes.specs.Spelling.{Spells, SpellsRefused, IsSpelling, accepted, refusal, left_out_control0, left_out_control1, left_out_of_pdi, shifted2, shifted3, escape_fault, escaped_fault, place_fault, bad_byte_fault}
-use Rattle.nap_codes.specs.SpellingLaws.{WholeIsSpelled, IsBadByte, RefusedIsSpelled, UnfinishedIsPrefix}
-use Rattle.nap_codes.proofs.FrontIsSpelled.{front-Answers, Answers-whole, Answers-unfinished, Answers-refused}
+use Rattle.nap_codes.specs.SpellingLaws.{CodeIsSpelled, IsBadByte, RefusedIsSpelled, UnfinishedIsPrefix}
+use Rattle.nap_codes.proofs.FrontIsSpelled.{front-Answers, Answers-complete, Answers-unfinished, Answers-refused}
 use Rattle.nap_codes.proofs.FrontIsSteady.{front-Steady}
-use Rattle.nap_codes.proofs.FrontLaws.{refused_stays, whole_length, refused_index, refused_taken, unfinished_before, front_from_taken}
+use Rattle.nap_codes.proofs.FrontLaws.{refused_stays, code_length, refused_index, refused_taken, unfinished_before, front_from_taken}
 use Rattle.nap_codes.proofs.FrontLemmas.{size, earlier, last}
 use Rattle.nap_codes.proofs.SpelledIsFront.{spelled, spelled_refused}
 
--- What stands at the front, by the spellings.
+-- Fronts, by the spellings.
 
-whole_is_spelled_to : (sets : CodeSets) (xs : List ℕ) (code : Code) (n : ℕ) (after : CodeSets) →
-    front sets xs ≡ whole code n after → Spells sets (take n xs) code after
-whole_is_spelled_to sets xs code n after e = Answers-whole (rw e at (front-Answers sets xs))
+code_is_spelled_to : (sets : CodeSets) (xs : List ℕ) (code : Code) (n : ℕ) (after : CodeSets) →
+    front sets xs ≡ complete code n after → Spells sets (take n xs) code after
+code_is_spelled_to sets xs code n after e = Answers-complete (rw e at (front-Answers sets xs))
 
-pub whole_is_spelled : WholeIsSpelled
-whole_is_spelled sets xs code n after = (
-  λ e. ((whole_length sets xs code n after e).1, whole_is_spelled_to sets xs code n after e),
-  λ s. front_from_taken sets n xs (spelled sets (take n xs) code after s.1 ∙ ap (λ m. whole code m after) (length-take-le n xs s.0)) (λ e. cc),
+pub code_is_spelled : CodeIsSpelled
+code_is_spelled sets xs code n after = (
+  λ e. ((code_length sets xs code n after e).1, code_is_spelled_to sets xs code n after e),
+  λ s. front_from_taken sets n xs (spelled sets (take n xs) code after s.1 ∙ ap (λ m. complete code m after) (length-take-le n xs s.0)) (λ e. cc),
 )
 
--- the bytes before the last ones of a spelling
+-- the number of bytes before the last ones of a spelling
 spelling_size : (sets : CodeSets) (xs : List ℕ) → IsSpelling sets xs → size (front sets xs) ≡ length xs
 spelling_size sets xs (accepted {code = code} {after = after} s) = ap size (spelled sets xs code after s)
 spelling_size sets xs (refusal {fault = fault} s) = let r = spelled_refused sets xs fault s in ap size r.2 ∙ sym r.1
@@ -61,10 +61,10 @@ SpellsRefused-no_stray sets _ _ (left_out_of_pdi pdi row e) = refl
 SpellsRefused-no_stray sets _ _ (shifted2 range pdi) = refl
 SpellsRefused-no_stray sets _ _ (shifted3 range pdi) = refl
 
--- Where a byte is refused as one that continues no spelling, none goes on with it.
-no_spelling_goes_on : (sets : CodeSets) (xs : List ℕ) (fault : CodeFault) (i : ℕ) → front sets xs ≡ refused fault i → is_stray fault ≡ true →
+-- If a byte is refused as one that continues no spelling, none continues with it.
+no_spelling_continues : (sets : CodeSets) (xs : List ℕ) (fault : CodeFault) (i : ℕ) → front sets xs ≡ refused fault i → is_stray fault ≡ true →
     (more : List ℕ) → IsSpelling sets (take (suc i) xs ++ more) → ⊥
-no_spelling_goes_on sets xs fault i e stray more s = at s (refused_stays sets (take (suc i) xs) more fault i (refused_taken sets xs fault i e))
+no_spelling_continues sets xs fault i e stray more s = at s (refused_stays sets (take (suc i) xs) more fault i (refused_taken sets xs fault i e))
   where
     at : IsSpelling sets (take (suc i) xs ++ more) → front sets (take (suc i) xs ++ more) ≡ refused fault i → ⊥
     at (accepted {code = code} {after = after} s) e =
@@ -83,7 +83,7 @@ refused_is_spelled_to sets xs fault i e (inl s) = inl s
 refused_is_spelled_to sets xs fault i e (inr is) =
     inr (record {
       begins = (unfinished_is_prefix sets (take i xs)).0 (unfinished_before sets xs fault i i e (omega arith));
-      continues_none = λ s. no_spelling_goes_on sets xs fault i e (ap is_stray is ∙ bad_byte_fault-is_stray (take i xs) (get_or xs i 0)) s.0 s.1;
+      continues_none = λ s. no_spelling_continues sets xs fault i e (ap is_stray is ∙ bad_byte_fault-is_stray (take i xs) (get_or xs i 0)) s.0 s.1;
       fault_is = is;
     })
 
@@ -95,7 +95,7 @@ spelled_to_last sets xs fault i within s =
     let same : r.0 ≡ i = omega arith in
     front_from_taken sets (suc i) xs (r.2 ∙ ap (refused fault) same) (λ e. cc)
 
--- what stands at the front of the bytes up to one that continues no spelling
+-- the front of the bytes up to one that continues no spelling
 module _ (sets : CodeSets) (xs : List ℕ) (fault : CodeFault) (i : ℕ) (within : i < length xs) (stray : IsBadByte sets xs i fault) where
   long : length (take (suc i) xs) ≡ suc i
   long = length-take-le (suc i) xs (omega arith)
@@ -115,10 +115,10 @@ module _ (sets : CodeSets) (xs : List ℕ) (fault : CodeFault) (i : ℕ) (within
   stray_refused unfinished e =
       let begins = (unfinished_is_prefix sets (take (suc i) xs)).0 e in
       absurd (stray.continues_none (begins.0 ∷ begins.1, begins.2))
-  stray_refused (whole code n after) e =
-      let late : i < n = last_of (whole code n after) e (λ none. cc) in
+  stray_refused (complete code n after) e =
+      let late : i < n = last_of (complete code n after) e (λ none. cc) in
       let all : take n (take (suc i) xs) ≡ take (suc i) xs = take_all n (take (suc i) xs) (omega (arith, late, long)) in
-      absurd (no_spelling (subst (IsSpelling sets) all (accepted (whole_is_spelled_to sets (take (suc i) xs) code n after e))))
+      absurd (no_spelling (subst (IsSpelling sets) all (accepted (code_is_spelled_to sets (take (suc i) xs) code n after e))))
   stray_refused (refused f j) e =
       let late : i < suc j = last_of (refused f j) e (λ none. cc) in
       let same : j ≡ i = omega (arith, late, refused_index sets (take (suc i) xs) f j e, long) in

@@ -5,7 +5,7 @@ use Rattle.nap_codes.specs.declared.code.Code.TheVariants as codes
 use Rattle.nap_codes.specs.declared.code_set.CodeSet.{CodeSet}
 use Rattle.nap_codes.specs.declared.code_set.CodeSet.TheVariants as code_sets
 use Rattle.nap_codes.specs.declared.control.Row.{Row}
-use Rattle.nap_codes.specs.declared.control.Row.TheVariants.{Whole, More}
+use Rattle.nap_codes.specs.declared.control.Row.TheVariants.{Complete, More}
 use Rattle.nap_codes.specs.declared.opcode.Opcode.{Opcode}
 use Rattle.nap_codes.specs.Tables.{row_of, number_rows, set_rows, option_pair, control0_rows, control1_rows, opcode_rows}
 use Rattle.nap_codes.specs.Front.{is_graphic, non_pdi_code, argument_of}
@@ -46,7 +46,7 @@ pub control0_below : (byte : ℕ) (row : Row) → row_of control0_rows byte ≡ 
 unfolding control0_rows
 control0_below byte row is = row_found (λ key _. key < 0x20) control0_rows byte row (omega arith) is
 
--- No control of the C1 set stands below 40.
+-- No control of the C1 set is below 40.
 pub no_control1 : (byte : ℕ) → byte < 0x40 → row_of control1_rows byte ≡ None
 unfolding control1_rows
 no_control1 byte below = no_row (λ key. 0x40 ≤ key) control1_rows byte (omega arith) (λ above. omega arith)
@@ -70,48 +70,48 @@ pub no_space : (byte : ℕ) (set : CodeSet) → row_of set_rows byte ≡ Some se
 unfolding set_rows
 no_space byte set e = row_found (λ key _. key ≢ 0x20) set_rows byte set (omega arith) e
 
--- the controls of the C0 set that have more bytes
-pub data Leads : ℕ → Type 0 where
-  shift2 : Leads 0x19
-  escape : Leads 0x1B
-  position : Leads 0x1C
-  shift3 : Leads 0x1D
+-- the controls of the C0 set with further bytes
+pub data IsLongControl : ℕ → Type 0 where
+  shift2 : IsLongControl 0x19
+  escape : IsLongControl 0x1B
+  position : IsLongControl 0x1C
+  shift3 : IsLongControl 0x1D
 
-abbrev LeadsMore : ℕ → Row → Type 0
-LeadsMore byte More = Leads byte
-LeadsMore byte _ = Unit {0}
+abbrev LongRow : ℕ → Row → Type 0
+LongRow byte More = IsLongControl byte
+LongRow byte _ = Unit {0}
 
-pub leads : (byte : ℕ) → row_of control0_rows byte ≡ Some More → Leads byte
+pub long_control : (byte : ℕ) → row_of control0_rows byte ≡ Some More → IsLongControl byte
 unfolding control0_rows
-leads byte e = row_found LeadsMore control0_rows byte More (assumption (shift2, escape, position, shift3)) e
+long_control byte e = row_found LongRow control0_rows byte More (assumption (shift2, escape, position, shift3)) e
 
--- the controls of the C0 set that move the active position
+-- the format effectors of the C0 set without further bytes
 abbrev MovesAlone : ℕ → Row → Type 0
-MovesAlone byte (Whole (codes.Step step)) = FormatEffector byte step
+MovesAlone byte (Complete (codes.Step step)) = FormatEffector byte step
 MovesAlone byte _ = Unit {0}
 
-pub effector_known : (byte : ℕ) (step : TextStep) → row_of control0_rows byte ≡ Some (Whole (codes.Step step)) → FormatEffector byte step
+pub effector_known : (byte : ℕ) (step : TextStep) → row_of control0_rows byte ≡ Some (Complete (codes.Step step)) → FormatEffector byte step
 unfolding control0_rows
-effector_known byte step e = row_found MovesAlone control0_rows byte (Whole (codes.Step step)) (assumption (backward, forward, down, up, return, home)) e
+effector_known byte step e = row_found MovesAlone control0_rows byte (Complete (codes.Step step)) (assumption (backward, forward, down, up, return, home)) e
 
--- the controls of the C0 set that shift: SO and SI
+-- the locking shifts of the C0 set: SO and SI
 abbrev ShiftsAlone : ℕ → Row → Type 0
-ShiftsAlone byte (Whole codes.Shifted) = eqb byte 0x0E || eqb byte 0x0F ≡ true
+ShiftsAlone byte (Complete codes.Shifted) = eqb byte 0x0E || eqb byte 0x0F ≡ true
 ShiftsAlone byte _ = Unit {0}
 
-pub shifts_alone : (byte : ℕ) → row_of control0_rows byte ≡ Some (Whole codes.Shifted) → eqb byte 0x0E || eqb byte 0x0F ≡ true
+pub shifts_alone : (byte : ℕ) → row_of control0_rows byte ≡ Some (Complete codes.Shifted) → eqb byte 0x0E || eqb byte 0x0F ≡ true
 unfolding control0_rows
-shifts_alone byte e = row_found ShiftsAlone control0_rows byte (Whole codes.Shifted) (assumption) e
+shifts_alone byte e = row_found ShiftsAlone control0_rows byte (Complete codes.Shifted) (assumption) e
 
-pub shift_out_row : row_of control0_rows 0x0E ≡ Some (Whole codes.Shifted)
+pub shift_out_row : row_of control0_rows 0x0E ≡ Some (Complete codes.Shifted)
 unfolding row_of control0_rows
 shift_out_row = refl
 
-pub shift_in_row : row_of control0_rows 0x0F ≡ Some (Whole codes.Shifted)
+pub shift_in_row : row_of control0_rows 0x0F ≡ Some (Complete codes.Shifted)
 unfolding row_of control0_rows
 shift_in_row = refl
 
--- A control of the C1 set that has an argument is the one that has this argument.
+-- A control of the C1 set with an argument is the one that takes this argument.
 abbrev HasArgument : ℕ → Row → Type 0
 HasArgument byte More = control_of (argument_of byte) ≡ byte
 HasArgument byte _ = Unit {0}
@@ -120,12 +120,12 @@ pub control_of-argument_of : (byte : ℕ) → row_of control1_rows byte ≡ Some
 unfolding control1_rows argument_of
 control_of-argument_of byte e = row_found HasArgument control1_rows byte More (assumption) e
 
--- Only the PDI set has neither characters nor calls.
+-- Only the PDI set has neither characters nor macro calls.
 pub no_plain_code : (set : CodeSet) (byte : ℕ) → non_pdi_code set byte ≡ None → set ≡ code_sets.Pdi
 unfolding non_pdi_code
 no_plain_code set byte e = grind arith
 
--- a designation
+-- the register and the set that a designation names
 pub option_pair-rows : (number : Option ℕ) (set : Option CodeSet) (named : ℕ × CodeSet) → option_pair number set ≡ Some named →
     (number ≡ Some named.0) × (set ≡ Some named.1)
 option_pair-rows (Some n) (Some s) named e =

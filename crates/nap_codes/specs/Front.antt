@@ -12,7 +12,7 @@ use Rattle.nap_codes.specs.declared.code_set.GSet.TheVariants.{G2, G3}
 use Rattle.nap_codes.specs.declared.control.Argument.{Argument}
 use Rattle.nap_codes.specs.declared.control.Argument.TheVariants as arguments
 use Rattle.nap_codes.specs.declared.control.Row.{Row}
-use Rattle.nap_codes.specs.declared.control.Row.TheVariants.{Whole, More, Out}
+use Rattle.nap_codes.specs.declared.control.Row.TheVariants.{Complete, More, Out}
 use Rattle.nap_codes.specs.declared.control.TextStep.TheVariants.{Aps}
 use Rattle.nap_codes.specs.declared.opcode.Left.{Left}
 use Rattle.nap_codes.specs.declared.opcode.Opcode.{Opcode}
@@ -23,13 +23,13 @@ use Rattle.nap_codes.specs.Tables.{row_of, designation, control0_rows, control1_
 -- fault, with the index of the refused byte.
 pub data Front : Type 0 where
   unfinished : Front
-  whole : Code → ℕ → CodeSets → Front
+  complete : Code → ℕ → CodeSets → Front
   refused : CodeFault → ℕ → Front
 
 -- the front of a list, given the front of its rest, if the first byte belongs to it
 unfoldable pub one_byte_later : Front → Front
 one_byte_later unfinished = unfinished
-one_byte_later (whole code n sets) = whole code (suc n) sets
+one_byte_later (complete code n sets) = complete code (suc n) sets
 one_byte_later (refused fault i) = refused fault (suc i)
 
 -- whether a byte is from 20 to 7F: a code of a set, the name of a macro, or a byte of a position
@@ -46,7 +46,7 @@ bad_byte fault byte = refused (fault_of fault byte) 0
 
 -- the front at the last byte of a code, or at a byte that continues none
 unfoldable pub last_byte : CodeSets → CodeFault → ℕ → Option Code → Front
-last_byte sets fault byte (Some code) = whole code 1 sets
+last_byte sets fault byte (Some code) = complete code 1 sets
 last_byte sets fault byte None = bad_byte fault byte
 
 -- the character or macro call that a byte is in this set, or none for the PDI set
@@ -60,22 +60,22 @@ non_pdi_code code_sets.Pdi byte = None
 
 -- the front at an opcode, which may be left out
 unfoldable pub opcode_front : CodeSets → Opcode → Option Left → Front
-opcode_front sets op None = whole (Op op) 1 sets
+opcode_front sets op None = complete (Op op) 1 sets
 opcode_front sets op (Some name) = refused (LeftOut name) 0
 
 -- the front at a code of the PDI set: an opcode or an operand word
 unfoldable pub pdi_front : CodeSets → ℕ → Option Opcode → Front
 pdi_front sets byte (Some op) = opcode_front sets op (left_out_opcode op)
-pdi_front sets byte None = whole (Operand (byte - 0x40)) 1 sets
+pdi_front sets byte None = complete (Operand (byte - 0x40)) 1 sets
 
 -- the front at a code of the set in GL
 unfoldable pub gl_front : CodeSets → ℕ → Option Code → Front
-gl_front sets byte (Some code) = whole code 1 sets
+gl_front sets byte (Some code) = complete code 1 sets
 gl_front sets byte None = pdi_front sets byte (row_of opcode_rows byte)
 
 -- the front at the code after a single shift, which may not be of the PDI set
 unfoldable pub shifted_front : CodeSets → Option Code → Front
-shifted_front sets (Some code) = whole code 1 sets
+shifted_front sets (Some code) = complete code 1 sets
 shifted_front sets None = refused ShiftedCode 0
 
 -- the front after SS2 or SS3 of this set
@@ -121,7 +121,7 @@ argument_front sets argument (byte ∷ bytes) = last_byte sets BadArgument byte 
 
 -- the front at the final byte of a designation, given what it designates
 unfoldable pub designated_front : CodeSets → ℕ → Option (ℕ × CodeSet) → Front
-designated_front sets byte (Some named) = whole (Designated named.0 named.1) 1 (with_set sets named.0 named.1)
+designated_front sets byte (Some named) = complete (Designated named.0 named.1) 1 (with_set sets named.0 named.1)
 designated_front sets byte None = bad_byte BadEscape byte
 
 -- the front at the final byte of a designation
@@ -138,14 +138,14 @@ designation_front sets intermediate (byte ∷ bytes) =
 -- the front after ESC of a locking shift or a designation
 unfoldable pub sequence_front : CodeSets → ℕ → List ℕ → Front
 sequence_front sets byte bytes =
-    if byte == 0x6E then whole Shifted 1 (record sets { gl = G2 })
-    else if byte == 0x6F then whole Shifted 1 (record sets { gl = G3 })
+    if byte == 0x6E then complete Shifted 1 (record sets { gl = G2 })
+    else if byte == 0x6F then complete Shifted 1 (record sets { gl = G3 })
     else if nat_le 0x28 byte && nat_le byte 0x2F then one_byte_later (designation_front sets byte bytes)
     else bad_byte BadEscape byte
 
 -- the front after ESC, given the row of the C1 set
 unfoldable pub control1_front : CodeSets → ℕ → List ℕ → Option Row → Front
-control1_front sets byte bytes (Some (Whole code)) = whole code 1 sets
+control1_front sets byte bytes (Some (Complete code)) = complete code 1 sets
 control1_front sets byte bytes (Some (Out name)) = refused (LeftOut name) 0
 control1_front sets byte bytes (Some More) = one_byte_later (argument_front sets (argument_of byte) bytes)
 control1_front sets byte bytes None = sequence_front sets byte bytes
@@ -165,7 +165,7 @@ more_front sets byte bytes =
 
 -- the front of a list, given the row of the C0 set for its first byte
 unfoldable pub control0_front : CodeSets → ℕ → List ℕ → Option Row → Front
-control0_front sets byte bytes (Some (Whole code)) = whole code 1 (after_control0 sets byte)
+control0_front sets byte bytes (Some (Complete code)) = complete code 1 (after_control0 sets byte)
 control0_front sets byte bytes (Some (Out name)) = refused (LeftOut name) 0
 control0_front sets byte bytes (Some More) = one_byte_later (more_front sets byte bytes)
 control0_front sets byte bytes None =

@@ -6,7 +6,7 @@ use Rattle.nap_codes.specs.declared.lexer.HalfRead.{HalfRead}
 use Rattle.nap_codes.specs.declared.lexer.HalfRead.TheVariants.{Nothing, Escape, Control, Designation, SpacedDesignation, SingleShift2, SingleShift3, Position, PositionRow}
 use Rattle.nap_codes.specs.declared.lexer.ByteOutcome.{ByteOutcome}
 use Rattle.nap_codes.specs.declared.lexer.ByteOutcome.TheVariants as turns
-use Rattle.nap_codes.specs.Front.{Front, unfinished, whole, refused, front, escape_front, argument_front, designation_front, final_front, single_shift_front, position_front, column_front}
+use Rattle.nap_codes.specs.Front.{Front, unfinished, complete, refused, front, escape_front, argument_front, designation_front, final_front, single_shift_front, position_front, column_front}
 use Rattle.nap_codes.specs.Laws.{IsGraphic}
 
 -- the control of the C1 set that takes this argument
@@ -59,14 +59,14 @@ rest_front sets (PositionRow row) bytes = column_front sets row bytes
 -- the outcome of a byte that completes a code or is refused
 abbrev pub IsLastOutcome : Front → ByteOutcome → Type 0
 IsLastOutcome unfinished turn = ⊥
-IsLastOutcome (whole code n after) turn = (n ≡ 1) × (turn ≡ turns.Code code after)
+IsLastOutcome (complete code n after) turn = (n ≡ 1) × (turn ≡ turns.Code code after)
 IsLastOutcome (refused fault i) turn = (i ≡ 0) × (turn ≡ turns.Fault fault)
 
 -- the outcome of a byte after an incomplete code, given the front of that byte
 abbrev pub IsOutcomeBy : Front → HalfRead → ℕ → ByteOutcome → Type 0
 IsOutcomeBy unfinished half byte turn =
     (more : HalfRead) × (turn ≡ turns.More more) × (half_read_bytes more ≡ half_read_bytes half ++ byte ∷ []) × IsHalfRead more
-IsOutcomeBy (whole code n after) half byte turn = IsLastOutcome (whole code n after) turn
+IsOutcomeBy (complete code n after) half byte turn = IsLastOutcome (complete code n after) turn
 IsOutcomeBy (refused fault i) half byte turn = IsLastOutcome (refused fault i) turn
 
 -- the outcome of a byte after an incomplete code

@@ -7,12 +7,12 @@ use Rattle.nap_codes.specs.declared.control.TextStep.{TextStep}
 use Rattle.nap_codes.specs.declared.control.TextStep.TheVariants as steps
 use Rattle.nap_codes.specs.declared.opcode.Opcode.{Opcode}
 use Rattle.nap_codes.specs.Tables.{left_out_opcode, format_effector}
-use Rattle.nap_codes.specs.Front.{unfinished, whole, refused, front}
+use Rattle.nap_codes.specs.Front.{unfinished, complete, refused, front}
 
 -- A front that is a code is unchanged by further bytes.
-abbrev pub WholeStays : Type 0
-WholeStays = (sets : CodeSets) (xs ys : List ℕ) (code : Code) (n : ℕ) (after : CodeSets) →
-    front sets xs ≡ whole code n after → front sets (xs ++ ys) ≡ whole code n after
+abbrev pub CodeStays : Type 0
+CodeStays = (sets : CodeSets) (xs ys : List ℕ) (code : Code) (n : ℕ) (after : CodeSets) →
+    front sets xs ≡ complete code n after → front sets (xs ++ ys) ≡ complete code n after
 
 -- A front that is a refusal is unchanged by further bytes.
 abbrev pub RefusedStays : Type 0
@@ -20,9 +20,9 @@ RefusedStays = (sets : CodeSets) (xs ys : List ℕ) (fault : CodeFault) (i : ℕ
     front sets xs ≡ refused fault i → front sets (xs ++ ys) ≡ refused fault i
 
 -- A code at the front has at least one byte, and all its bytes are in the list.
-abbrev pub WholeLength : Type 0
-WholeLength = (sets : CodeSets) (xs : List ℕ) (code : Code) (n : ℕ) (after : CodeSets) →
-    front sets xs ≡ whole code n after → (1 ≤ n) × (n ≤ length xs)
+abbrev pub CodeLength : Type 0
+CodeLength = (sets : CodeSets) (xs : List ℕ) (code : Code) (n : ℕ) (after : CodeSets) →
+    front sets xs ≡ complete code n after → (1 ≤ n) × (n ≤ length xs)
 
 -- The refused byte at the front is in the list.
 abbrev pub RefusedIndex : Type 0
@@ -30,9 +30,9 @@ RefusedIndex = (sets : CodeSets) (xs : List ℕ) (fault : CodeFault) (i : ℕ) �
     front sets xs ≡ refused fault i → i < length xs
 
 -- A code at the front is the front of its own bytes.
-abbrev pub WholeByItsBytes : Type 0
-WholeByItsBytes = (sets : CodeSets) (xs : List ℕ) (code : Code) (n : ℕ) (after : CodeSets) →
-    front sets xs ≡ whole code n after → front sets (take n xs) ≡ whole code n after
+abbrev pub CodeByItsBytes : Type 0
+CodeByItsBytes = (sets : CodeSets) (xs : List ℕ) (code : Code) (n : ℕ) (after : CodeSets) →
+    front sets xs ≡ complete code n after → front sets (take n xs) ≡ complete code n after
 
 -- A refusal at the front is the front of the bytes up to the refused one.
 abbrev pub RefusedByItsBytes : Type 0
@@ -42,7 +42,7 @@ RefusedByItsBytes = (sets : CodeSets) (xs : List ℕ) (fault : CodeFault) (i : �
 -- Fewer bytes than those of a code at the front are unfinished.
 abbrev pub EarlierUnfinished : Type 0
 EarlierUnfinished = (sets : CodeSets) (xs : List ℕ) (code : Code) (n : ℕ) (after : CodeSets) (k : ℕ) →
-    front sets xs ≡ whole code n after → k < n → front sets (take k xs) ≡ unfinished
+    front sets xs ≡ complete code n after → k < n → front sets (take k xs) ≡ unfinished
 
 -- The bytes before a refused one, and any fewer, are unfinished.
 abbrev pub UnfinishedBefore : Type 0
@@ -69,22 +69,22 @@ IsInRange _ = Unit {0}
 -- The parameters of a code at the front are in range, and its opcode isn't one that is left out.
 abbrev pub CodeRanges : Type 0
 CodeRanges = (sets : CodeSets) (xs : List ℕ) (code : Code) (n : ℕ) (after : CodeSets) →
-    front sets xs ≡ whole code n after → IsInRange code
+    front sets xs ≡ complete code n after → IsInRange code
 
 -- An opcode has one byte, and changes no code set.
 abbrev pub OneByteOpcode : Type 0
 OneByteOpcode = (sets : CodeSets) (xs : List ℕ) (op : Opcode) (n : ℕ) (after : CodeSets) →
-    front sets xs ≡ whole (codes.Op op) n after → (n ≡ 1) × (after ≡ sets)
+    front sets xs ≡ complete (codes.Op op) n after → (n ≡ 1) × (after ≡ sets)
 
 -- An operand word has one byte, and changes no code set.
 abbrev pub OneByteOperand : Type 0
 OneByteOperand = (sets : CodeSets) (xs : List ℕ) (word : ℕ) (n : ℕ) (after : CodeSets) →
-    front sets xs ≡ whole (codes.Operand word) n after → (n ≡ 1) × (after ≡ sets)
+    front sets xs ≡ complete (codes.Operand word) n after → (n ≡ 1) × (after ≡ sets)
 
 -- A format effector of one byte is below 20, is a complete code, and changes no code set.
 abbrev pub FormatEffectorFront : Type 0
 FormatEffectorFront = (byte : ℕ) (step : TextStep) → format_effector byte ≡ Some step →
-    (byte < 0x20) × ((sets : CodeSets) → front sets (byte ∷ []) ≡ whole (codes.Step step) 1 sets)
+    (byte < 0x20) × ((sets : CodeSets) → front sets (byte ∷ []) ≡ complete (codes.Step step) 1 sets)
 
 -- the format effectors of one byte
 pub data FormatEffector : ℕ → TextStep → Type 0 where

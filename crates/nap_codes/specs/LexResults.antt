@@ -3,7 +3,7 @@ use Rattle.nap_codes.specs.declared.code.Code.{Code}
 use Rattle.nap_codes.specs.declared.code.CodeFault.{CodeFault}
 use Rattle.nap_codes.specs.declared.code.Step.TheVariants as steps
 use Rattle.nap_codes.specs.declared.code_set.CodeSets.{CodeSets}
-use Rattle.nap_codes.specs.Front.{Front, unfinished, whole, refused, front}
+use Rattle.nap_codes.specs.Front.{Front, unfinished, complete, refused, front}
 use Rattle.nap_codes.specs.Lexer.{LexerState, Steps}
 
 -- The codes of a list of bytes, the fault after them if there is one, and the state of the lexer at the end: the code
@@ -17,7 +17,7 @@ pub record LexResult : Type 0 where
 abbrev pub lex_result_by : (CodeSets → List ℕ → LexResult) → CodeSets → List ℕ → Front → LexResult
 lex_result_by later sets bytes unfinished =
     record { codes = []; fault = None; state = record { sets = sets; half = bytes } }
-lex_result_by later sets bytes (whole code n after) =
+lex_result_by later sets bytes (complete code n after) =
     let rest = later after (drop n bytes) in record rest { codes = code ∷ rest.codes }
 lex_result_by later sets bytes (refused fault i) =
     record { codes = []; fault = Some fault; state = record { sets = sets; half = take i bytes } }

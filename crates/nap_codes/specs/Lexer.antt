@@ -5,12 +5,12 @@ use Rattle.nap_codes.specs.declared.code.Step.TheVariants as steps
 use Rattle.nap_codes.specs.declared.code_set.CharSet.{CharSet}
 use Rattle.nap_codes.specs.declared.code_set.CodeSet.TheVariants.{Pdi}
 use Rattle.nap_codes.specs.declared.code_set.CodeSets.{CodeSets}
-use Rattle.nap_codes.specs.declared.control.Row.TheVariants.{Whole}
+use Rattle.nap_codes.specs.declared.control.Row.TheVariants.{Complete}
 use Rattle.nap_codes.specs.declared.control.TextStep.{TextStep}
 use Rattle.nap_codes.specs.declared.opcode.Opcode.{Opcode}
 use Rattle.nap_codes.specs.CodeSets.{set_at}
 use Rattle.nap_codes.specs.Tables.{row_of, control0_rows, opcode_rows, left_out_opcode}
-use Rattle.nap_codes.specs.Front.{Front, unfinished, whole, refused, front}
+use Rattle.nap_codes.specs.Front.{Front, unfinished, complete, refused, front}
 
 -- the state of a lexer: its code sets, and the bytes of an incomplete code
 pub record LexerState : Type 0 where
@@ -21,7 +21,7 @@ pub record LexerState : Type 0 where
 abbrev pub StepsBy : Front → LexerState → ℕ → Step → LexerState → Type 0
 StepsBy unfinished old byte step new =
     (step ≡ steps.More) × (new ≡ record { sets = old.sets; half = old.half ++ byte ∷ [] })
-StepsBy (whole code n after) old byte step new =
+StepsBy (complete code n after) old byte step new =
     (step ≡ steps.Code code) × (n ≡ length (old.half ++ byte ∷ [])) × (new ≡ record { sets = after; half = [] })
 StepsBy (refused fault i) old byte step new =
     (step ≡ steps.Fault fault) × (i ≡ length old.half) × (new ≡ old)
@@ -33,7 +33,7 @@ Steps old byte step new = StepsBy (front old.sets (old.half ++ byte ∷ [])) old
 -- The byte is a character of this set in this state: no code is incomplete, the byte is a complete code, and it changes
 -- no code set.
 abbrev pub IsCharacter : LexerState → ℕ → CharSet → Type 0
-IsCharacter lexer byte set = (lexer.half ≡ []) × (front lexer.sets (byte ∷ []) ≡ whole (codes.Char set byte) 1 lexer.sets)
+IsCharacter lexer byte set = (lexer.half ≡ []) × (front lexer.sets (byte ∷ []) ≡ complete (codes.Char set byte) 1 lexer.sets)
 
 -- The byte is this opcode in this state: no code is incomplete, the PDI set is in GL, and the tables have the opcode
 -- and don't leave it out.
@@ -44,7 +44,7 @@ IsOpcode lexer byte op =
 -- The byte is this format effector in this state: no code is incomplete, and the C0 set has the format effector for the
 -- byte.
 abbrev pub IsFormatEffector : LexerState → ℕ → TextStep → Type 0
-IsFormatEffector lexer byte step = (lexer.half ≡ []) × (row_of control0_rows byte ≡ Some (Whole (codes.Step step)))
+IsFormatEffector lexer byte step = (lexer.half ≡ []) × (row_of control0_rows byte ≡ Some (Complete (codes.Step step)))
 
 -- The byte is SO or SI in this state: no code is incomplete.
 abbrev pub IsShift : LexerState → ℕ → Type 0

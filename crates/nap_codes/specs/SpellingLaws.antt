@@ -2,13 +2,13 @@ use Rattle.std.specs.Prelude.{ℕ, suc, ◌≡◌, ◌<◌, ◌≤◌, ◌⊎◌
 use Rattle.nap_codes.specs.declared.code.Code.{Code}
 use Rattle.nap_codes.specs.declared.code.CodeFault.{CodeFault}
 use Rattle.nap_codes.specs.declared.code_set.CodeSets.{CodeSets}
-use Rattle.nap_codes.specs.Front.{unfinished, whole, refused, front}
+use Rattle.nap_codes.specs.Front.{unfinished, complete, refused, front}
 use Rattle.nap_codes.specs.Spelling.{Spells, SpellsRefused, IsPrefix, IsProperPrefix, bad_byte_fault}
 
 -- A code is at the front exactly if the first bytes spell it.
-abbrev pub WholeIsSpelled : Type 0
-WholeIsSpelled = (sets : CodeSets) (xs : List ℕ) (code : Code) (n : ℕ) (after : CodeSets) →
-    (front sets xs ≡ whole code n after) ↔ ((n ≤ length xs) × Spells sets (take n xs) code after)
+abbrev pub CodeIsSpelled : Type 0
+CodeIsSpelled = (sets : CodeSets) (xs : List ℕ) (code : Code) (n : ℕ) (after : CodeSets) →
+    (front sets xs ≡ complete code n after) ↔ ((n ≤ length xs) × Spells sets (take n xs) code after)
 
 -- The bytes before this index begin a spelling, and with the byte at it they don't.
 pub record IsBadByte (sets : CodeSets) (xs : List ℕ) (i : ℕ) (fault : CodeFault) : Type 0 where

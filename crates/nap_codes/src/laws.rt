@@ -1,33 +1,33 @@
 //! Laws about the definitions of this crate. Each is the contract of a function that does nothing.
 
-ghost use Rattle.nap_codes.specs.Laws.{CodeRanges, EarlierUnfinished, FormatEffectorFront, FormatEffectorKnown, OneByteOpcode, OneByteOperand, RefusedIndex, RefusedStays, RefusedByItsBytes, UnfinishedBefore, WholeLength, WholeStays, WholeByItsBytes};
+ghost use Rattle.nap_codes.specs.Laws.{CodeRanges, EarlierUnfinished, FormatEffectorFront, FormatEffectorKnown, OneByteOpcode, OneByteOperand, RefusedIndex, RefusedStays, RefusedByItsBytes, UnfinishedBefore, CodeLength, CodeStays, CodeByItsBytes};
 ghost use Rattle.nap_codes.specs.LexResults.{StepsGiveLexResult};
-ghost use Rattle.nap_codes.specs.SpellingLaws.{RefusedIsSpelled, UnfinishedIsPrefix, WholeIsSpelled};
+ghost use Rattle.nap_codes.specs.SpellingLaws.{RefusedIsSpelled, UnfinishedIsPrefix, CodeIsSpelled};
 
 /// The front of a list of bytes is a code, a refusal or unfinished exactly as the rules of spelling say.
 pub fn front_is_spelled()
-    ensures whole { WholeIsSpelled }
+    ensures complete { CodeIsSpelled }
     ensures refused { RefusedIsSpelled }
     ensures unfinished { UnfinishedIsPrefix }
 {}
 
 /// A front that is a code or a refusal is unchanged by further bytes.
 pub fn front_stays()
-    ensures whole { WholeStays }
+    ensures complete { CodeStays }
     ensures refused { RefusedStays }
 {}
 
 /// A front that is a code or a refusal depends on its own bytes alone, and these are in the list.
 pub fn front_length()
-    ensures whole { WholeLength }
+    ensures complete { CodeLength }
     ensures refused { RefusedIndex }
-    ensures whole_taken { WholeByItsBytes }
+    ensures code_taken { CodeByItsBytes }
     ensures refused_taken { RefusedByItsBytes }
 {}
 
 /// A front is unfinished if any of its bytes is missing.
 pub fn earlier_is_unfinished()
-    ensures whole { EarlierUnfinished }
+    ensures complete { EarlierUnfinished }
     ensures refused { UnfinishedBefore }
 {}
 

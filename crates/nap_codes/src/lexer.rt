@@ -2,7 +2,7 @@
 
 ghost use Rattle.std.specs.Prelude.{ℕ, ◌≡◌, ◌↔◌, ◌≤◌, ◌<◌, [], ◌∷◌, Some, IfSome, IsTrue};
 ghost use Rattle.nap_codes.specs.CodeSets.{set_at, start_sets};
-ghost use Rattle.nap_codes.specs.Front.{argument_front, column_front, fault_of, final_front, front, gl_front, non_pdi_code, single_shift_front, unfinished, whole};
+ghost use Rattle.nap_codes.specs.Front.{argument_front, column_front, fault_of, final_front, front, gl_front, non_pdi_code, single_shift_front, unfinished, complete};
 ghost use Rattle.nap_codes.specs.HalfReadCodes.{IsLastOutcome, half_read_after, IsHalfRead, IsOutcomeOf};
 ghost use Rattle.nap_codes.specs.Laws.{IsGraphic};
 ghost use Rattle.nap_codes.specs.Lexer.{IsCharacter, IsFormatEffector, IsOpcode, IsShift, Steps};
@@ -123,7 +123,7 @@ impl Lexer {
     #[inline]
     pub fn opcode(&self, byte: u8) -> Option<Opcode>
         ensures is { (op : Opcode) → (result ≡ Some op) ↔ IsOpcode self.now byte op }
-        ensures front { IfSome result (λ op. front self.now.sets (byte ∷ []) ≡ whole (codes.Op op) 1 self.now.sets) }
+        ensures front { IfSome result (λ op. front self.now.sets (byte ∷ []) ≡ complete (codes.Op op) 1 self.now.sets) }
     {
         if byte < 0x20 || byte >= 0x40 {
             return None;
@@ -143,10 +143,10 @@ impl Lexer {
     #[inline]
     pub fn format_effector(&self, byte: u8) -> Option<TextStep>
         ensures is { (step : TextStep) → (result ≡ Some step) ↔ IsFormatEffector self.now byte step }
-        ensures front { IfSome result (λ step. front self.now.sets (byte ∷ []) ≡ whole (codes.Step step) 1 self.now.sets) }
+        ensures front { IfSome result (λ step. front self.now.sets (byte ∷ []) ≡ complete (codes.Step step) 1 self.now.sets) }
     {
         match control0(byte) {
-            Some(Row::Whole(Code::Step(step))) if self.at_rest() => Some(step),
+            Some(Row::Complete(Code::Step(step))) if self.at_rest() => Some(step),
             _ => None,
         }
     }
@@ -223,7 +223,7 @@ fn first_byte(sets: CodeSets, byte: u8) -> ByteOutcome
     ensures { IsOutcomeOf sets HalfRead.Nothing byte result }
 {
     match control0(byte) {
-        Some(Row::Whole(code)) => ByteOutcome::Code(code, sets.after_control0(byte)),
+        Some(Row::Complete(code)) => ByteOutcome::Code(code, sets.after_control0(byte)),
         Some(Row::Out(left)) => ByteOutcome::Fault(CodeFault::LeftOut(left)),
         Some(Row::More) => ByteOutcome::More(HalfRead::after_control(byte)),
         None if byte < 0x80 => graphic_byte(sets, byte),
@@ -270,7 +270,7 @@ fn escaped_byte(sets: CodeSets, byte: u8) -> ByteOutcome
     ensures { IsOutcomeOf sets HalfRead.Escape byte result }
 {
     match control1(byte) {
-        Some(Row::Whole(code)) => ByteOutcome::Code(code, sets),
+        Some(Row::Complete(code)) => ByteOutcome::Code(code, sets),
         Some(Row::Out(left)) => ByteOutcome::Fault(CodeFault::LeftOut(left)),
         Some(Row::More) => ByteOutcome::More(HalfRead::Control(Argument::of(byte))),
         None => match byte {

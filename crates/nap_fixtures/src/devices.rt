@@ -1,25 +1,25 @@
-//! Readers and writers that give or take little at a call, and fail.
+//! Readers and writers that give or take a few bytes at a call, and fail.
 use std::alloc::Global;
 use std::io;
 use std::io::{ErrorKind, Read, Write};
 
-/// Gives its bytes, so many at a read. It fails once, at this read from 1. Counts its reads.
+/// A reader of these bytes, at most `most` at a read. It fails once, at read `bad`, counted from 1.
 #[derive(Drop)]
 pub struct Giver<'a> {
-    /// Those that are left.
+    /// The bytes that are left.
     pub bytes: &'a [u8],
-    /// The most that a read gives.
+    /// The most bytes of a read.
     pub most: usize,
     /// The read that fails, 0 for none.
     pub bad: u64,
-    /// How it fails.
+    /// The error of that read.
     pub fault: ErrorKind,
     /// The reads so far.
     pub reads: u64,
 }
 
 impl Giver<'_> {
-    /// Gives these bytes, so many at a read, and fails at this read.
+    /// Returns a reader of these bytes, at most `most` at a read, that fails at read `bad`.
     pub fn new<'a>(bytes: &'a [u8], most: usize, bad: u64) -> Giver<'a> {
         Giver {
             bytes,
@@ -45,19 +45,19 @@ impl Read for Giver<'_> {
     }
 }
 
-/// Gives this many NULs, so many at a read. Counts its reads.
+/// A reader of NULs, at most `most` at a read.
 #[derive(Drop)]
 pub struct Nuls {
-    /// How many are left.
+    /// The number of NULs that are left.
     pub left: usize,
-    /// The most that a read gives.
+    /// The most bytes of a read.
     pub most: usize,
     /// The reads so far.
     pub reads: u64,
 }
 
 impl Nuls {
-    /// Gives so many, so many at a read.
+    /// Returns a reader of `left` NULs, at most `most` at a read.
     pub fn new(left: usize, most: usize) -> Nuls {
         Nuls {
             left,
@@ -77,46 +77,47 @@ impl Read for Nuls {
     }
 }
 
-/// What a writer does once it has no more room.
+/// What a writer does once it is full.
 #[derive(Clone, Copy, Drop)]
 pub enum End {
     /// Fails at each write.
     Fails,
     /// Takes no byte, without a fault.
     Closes,
-    /// The same once, and fails then.
+    /// Takes no byte once, and then fails at each write.
     ClosesOnce,
 }
 
-/// Takes bytes while there is room, so many at a write. So many flushes are done, and further ones fail. Counts both, and the bytes that the last flush found.
+/// A writer that takes bytes until it is full, at most `most` at a write. It does `good_flushes` flushes, and further
+/// ones fail.
 #[derive(Drop)]
 pub struct Taker {
-    /// The bytes that it took.
+    /// The bytes taken.
     pub kept: Vec<u8>,
-    /// How many more it has room for.
-    pub room: usize,
-    /// The most that a write takes.
+    /// The number of bytes that it still takes.
+    pub space: usize,
+    /// The most bytes of a write.
     pub most: usize,
-    /// What it does without room.
+    /// What it does once it is full.
     pub end: End,
-    /// How many flushes are done.
+    /// The number of flushes that are done.
     pub good_flushes: u64,
-    /// How it fails.
+    /// The error of a write or flush that fails.
     pub fault: ErrorKind,
     /// The writes so far.
     pub writes: u64,
     /// The flushes so far.
     pub flushes: u64,
-    /// How many bytes the last flush found.
+    /// The number of bytes that the last flush found.
     pub sent: usize,
 }
 
 impl Taker {
-    /// Takes so many bytes, so many at a write, and then does this. Its flushes are done.
-    pub fn new(alloc: Global, room: usize, most: usize, end: End) -> Taker {
+    /// Returns a writer that takes `space` bytes, at most `most` at a write, and then does `end`. Its flushes are done.
+    pub fn new(alloc: Global, space: usize, most: usize, end: End) -> Taker {
         Taker {
             kept: Vec::new(alloc),
-            room,
+            space,
             most,
             end,
             good_flushes: u64::MAX,
@@ -127,7 +128,7 @@ impl Taker {
         }
     }
 
-    /// Takes all, and fails at its flush.
+    /// Returns a writer that takes all bytes, and fails at its flush.
     pub fn without_flush(alloc: Global) -> Taker {
         Taker {
             good_flushes: 0,
@@ -135,7 +136,7 @@ impl Taker {
         }
     }
 
-    /// Takes all.
+    /// Returns a writer that takes all bytes.
     pub fn wide(alloc: Global) -> Taker {
         Taker::new(alloc, usize::MAX, usize::MAX, End::Fails)
     }
@@ -144,9 +145,9 @@ impl Taker {
 impl Write for Taker {
     fn write(&mut self, buf: &[u8]) -> io::Result<usize> {
         self.writes = self.writes.saturating_add(1);
-        let count = buf.len().min(self.room).min(self.most);
+        let count = buf.len().min(self.space).min(self.most);
         if count > 0 && self.kept.extend_from_slice(&buf[..count]).is_ok() {
-            self.room -= count;
+            self.space -= count;
             return Ok(count);
         }
         match self.end {

@@ -8,23 +8,23 @@ use nap_list::{Colour, Entry, Origin, Pen, Preset};
 use nap_values::{Grb, Move};
 use std::alloc::{AllocError, Global};
 
-/// A colour.
+/// The colour of a sample.
 #[derive(Clone, Copy, Drop)]
 pub enum Shade {
-    /// That of the start.
+    /// The colour at the start.
     AtStart,
-    /// The terminal's own behind a RESET.
+    /// The terminal's colour after a RESET.
     AfterReset,
-    /// That of the second code of RESET.
+    /// The colour after the second code of RESET.
     ByTwo,
-    /// That of the third code.
+    /// The colour after the third code of RESET.
     ByThree,
-    /// The whole of blue.
+    /// Full blue.
     Blue,
 }
 
 impl Shade {
-    /// The colour that it is.
+    /// Returns the colour.
     pub fn colour(self) -> Colour {
         match self {
             Shade::AtStart => Colour::Own(Origin::AtStart),
@@ -36,28 +36,28 @@ impl Shade {
     }
 }
 
-/// How many eighths of the square a point is to the right and up.
+/// A point by eighths of the unit screen: to the right, and up.
 pub type Place = (u8, u8);
 
-/// The middle of the square.
+/// The middle of the unit screen.
 pub const MIDDLE: Place = (4, 4);
 
 /// The point a quarter to the right, and half of that up.
 pub const QUARTER: Place = (2, 1);
 
-/// Where a pen is.
+/// A drawing point (pen) of a sample.
 #[derive(Clone, Copy, Drop)]
 pub enum Spot {
-    /// At the start.
+    /// The pen at the start.
     Start,
-    /// Where only a terminal knows.
+    /// A pen that only a terminal knows.
     After,
-    /// At a point.
+    /// A pen at a point.
     At(Place),
 }
 
 impl Spot {
-    /// The pen that is there.
+    /// Returns the drawing point (pen).
     pub fn pen(self) -> Pen {
         match self {
             Spot::Start => Pen::Start,
@@ -80,9 +80,9 @@ pub enum Sample {
     MaskedLine,
     /// A rectangle, filled or not.
     Rect(bool, Place, Place, Shade),
-    /// An arc of so many points: the quarter, and then the middle.
+    /// An arc of a number of points: the quarter, and then the middle.
     Arc(usize),
-    /// A filled polygon of such points.
+    /// A filled polygon of a number of points: the quarter, and then the middle.
     Poly(usize),
     /// The letter A of the primary set.
     Letter(Spot),
@@ -90,11 +90,11 @@ pub enum Sample {
     Mosaic(u8),
     /// A move of the cursor.
     Step(TextStep, Spot),
-    /// Repeat to the end of the line.
+    /// Repetition to the end of the line.
     ToEol,
-    /// A red, as light as this, at an address.
+    /// A red with this component, at an address.
     Red(u32, u16),
-    /// A blue at an address.
+    /// A blue with this component, at an address.
     Blue(u32, u16),
     /// A process at an address, with the times 1, 2 and 3.
     Blink(u32, Shade),
@@ -106,7 +106,7 @@ pub enum Sample {
     Wait(u8),
     /// The bell.
     Bell,
-    /// The cursor.
+    /// The cursor's state.
     Cursor(CursorKind),
     /// A field from the quarter to the middle.
     Field(Spot),
@@ -128,7 +128,7 @@ pub const DOT: Sample = Sample::Dot(MIDDLE, Shade::AtStart);
 /// A line from the quarter to the middle.
 pub const LINE: Sample = Sample::Line(QUARTER, MIDDLE, Shade::AtStart);
 
-/// The entry of this name.
+/// Returns the entry of a sample.
 pub fn entry_of(alloc: Global, sample: Sample) -> Result<Entry, AllocError> {
     let start = Shade::AtStart.colour();
     Ok(match sample {
@@ -167,7 +167,7 @@ pub fn entry_of(alloc: Global, sample: Sample) -> Result<Entry, AllocError> {
     })
 }
 
-/// The entries of these names.
+/// Returns the entries of samples.
 pub fn entries_of(alloc: Global, samples: &[Sample]) -> Result<Vec<Entry>, AllocError> {
     let mut entries = Vec::new(alloc);
     for sample in samples {

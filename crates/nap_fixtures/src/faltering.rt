@@ -7,21 +7,21 @@ ghost use Rattle.nap_list.specs.declared.entry.Entry.{Entry};
 use nap_list::{Entry, ListSink, Shape, Sink, SinkFault};
 use std::alloc::Global;
 
-/// Keeps this many entries more, and then fails by the fault at each put.
+/// A sink that takes `left` entries, and then fails with `fault` at each put.
 #[derive(Drop)]
 pub struct Faltering {
-    /// The entries that it took.
+    /// The entries taken.
     pub list: ListSink,
-    /// How many more it has room for.
+    /// The number of entries that it still takes.
     pub left: usize,
-    /// How it fails then.
+    /// The fault of a put that fails.
     pub fault: SinkFault,
     /// Whether it has failed as a device.
     pub failed: bool,
 }
 
 impl Faltering {
-    /// A sink with room for so many entries, which then fails by this fault.
+    /// Returns a sink that takes `left` entries, and then fails with `fault` at each put.
     pub fn new(alloc: Global, left: usize, fault: SinkFault) -> Faltering
         ensures { result.list ≡ [] }
     {

@@ -4,12 +4,12 @@ use nap_list::{Area, CharSize, Colour, Entry, Hand, Ink, Origin, Pen, Points, Te
 use nap_values::{Addr, Grb, Move, Point, Word};
 use std::alloc::{AllocError, Global};
 
-/// The word with this number.
+/// Returns the word with this number.
 pub fn word(number: u8) -> Word {
     Word::try_new(number).unwrap_or(Word::ZERO)
 }
 
-/// The words that these bytes carry.
+/// Returns the words that these bytes carry.
 pub fn words(alloc: Global, bytes: &[u8]) -> Result<Vec<Word>, AllocError> {
     let mut words = Vec::new(alloc);
     for byte in bytes {
@@ -18,28 +18,28 @@ pub fn words(alloc: Global, bytes: &[u8]) -> Result<Vec<Word>, AllocError> {
     Ok(words)
 }
 
-/// The address with this number.
+/// Returns the address with this number.
 pub fn address(number: u32) -> Addr {
     Addr::try_new(number).unwrap_or(Addr::try_new(0).unwrap())
 }
 
-/// The displacement by so much.
+/// Returns the displacement with these components.
 pub fn size(x: i32, y: i32) -> Move {
     Move::try_new(x, y).unwrap_or(Move::zero())
 }
 
-/// The point with these coordinates.
+/// Returns the point with these coordinates.
 pub fn point(x: u32, y: u32) -> Point {
     Point::try_new(x, y).unwrap_or(Point::origin())
 }
 
-/// The point this many eighths to the right and up.
+/// Returns the point at these eighths of the unit screen: to the right, and up.
 pub fn at(eighths: (u8, u8)) -> Point {
     let (x, y) = eighths;
     point(u32::from(x) * 1_048_576, u32::from(y) * 1_048_576)
 }
 
-/// So many points: the quarter, and then the middle.
+/// Returns `count` points: the quarter, and then the middle.
 pub fn corners(alloc: Global, count: usize) -> Result<Points, AllocError> {
     let mut points = Points::with_capacity(alloc, count)?;
     for index in 0..count {
@@ -48,12 +48,12 @@ pub fn corners(alloc: Global, count: usize) -> Result<Points, AllocError> {
     Ok(points)
 }
 
-/// The whole of blue.
+/// Returns full blue.
 pub fn blue() -> Grb {
     Grb::new(0, 0, 65_535)
 }
 
-/// What lines are drawn with at the start, but for the colour and the mask.
+/// Returns the attributes of lines at the start, with this colour and mask.
 pub fn inked(colour: Colour, mask: Option<Move>) -> Ink {
     let texture = Texture {
         word: Word::ZERO,
@@ -66,7 +66,7 @@ pub fn inked(colour: Colour, mask: Option<Move>) -> Ink {
     }
 }
 
-/// The look of text at the start, but for the size.
+/// Returns the text attributes at the start, with this size.
 pub fn look(size: Size) -> TextLook {
     TextLook {
         first: Word::ZERO,
@@ -79,7 +79,7 @@ pub fn look(size: Size) -> TextLook {
     }
 }
 
-/// What characters of this size are drawn with at the start, with this pen.
+/// Returns the attributes of characters of this size at the start, with this pen.
 pub fn hand(size: Size, pen: Pen) -> Hand {
     Hand {
         pen,
@@ -88,17 +88,17 @@ pub fn hand(size: Size, pen: Pen) -> Hand {
     }
 }
 
-/// A point.
+/// Returns a point.
 pub fn dot(at: Point, pel: Move, colour: Colour) -> Entry {
     Entry::Point { at, pel, colour }
 }
 
-/// A line.
+/// Returns a line.
 pub fn line(from: Point, to: Point, ink: Ink) -> Entry {
     Entry::Line { from, to, ink }
 }
 
-/// A rectangle.
+/// Returns a rectangle.
 pub fn rect(filled: bool, from: Point, to: Point, ink: Ink) -> Entry {
     Entry::Rect {
         filled,
@@ -108,7 +108,7 @@ pub fn rect(filled: bool, from: Point, to: Point, ink: Ink) -> Entry {
     }
 }
 
-/// An arc.
+/// Returns an arc.
 pub fn arc(points: Points, ink: Ink) -> Entry {
     Entry::Arc {
         filled: false,
@@ -117,7 +117,7 @@ pub fn arc(points: Points, ink: Ink) -> Entry {
     }
 }
 
-/// A filled polygon.
+/// Returns a filled polygon.
 pub fn poly(points: Points, ink: Ink) -> Entry {
     Entry::Poly {
         filled: true,
@@ -126,19 +126,19 @@ pub fn poly(points: Points, ink: Ink) -> Entry {
     }
 }
 
-/// A character.
+/// Returns a character.
 pub fn character(set: CharSet, code: u8, pen: Pen) -> Entry {
     let hand = hand(Size::Normal, pen);
     Entry::Char { set, code, hand }
 }
 
-/// A move of the cursor.
+/// Returns a move of the cursor.
 pub fn text_move(step: TextStep, pen: Pen) -> Entry {
     let hand = hand(Size::Normal, pen);
     Entry::TextMove { step, hand }
 }
 
-/// This colour at this address.
+/// Returns an entry that sets this address of the colour map.
 pub fn map(number: u32, grb: Grb) -> Entry {
     Entry::Map {
         addr: address(number),
@@ -146,7 +146,7 @@ pub fn map(number: u32, grb: Grb) -> Entry {
     }
 }
 
-/// A process with the times 1, 2 and 3.
+/// Returns a process with the times 1, 2 and 3.
 pub fn blink(number: u32, colour: Colour) -> Entry {
     Entry::Blink {
         addr: address(number),
@@ -157,13 +157,13 @@ pub fn blink(number: u32, colour: Colour) -> Entry {
     }
 }
 
-/// A field between these points.
+/// Returns a field between these points.
 pub fn field(from: Point, to: Point, pen: Pen) -> Entry {
     let area = Area::Part { from, to };
     Entry::Field { area, pen }
 }
 
-/// A RESET of these words.
+/// Returns a RESET with these words.
 pub fn reset(first: u8, second: u8, pen: Pen) -> Entry {
     Entry::Reset {
         first: word(first),
@@ -172,12 +172,12 @@ pub fn reset(first: u8, second: u8, pen: Pen) -> Entry {
     }
 }
 
-/// The start of blinking.
+/// Returns the start of blinking.
 pub fn blink_mark(colour: Colour) -> Entry {
     Entry::BlinkMark { on: true, colour }
 }
 
-/// Repeat to the end of the line, of characters of this size.
+/// Returns a repetition to the end of the line, of characters of this size.
 pub fn to_eol(size: Size, pen: Pen) -> Entry {
     let hand = hand(size, pen);
     Entry::ToEol { hand }

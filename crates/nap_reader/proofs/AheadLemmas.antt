@@ -18,9 +18,9 @@ use Rattle.nap_reader.proofs.ReadingLemmas.{by_front, front_code, is_between, is
 use Rattle.nap_reader.proofs.StreamLemmas.{outcome_from-front}
 use Rattle.nap_reader.proofs.TextLemmas.{comes, typed_in}
 
--- What the bytes at the front of the next piece bring.
+-- How many entries the first bytes of the next piece add.
 
--- Operands behind an opcode bring nothing.
+-- Operands after an opcode add no entries.
 
 operands_run : (n j : ℕ) (bs : List ℕ) → j ≤ prefix_len is_operand_byte bs → run_length (placed_from n (take j bs)) ≡ length (placed_from n (take j bs))
 unfolding placed_from
@@ -48,7 +48,7 @@ opens_nothing m op x ys mode names all =
     waits run [] none = either (nat_lt run_limit (length run)) _ _
     waits run (y ∷ rest) none = let bad : ⊥ = cc in absurd bad
 
--- an opcode comes
+-- The next byte is an opcode.
 module _ {S : Type 0} {g : Ghosts S} {s t : S} {h : ReadingState} (budget : ℕ) (p : List ℕ) (k : Continues g s (begun budget p) t h []) (no_body : h.open_body ≡ None) (rested : h.half ≡ []) (b : ℕ) (op : Opcode)
     (names : codes.front h.machine.sets (b ∷ []) ≡ codes.whole (code.Op op) 1 h.machine.sets) (other : is_operand_byte b ≡ false) where
   abbrev bytes_after : List ℕ → List Placed
@@ -57,7 +57,7 @@ module _ {S : Type 0} {g : Ghosts S} {s t : S} {h : ReadingState} (budget : ℕ)
   abbrev opcode : Placed
   opcode = placed_at b (length p)
 
-  -- with any operands behind it these are the entries
+  -- the entries with any operands after the opcode are these
   abbrev Alike : List Entry → Type 0
   Alike es = (bs : List ℕ) → run_length (bytes_after bs) ≡ length (bytes_after bs) → (begun budget (p ++ b ∷ bs)).entries ≡ es
 
@@ -103,22 +103,22 @@ module _ {S : Type 0} {g : Ghosts S} {s t : S} {h : ReadingState} (budget : ℕ)
       let (es, alike) = by_run h.open_run refl in
       alike (take j rest) (operands_run (suc (length p)) j rest (omega (arith, few, counted))) ∙ sym (alike [] refl)
 
--- what is behind the first byte
+-- the bytes after the first one
 pub behind_first : (piece rest : List ℕ) (b : ℕ) → piece ≡ b ∷ rest → take (length piece - 1) (drop 1 piece) ≡ rest
 behind_first piece rest b parts = ap (λ (bs : List ℕ). take (length bs - 1) (drop 1 bs)) parts ∙ take_all (length (b ∷ rest) - 1) rest (omega arith)
 
--- it is no operand
+-- a byte below 40 is no operand
 pub no_operand : (b : ℕ) → b < 0x40 → is_operand_byte b ≡ false
 no_operand b few = grind (arith, nat_tests)
 
--- Characters, and the moves among them, bring one entry each.
+-- Characters, and the format effectors among them, add one entry each.
 
 length_text : (s : State) (set : CharSet) (q : List ℕ) → length (text s set q) ≡ length q
 unfolding text
 length_text s set [] = refl
 length_text s set (b ∷ q) = ap suc (length_text (after s (typed_in s set b)) set q)
 
--- no run is open where they are
+-- no run is open if the bytes from 20 to 7F are characters
 pub closed_by_characters : (lexer : LexerState) (set : CharSet) (open_run : Option OpenRun) → NoCharacters lexer open_run → AllCharacters lexer.sets set → open_run ≡ None
 closed_by_characters lexer set None never chars = refl
 closed_by_characters lexer set (Some open_run) never chars = absurd (never set chars)

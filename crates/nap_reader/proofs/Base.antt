@@ -1,4 +1,4 @@
--- The lemmas about what is held and what comes, passed on from one place. Declares nothing.
+-- Passes on the lemmas about the reading state and the next bytes. Declares nothing.
 pub use Rattle.nap_reader.proofs.BreakLemmas.{EndsRun, First, body_ended, breaks_byte, breaks_inside, breaks_place, breaks_there, brings_breaks, broke_in_run, ended_is, ends_run, ends_works, lacks_there, refused_at_end, run_first, same_first, stops_at_end, uses_breaks}
 pub use Rattle.nap_reader.proofs.NextByteLemmas.{behind_in_body, behind_in_piece, bound_grown, byte-placed_by_step, byte_comes, bytes_of-placed_by_step, came_coming, came_next, came_none, came_take, came_within, can_pass, comes_inside, comes_still, first_byte, first_of, fits, frames-push, frames-store, frames-unread, gives-all, gives-some, grown_by, grown_either, grown_few, grown_framed, grown_paired, grown_turned, last-frame, length-sublist, length-placed, length-placed_by_step, length-unread-push, none_behind, none_left, part_inside, passed_rest, passed_to, place_at-placed_by_step, same-frame, same-front, some_inside, split_bytes, state_of, taken_next, text_inside, text_next, unread-store_grown, unread-push, unread-store}
 pub use Rattle.nap_reader.proofs.LawLemmas.{more_bytes_keep_entries}

@@ -9,7 +9,7 @@ use Rattle.nap_reader.proofs.LawLemmas.{more_bytes_keep_entries}
 use Rattle.nap_reader.proofs.PartLemmas.{body_breaks_from, breaks_longer, rule_breaks, some_in_body, wants_from}
 use Rattle.nap_reader.proofs.StepLemmas.{passes_run}
 
--- what is unfinished behind p is what is held
+-- what is unfinished after p is what the reading state has
 module _ {S : Type 0} {g : Ghosts S} {s : S} {o : Outcome} {t : S} {h : ReadingState} (k : Continues g s o t h []) where
   pub unfinished_is : (body : Option OpenBody) (open_run : Option OpenRun) → h.open_body ≡ body → h.open_run ≡ open_run →
       o.unfinished ≡ Some (unfinished_by body open_run h.half h.run)
@@ -22,7 +22,7 @@ module _ {S : Type 0} {g : Ghosts S} {s : S} {o : Outcome} {t : S} {h : ReadingS
   pub open_place_is : (open_run : OpenRun) → h.open_body ≡ None → h.open_run ≡ Some open_run → open_place o ≡ Some open_run.place
   open_place_is open_run no_body is = ap run_place (unfinished_is None (Some open_run) no_body is)
 
-  -- no run is open
+  -- no run is open, so the outcome with the run is the outcome
   pub run_still : h.open_run ≡ None → with_run o ≡ o
   run_still is = ap (model.with_run_by o) (unfinished_is h.open_body None refl is) ∙ in_mode h.open_body
     where
@@ -34,7 +34,7 @@ module _ {S : Type 0} {g : Ghosts S} {s : S} {o : Outcome} {t : S} {h : ReadingS
       in_mode None = still h.half
       in_mode (Some body) = refl
 
-  -- a body is open
+  -- a body is open, so no run is
   pub still_run : (body : OpenBody) → h.open_body ≡ Some body → h.open_run ≡ None
   still_run body opened = let held : IsOpenBody k.rest body h = subst (ArePendingIn k.rest h) opened k.held in held.at.still
 
@@ -44,7 +44,7 @@ module _ {S : Type 0} {g : Ghosts S} {s : S} {o : Outcome} {t : S} {h : ReadingS
   pub body_open : (body : OpenBody) → h.open_body ≡ Some body → o.unfinished ≡ Some model.open_body
   body_open body opened = unfinished_is (Some body) h.open_run opened refl
 
-  -- the same at the end
+  -- the reading state at the end, if no body and no run is open
   pub ends_still : h.open_body ≡ None → h.open_run ≡ None → Ends g s (with_run o) t h
   ends_still no_body is = subst (λ (x : Outcome). Ends g s x t h) (sym (run_still is)) here
     where
@@ -56,7 +56,7 @@ module _ {S : Type 0} {g : Ghosts S} {s : S} {o : Outcome} {t : S} {h : ReadingS
         half = unfinished_is None None no_body is;
       }
 
--- an open run acts behind p
+-- an open run acts after p
 module _ {S : Type 0} {g : Ghosts S} {s : S} {t : S} {h : ReadingState} {open_run : OpenRun} (budget : ℕ) (p : List ℕ) (no_body : h.open_body ≡ None) (is : h.open_run ≡ Some open_run) (k : Continues g s (begun budget p) t h []) where
   abbrev o : Outcome
   o = begun budget p
@@ -71,7 +71,7 @@ module _ {S : Type 0} {g : Ghosts S} {s : S} {t : S} {h : ReadingState} {open_ru
       ap (λ (y : Outcome). y.entries) (run_at_end ∙ ap (with_drawn o open_run.place) by)
       ∙ ap (λ (es : List Entry). es ++ drawn.entries) (leads_entries k)
 
-  -- its entries come first of those with a byte that ends it
+  -- the open run's entries are a prefix of those with a byte that ends the run
   begins_all : (drawn : RuleResult) → rule h.machine.work open_run.op h.run ≡ Ok drawn → BeginsAll budget p
   unfolding placed_from leads_more
   begins_all drawn by b other =
@@ -81,7 +81,7 @@ module _ {S : Type 0} {g : Ghosts S} {s : S} {t : S} {h : ReadingState} {open_ru
       let more : List Entry = (outcome_from m' (x ∷ [])).entries in
       (more, ap (λ (y : Outcome). y.entries) all ∙ (sym (append_assoc k.done drawn.entries more) ∙ ap (λ (es : List Entry). es ++ more) (sym (run_entries drawn by))))
 
-  -- or not all of its entries could be put
+  -- not all of the open run's entries could be put
   ends_broken : (u : S) → Lawful g → (fault : DrawFault) → draws.DrawsBy g.took g.broke g.failed (rule h.machine.work open_run.op h.run) t u fault (draws.cause_of fault) → cause_of (draw_fault fault) ≢ stream →
       ClosesInto g s budget p u (refusal (draw_fault fault) open_run.place)
   ends_broken u laws fault drew broke =
@@ -92,7 +92,7 @@ module _ {S : Type 0} {g : Ghosts S} {s : S} {t : S} {h : ReadingState} {open_ru
         part = record { more = drawn.entries; adds = ap (λ (x : Outcome). x.entries) at; unrefused = ap (λ (x : Outcome). x.refusal) at; part = part };
       }) broke
 
-  -- or it is refused
+  -- the opcode of the open run is refused
   ends_refused : (u : S) → Lawful g → (fault : DrawFault) → draws.DrawsBy g.took g.broke g.failed (rule h.machine.work open_run.op h.run) t u fault (draws.cause_of fault) → ClosesInto g s budget p u (refusal (draw_fault fault) open_run.place)
   ends_refused u laws draw_faults.Memory drew = ends_broken u laws draw_faults.Memory drew (λ own. cc)
   ends_refused u laws draw_faults.Sink drew = ends_broken u laws draw_faults.Sink drew (λ own. cc)
@@ -100,7 +100,7 @@ module _ {S : Type 0} {g : Ghosts S} {s : S} {t : S} {h : ReadingState} {open_ru
       let at = run_at_end ∙ ap (with_drawn o open_run.place) by in
       run_refused (ap (λ (x : Outcome). x.refusal) at) (subst (λ (es : List Entry). g.took s es u) (sym (ap (λ (x : Outcome). x.entries) at)) (subst (g.took s o.entries) (sym same) (leads_taken k))) refl
 
--- with its entries taken, the byte that ends it is still to be read
+-- once the run's entries are taken, the byte that ends the run is still to be read
 pub past_run : {S : Type 0} {g : Ghosts S} {s t u : S} {h h' : ReadingState} (budget : ℕ) (p : List ℕ) (k : Continues g s (begun budget p) t h []) → TookMore g → (acts : ActsRun g t h u h') → (b : ℕ) → is_operand_byte b ≡ false →
     ContinuesPast g s (with_run (begun budget p)).entries (begun budget (p ++ b ∷ [])) u h' (record { byte = b; place = length p } ∷ [])
 unfolding placed_from leads_more leads_on
@@ -129,19 +129,19 @@ module _ {S : Type 0} {g : Ghosts S} {s : S} {t : S} {h : ReadingState} (budget 
   pub stops_at_end : {u : S} {r : Refusal} → StopsRun g t h u r → ClosesInto g s budget p u r
   stops_at_end {u} stops = subst (ClosesInto g s budget p u) (sym stops.why) (ends_refused budget p stops.between stops.is k u laws stops.fault stops.drew)
 
--- a stream that is refused only at its end, if at all
+-- a stream that is refused only at its end, or not at all
 module _ (budget : ℕ) (p : List ℕ) (live : (begun budget p).refusal ≡ None) where
   pub means_settled : (with_run (begun budget p)).refusal ≡ None →
       means budget p ≡ with_code (with_run (begun budget p)) (length p) (with_run (begun budget p)).unfinished
   means_settled none =
       ap (ended_by (begun budget p) (length p)) live ∙ ap (model.with_end (with_run (begun budget p)) (length p)) none
 
--- once nothing is unfinished but a code or a definition
+-- at the end, once nothing is unfinished but a code or a definition
 pub ended_is : {S : Type 0} {g : Ghosts S} {s t : S} {h : ReadingState} (budget : ℕ) (p : List ℕ) (fed : ℕ) → (begun budget p).refusal ≡ None → Ends g s (with_run (begun budget p)) t h → fed ≡ length p →
     with_code (with_run (begun budget p)) fed (with_run (begun budget p)).unfinished ≡ means budget p
 ended_is budget p fed live k all = ap (λ (n : ℕ). with_code (with_run (begun budget p)) n (with_run (begun budget p)).unfinished) all ∙ sym (means_settled budget p live k.refusal)
 
--- where the opcode is refused that acts at the end, the stream is
+-- if the opcode that acts at the end is refused, the stream is
 pub refused_at_end : {S : Type 0} {g : Ghosts S} {s : S} (budget : ℕ) (p : List ℕ) {u : S} {r : Refusal} → cause_of r.fault ≡ stream → (begun budget p).refusal ≡ None → ClosesInto g s budget p u r → IsTaken g s (means budget p) u (Some r)
 refused_at_end budget p own live (run_broke all breaks broke) = absurd (broke own)
 refused_at_end {g = g} {s = s} budget p {u} {r} own live (run_refused refused took is) =
@@ -162,12 +162,12 @@ body_ended {g = g} {s = s} budget p {t} fed k opened all =
     subst (λ (x : Outcome). IsTaken g s x t (Some (refusal Unended fed))) (sym is)
     (ap (λ (n : ℕ). Some (refusal Unended n)) (sym all), leads_taken k)
 
--- what an opcode asks changes nothing of how a stream ends
+-- an opcode's request doesn't change how a stream ends
 ends_asked : {S : Type 0} (g : Ghosts S) (s : S) (o : Outcome) (t : S) (h : ReadingState) (clears : Bool) → Ends g s o t (state_after_request h (clear_request_if clears)) → Ends g s o t h
 ends_asked g s o t h true e = record { refusal = e.refusal; taken = e.taken; work = e.work; half = e.half }
 ends_asked g s o t h false e = e
 
--- The opcode of the open run has acted at the end, where there is one.
+-- The opcode of the open run, if there is one, has acted at the end.
 pub record EndsRun {S : Type 0} {g : Ghosts S} (m new : struct.Machine S g) : Type 0 where
   pub live : IsLive m
   pub still : m.open_run ≡ None → new ≡ m
@@ -184,7 +184,7 @@ ends_run {S} {g} {m} {new} input between laws e s budget p k = by m.open_run ref
         let acted = e.acts (λ closed. let bad : Some open_run ≡ None = sym opened ∙ closed in cc) in
         ends_asked g s (with_run (begun budget p)) new.sink (reading_state_by new input) acted.0 (acts_at_end budget p k laws (acted.1.2 (reading_state_by m input) between))
 
--- The sink works where it did.
+-- The sink works if it did before.
 pub ends_works : {S : Type 0} {g : Ghosts S} {m new : struct.Machine S g} → EndsRun m new → Works m new
 ends_works {S} {g} {m} {new} e = by m.open_run refl
   where
@@ -196,7 +196,7 @@ nothing_more : (xs ys : List Entry) → xs ++ ys ≡ xs → ys ≡ []
 nothing_more xs [] e = refl
 nothing_more xs (y ∷ ys) e = let same = ap length e in absurd (omega (arith, same, length-append xs (y ∷ ys)))
 
--- the entries of an outcome come first of those of another
+-- the entries of an outcome are a prefix of those of another
 abbrev pub First : Outcome → Outcome → Type 0
 First o whole = (more : List Entry) × (whole.entries ≡ o.entries ++ more)
 
@@ -214,9 +214,9 @@ run_first o (Some (model.open_run op place run)) = drawn (rule o.machine.work op
     drawn (Ok d) = (d.entries, refl)
     drawn (Err fault) = same_first o
 
--- What breaks with the byte behind p, as it is seen from outside.
+-- What breaks with the byte after p, as a caller sees it.
 module _ {S : Type 0} {g : Ghosts S} {s : S} {u : S} (budget : ℕ) (p : List ℕ) (b : ℕ) where
-  -- what comes next breaks behind what is known once the byte shows whether a run is over
+  -- the next bytes break after the entries known once the byte shows whether a run is over
   between : {cause : Cause} {known : List Entry} → known ≡ (closed_by (begun budget p) b).entries → BreaksNext g s known (begun budget (p ++ b ∷ [])) u cause → BreaksBetween g s (closed_by (begun budget p) b) (begun budget (p ++ b ∷ [])) u cause
   between {cause} same next = record {
     more = next.more;
@@ -225,7 +225,7 @@ module _ {S : Type 0} {g : Ghosts S} {s : S} {u : S} (budget : ℕ) (p : List �
     part = subst (λ (es : List Entry). TookPart g s es next.more u cause) same next.part;
   }
 
-  -- it brings entries itself
+  -- the byte adds entries itself
   pub brings_breaks : {known : List Entry} (r : Refusal) → known ≡ (closed_by (begun budget p) b).entries → r.place ≡ length p → BreaksPast g s known (begun budget (p ++ b ∷ [])) u (cause_of r.fault) → BreaksAt g s budget p b u r
   brings_breaks {known} r same place h =
       inr (record {
@@ -239,24 +239,24 @@ module _ {S : Type 0} {g : Ghosts S} {s : S} {u : S} (budget : ℕ) (p : List �
   pub uses_breaks : (r : Refusal) → r.place ≡ length p → IsCharged budget p b → BreaksFrom g s (begun budget p).entries (begun budget (p ++ b ∷ [])) u (cause_of r.fault) → BreaksAt g s budget p b u r
   uses_breaks r place after_charge h = inr (record { place = place; brings = inr (inr (inr after_charge)); wants = λ _. inl (inr (inr after_charge)); part = inr (after_charge, h) })
 
-  -- the opcode breaks whose run the byte ends
+  -- the opcode whose run the byte ends breaks
   pub run_breaks : {r : Refusal} → is_operand_byte b ≡ false → cause_of r.fault ≢ stream → ClosesInto g s budget p u r → BreaksAt g s budget p b u r
   run_breaks other broke (run_refused is took own) = absurd (broke own)
   run_breaks other broke (run_broke all breaks is) = inl (other, all b other, breaks)
 
-  -- where a run is over that was open
+  -- a run that was open is over
   pub past_breaks : {left : ℕ} (r : Refusal) → is_operand_byte b ≡ false → r.place ≡ length p → left ≤ (begun budget p).machine.left → BreaksSome g s (with_run (begun budget p)).entries (begun budget (p ++ b ∷ [])) u left (cause_of r.fault) → BreaksAt g s budget p b u r
   past_breaks r other place few (some_broke past) = brings_breaks r (rw other refl) place past
   past_breaks r other place few (charged_broke less from) =
       let more = run_first (begun budget p) (begun budget p).unfinished in
       uses_breaks r place (omega arith) (breaks_longer (begun budget p).entries more.0 (subst (λ (es : List Entry). BreaksFrom g s es (begun budget (p ++ b ∷ [])) u (cause_of r.fault)) more.1 from))
 
--- where this was held
+-- the reading state before the byte
 module _ {S : Type 0} {g : Ghosts S} {s : S} {t : S} {h : ReadingState} (budget : ℕ) (p : List ℕ) (b : ℕ) (k : Continues g s (begun budget p) t h []) where
   after_charge : (begun budget (p ++ b ∷ [])).machine.left < h.machine.left → IsCharged budget p b
   after_charge less = let same = ap (λ (m : Machine). m.left) (leads_machine k) in omega (arith, less, same)
 
-  -- the byte comes behind what is known
+  -- the byte comes after the known entries
   pub past_still : ContinuesPast g s (begun budget p).entries (begun budget (p ++ b ∷ [])) t h (record { byte = b; place = length p } ∷ [])
   unfolding placed_from leads_more
   past_still = record { continues = leads_more budget p (b ∷ []) k; done = sym (leads_entries k) }
@@ -280,7 +280,7 @@ module _ {S : Type 0} {g : Ghosts S} {s : S} {t : S} {h : ReadingState} (budget 
       inr (record { place = place; brings = inr (inr (inl uses)); wants = λ _. inl (inr (inl uses)); part = inl (between budget p b (still_same (still_run k _ opened)) next) })
   in_body_breaks r opened place (body_broke less from) = uses_breaks budget p b r place (after_charge less) from
 
-  -- the run that the byte joins could not grow
+  -- the run that the byte joins couldn't grow
   pub growth_breaks : {open_run : OpenRun} → h.open_body ≡ None → h.open_run ≡ Some open_run → is_operand_byte b ≡ true → length h.run < run_limit → BreaksAt g s budget p b t (refusal Memory (length p))
   unfolding placed_from
   growth_breaks {open_run} no_body is word few =
@@ -294,7 +294,7 @@ module _ {S : Type 0} {g : Ghosts S} {s : S} {t : S} {h : ReadingState} (budget 
         part = inl (between budget p b (ap (λ (o : Outcome). o.entries) (let same : begun budget p ≡ closed_by (begun budget p) b = rw word refl in same)) (record { more = more.0; adds = more.1; unrefused = leads_unrefused joined; part = inl (leads_taken k) }));
       })
 
--- Where it breaks: a body is charged, or the stream refuses nothing.
+-- The place where reading breaks: a body is charged there, or the stream refuses nothing.
 module _ {S : Type 0} (g : Ghosts S) (s : S) (budget : ℕ) (p : List ℕ) (b : ℕ) (t : S) (r : Refusal) where
   charged_or : BreaksWith g s budget p b t (cause_of r.fault) → IsCharged budget p b ⊎ ((begun budget (p ++ b ∷ [])).refusal ≡ None)
   charged_or (inl between) = inr between.unrefused
@@ -304,7 +304,7 @@ module _ {S : Type 0} (g : Ghosts S) (s : S) (budget : ℕ) (p : List ℕ) (b : 
   breaks_there (inl (other, first, h)) = inl (other, h.place, h.part.unrefused)
   breaks_there (inr h) = inr (h.place, h.brings, charged_or h.part)
 
-  -- whether memory was wanting to the reader itself, and where, or to its sink
+  -- whether the reader itself lacked memory, and where, or its sink did
   pub lacks_there : BreaksAt g s budget p b t r → cause_of r.fault ≡ memory → CanLackAt budget p b r.place ⊎ g.wants s (begun budget (p ++ b ∷ [])).entries
   lacks_there (inl (other, first, h)) is = inl (inl (other, h.place, h.part.unrefused))
   lacks_there (inr h) is = at (h.wants is)
@@ -317,9 +317,9 @@ pub broke_in_run : {S : Type 0} {g : Ghosts S} {s t : S} {r : Refusal} (budget :
 broke_in_run budget p broke (run_refused is took own) = absurd (broke own)
 broke_in_run budget p broke (run_broke all breaks is) = breaks
 
--- What breaks with a byte, as it is seen from outside.
+-- What breaks with a byte, as a caller sees it.
 
--- the byte of the input behind p breaks
+-- the byte of the input after p breaks
 module _ {S : Type 0} {g : Ghosts S} {s : S} {t : S} {h : ReadingState} (budget : ℕ) (p : List ℕ) (b : ℕ) (laws : Lawful g) (k : Continues g s (begun budget p) t h []) where
   pub breaks_byte : {u : S} {r : Refusal} → cause_of r.fault ≢ stream → Breaks g t h (placed_at b (length p)) u r → BreaksAt g s budget p b u r
   breaks_byte broke (at_word lacks) = rw (lacks.sink, lacks.why) (growth_breaks budget p b k lacks.between lacks.is lacks.word lacks.few)
@@ -345,7 +345,7 @@ module _ {S : Type 0} {g : Ghosts S} {s : S} {o : Outcome} {t : S} {h : ReadingS
       breaks_longer [] k'.done (body_breaks_from (some_in_body (code.part s k'.done o (record { continues = k'; done = refl }))))
   breaks_inside broke (in_body body) = breaks_longer [] k.done (body_breaks_from (body.part s k.done o (record { continues = k; done = refl })))
 
--- where it breaks
+-- the place where reading breaks
 pub breaks_place : {S : Type 0} {g : Ghosts S} {t : S} {h : ReadingState} {x : Placed} {u : S} {r : Refusal} (n : ℕ) → x.place ≡ n → RunAt n h.open_run → Breaks g t h x u r → r.place ≡ n
 breaks_place n here run (at_word lacks) = ap (λ (r : Refusal). r.place) lacks.why ∙ here
 breaks_place n here run (in_run other stops) = ap (λ (r : Refusal). r.place) stops.why ∙ subst (RunAt n) stops.is run

@@ -12,7 +12,7 @@ use Rattle.nap_list.specs.declared.sink.SinkFault.TheVariants as sink_faults
 use Rattle.nap_reader.specs.declared.machine.Machine.{Machine}
 use Rattle.nap_reader.specs.declared.machine.codes.CodeOutcome.TheVariants as outcomes
 
--- One code, where nothing is open.
+-- One code, while nothing is open.
 
 -- some bytes act, and leave no run open
 leads_by : {S : Type 0} {g : Ghosts S} {t : S} {h : ReadingState} {u v : S} {h' k : ReadingState} {xs : List Placed} (next : List ℕ) → v ≡ u → k ≡ h' → 0 < length xs → h'.machine.left ≡ h.machine.left → h'.open_run ≡ None → Passes g t h xs u h' [] →
@@ -29,13 +29,13 @@ leads_by {u = u} {h' = h'} next sink held some left store_bound passes = record 
   acted = as_it_was sink held;
 }
 
--- An opcode, where no code is half read.
+-- A byte is an opcode, with no incomplete code before it.
 pub record StartsRun (h : ReadingState) (x : Placed) (op : Opcode) : Type 0 where
   pub between : h.open_body ≡ None
   pub closed : h.open_run ≡ None
   pub is : IsOpcodeByte h.half h.machine.sets x.byte op
 
--- what is held once its run is open
+-- the reading state once the opcode's run is open
 abbrev pub open_at : {h : ReadingState} {x : Placed} {op : Opcode} → StartsRun h x op → ReadingState
 open_at {h} {x} {op} k = record h { half = []; open_run = Some (record { op = op; place = x.place }); run = [] }
 
@@ -52,12 +52,12 @@ run_opened {t = t} {x = x} {op = op} k next sink same = record {
   acted = as_it_was sink same;
 }
 
--- It draws by a rule, and asks this.
+-- A code draws by a rule, and makes this request.
 pub data IsRuled (c : Code) (request : Request) : Type 0 where
   acts : (acting : Code) → kind_of c ≡ kinds.Acts acting → request ≡ Nothing → IsRuled c request
   binds : (name : ℕ) (show : Bool) → kind_of c ≡ kinds.Binds name show → request ≡ Define name show → IsRuled c request
 
--- what it draws
+-- the result of a code's rule: these entries and this work
 abbrev pub drawn_by : List Entry → Work → RuleResult
 drawn_by entries work = record { entries = entries; work = work; clears = false }
 
@@ -69,7 +69,7 @@ pub record EndsCode (h : ReadingState) (x : Placed) (c : Code) (after : CodeSets
   pub whole : codes.front h.machine.sets (h.half ++ x.byte ∷ []) ≡ codes.whole c count after
   pub length_is : count ≡ length (h.half ++ x.byte ∷ [])
 
--- what is held once it was read, and has drawn so that the work is this
+-- the reading state after the code was read, with the work that it leaves
 abbrev pub drawn_at : ReadingState → CodeSets → Work → ReadingState
 drawn_at h after work = record h { machine = record h.machine { work = work; sets = after }; half = [] }
 
@@ -86,11 +86,11 @@ module _ {S : Type 0} (g : Ghosts S) (t : S) {h : ReadingState} {x : Placed} {c 
   made : {kind : Kind} → kind_of c ≡ kind → KindMade kind
   made same = subst KindMade same (front_kind_made h.machine.sets (h.half ++ x.byte ∷ []) c k.count after k.whole)
 
-  -- It adds nothing.
+  -- A code adds nothing.
   nothing_leads : {v : S} {held : ReadingState} (next : List ℕ) → v ≡ t → held ≡ read_at h after → kind_of c ≡ kinds.AddsNothing → LeadsOn g t h v held (x ∷ []) next
   nothing_leads next sink held kind = leads_by next sink held (omega arith) refl k.closed (λ s o pending c'. leads_past c' (read_at h after) pending (read_over c') (stands c' kind))
 
-  -- It acts, or defines a macro, whose body comes next.
+  -- A code acts, or defines a macro, whose body comes next.
   code_takes : {u : S} {request : Request} {entries : List Entry} {work : Work} {held : ReadingState} → IsRuled c request → held ≡ drawn_at h after work → Drew g (code_rule h.machine.work c) t (drawn_by entries work) u → TookMore g → (behind : List Placed) (many : ℕ) (r : Option Refusal) →
       TakesBy g t h u held (x ∷ behind) many 1 r request
   code_takes {u} {request} {entries} {work} {held} (acts acting kind is) same drew more behind many r =
@@ -113,7 +113,7 @@ module _ {S : Type 0} (g : Ghosts S) (t : S) {h : ReadingState} {x : Placed} {c 
             (stands c' kind ∙ ap (drawn_front (record h.machine { sets = after; mode = in_body name show }) x.place pending) rule) drew.took drew.clear),
       )
 
-  -- Its rule is refused, or breaks.
+  -- A code's rule is refused, or breaks.
   stops_by : {u : S} {fault : DrawFault} (m : model.Machine) {by : Result RuleResult DrawFault} → ((s : S) (o : Outcome) (pending : List Placed) (c' : Continues g s o t h (x ∷ pending)) → front h.machine (c'.rest ++ x ∷ pending) ≡ drawn_front m x.place pending by) →
       Fails g by t u fault → Lawful g → StopsByte g t h x u (refusal (draw_fault fault) x.place)
   stops_by {u} {fault} m {by} acting fails laws = record {
@@ -130,11 +130,11 @@ module _ {S : Type 0} (g : Ghosts S) (t : S) {h : ReadingState} {x : Placed} {c 
   code_stops {u} {fault} (binds name show kind is) fails laws =
       stops_by (record h.machine { sets = after; mode = in_body name show }) (λ s o pending c'. stands c' kind) (subst (λ (c : Code). Fails g (code_rule h.machine.work c) t u fault) (binds_code c name show kind) fails) laws
 
-  -- It is an operand outside a run.
+  -- A code is an operand outside a run.
   strays_stops : kind_of c ≡ kinds.Strays → StopsByte g t h x t (refusal Stray x.place)
   strays_stops kind = record { own = λ own s o pending c'. leads_to_refusal c' _ (stands c' kind); broke = λ broke. absurd (broke refl) }
 
-  -- It calls a macro.
+  -- A code calls a macro.
   call_calls : {t₀ v : S} {h₀ held : ReadingState} {all : List Placed} {index name : ℕ} (behind : List Placed) → drop index all ≡ x ∷ behind → LeadsOn g t₀ h₀ t h (take index all) (bytes_of (drop index all)) → kind_of c ≡ kinds.Calls name →
       v ≡ t → held ≡ read_at h after → Calls g t₀ h₀ v held all index name
   call_calls {t₀} {v} {h₀} {held} {all} {index} {name} behind is leads kind sink same =
@@ -153,7 +153,7 @@ module _ {S : Type 0} (g : Ghosts S) (t : S) {h : ReadingState} {x : Placed} {c 
         named = (made kind).1;
       }))
 
--- A byte that is refused.
+-- A byte is refused.
 fault_stops : {S : Type 0} {g : Ghosts S} {t : S} {h : ReadingState} (x : Placed) {fault : CodeFault} {index : ℕ} → h.open_body ≡ None → h.open_run ≡ None → codes.front h.machine.sets (h.half ++ x.byte ∷ []) ≡ codes.refused fault index →
     index ≡ length h.half → StopsByte g t h x t (refusal (code_fault fault) x.place)
 fault_stops x {fault} {index} between store_bound refused there = record {
@@ -161,49 +161,49 @@ fault_stops x {fault} {index} between store_bound refused there = record {
   broke = λ broke. absurd (broke (code_fault_own fault));
 }
 
--- A byte of a code that isn't whole.
+-- A byte of a code that isn't complete.
 half_leads : {S : Type 0} {g : Ghosts S} {t v : S} {h held : ReadingState} (x : Placed) (next : List ℕ) → v ≡ t → held ≡ record h { half = h.half ++ x.byte ∷ [] } → h.open_body ≡ None → h.open_run ≡ None →
     codes.front h.machine.sets (h.half ++ x.byte ∷ []) ≡ codes.unfinished → LeadsOn g t h v held (x ∷ []) next
 half_leads x next sink held between store_bound unfinished = leads_by next sink held (omega arith) refl store_bound (λ s o pending c. code_goes_on between store_bound c unfinished)
 
--- Characters, and the moves among them, where no code is half read.
+-- Characters, and the format effectors among them, with no incomplete code before them.
 text_leads : {S : Type 0} {g : Ghosts S} {t u : S} {h held : ReadingState} {set : CharSet} {xs : List Placed} (next : List ℕ) → IsText h set (bytes_of xs) → held ≡ record h { machine = with_text h.machine set (bytes_of xs) } → TookMore g →
     g.took t (draws_codes.text h.machine.work.state set (bytes_of xs)) u → (g.failed t ≡ false → g.failed u ≡ false) → LeadsOn g t h u held xs next
 text_leads {u = u} {xs = xs} next k same more took clear =
     leads_by next refl same (omega (arith, k.some, length-map xs (λ (x : Placed). x.byte))) refl k.closed (λ s o pending c. text_passes xs pending c k u more took clear)
 
--- What a machine makes of a byte, where no run is open.
+-- The effect of a byte on a machine without an open run.
 
 -- a fault of the lexer isn't the sink's
 lexer_is_own : (fault : CodeFault) → code_fault fault ≢ Sink
 lexer_is_own code_faults.EighthBit is = cc
 lexer_is_own _ is = cc
 
--- what is still held, where the sink is as it was
+-- a machine still works if its sink is unchanged
 works_on : {S : Type 0} {g : Ghosts S} {old new : Machine S g} → new.sink ≡ old.sink → IsLive new → Works old new
 works_on {g = g} same live = record { live = live; clear = λ clear. ap g.failed same ∙ clear }
 
--- It is of a code that isn't whole.
+-- A machine consumes a byte of a code that isn't complete.
 pub half_takes : {S : Type 0} {g : Ghosts S} {old new : Machine S g} {x : Placed} {zs : List Placed} {ended : Bool} → codes.front old.lexer.sets (old.lexer.half ++ x.byte ∷ []) ≡ codes.unfinished →
     LeftBy old new old.work (record { sets = old.lexer.sets; half = old.lexer.half ++ x.byte ∷ [] }) → new.sink ≡ old.sink → IsLive new → Takes old new (x ∷ zs) ended 1 Nothing
 half_takes {x = x} {zs = zs} unfinished left same live =
     one_takes (works_on same live) left.closed (λ h behind between. half_leads x (bytes_of (zs ++ behind)) same (left_is left h) between left.before unfinished)
 
--- It is refused.
+-- A machine refuses a byte.
 pub fault_takes : {S : Type 0} {g : Ghosts S} {old new : Machine S g} {x : Placed} {zs : List Placed} {ended : Bool} (fault : CodeFault) (index : ℕ) → codes.front old.lexer.sets (old.lexer.half ++ x.byte ∷ []) ≡ codes.refused fault index → index ≡ length old.lexer.half →
     old.open_run ≡ None → new.refusal ≡ Some (refusal (code_fault fault) x.place) → new.sink ≡ old.sink → Takes old new (x ∷ zs) ended 0 Stop
 fault_takes {g = g} {old = old} {x = x} {zs = zs} fault index refused there store_bound is same =
     stop_takes is same (omega arith) (own_tells g old.sink (lexer_is_own fault))
     (λ h behind between over. at_byte x (zs ++ behind) refl (conveys_nothing g old.sink (with_machine h old)) (fault_stops x between store_bound refused there))
 
--- It ends a code.
+-- A byte ends a code.
 pub record Lexes {S : Type 0} {g : Ghosts S} (old : Machine S g) (x : Placed) (c : Code) (after : CodeSets) : Type 0 where
   pub closed : old.open_run ≡ None
   pub count : ℕ
   pub whole : codes.front old.lexer.sets (old.lexer.half ++ x.byte ∷ []) ≡ codes.whole c count after
   pub length_is : count ≡ length (old.lexer.half ++ x.byte ∷ [])
 
--- the lexer then
+-- the lexer after a code
 abbrev pub rested : CodeSets → LexerState
 rested after = record { sets = after; half = [] }
 
@@ -211,18 +211,18 @@ module _ {S : Type 0} {g : Ghosts S} {old : Machine S g} {x : Placed} {c : Code}
   ends : (h : ReadingState) → h.open_body ≡ None → EndsCode (with_machine h old) x c after
   ends h between = record { between = between; closed = k.closed; count = k.count; whole = k.whole; length_is = k.length_is }
 
-  -- The code adds nothing.
+  -- A machine consumes a code that adds nothing.
   pub nothing_takes : {new : Machine S g} {zs : List Placed} {ended : Bool} → kind_of c ≡ kinds.AddsNothing → LeftBy old new old.work (rested after) → new.sink ≡ old.sink → IsLive new → Takes old new (x ∷ zs) ended 1 Nothing
   nothing_takes {zs = zs} kind left same live =
       one_takes (works_on same live) left.closed (λ h behind between. nothing_leads g old.sink (ends h between) (bytes_of (zs ++ behind)) same (left_is left h) kind)
 
-  -- It calls a macro.
+  -- A machine consumes a call of a macro.
   pub macro_takes : {new : Machine S g} {zs : List Placed} {ended : Bool} {name : ℕ} → kind_of c ≡ kinds.Calls name → LeftBy old new old.work (rested after) → new.sink ≡ old.sink → IsLive new → Takes old new (x ∷ zs) ended 1 (Call name)
   macro_takes {zs = zs} kind left same live =
       one_takes (works_on same live) left.closed
       (λ h behind between. (0, refl, call_calls g old.sink (ends h between) (zs ++ behind) refl (leads_nowhere (bytes_of (x ∷ (zs ++ behind))) refl refl) kind same (left_is left h)))
 
-  -- It draws.
+  -- A machine consumes a code that draws.
   pub ruled_takes : {new : Machine S g} {zs : List Placed} {ended : Bool} {request : Request} {entries : List Entry} → IsRuled c request → Drew g (code_rule old.work c) old.sink (drawn_by entries new.work) new.sink → LeftBy old new new.work (rested after) → IsLive new → TookMore g → Takes old new (x ∷ zs) ended 1 request
   ruled_takes {new} {zs} {request = request} {entries = entries} ruled drew left live more =
       one_takes (leaves ruled) left.closed (λ h behind between. code_takes g old.sink (ends h between) ruled (left_is left h) drew more (zs ++ behind) (length (x ∷ zs)) new.refusal)
@@ -231,19 +231,19 @@ module _ {S : Type 0} {g : Ghosts S} {old : Machine S g} {x : Placed} {c : Code}
       leaves (acts acting kind is) = subst (Leaves old new) (sym is) (record { live = live; clear = drew.clear })
       leaves (binds name show kind is) = subst (Leaves old new) (sym is) (record { live = live; clear = drew.clear })
 
-  -- It is refused by its rule, or breaks.
+  -- A machine refuses a code by its rule, or breaks at it.
   pub ruled_stops : {new : Machine S g} {zs : List Placed} {ended : Bool} {request : Request} {u : S} {fault : DrawFault} → IsRuled c request → Fails g (code_rule old.work c) old.sink u fault → FaultMatchesSink g old.sink u (draw_fault fault) → new.refusal ≡ Some (refusal (draw_fault fault) x.place) → new.sink ≡ u → Lawful g →
       Takes old new (x ∷ zs) ended 0 Stop
   ruled_stops {zs = zs} ruled fails told is same laws =
       stop_takes is same (omega arith) told (λ h behind between over. at_byte x (zs ++ behind) refl (conveys_nothing g old.sink (with_machine h old)) (code_stops g old.sink (ends h between) ruled fails laws))
 
-  -- It is an operand outside a run.
+  -- A machine refuses an operand outside a run.
   pub strays_takes : {new : Machine S g} {zs : List Placed} {ended : Bool} → kind_of c ≡ kinds.Strays → new.refusal ≡ Some (refusal Stray x.place) → new.sink ≡ old.sink → Takes old new (x ∷ zs) ended 0 Stop
   strays_takes {zs = zs} kind is same =
       stop_takes is same (omega arith) (own_tells g old.sink (λ own. cc))
       (λ h behind between over. at_byte x (zs ++ behind) refl (conveys_nothing g old.sink (with_machine h old)) (strays_stops g old.sink (ends h between) kind))
 
--- It is an opcode: nothing was half read, and the lexer is as it was.
+-- An opcode was read: no code was incomplete before it, and the lexer is unchanged.
 pub opcode_read : {S : Type 0} {g : Ghosts S} {old : Machine S g} {x : Placed} {c : Code} {after : CodeSets} (k : Lexes old x c after) {op : Opcode} → kind_of c ≡ kinds.Opens op → (rested after ≡ old.lexer) × IsOpcodeByte [] after x.byte op
 opcode_read {old = old} {x = x} {c = c} {after = after} k {op} kind =
     let sets = old.lexer.sets in
@@ -257,7 +257,7 @@ opcode_read {old = old} {x = x} {c = c} {after = after} k {op} kind =
       record { rested = refl; drawn = opens_drawn after (x.byte ∷ []) (code.Op op) 1 after op names refl; alone = opcode_alone after x.byte op names; names = names },
     )
 
--- Codes that stand whole at the front of bytes, where no code is half read.
+-- Complete codes at the beginning of bytes, with no incomplete code before them.
 
 -- The first byte is a code.
 pub record IsAlone {S : Type 0} {g : Ghosts S} (old : Machine S g) (c : Code) (after : CodeSets) (bytes : List ℕ) : Type 0 where
@@ -272,7 +272,7 @@ module _ {S : Type 0} {g : Ghosts S} {old : Machine S g} {c : Code} {after : Cod
   alone_within : 0 < length bytes
   alone_within = omega (arith, ap length k.is)
 
-  -- it ends where it begins
+  -- a code of one byte ends where it begins
   lexes_alone : (P : List Placed → Type 0) → ((x : Placed) (ys : List Placed) → Lexes old x c after → P (x ∷ ys)) → (xs : List Placed) → bytes_of xs ≡ bytes → P xs
   lexes_alone P takes xs is =
       let (x, ys, all, first, others) = first_of xs k.byte k.rest (is ∙ k.is) in
@@ -283,7 +283,7 @@ module _ {S : Type 0} {g : Ghosts S} {old : Machine S g} {c : Code} {after : Cod
         length_is = sym (ap (λ (half : List ℕ). length (half ++ x.byte ∷ [])) k.half);
       }))
 
-  -- It adds nothing.
+  -- A code of one byte adds nothing.
   pub alone_nothing : {new : Machine S g} {ended : Bool} → LeftBy old new old.work (rested after) → new.sink ≡ old.sink → kind_of c ≡ kinds.AddsNothing → IsLive new → Codes old new bytes ended (outcomes.Acted 1 false)
   alone_nothing {new} {ended} left same kind live = record {
     within = (omega arith, alone_within);
@@ -291,7 +291,7 @@ module _ {S : Type 0} {g : Ghosts S} {old : Machine S g} {c : Code} {after : Cod
     by = lexes_alone (λ xs. Takes old new xs ended 1 Nothing) (λ x ys lexes. nothing_takes lexes kind left same live);
   }
 
-  -- It acts.
+  -- A code of one byte acts.
   pub alone_acts : {new : Machine S g} {ended : Bool} → LeftBy old new new.work (rested after) → kind_of c ≡ kinds.Acts c → {entries : List Entry} → Drew g (code_rule old.work c) old.sink (drawn_by entries new.work) new.sink → IsLive new → TookMore g → Codes old new bytes ended (outcomes.Acted 1 false)
   alone_acts {new} {ended} left kind drew live more = record {
     within = (omega arith, alone_within);
@@ -299,7 +299,7 @@ module _ {S : Type 0} {g : Ghosts S} {old : Machine S g} {c : Code} {after : Cod
     by = lexes_alone (λ xs. Takes old new xs ended 1 Nothing) (λ x ys lexes. ruled_takes lexes (acts c kind refl) drew left live more);
   }
 
-  -- It is refused, or breaks.
+  -- A code of one byte is refused, or breaks.
   pub alone_stops : {new : Machine S g} {ended : Bool} {fault : DrawFault} → new.open_run ≡ old.open_run → kind_of c ≡ kinds.Acts c → Fails g (code_rule old.work c) old.sink new.sink fault → FaultMatchesSink g old.sink new.sink (draw_fault fault) → Lawful g → Codes old new bytes ended (outcomes.Stopped 0 (draw_fault fault) 0)
   alone_stops {new} {ended} {fault} store_bound kind fails told laws = record {
     within = (omega arith, alone_within);
@@ -308,12 +308,12 @@ module _ {S : Type 0} {g : Ghosts S} {old : Machine S g} {c : Code} {after : Cod
         (λ x ys lexes kept refuses. let ruled : IsRuled c Nothing = acts c kind refl in ruled_stops lexes ruled fails told refuses.is refuses.sink laws);
   }
 
--- what a fault of a sink tells of it
+-- a sink's fault says whether the sink has failed
 tells_sink : {S : Type 0} {g : Ghosts S} {s t : S} {n : ℕ} (fault : SinkFault) → FaultMatchesDevice (sink_model_of g) s t n fault → FaultMatchesSink g s t (draw_fault (fault_of fault))
 tells_sink sink_faults.Memory tells = (λ is. cc, λ works fails. absurd (false≢true (sym (tells.memory refl) ∙ fails)))
 tells_sink sink_faults.Write tells = (λ is. tells.write refl, λ works fails. refl)
 
--- The first bytes are characters, and the moves among them.
+-- The first bytes are characters, and the format effectors among them.
 pub record IsTextOf {S : Type 0} {g : Ghosts S} (old : Machine S g) (set : CharSet) (bytes chars : List ℕ) : Type 0 where
   pub front : chars ≡ take (length chars) bytes
   pub few : length chars ≤ length bytes
@@ -340,7 +340,7 @@ module _ {S : Type 0} {g : Ghosts S} {old : Machine S g} {set : CharSet} {bytes 
       typed = subst (All IsTextByte) (sym same) k.typed;
     }
 
-  -- They are taken.
+  -- The characters are consumed.
   pub text_taken : {new : Machine S g} {ended : Bool} → LeftBy old new (rule_result old.work (text old.work.state set chars)).work old.lexer → g.took old.sink (text old.work.state set chars) new.sink → (g.failed old.sink ≡ false → g.failed new.sink ≡ false) → IsLive new →
       TookMore g → Codes old new bytes ended (outcomes.Acted (length chars) false)
   text_taken {new} left took clear live more = record {
@@ -358,7 +358,7 @@ module _ {S : Type 0} {g : Ghosts S} {old : Machine S g} {set : CharSet} {bytes 
     };
   }
 
-  -- Or one isn't, or breaks.
+  -- One of the characters is refused, or breaks.
   pub text_halts : {new : Machine S g} {ended : Bool} (fault : SinkFault) {index : ℕ} → new.open_run ≡ old.open_run → HaltsAfter (sink_model_of g) (text old.work.state set chars) old.sink new.sink index fault → FaultMatchesDevice (sink_model_of g) old.sink new.sink index fault →
       Codes old new bytes ended (outcomes.Stopped index (draw_fault (fault_of fault)) index)
   text_halts {new} fault {index} store_bound halts tells =
@@ -378,7 +378,7 @@ module _ {S : Type 0} {g : Ghosts S} {old : Machine S g} {set : CharSet} {bytes 
             }));
       }
 
--- Calls of macros whose name is at hand.
+-- Calls of macros whose name is among the bytes.
 
 module _ {S : Type 0} {g : Ghosts S} (old : Machine S g) {bytes : List ℕ} {count : ℕ} (k : CallsBy old.lexer bytes count) (store_bound : old.open_run ≡ None) (xs : List Placed) (is : bytes_of xs ≡ bytes) where
   all : bytes_of xs ≡ k.before ++ k.name ∷ k.behind
@@ -387,7 +387,7 @@ module _ {S : Type 0} {g : Ghosts S} (old : Machine S g) {bytes : List ℕ} {cou
   call_by : (h : ReadingState) (behind : List Placed) → h.open_body ≡ None → Calls g old.sink (with_machine h old) old.sink (with_machine h old) (xs ++ behind) (length k.before) k.name
   call_by h behind between = by k.before refl
     where
-      -- before the name, which is the byte behind these
+      -- a call's bytes before the name, which is the byte after them
       named : (y : Placed) (half : List ℕ) → y.byte ≡ k.name → half ≡ k.before → EndsCode (record (with_machine h old) { half = half }) y (code.Call k.name) old.lexer.sets
       named y half byte is =
           let bytes : half ++ y.byte ∷ [] ≡ k.before ++ k.name ∷ [] = ap₂ (λ (bs : List ℕ) (b : ℕ). bs ++ b ∷ []) is byte in

@@ -5,24 +5,24 @@ use Rattle.nap_reader.specs.declared.fault.Fault.TheVariants as fault
 use Rattle.nap_reader.proofs.PublicLaws.{begun_comes_first, fed_breaks_among, more_bytes_keep_refusal}
 use Rattle.nap_reader.specs.declared.collect.ReadFault.{ReadFault}
 
--- a call that doesn't fail leaves the flag
+-- a call that doesn't fail keeps the flag
 pub flag_stays : (first before after : Bool) → before ≡ first → after ≡ (before || false) → after ≡ first
 flag_stays first before after h k = k ∙ (or-false before ∙ h)
 
--- what an input gave before its last read
+-- the bytes that an input gave before its last read
 pub record Gave {I : Type 0} (i : inlet.Ghosts I) (start mid end : I) (p : List ℕ) : Type 0 where
   pub gave : Consumes (i.left start) (i.left mid) p
   pub reads : i.calls mid ≤ i.calls start + length p
   pub once : i.calls end ≤ i.calls mid + 1
 
--- nothing is refused that a reader stands for without a refusal
+-- a stream so far has no refusal if a reader that has read it has none
 pub going : {S : Type 0} {g : Ghosts S} {s : S} {p : List ℕ} (old reader : Reader S g) → HasRead reader s p → budget_of reader ≡ budget_of old → refusal_of reader ≡ None → (begun (budget_of old) p).refusal ≡ None
 going {g = g} {s = s} {p = p} old reader h same none =
     subst (λ (budget : ℕ). (begun budget p).refusal ≡ None) same
     (subst (Answers g s (budget_of reader) p (sink_of reader) (left_of reader)) none h.answers).refusal
 
 module _ {I S : Type 0} {i : inlet.Ghosts I} {g : Ghosts S} {start mid end : I} {p : List ℕ} {old : Reader S g} {s : S} (so : Gave i start mid end p) where
-  -- what was read was taken, and the input ended or failed
+  -- the bytes that were read were consumed, and the input ended or failed
   pub feeds_on : {new : Reader S g} (answer : Result (Unit {0}) FeedFault) → HasRead new s p → budget_of new ≡ budget_of old → refusal_of new ≡ None →
       Consumes (i.left mid) (i.left end) [] → EndsBy p (reading i start end) None answer → StopsInLast g s (budget_of old) p [] (sink_of new) (left_of new) answer →
       Feeds i old new s p start end answer
@@ -66,13 +66,13 @@ module _ {I S : Type 0} {i : inlet.Ghosts I} {g : Ghosts S} {start mid end : I} 
 
 -- A page that was read from a device, or refused and read to its end.
 
--- a stream that is refused so far is refused whatever comes
+-- a stream that is refused so far is refused whatever comes after
 pub still_refused : (budget : ℕ) (p more : List ℕ) (r : Refusal) → (begun budget p).refusal ≡ Some r → (means budget (p ++ more)).refusal ≡ Some r
 still_refused budget p more r is =
     let all = ap (λ (o : Outcome). o.refusal) (more_bytes_keep_refusal budget p more r is) ∙ is in
     ap (λ (q : Option Refusal). (ended_by (begun budget (p ++ more)) (length (p ++ more)) q).refusal) all ∙ all
 
--- entries that come with the bytes come first of all
+-- where memory can be lacking for the bytes so far, it can be for the whole stream
 lacks_in_whole : {S : Type 0} (g : Ghosts S) (s : S) (budget : ℕ) (p : List ℕ) (place : ℕ) → LacksWithin budget p place ⊎ WantsSome g s (begun budget p).entries →
     LacksMemoryFor g s budget p place
 lacks_in_whole g s budget p place (inl own) = inl own
@@ -80,7 +80,7 @@ lacks_in_whole g s budget p place (inr (first, rest, parts, wants)) =
     let (more, is) = begun_comes_first budget p in
     inr (first, rest ++ more, is ∙ ap (λ (es : List Entry). es ++ more) parts ∙ append_assoc first rest more, wants)
 
--- A stream was refused, at a byte of the last ones that were fed.
+-- A stream was refused at a byte of the last ones that were fed.
 pub record RefusedIn {S : Type 0} {g : Ghosts S} (reader : Reader S g) (s : S) (budget : ℕ) (before last : List ℕ) (i : ℕ) (r : Refusal) : Type 0 where
   pub within : i < length last
   pub budget_is : budget_of reader ≡ budget
@@ -89,7 +89,7 @@ pub record RefusedIn {S : Type 0} {g : Ghosts S} (reader : Reader S g) (s : S) (
   pub stops : StopsBy g s budget (before ++ take i last) (get_or last i 0) (sink_of reader) (left_of reader) r (cause_of r.fault)
   pub fails : cause_of r.fault ≡ device → g.failed (sink_of reader) ≡ true
 
--- More bytes stand behind.
+-- More bytes come after a refused stream.
 module _ {S : Type 0} {g : Ghosts S} {reader : Reader S g} {s : S} {budget : ℕ} {before last : List ℕ} {i : ℕ} {r : Refusal} (more : List ℕ) (k : RefusedIn reader s budget before last i r) where
   known : AnswersBy g s budget (before ++ last) (sink_of reader) (left_of reader) r (cause_of r.fault)
   known =
@@ -119,12 +119,12 @@ module _ {S : Type 0} {g : Ghosts S} {reader : Reader S g} {s : S} {budget : ℕ
       at memory is here = (breaks (λ own. let bad = sym is ∙ own in cc), lacks is)
       at device is here = (breaks (λ own. let bad = sym is ∙ own in cc), (sink_of reader, k.fails is))
 
--- what is neither the stream's own fault nor want of memory is a failed device
+-- a fault that is neither the stream's own nor lack of memory is a failed device
 pub device_fault : (f : Fault) → cause_of f ≡ device → f ≡ fault.Sink
 device_fault fault.Sink is = refl
 device_fault _ is = cc
 
--- A stream was refused, and the rest of the input read.
+-- A stream was refused, and the rest of the input was read.
 module _ {I S : Type 0} {i : inlet.Ghosts I} {g : Ghosts S} {old new : Reader S g} {s : S} {p : List ℕ} {initial final : I} {r : Refusal} (h : Feeds i old new s p initial final (Err (feed_fault.Refused r))) where
   pub refused_whole : budget_of new ≡ budget_of old → (r.fault ≡ fault.Sink → g.failed (sink_of new) ≡ true) → (more : List ℕ) → RefusedBy g s (budget_of old) (p ++ more) r (cause_of r.fault)
   refused_whole same fails more =
@@ -136,7 +136,7 @@ module _ {I S : Type 0} {i : inlet.Ghosts I} {g : Ghosts S} {old new : Reader S 
   pub reads_few : (reading i initial final).reads ≤ length p
   reads_few = omega (arith, h.last.reads, h.last.once, h.stops.1, ap length h.last.parts, length-append h.last.before h.last.last)
 
--- two readings, one after the other
+-- one reading followed by another
 pub record Follows (first second whole : Reading) : Type 0 where
   pub joins : second.failed_before ≡ first.failed
   pub before : whole.failed_before ≡ first.failed_before

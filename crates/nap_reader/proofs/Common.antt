@@ -1,4 +1,4 @@
--- The names that proofs cite, passed on from one place. Declares nothing.
+-- Passes on the names that proofs cite. Declares nothing.
 pub use Rattle.std.proofs.Common.{All, Bool, Err, Fits, IfErr, IsSome, List, MatchOption, MatchResult, None, Ok, OnErr, OnOk, Option, Result, Some, [], ap, append-nil, append_assoc, ap₂, arith, cond, drop, eq-eqb, eqb, false, get_or, if◌then◌else◌, inl, inr, is_err, is_ok, is_some, leb, length, length-append, length-take, ltb, map, nat_lt, not, refl, replicate, rules, set, slice_index_or, subst, suc, sym, take, take-add, true, w8, zero, ℕ, ◌%◌, ◌&&◌, ◌*◌, ◌++◌, ◌+◌, ◌-◌, ◌<◌, ◌^◌, ◌||◌, ◌∙◌, ◌∷◌, ◌≡◌, ◌≢◌, ◌≤◌, ◌⊎◌}
 pub use Rattle.std.proofs.KnownBytes.{Consumes-kept, Consumes-nil, Consumes-trans}
 pub use Rattle.std.proofs.Math.Bool.{or-false, or-true}

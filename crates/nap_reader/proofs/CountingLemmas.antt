@@ -3,7 +3,7 @@ use Rattle.std.specs.Result.{IsErrAnd}
 use Rattle.nap_list.specs.declared.sink.BatchFault.{BatchFault}
 use Rattle.nap_list.specs.declared.sink.SinkFault.TheVariants as faults
 
--- A sink that counts what another one takes.
+-- A sink that counts the entries of another sink.
 
 abbrev pub made : {S : Type 0} → S → Option ℕ → CountedSink S
 made sink count = record { sink = sink; count = count }
@@ -11,12 +11,12 @@ made sink count = record { sink = sink; count = count }
 same : {S : Type 0} (s t : CountedSink S) → t.sink ≡ s.sink → t.count ≡ s.count → t ≡ s
 same {S = S} s t sink count = ap (λ (x : S). made x t.count) sink ∙ ap (made s.sink) count
 
--- how many of so many entries were taken
+-- the number of entries taken, of `all` that were put
 abbrev pub taken_of : ℕ → Result (Unit {0}) BatchFault → ℕ
 taken_of all (Ok x) = all
 taken_of all (Err stop) = stop.taken
 
--- where one entry wasn't taken, none was
+-- if a single entry wasn't taken, none was
 module _ {S : Type 0} (h : SinkModel S) (x : Entry) (s t : S) where
   only_one : (front rest : List Entry) (next : Entry) (n : ℕ) → x ∷ [] ≡ front ++ next ∷ rest → length front ≡ n → n ≡ 0
   only_one front rest next n parts count = omega (arith, count, ap length parts, length-append front (next ∷ rest))
@@ -26,7 +26,7 @@ module _ {S : Type 0} (h : SinkModel S) (x : Entry) (s t : S) where
   none_first n faults.Write (inl (set, same, zero)) = zero
   none_first n faults.Write (inr breaks) = only_one breaks.front breaks.rest breaks.next n breaks.parts breaks.count
 
--- What another sink took is counted.
+-- The entries that another sink took are counted.
 module _ {S : Type 0} (g : Ghosts S) (list : List Entry) (s t : CountedSink S) where
   halts : (n : ℕ) (f : SinkFault) → GrowsBy n s.count t.count → (n ≡ 0 → t.count ≡ s.count) → HaltsAfter (sink_model_of g) list s.sink t.sink n f → HaltsAfter (counting_sink_model g) list s t n f
   halts n faults.Memory grows still h = record {
@@ -69,9 +69,9 @@ module _ {S : Type 0} (g : Ghosts S) (x : Entry) (s : CountedSink S) (t : S) (f 
   puts_none (Ok _) is = absurd is
   puts_none (Err fault) is = subst (λ (fault : SinkFault). PutSome {A = Unit {0}} (counting_sink_model g) (x ∷ []) s (made t s.count) (Err fault)) (sym is) none_counted
 
--- A page was read into a sink that counts, over another one.
+-- A page was read into a sink that counts the entries of another sink.
 
--- what it shows
+-- the model of the counting sink over the other sink
 abbrev pub over : {S : Type 0} → Ghosts S → Ghosts (CountedSink S)
 over g = record {
   state = λ s. g.state s.sink;

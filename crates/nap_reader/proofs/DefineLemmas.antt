@@ -24,7 +24,7 @@ plain_in_front text n few = λ k d within.
 pub plain_there : (text : List ℕ) (k : ℕ) → k < prefix_len is_of_body text → IsPlain (get_or text k 0)
 plain_there text k less = plain_is (get_or text k 0) (prefix_len_passes is_of_body text k 0 less)
 
--- what is held once this ESC is held, or none, and the body has these bytes
+-- the reading state with this pending ESC, or none, and these bytes in the body
 abbrev pub held_at : ReadingState → OpenBody → Option ℕ → List ℕ → ReadingState
 held_at h b escape body = record h {
   machine = record h.machine { mode = in_body b.name b.show };
@@ -32,7 +32,7 @@ held_at h b escape body = record h {
   body = body;
 }
 
--- bytes that are of the body, which has room for them
+-- the bytes are of the body, which has space for them
 first_kept : {S : Type 0} (g : Ghosts S) (t : S) (x : Placed) (xs : List Placed) (h : ReadingState) (b : OpenBody) → h.open_body ≡ Some b → b.escape ≡ None → All IsPlain (bytes_of (x ∷ xs)) →
     h.machine.stored + length h.body + length (x ∷ xs) ≤ store_limit → Passes g t h (x ∷ xs) t (held_at h b None (h.body ++ bytes_of (x ∷ xs))) []
 first_kept g t x [] h b opened none plain few = λ s o pending k.
@@ -49,7 +49,7 @@ pub bytes_kept : {S : Type 0} (g : Ghosts S) (t : S) (xs : List Placed) (h : Rea
 bytes_kept g t [] h b opened none plain few some = absurd (omega (arith, some))
 bytes_kept g t (x ∷ xs) h b opened none plain few some = first_kept g t x xs h b opened none plain few
 
--- Bytes were taken, and the open run is as it was.
+-- Bytes were consumed, and the open run is unchanged.
 pub leads_still : {S : Type 0} (g : Ghosts S) (t : S) (h h' : ReadingState) (xs : List Placed) (next : List ℕ) → 0 < length xs → h'.machine.left ≡ h.machine.left → h'.open_run ≡ h.open_run → Passes g t h xs t h' [] → LeadsOn g t h t h' xs next
 leads_still g t h h' xs next some left run passes = record {
   conveys = record {
@@ -63,9 +63,9 @@ leads_still g t h h' xs next some left run passes = record {
   acted = as_it_was refl refl;
 }
 
--- What stops there.
+-- What stops in a body.
 
--- memory is wanting in a body
+-- memory is lacking in a body
 pub stops_body : {S : Type 0} (g : Ghosts S) (t : S) (h : ReadingState) (x : Placed) (b : OpenBody) → h.open_body ≡ Some b → ((s : S) (known : List Entry) (o : Outcome) → ContinuesPast g s known o t h (x ∷ []) → BreaksInBody g s known o t h.machine.left memory) →
     StopsByte g t h x t (refusal Memory x.place)
 stops_body g t h x b opened part = record {
@@ -73,7 +73,7 @@ stops_body g t h x b opened part = record {
   broke = λ broke. breaks_in_body (record { body = b; is = opened; place = refl; part = part });
 }
 
--- Bytes of a body, no more than it has room for, and another for which it has none.
+-- Bytes of a body that has space for them, and another byte for which it has none.
 module _ {S : Type 0} (g : Ghosts S) (t : S) (h : ReadingState) {b : OpenBody} (opened : h.open_body ≡ Some b) (none : b.escape ≡ None) where
   pub byte_lacks : (x : Placed) → IsPlain x.byte → store_limit - h.machine.stored - length h.body ≢ 0 → StopsByte g t h x t (refusal Memory x.place)
   byte_lacks x plain some =
@@ -102,7 +102,7 @@ module _ {S : Type 0} (g : Ghosts S) (t : S) (h : ReadingState) {b : OpenBody} (
             byte_full (reads_on {b = body} refl k refl) last (omega (arith, full, length-append h.body (bytes_of (y ∷ ys)), length-map (y ∷ ys) (λ (z : Placed). z.byte)))),
       )
 
--- What the input keeps of the bytes that come next, and how it goes on.
+-- The input's state after bytes of a body, and the next bytes then.
 module _ {input mid after : Input} {piece all body : List ℕ} {n : ℕ} {b : OpenBody} {xs : List Placed} (sets : StoresBody input mid (record input.store { bytes = all; body = body }) (Some b))
     (kept : unread all input.frames.stack.items ≡ unread_of input) (adv : Advances mid after n) (reads : Reads input piece) (slice : (text : List ℕ) × (place : ℕ) × AreNextBytes mid.store.bytes mid.frames.stack.items piece mid.at mid.fed text place × (n ≤ length text))
     (is : take n (next_bytes input piece) ≡ xs) where
@@ -116,7 +116,7 @@ module _ {input mid after : Input} {piece all body : List ℕ} {n : ℕ} {b : Op
         leads = rw held (leads_still g m.sink (reading_state_by m input) (held_at (reading_state_by m input) b b.escape body) xs (bytes_of (unread_of after) ++ drop after.at piece) some refl refl passes);
       })
 
--- An ESC is held, and this byte behind it ends the body, or doesn't.
+-- An ESC is pending, and the byte after it ends the body, or doesn't.
 pub record BehindEscape (input : Input) (piece : List ℕ) (b : OpenBody) (byte place : ℕ) (ending : Bool) : Type 0 where
   pub opened : input.body ≡ Some b
   pub escape : ℕ
@@ -140,12 +140,12 @@ memory_other is = cc
 
 -- What an input keeps of the body that is being defined.
 
--- No ESC is held.
+-- No ESC is pending.
 module _ {S : Type 0} {g : Ghosts S} (m : Machine S g) {input : Input} {piece : List ℕ} {b : OpenBody} (opened : input.body ≡ Some b) (none : b.escape ≡ None) (reads : Reads input piece) where
   abbrev h : ReadingState
   h = reading_state_by m input
 
-  -- bytes of a slice
+  -- the bytes of a slice
   module _ {first step : ℕ} {text : List ℕ} {ended : Bool} (next : IsNext input piece first step text ended) where
     slice_bytes : (n : ℕ) → n ≤ length text → bytes_of (take n (next_bytes input piece)) ≡ take n text
     slice_bytes n few =
@@ -158,7 +158,7 @@ module _ {S : Type 0} {g : Ghosts S} (m : Machine S g) {input : Input} {piece : 
     slice_length n few =
         length-take-le n (next_bytes input piece) (omega (arith, few, ap (λ (xs : List Placed). length xs) parts.1, length-append (placed_by_step first step text) parts.0, length-placed_by_step first step text))
 
-    -- there is another behind those that were passed
+    -- another byte comes after those that were passed
     pub fill_passes : {mid : Input} (room : ℕ) → room < length text → Advances input mid room → CanAdvance mid 1
     fill_passes {mid} room less adv = by (next_bytes mid piece) refl
       where
@@ -186,7 +186,7 @@ module _ {S : Type 0} {g : Ghosts S} (m : Machine S g) {input : Input} {piece : 
             ))
         by (x ∷ xs) some = can_pass (record { reads = counts.reads; rest = xs; is = some })
 
-    -- the first of them is the byte that comes next
+    -- the first byte of the slice is the next byte
     pub first_plain : {byte place : ℕ} → IsNextByte input piece byte place → IsPlain byte → 0 < prefix_len is_of_body text
     unfolding placed_by_step
     first_plain {byte} {place} one plain = by text next.some parts
@@ -198,7 +198,7 @@ module _ {S : Type 0} {g : Ghosts S} (m : Machine S g) {input : Input} {piece : 
             let is : is_of_body b ≡ true = rw (same, ne_eqb byte 27 plain.other, lt-ltb byte 128 plain.low) refl in
             rw is (omega arith)
 
-    -- The body has no room for the one with this index.
+    -- The body has no space for the byte with this index.
     pub body_fills : (room : ℕ) → room < prefix_len is_of_body text → input.store.stored + length input.store.body + room ≡ store_limit →
         Stops g m.sink h (next_bytes input piece) (length text) room m.sink (refusal Store (first + step * room))
     body_fills room less full =
@@ -210,7 +210,7 @@ module _ {S : Type 0} {g : Ghosts S} (m : Machine S g) {input : Input} {piece : 
         (omega (arith, full, slice_length room (omega (arith, less, within)))) in
         at_byte _ _ there fill.0 fill.1
 
-    -- It has room for so many.
+    -- The body has space for `count` bytes.
     module _ {new : Input} {count : ℕ} (keeps : Keeps input new piece count) (fit : (0 < count) × (count ≤ prefix_len is_of_body text)) where
       within : count ≤ length text
       within = omega (arith, fit.1, prefix_len-le-length is_of_body text)
@@ -231,7 +231,7 @@ module _ {S : Type 0} {g : Ghosts S} (m : Machine S g) {input : Input} {piece : 
           (bytes_kept g m.sink xs h b opened none (subst (All IsPlain) (sym (slice_bytes count within)) (plain_in_front text count fit.1)) (omega (arith, room, size)) (omega (arith, fit.0, size)))) in
           kept_goes sets kept keeps.passes reads (text, first, comes_grown (take count (bytes_of (next_bytes input piece))) sets refl next.comes, within) refl more live (omega (arith, fit.0, size)) passes
 
-  -- An ESC comes, and is held.
+  -- The next byte is an ESC, which becomes pending.
   module _ {mid after : Input} {place : ℕ} (next : IsNextByte input piece 27 place) (sets : StoresBody input mid input.store (Some (record { name = b.name; show = b.show; escape = Some place }))) (adv : Advances mid after 1) where
     pub holds_goes : TookMore g → IsLive m → Goes piece 1 m input m after
     holds_goes more live =
@@ -239,7 +239,7 @@ module _ {S : Type 0} {g : Ghosts S} (m : Machine S g) {input : Input} {piece : 
         kept_goes sets refl adv reads c (ap (take 1) next.is) more live (omega arith)
         (λ s o pending k. escape_held (reads_on opened k none) refl)
 
--- An ESC is held, and the byte that comes behind it doesn't end the body.
+-- An ESC is pending, and the byte after it doesn't end the body.
 module _ {S : Type 0} {g : Ghosts S} (m : Machine S g) {input : Input} {piece : List ℕ} {b : OpenBody} {byte place : ℕ} (behind : BehindEscape input piece b byte place false) (low : byte < 128) where
   abbrev hold : ReadingState
   hold = reading_state_by m input
@@ -250,30 +250,30 @@ module _ {S : Type 0} {g : Ghosts S} (m : Machine S g) {input : Input} {piece : 
   abbrev room : ℕ
   room = store_limit - input.store.stored - length input.store.body
 
-  -- no room for the ESC
+  -- the store has no space for the ESC
   pub escape_fills : room ≡ 0 → StopsByte g m.sink hold x m.sink (refusal Store behind.escape)
   escape_fills full = stops_own g m.sink hold x m.sink (refusal Store behind.escape) refl (λ s o pending k. escape_full behind.opened k behind.held low behind.ends full)
 
-  -- the ESC is of the body
+  -- the reading state with the ESC in the body
   abbrev hold' : ReadingState
   hold' = record hold { body = input.store.body ++ 27 ∷ [] }
 
   escape_is_kept : room ≢ 0 → (s : S) (o : Outcome) (pending : List Placed) → Continues g s o m.sink hold (x ∷ pending) → ReadsOn g s o m.sink hold' b x pending
   escape_is_kept some s o pending k = escape_kept behind.opened k behind.held low behind.ends some
 
-  -- no room for the byte
+  -- the store has no space for the byte
   pub byte_fills : room ≡ 1 → byte ≢ 27 → StopsByte g m.sink hold x m.sink (refusal Store place)
   byte_fills one plain =
       stops_own g m.sink hold x m.sink (refusal Store place) refl
       (λ s o pending k. byte_full (escape_is_kept (omega (arith, one)) s o pending k) (record { low = low; other = plain }) (omega (arith, one, length-append input.store.body (27 ∷ []))))
 
-  -- no memory
+  -- memory is lacking for the ESC or the byte
   pub both_lack : room ≢ 0 → (byte ≡ 27) ⊎ (room ≢ 1) → StopsByte g m.sink hold x m.sink (refusal Memory place)
   both_lack some two =
       stops_body g m.sink hold x b behind.opened
       (λ s known o k. next_broke (wants_next k (escape_unrefused behind.opened k.continues behind.held low behind.ends some two)))
 
-  -- It is of the body.
+  -- The ESC is added to the body.
   module _ {first : Input} (room_is : room ≢ 0) (sets : StoresBody input first (store_grown input.store (27 ∷ [])) (Some (record { name = b.name; show = b.show; escape = None }))) where
     same : unread (input.store.bytes ++ 27 ∷ []) input.frames.stack.items ≡ unread_of input
     same = unread-store_grown input.store.bytes (27 ∷ []) input.frames.stack.items input.framed
@@ -284,7 +284,7 @@ module _ {S : Type 0} {g : Ghosts S} (m : Machine S g) {input : Input} {piece : 
     pub next_still : IsNextByte first piece byte place
     next_still = next_same behind.next (same_comes sets same)
 
-    -- The byte is an ESC, which is held.
+    -- The byte is an ESC, which becomes pending.
     module _ {mid after : Input} (is : byte ≡ 27) (then : StoresBody first mid first.store (Some (record { name = b.name; show = b.show; escape = Some place }))) (adv : Advances mid after 1) where
       both : StoresBody input mid (store_grown input.store (27 ∷ [])) (Some (record { name = b.name; show = b.show; escape = Some place }))
       both = sets_then sets (subst (λ (store : StoreState). StoresBody first mid store (Some (record { name = b.name; show = b.show; escape = Some place }))) sets.store_is then)
@@ -295,7 +295,7 @@ module _ {S : Type 0} {g : Ghosts S} (m : Machine S g) {input : Input} {piece : 
           kept_goes both same adv behind.next.reads c (ap (take 1) behind.next.is) more live (omega arith)
           (λ s o pending k. escape_held (escape_is_kept room_is s o pending k) (ap (λ (n : ℕ). placed_at n place) is))
 
-    -- The byte is of the body, too.
+    -- The byte is added to the body, too.
     module _ {after : Input} (plain : byte ≢ 27) (keeps : Keeps first after piece 1) where
       pair : StoresBody input keeps.mid (store_grown (store_grown input.store (27 ∷ [])) (byte ∷ [])) (Some (record { name = b.name; show = b.show; escape = None }))
       pair =
@@ -313,7 +313,7 @@ module _ {S : Type 0} {g : Ghosts S} (m : Machine S g) {input : Input} {piece : 
           kept_goes pair same_pair keeps.passes behind.next.reads c (ap (take 1) behind.next.is) more live (omega arith)
           (λ s o pending k. byte_kept (escape_is_kept room_is s o pending k) (record { low = low; other = plain }) (omega (arith, room_is, two, length-append input.store.body (27 ∷ []))))
 
--- the byte that comes next
+-- the next byte
 pub next_byte : {input : Input} {piece : List ℕ} {first step : ℕ} {text : List ℕ} {ended : Bool} → Reads input piece → IsNext input piece first step text ended → IsNextByte input piece (get_or text 0 0) first
 unfolding placed_by_step
 next_byte {input} {piece} {first} {step} {text} reads next =
@@ -323,9 +323,9 @@ next_byte {input} {piece} {first} {step} {text} reads next =
     by [] some parts = absurd (omega (arith, some))
     by (b ∷ bs) some parts = record { reads = reads; rest = placed_by_step (first + step) step bs ++ parts.0; is = parts.1 }
 
--- What the end of a body does.
+-- The effect of the end of a body.
 
--- This byte ends the open body, with the ESC that is held.
+-- The byte ends the open body, with the pending ESC.
 module _ {S : Type 0} {g : Ghosts S} (m : Machine S g) {input : Input} {piece : List ℕ} {b : OpenBody} {byte place : ℕ} (ending : BehindEscape input piece b byte place true) where
   abbrev held_end : ReadingState
   held_end = reading_state_by m input
@@ -339,7 +339,7 @@ module _ {S : Type 0} {g : Ghosts S} (m : Machine S g) {input : Input} {piece : 
   next_is : bytes_of (unread_of input) ++ drop input.at piece ≡ byte ∷ bytes_of ending.next.rest
   next_is = sym (coming_bytes input piece) ∙ ap bytes_of ending.next.is
 
-  -- It is bound, and no run is open.
+  -- The body is bound, and no run is open.
   pub bound_goes : {m' : Machine S g} {after : Input} (step : Step) → TookMore g → b.show ≡ false → StoresBody input after (store_bound input.store b.name) None → Works m m' → (m'.work ≡ m.work) × (m'.sink ≡ m.sink) × (m'.open_run ≡ None) → Steps m.lexer 27 step m'.lexer → Goes piece 0 m input m' after
   bound_goes {m'} {after} step more hidden sets works (work, sink, closed_run) steps =
       let held = held_sets m' input after sets.store_is sets.body sets.still.same.budget sets.still.charged in
@@ -375,7 +375,7 @@ module _ {S : Type 0} {g : Ghosts S} (m : Machine S g) {input : Input} {piece : 
     shows : (s : S) (o : Outcome) (pending : List Placed) (k : Continues g s o m.sink held_end (ender ∷ pending)) → front held_end.machine (k.rest ++ ender ∷ pending) ≡ shown_front (after_body held_end.machine b.name held_end.body) place bytes pending
     shows s o pending k = body_shows ending.opened k ending.held ending.ends shown
 
-    -- It is shown, and no run is open.
+    -- The body is presented, and no run is open.
     shown_on : {m' : Machine S g} {mid after : Input} → TookMore g → Advances input mid 1 → Shows mid after (store_bound input.store b.name) None bytes place → Works m m' → (m'.work ≡ m.work) × (m'.sink ≡ m.sink) × (m'.open_run ≡ None) → m'.lexer ≡ m.lexer → GoesOn piece m input m' after
     shown_on {m'} {mid} {after} more adv shows_it works (work, sink, closed_run) lexer old before by =
         let few : length bytes ≤ input.budget - input.charged = omega (arith, shows_it.few, adv.passed.budget, adv.passed.charged) in
@@ -403,7 +403,7 @@ module _ {S : Type 0} {g : Ghosts S} (m : Machine S g) {input : Input} {piece : 
         let counts = counts_passed ending.next.reads adv.passed slice.2 slice.3 in
         record { counts = counts_then 0 (omega arith) counts (counts_still counts.reads shows_it.same); on = shown_on more adv shows_it works same lexer }
 
-    -- It can't be shown.
+    -- The body can't be presented.
     pub shown_stops : {mid after : Input} {fault : Fault} → Advances input mid 1 → CannotShow mid after bytes fault → StopsByte g m.sink held_end ender m.sink (refusal fault place)
     shown_stops {mid} adv cannot =
         cannot_stops (mid.budget - mid.charged) (after_body held_end.machine b.name held_end.body) bytes (omega (arith, adv.passed.budget, adv.passed.charged)) shows

@@ -6,7 +6,7 @@ use Rattle.nap_reader.proofs.PieceLemmas.{reaches_called, reaches_on}
 use Rattle.nap_reader.proofs.StopLemmas.{stops_reached}
 use Rattle.nap_reader.proofs.TakingLemmas.{place_at-drop, stops_behind}
 
--- How a reader comes further in a piece, and where it stops.
+-- How a reader advances in a piece, and where it stops.
 
 -- What was read of the input.
 
@@ -25,7 +25,7 @@ counts_then k few first then = record { reads = then.reads; budget = then.budget
 pub counts_less : {old new : Input} {piece : List ℕ} {n : ℕ} (k : ℕ) → k ≤ n → HasReadOn old new piece n → HasReadOn old new piece k
 counts_less k few counts = record { reads = counts.reads; budget = counts.budget; fed = counts.fed; turns = omega (arith, few, counts.turns) }
 
--- how much may still be read
+-- the number of bytes that may still be read
 abbrev pub to_come : Input → List ℕ → ℕ
 to_come input piece = input.fed + (length piece - input.at) + input.budget - input.turns
 
@@ -37,13 +37,13 @@ abbrev pub is_open : {A : Type 0} → Option A → ℕ
 is_open None = 0
 is_open (Some a) = 1
 
--- What comes next.
+-- The next bytes.
 
 pub coming_bytes : (input : Input) (piece : List ℕ) → bytes_of (next_bytes input piece) ≡ bytes_of (unread_of input) ++ drop input.at piece
 coming_bytes input piece =
     bytes_of-append (unread_of input) (placed_from input.fed (drop input.at piece)) ∙ ap (λ (bs : List ℕ). bytes_of (unread_of input) ++ bs) (bytes_of-placed input.fed (drop input.at piece))
 
--- it is the same
+-- the next bytes are unchanged
 pub record SameComes (old new : Input) : Type 0 where
   pub frames : unread_of new ≡ unread_of old
   pub same : Stays old new
@@ -61,18 +61,18 @@ coming_same {old} {new} piece still =
 pub next_same : {old new : Input} {piece : List ℕ} {byte place : ℕ} → IsNextByte old piece byte place → SameComes old new → IsNextByte new piece byte place
 next_same {piece = piece} next still = record { reads = reads_still next.reads still.same; rest = next.rest; is = coming_same piece still ∙ next.is }
 
--- and so is what came of it
+-- the bytes that came are unchanged
 pub came_same : {old mid : Input} {rest : List Placed} {piece : List ℕ} {until : ℕ} (count : ℕ) → SameComes old mid → Came (unread_of mid) rest piece mid.at until mid.fed (take count (next_bytes mid piece)) →
     Came (unread_of old) rest piece old.at until old.fed (take count (next_bytes old piece))
 came_same count still came = rw (still.frames, still.same.at, still.same.fed) at came
 
--- and so is the slice, where more is stored
+-- the next slice is unchanged by bytes that are added to the store
 pub comes_grown : {old new : Input} {store : StoreState} {opened : Option OpenBody} {piece text : List ℕ} {place : ℕ} (more : List ℕ) → StoresBody old new store opened → store.bytes ≡ old.store.bytes ++ more →
     AreNextBytes old.store.bytes old.frames.stack.items piece old.at old.fed text place → AreNextBytes new.store.bytes new.frames.stack.items piece new.at new.fed text place
 comes_grown {old} {piece = piece} {text = text} {place = place} more sets is comes =
     rw (ap (λ (t : StoreState). t.bytes) sets.store_is ∙ is, sets.still.frames, sets.still.same.at, sets.still.same.fed) (comes_still old.store.bytes more old.frames.stack.items old.framed piece old.at old.fed text place comes)
 
--- One change of what is stored, and another.
+-- one change of the store after another
 pub sets_then : {old mid new : Input} {first then : StoreState} {before after : Option OpenBody} → StoresBody old mid first before → StoresBody mid new then after → StoresBody old new then after
 sets_then sets more = record {
   still = record {
@@ -89,7 +89,7 @@ sets_then sets more = record {
   body = more.body;
 }
 
--- what is held depends on these parts of the input alone
+-- the reading state depends on these fields of the input alone
 pub held_parts : {S : Type 0} {g : Ghosts S} (m : Machine S g) (old new : Input) {left stored : ℕ} {names : List (List ℕ)} {body : List ℕ} {opened : Option OpenBody} → new.budget - new.charged ≡ left → new.store.names ≡ names → new.store.stored ≡ stored →
     new.store.body ≡ body → new.body ≡ opened → reading_state_by m new ≡ record (reading_state_by m old) { machine = record (machine_of m old) { left = left; names = names; stored = stored; mode = mode_of opened }; open_body = opened; body = body }
 held_parts m old new is_left is_names is_stored is_body is_opened = rw (is_left, is_names, is_stored, is_body, is_opened) refl
@@ -99,7 +99,7 @@ pub held_sets : {S : Type 0} {g : Ghosts S} (m : Machine S g) (old new : Input) 
 held_sets m old new store body budget after_charge =
     held_parts m old new (ap₂ (λ (b c : ℕ). b - c) budget after_charge) (ap (λ (t : StoreState). t.names) store) (ap (λ (t : StoreState). t.stored) store) (ap (λ (t : StoreState). t.body) store) body
 
--- So many bytes of the slice that comes next were passed.
+-- An input has passed `count` bytes of the next slice.
 module _ {input input' : Input} {piece : List ℕ} {count place : ℕ} {text : List ℕ} (reads : Reads input piece) (passed : Passed input input' count)
     (comes : AreNextBytes input.store.bytes input.frames.stack.items piece input.at input.fed text place) (few : count ≤ length text) where
   few_in : (length (unread_of input) ≡ 0 → input.at + count ≤ length piece) × (0 < length (unread_of input) → count ≤ length (unread_of input))
@@ -111,7 +111,7 @@ module _ {input input' : Input} {piece : List ℕ} {count place : ℕ} {text : L
   came_first : Came (unread_of input) (drop count (unread_of input)) piece input.at (input.at + (count - length (unread_of input))) input.fed (take count (next_bytes input piece))
   came_first = came_take (unread_of input) piece input.at input.fed count reads.within few_in.0 few_in.1
 
-  -- they came
+  -- the bytes that were passed came
   pub passed_come : unread input.store.bytes input'.frames.stack.items ≡ unread_of input' → Came (unread_of input) (unread_of input') piece input.at input'.at input.fed (take count (next_bytes input piece))
   passed_come still = rw (sym still ∙ passed_rest input piece text place comes passed few, moved.0) came_first
 
@@ -127,7 +127,7 @@ module _ {input input' : Input} {piece : List ℕ} {count place : ℕ} {text : L
         turns = omega (arith, passed.turns);
       }
 
--- The bytes before this index, and the one there, were passed; the slice has so many.
+-- The bytes before this index, and the one at it, were passed; the slice has `many` bytes.
 pub record PassedTo (input after : Input) (piece : List ℕ) (many index : ℕ) : Type 0 where
   pub place : ℕ
   pub text : List ℕ
@@ -139,7 +139,7 @@ pub record PassedTo (input after : Input) (piece : List ℕ) (many index : ℕ) 
   pub turns : input.turns ≤ after.turns
   pub fed : after.fed ≡ input.fed + (index + 1 - length (unread_of input))
 
--- so it is where the one was passed behind the others
+-- passing one byte after others passes all of them
 pub passed_then : {input mid after : Input} {piece : List ℕ} {index place : ℕ} {text : List ℕ} → Reads input piece → AreNextBytes input.store.bytes input.frames.stack.items piece input.at input.fed text place → index ≤ length text →
     Passed input mid index → unread input.store.bytes mid.frames.stack.items ≡ unread_of mid → Passed mid after 1 → PassedTo input after piece (length text) index
 passed_then {input} {mid} {after} {piece} {index} {place} {text} reads comes few first still last =
@@ -158,7 +158,7 @@ passed_then {input} {mid} {after} {piece} {index} {place} {text} reads comes few
       fed = omega (arith, one, two, ap length (sym still ∙ passed_rest input piece text place comes first few), length-drop index (unread_of input));
     }
 
--- nothing was passed
+-- no byte was passed
 pub passed_none : {old new : Input} → KeepsNextBytes old new → Passed old new 0
 passed_none {old} {new} still = record {
   moves = record {
@@ -186,7 +186,7 @@ passed_still {old} {mid} {new} {n} passed still = record {
   charged = still.charged ∙ passed.charged;
 }
 
--- The one was passed with the others.
+-- The byte was passed with those before it.
 pub passed_with : {input after : Input} {piece : List ℕ} {index place : ℕ} {text : List ℕ} → Reads input piece → AreNextBytes input.store.bytes input.frames.stack.items piece input.at input.fed text place → index + 1 ≤ length text →
     Passed input after (index + 1) → PassedTo input after piece (length text) index
 passed_with {input} {after} {piece} {index} {place} {text} reads comes few passed = record {
@@ -201,7 +201,7 @@ passed_with {input} {after} {piece} {index} {place} {text} reads comes few passe
   fed = (passed_to passed (λ some. omega (arith, few, (fits input piece text place comes reads.within).1 some))).1;
 }
 
--- Where a reader has come.
+-- How far a reader has read.
 
 pub reads_at : {S : Type 0} {g : Ghosts S} {m m' : Machine S g} {input input' : Input} {piece : List ℕ} {n : ℕ} (old : Reader S g) → ReadsTo old piece m input → HasReadOn input input' piece n → Works m m' →
     Reaches old piece input'.at m'.sink (reading_state_by m' input') (unread_of input') → ReadsTo old piece m' input'
@@ -215,7 +215,7 @@ reads_at old by counts works reaches = record {
   reaches = reaches;
 }
 
--- Bytes that come next were taken, or none, and what is held leads on.
+-- Some or none of the next bytes were consumed, and the reading state leads on.
 pub record GoesBy {S : Type 0} {g : Ghosts S} (m m' : Machine S g) (input input' : Input) (piece : List ℕ) (n : ℕ) (xs : List Placed) : Type 0 where
   pub counts : HasReadOn input input' piece n
   pub works : Works m m'
@@ -235,23 +235,22 @@ goes_by {m = m} {m' = m'} {input = input} {input' = input'} {piece = piece} {xs 
           (reaches_on more reads.reaches xs (subst (λ (n : ℕ). Came (unread_of input) (unread_of input') piece input.at input'.at n xs) reads.fed by.came) by.leads whole);
     }
 
--- less is counted
--- Where nothing is read, nothing changes.
+-- If nothing is read, nothing changes.
 pub goes_nowhere : {S : Type 0} {g : Ghosts S} {m : Machine S g} {input : Input} {piece : List ℕ} → Reads input piece → Goes piece 0 m input m input
 goes_nowhere reads = record { counts = counts_still reads (record { budget = refl; at = refl; fed = refl; turns = refl }); on = λ old before by. by }
 
 pub goes_less : {S : Type 0} {g : Ghosts S} {m m' : Machine S g} {input input' : Input} {piece : List ℕ} {n : ℕ} (k : ℕ) → k ≤ n → Goes piece n m input m' input' → Goes piece k m input m' input'
 goes_less k few goes = record { counts = counts_less k few goes.counts; on = goes.on }
 
--- further, and further
+-- one advance after another is an advance
 pub goes_then : {S : Type 0} {g : Ghosts S} {m m' m'' : Machine S g} {input input' input'' : Input} {piece : List ℕ} {n k : ℕ} → Goes piece n m input m' input' → Goes piece k m' input' m'' input'' → Goes piece n m input m'' input''
 goes_then {n = n} first later = record { counts = counts_then n (omega arith) first.counts later.counts; on = λ old before by. later.on old before (first.on old before by) }
 
--- the byte that comes next was passed
+-- the next byte was passed
 pub byte_passed : {input after : Input} {piece : List ℕ} {byte place : ℕ} (next : IsNextByte input piece byte place) → Passed input after 1 → PassedTo input after piece (length (byte_comes next).0) 0
 byte_passed next passed = let slice = byte_comes next in passed_with next.reads slice.2 slice.3 passed
 
--- why a body can't be shown isn't of the sink
+-- the fault of a body that can't be presented isn't the sink's
 pub own_fault : {mid after : Input} {bytes : List ℕ} {fault : Fault} → CannotShow mid after bytes fault → fault ≢ Sink
 own_fault {fault = fault} cannot device = elim cannot.reason [
   | inl budget ↦ let bad : Budget ≡ Sink = sym budget.0 ∙ device in cc
@@ -295,14 +294,14 @@ stops_from {S} {g} {m} {m'} {input} {after} {piece} {many} {index} {r} laws latc
       },
 )
 
--- The byte that comes next is refused, or memory is wanting for it.
+-- The next byte is refused, or memory is lacking for it.
 pub byte_stops : {S : Type 0} {g : Ghosts S} {m m' : Machine S g} {input after : Input} {piece : List ℕ} {many byte place : ℕ} {r : Refusal} → Lawful g → IsNextByte input piece byte place →
     m'.refusal ≡ Some r → m'.sink ≡ m.sink → r.fault ≢ Sink → PassedTo input after piece many 0 → StopsByte g m.sink (reading_state_by m input) (placed_at byte place) m.sink r → StopsFrom piece m input m' after
 byte_stops {S} {g} {m} {m'} {input} {byte = byte} {place = place} {r = r} laws next is sink other passed stops =
     stops_from laws (latches_own is sink other) is passed
     (at_byte (placed_at byte place) next.rest next.is (conveys_nothing g m.sink (reading_state_by m input)) (subst (λ (t : S). StopsByte g m.sink (reading_state_by m input) (placed_at byte place) t r) (sym sink) stops))
 
--- All of the piece was taken.
+-- All of the piece was consumed.
 pub takes_piece : {S : Type 0} {g : Ghosts S} (old new : Reader S g) (piece : List ℕ) → refusal_of old ≡ None → ReadsTo old piece new.machine new.input → next_bytes new.input piece ≡ [] → TakesPiece old new piece
 takes_piece {S} {g} old new piece before by empty =
     let input = new.input in
@@ -360,7 +359,7 @@ module _ {S : Type 0} {g : Ghosts S} {m : Machine S g} {input begin : Input} {pi
         };
       }))
 
-  -- It is read.
+  -- A piece is read.
   pub reads_piece : {m' : Machine S g} {after : Input} → GoesOn piece m begin m' after → next_bytes after piece ≡ [] → ReadsPiece piece m input m' after
   reads_piece {m'} {after} goes empty old new is_machine is_input is_new is_after =
       let unrefused = ap (λ (m : Machine S g). m.refusal) is_machine ∙ before in
@@ -368,18 +367,18 @@ module _ {S : Type 0} {g : Ghosts S} {m : Machine S g} {input begin : Input} {pi
       (subst (λ (m : Machine S g). ReadsTo old piece m new.input) (sym is_new) (subst (ReadsTo old piece m') (sym is_after) (goes old unrefused (begins old is_machine is_input))))
       (ap (λ (i : Input). next_bytes i piece) is_after ∙ empty)
 
-  -- It is refused, or reading breaks.
+  -- A piece is refused, or reading breaks in it.
   pub stops_piece : {m' : Machine S g} {after : Input} → StopsFrom piece m begin m' after → StopsPiece piece m input m' after
   stops_piece stops = (
     stops.0,
     λ old new is_machine is_input is_new is_after. stops.1 old new (ap (λ (m : Machine S g). m.refusal) is_machine ∙ before) (begins old is_machine is_input) is_new is_after,
   )
 
--- A reader had come further before it was refused.
+-- A reader had advanced before it was refused.
 pub stops_then : {S : Type 0} {g : Ghosts S} {m m' m'' : Machine S g} {input input' input'' : Input} {piece : List ℕ} → GoesOn piece m input m' input' → StopsFrom piece m' input' m'' input'' → StopsFrom piece m input m'' input''
 stops_then goes stops = (stops.0, λ old new before by is_machine is_input. stops.1 old new before (goes old before by) is_machine is_input)
 
--- Less may come; or as much, and what was open is over.
+-- Fewer bytes may still be read; or as many, and what was open has ended.
 pub smaller : {A : Type 0} {old new : Option A} {input input' : Input} {piece : List ℕ} {n : ℕ} → Reads input piece → HasReadOn input input' piece n → (0 < n) ⊎ ((new ≡ None) × (old ≢ None)) → 2 * to_come input' piece + is_open new < 2 * to_come input piece + is_open old
 smaller {A} {old} {new} {input} {input'} {piece} {n} reads counts which = by which
   where
@@ -400,7 +399,7 @@ pub match_goes : {S A E : Type 0} {g : Ghosts S} {m m' : Machine S g} {input inp
 match_goes m'' input'' (Ok a) first later = goes_then first later
 match_goes m'' input'' (Err e) first later = stops_then first.on later
 
--- Where nothing comes, no body is read.
+-- If no byte comes next, no body is being read.
 pub comes_rested : (input : Input) (piece : List ℕ) → next_bytes input piece ≡ [] → input.frames.stack.items ≡ []
 comes_rested input piece empty =
     nil_from_length input.frames.stack.items
@@ -426,14 +425,14 @@ refused_by {S} {g} {old} {new} {piece} {r} refuses is = record {
     by false e other working = e
     by true e other working = absurd (other (ap (λ (r : Refusal). r.fault) (sym why) ∙ refuses.kept working e))
 
--- what holds where no refusal is kept
+-- the property of a result, if no refusal is kept
 pub unrefused : {A E P : Type 0} (r : Result A E) (refusal : Option Refusal) → OnOk r P → ((e : E) → r ≡ Err e → IsSome refusal) → refusal ≡ None → P
 unrefused (Ok a) refusal ok refused none = ok
 unrefused (Err e) refusal ok refused none = let bad : true ≡ false = sym (refused e refl) ∙ ap is_some none in cc
 
--- One turn of the loop.
+-- One iteration of the loop.
 
--- what comes behind the slice is what comes behind its bytes
+-- the bytes after the slice are those after its bytes
 pub next_over : (input : Input) (piece : List ℕ) (first step : ℕ) (text : List ℕ) (ended : Bool) → (next : IsNext input piece first step text ended) →
     (more : List Placed) × (next_bytes input piece ≡ placed_by_step first step text ++ more) × (ended ≡ true → IsOver (bytes_of more))
 next_over input piece first step text ended next =
@@ -453,18 +452,18 @@ module _ {S : Type 0} {g : Ghosts S} {from now : Machine S g} {input : Input} {p
   few : count ≤ length turn.text
   few = omega (arith, turn.takes.within, length-placed_by_step turn.first turn.step turn.text)
 
-  -- what the machine took, seen by what is held
+  -- the machine's step, by reading states
   pub turn_takes : TakesBy g from.sink (reading_state_by from input) now.sink (reading_state_by now input) (next_bytes input piece) (length turn.text) count now.refusal request
   turn_takes =
       subst (λ (n : ℕ). TakesBy g from.sink (reading_state_by from input) now.sink (reading_state_by now input) (next_bytes input piece) n count now.refusal request) (length-placed_by_step turn.first turn.step turn.text)
       (subst (λ (all : List Placed). TakesBy g from.sink (reading_state_by from input) now.sink (reading_state_by now input) all (length slice) count now.refusal request) (sym parts.1)
       (turn.takes.by (reading_state_by from input) parts.0 turn.between parts.2))
 
-  -- They can be passed.
+  -- The bytes of the step can be passed.
   pub turn_passes : CanAdvance input count
   turn_passes = record { piece = piece; reads = turn.reads; place = turn.first; text = turn.text; comes = turn.next.comes; few = few }
 
-  -- They were passed.
+  -- The bytes of the step were passed.
   module _ {input' : Input} (adv : Advances input input' count) where
     still : unread input.store.bytes input'.frames.stack.items ≡ unread_of input'
     still = ap (λ (store : StoreState). unread store.bytes input'.frames.stack.items) (sym adv.store)
@@ -482,7 +481,7 @@ module _ {S : Type 0} {g : Ghosts S} {from now : Machine S g} {input : Input} {p
         ap (drop count) (came_coming (unread_of input) (unread_of input') piece input.at input'.at input.fed input'.fed (take count all) turn_came turn_counts.fed)
         ∙ drop_at (take count all) (next_bytes input' piece) count counted
 
-    -- The reader has come further.
+    -- The reader has advanced.
     pub turn_goes : {after : Input} → TookMore g → LeadsOn g from.sink (reading_state_by from input) now.sink (state_after_request (reading_state_by now input) request) (take count (next_bytes input piece)) (bytes_of (drop count (next_bytes input piece))) →
         reading_state_by now after ≡ state_after_request (reading_state_by now input) request → SameComes input' after → Works from now → Goes piece count from input now after
     turn_goes {after} more leads held same works = goes_by {xs = take count (next_bytes input piece)} more (record {
@@ -492,13 +491,13 @@ module _ {S : Type 0} {g : Ghosts S} {from now : Machine S g} {input : Input} {p
       leads = rw (held, sym (ap bytes_of (turn_leaves ∙ sym (coming_same piece same)) ∙ coming_bytes after piece)) leads;
     })
 
-    -- The stream is refused at the byte behind those that were taken, or reading breaks there.
+    -- The stream is refused at the byte after the consumed ones, or reading breaks there.
     pub turn_stops : {after : Input} {r : Refusal} → Lawful g → Advances input' after 1 → Latches from now → now.refusal ≡ Some r →
         Stops g from.sink (reading_state_by from input) (next_bytes input piece) (length turn.text) count now.sink r → StopsFrom piece from input now after
     turn_stops laws then latches is stops =
         stops_from laws latches is (passed_then turn.reads turn.next.comes few adv.passed still then.passed) stops
 
-    -- the byte there can be passed
+    -- the byte at the stop can be passed
     pub stop_passes : {u : S} {r : Refusal} → Stops g from.sink (reading_state_by from input) (next_bytes input piece) (length turn.text) count u r → CanAdvance input' 1
     stop_passes {u} {r} stops = by (next_bytes input' piece) refl
       where
@@ -512,7 +511,7 @@ module _ {S : Type 0} {g : Ghosts S} {from now : Machine S g} {input : Input} {p
 
 -- A macro is called.
 
--- nothing is held back whatever is left to charge
+-- nothing is pending, whatever the budget left
 still_held : (h : ReadingState) (n : ℕ) → h.open_body ≡ None → h.open_run ≡ None → ArePending [] h → ArePending [] (record h { machine = record h.machine { left = n } })
 still_held h n between closed held =
     let half = is_between h [] between held in
@@ -548,7 +547,7 @@ module _ {S : Type 0} {g : Ghosts S} {from now : Machine S g} {input input' : In
       let fit = fits input piece turn.text turn.first turn.next.comes turn.reads.within in
       came_take (unread_of input) piece input.at input.fed index turn.reads.within (λ none. omega (arith, within, fit.0 none)) (λ some. omega (arith, within, fit.1 some))
 
-  -- the place of the call
+  -- the place of the call is that of its last byte
   place_is : place ≡ x.place
   place_is =
       let slice = placed_by_step turn.first turn.step turn.text in
@@ -564,7 +563,7 @@ module _ {S : Type 0} {g : Ghosts S} {from now : Machine S g} {input input' : In
   calls_it s o pending c =
       subst (λ (ns : List (List ℕ)). front calls.holding.machine (c.rest ++ x ∷ pending) ≡ shown_front (reading_state_by now input).machine x.place (body_of ns name) pending) (sym names) (calls.front_is s o pending c)
 
-  -- The body comes next.
+  -- The body of the call comes next.
   call_on : {after : Input} → TookMore g → Works from now → Shows input' after input'.store input'.body bytes place → GoesOn piece from input now after
   call_on {after} more works shows old before by =
       let m = (reading_state_by now input).machine in
@@ -606,7 +605,7 @@ module _ {S : Type 0} {g : Ghosts S} {from now : Machine S g} {input input' : In
   pub call_goes : {after : Input} → TookMore g → Works from now → Shows input' after input'.store input'.body bytes place → Goes piece count from input now after
   call_goes more works shows = let counts = turn_counts turn adv in record { counts = counts_then count (omega arith) counts (counts_still counts.reads shows.same); on = call_on more works shows }
 
-  -- It can't be charged, or memory is wanting for it.
+  -- The body of the call can't be charged, or memory is lacking for it.
   pub call_refuses : {after : Input} {fault : Fault} {m' : Machine S g} → Lawful g → Works from now → CannotShow input' after bytes fault → m'.refusal ≡ Some (refusal fault place) → m'.sink ≡ now.sink →
       StopsFrom piece from input m' after
   call_refuses {after} {fault} {m'} laws works cannot is sink =
@@ -628,7 +627,7 @@ module _ {S : Type 0} {g : Ghosts S} {from now : Machine S g} {input input' : In
 
 -- The loop.
 
--- where a byte comes next, no body is being defined
+-- if a slice comes next, no body is being defined
 pub between_slices : {input : Input} {piece : List ℕ} {first step : ℕ} {text : List ℕ} {ended : Bool} → IsNext input piece first step text ended → (input.body ≡ None) ⊎ (next_bytes input piece ≡ []) → input.body ≡ None
 between_slices next (inl none) = none
 between_slices {input} {piece} {first} {step} {text} {ended} next (inr empty) =
@@ -643,7 +642,7 @@ leaves_live old new (Call name) leaves other = leaves.live
 leaves_live old new (Define name show) leaves other = leaves.live
 leaves_live old new Stop leaves other = absurd (other refl)
 
--- the place of the last byte that was taken
+-- the place of the last consumed byte
 pub last_place : (first step : ℕ) (text : List ℕ) (count place : ℕ) → place ≡ first + step * (count - 1) → count ≤ length text → 0 < count → place ≡ place_at (placed_by_step first step text) (count - 1)
 last_place first step text count place is few some = is ∙ sym (place_at-placed_by_step first step text (count - 1) (omega (arith, few, some)))
 
@@ -664,7 +663,7 @@ turn_is {piece = piece} {text = text} {first = first} {step = step} {place = pla
   last = λ some. last_place first step text count place is (omega (arith, takes.within, length-placed_by_step first step text)) some;
 }
 
--- some bytes were taken, or the open run is over
+-- some bytes were consumed, or the open run is over
 pub turn_less : {S : Type 0} {g : Ghosts S} (from now new : Machine S g) {bytes : List Placed} {ended : Bool} {count : ℕ} {request : Request} → Takes from now bytes ended count request → 0 < length bytes → request ≢ Stop → (now.open_run ≡ None → new.open_run ≡ None) →
     (0 < count) ⊎ ((new.open_run ≡ None) × (from.open_run ≢ None))
 turn_less from now new {count = count} {request = request} takes some other run = by (takes.goes some)

@@ -5,7 +5,7 @@ use Rattle.nap_list.specs.Agreement.{DefinitionsAgree, StatesAgree}
 use Rattle.nap_list.specs.Range.{AllInRange, InRange, MapColourInRange, StateInRange}
 use Rattle.nap_list.proofs.PublicLaws.{fits_join, start_agrees, walks_join}
 
--- The end of a stream keeps what it has.
+-- The end of a stream keeps the entries before it.
 
 definition_keeps : (o : Outcome) (n : ℕ) (opened : Option OpenDefinition) → (with_definition o n opened).entries ≡ o.entries
 definition_keeps o n None = refl
@@ -53,7 +53,7 @@ module _ {S : Type 0} (g : Ghosts S) (s : S) (budget : ℕ) (p : List ℕ) (b : 
   at_byte (inr h) = with_byte h.part
 
 module _ (budget : ℕ) (before last : List ℕ) (i : ℕ) (within : i < length last) where
-  -- the bytes up to the one that broke, and that
+  -- the bytes up to the one that broke, and that one
   abbrev p : List ℕ
   p = before ++ take i last
 
@@ -105,14 +105,14 @@ end_breaks_among g s budget p t r live h =
       from = breaks_more [] (same ∙ sym (append-nil last.entries)) (between_from h.part);
     }
 
--- What is read fits, and is in range.
+-- The entries that are read fit, and are in range.
 
--- a drawing state agrees with the one shown, and its values are in range
+-- a drawing state agrees with the state that the entries left, and its values are in range
 record HasRead (work : Work) (shown : State) : Type 0 where
   pub agrees : StatesAgree work.state shown
   pub ranged : StateInRange work.state
 
--- what a front puts
+-- the entries that a front puts fit and are in range
 puts_stand : {work after : Work} {es : List Entry} (shown : State) → Puts work es after → HasRead work shown → AllFit shown es × AllInRange es × HasRead after (walk shown es)
 unfolding walk AllFit
 puts_stand shown puts_nothing so = (tt, All-nil InRange, so)
@@ -125,7 +125,8 @@ puts_stand {work} shown (by_code c d made is) so =
     let ranged = code_values_are_in_range work c d is made so.ranged in
     (fits.0, ranged.0, record { agrees = fits.1; ranged = ranged.1 })
 
--- An outcome's entries fit and are in range, and so is what is unfinished; its state agrees with the one that they leave.
+-- An outcome's entries fit and are in range, and so is what is unfinished; its state agrees with the one that they
+-- leave.
 record Sound (shown : State) (o : Outcome) : Type 0 where
   pub fit : AllFit shown o.entries
   pub entries : AllInRange o.entries

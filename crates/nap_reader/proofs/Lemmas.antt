@@ -1,4 +1,4 @@
--- The lemmas that answers cite, passed on from one place. Declares nothing.
+-- Passes on the lemmas that answers cite. Declares nothing.
 pub use Rattle.nap_reader.proofs.Base.{EndsRun, Lawful, TookMore, at_front, begins, behind_in_body, behind_in_piece, body_ended, bound_grown, broke_in_run, byte_comes, byte_eighth, bytes_of-placed_by_step, calls_by_name, calls_by_shift, can_pass, code_of, comes_inside, ended_is, ends_run, ends_works, first_byte, frames-push, frames-store, frames-unread, front_made, gives-all, gives-some, grown_by, grown_either, grown_few, grown_framed, grown_paired, grown_turned, if_err_by, in_block, last-frame, last_run_is, leads_unrefused, length-sublist, length-placed_by_step, length-unread-push, matched_err, more_of, none_behind, none_left, of_text_is, on_ok_by, opcode_alone, opens_drawn, other_mask, part_inside, past_block, past_effector, past_graphic, place_at-placed_by_step, refused_at_end, same-frame, same-front, sink_fault, some_inside, stands_by, state_of, stays, stops_at_end, stops_own, taken_next, text_inside, unread-push, unread-store, whole_run_is}
 pub use Rattle.nap_reader.proofs.CodesLemmas.{IsRuled, IsTextOf, Lexes, acts, alone_acts, alone_nothing, alone_stops, binds, call_takes, fault_takes, half_takes, macro_takes, nothing_takes, opcode_read, rested, ruled_stops, ruled_takes, strays_takes, text_halts, text_taken}
 pub use Rattle.nap_reader.proofs.CollectLemmas.{Gave, cut_off, device_fault, feeds_on, feeds_refused, flag_stays, read_whole, reads_few, refused_behind, refused_whole}

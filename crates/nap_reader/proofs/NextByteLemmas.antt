@@ -1,7 +1,7 @@
 use Rattle.nap_reader.proofs.Common.{All, All-append, All-cons, All-head, All-nil, All-pop, All-tail, Came, CanAdvance, AreNextBytes, Err, Frame, FramesIn, Innermost, Input, IsBefore, IsFrame, IsNextByte, List, None, Ok, OnErr, OnOk, Passed, Placed, Result, Some, Span, StoreState, [], all_at, ap, append-nil, append_assoc, ap₂, arith, bytes_after, bytes_of, store_bound, next_bytes, drop, drop-append-le, drop-append_seam, drop-drop, drop-map, drop_all, drop_at, drop_more, drop_of_length-le, frame_bytes, get_or, get_or-append_seam, store_grown, inl, inr, length, length-append, length-drop, length-map, length-take, length-take-le, map, map-append, map-set, nil_from_length, of_body, of_piece, sublist, sublist_at, place_at, placed_at, placed_from, refl, set, store_shown, slice_get, placed_by_step, store_limit, subst, suc, sym, take, take-add, take-append-drop, take-append-le, take-append_seam, take-map, take-take, take_all, unread, unread_of, zero, ℕ, ◌*◌, ◌++◌, ◌+◌, ◌-◌, ◌<◌, ◌∙◌, ◌∷◌, ◌≡◌, ◌≢◌, ◌≤◌, ◌⊎◌}
 use Rattle.nap_reader.proofs.StreamLemmas.{bytes_of-all_at, bytes_of-append, length-all_at, placed_from-append}
 
--- a part stays where the list grows
+-- a part of a list is unchanged by more bytes at the end of the list
 pub sublist-store_grown : (bytes more : List ℕ) (start end : ℕ) → start ≤ end → end ≤ length bytes → sublist (bytes ++ more) start end ≡ sublist bytes start end
 sublist-store_grown bytes more start end h within =
     ap (take (end - start)) (drop-append-le start bytes more (omega arith))
@@ -20,7 +20,7 @@ bodies-store_grown bytes more n (span ∷ spans) h all =
     let rest = bodies-store_grown bytes more n spans h (All-tail (IsBefore n) span spans all) in
     ap (λ (body : List ℕ). body ∷ map (sublist_at (bytes ++ more)) spans) same ∙ ap (λ (bodies : List (List ℕ)). sublist_at bytes span ∷ bodies) rest
 
--- what a store is, seen by its parts
+-- the state of a store with these fields
 abbrev pub state_of : List ℕ → List Span → ℕ → ℕ → StoreState
 state_of bytes spans from stored = record { names = map (sublist_at bytes) spans; bytes = bytes; body = drop from bytes; stored = stored }
 
@@ -68,7 +68,7 @@ sublist-split bytes next end count less =
     ∙ take-add count (end - (next + count)) (drop next bytes)
     ∙ ap₂ (λ (xs ys : List ℕ). xs ++ take (end - (next + count)) ys) (sym first) (drop-drop count next bytes)
 
--- the innermost body gives so many bytes, and more
+-- the innermost body gives some of its bytes, and keeps others
 pub gives-some : (bytes : List ℕ) (frames : List Frame) (next end place count : ℕ) → count ≤ end - next →
     unread bytes (frames ++ record { next = next; end = end; place = place } ∷ [])
     ≡ all_at place (take count (sublist bytes next end)) ++ unread bytes (frames ++ record { next = next + count; end = end; place = place } ∷ [])
@@ -81,7 +81,7 @@ gives-some bytes frames next end place count less =
     ∙ append_assoc (all_at place front) (all_at place rest) (unread bytes frames)
     ∙ ap (λ (xs : List Placed). all_at place front ++ xs) (sym (unread-push bytes frames (record { next = next + count; end = end; place = place })))
 
--- it gives all that it has
+-- the innermost body gives all of its bytes
 pub gives-all : (bytes : List ℕ) (frames : List Frame) (next end place count : ℕ) → end ≤ length bytes → end - next ≤ count →
     unread bytes (frames ++ record { next = next; end = end; place = place } ∷ []) ≡ all_at place (take count (sublist bytes next end)) ++ unread bytes frames
 gives-all bytes frames next end place count within all =
@@ -99,7 +99,7 @@ same-frame frames before before' frame frame' is is' =
     ∙ ap (λ (i : ℕ). get_or (before' ++ frame' ∷ []) i frame) same
     ∙ get_or-append_seam before' frame' [] frame
 
--- what it gives is the front of what it has
+-- the bytes that the innermost body gives are a prefix of its bytes
 pub same-front : (bytes : List ℕ) (frames before : List Frame) (frame : Frame) (text : List ℕ) (place count : ℕ) → frames ≡ before ++ frame ∷ [] → Innermost bytes frames text place →
     all_at frame.place (take count (sublist bytes frame.next frame.end)) ≡ all_at place (take count text)
 same-front bytes frames before frame text place count is inner =
@@ -107,7 +107,7 @@ same-front bytes frames before frame text place count is inner =
     ap (λ (f : Frame). all_at f.place (take count (sublist bytes f.next f.end))) same
     ∙ ap₂ (λ (n : ℕ) (xs : List ℕ). all_at n (take count xs)) (sym inner.place_is) (sym inner.text_is)
 
--- what is unread stays where the store grows
+-- the unread bytes are unchanged when bytes are added to the store
 pub unread-store_grown : (bytes more : List ℕ) (frames : List Frame) → FramesIn (length bytes) frames → unread (bytes ++ more) frames ≡ unread bytes frames
 unread-store_grown bytes more [] h = refl
 unread-store_grown bytes more (frame ∷ frames) h =
@@ -122,7 +122,7 @@ last-frame n frames before frame e h = (All-pop (IsFrame n) frames before (Some 
 pub length-sublist : (bytes : List ℕ) (start end : ℕ) → start ≤ end → end ≤ length bytes → length (sublist bytes start end) ≡ end - start
 length-sublist bytes start end h within = length-take (end - start) (drop start bytes) ∙ omega (arith, length-drop start bytes)
 
--- how much is unread once one more body is read
+-- the number of unread bytes with one more body
 pub length-unread-push : (bytes : List ℕ) (frames : List Frame) (frame : Frame) → IsFrame (length bytes) frame →
     length (unread bytes (frames ++ frame ∷ [])) ≡ length (unread bytes frames) + (frame.end - frame.next)
 length-unread-push bytes frames frame h =
@@ -130,7 +130,7 @@ length-unread-push bytes frames frame h =
     let count = length-all_at frame.place (sublist bytes frame.next frame.end) ∙ length-sublist bytes frame.next frame.end (omega (arith, h.0)) h.1 in
     omega (arith, pushed, count)
 
--- each body that is read has a byte to give
+-- each body that is read has an unread byte
 pub frames-unread : (bytes : List ℕ) (frames : List Frame) → FramesIn (length bytes) frames → length frames ≤ length (unread bytes frames)
 frames-unread bytes [] h = omega arith
 frames-unread bytes (frame ∷ frames) h =
@@ -142,7 +142,7 @@ frames-unread bytes (frame ∷ frames) h =
 pub frames-within : (n m : ℕ) (frames : List Frame) → n ≤ m → FramesIn n frames → FramesIn m frames
 frames-within n m frames h all k d within = let one = all k d within in (one.0, omega (arith, one.1))
 
--- what is unread stays where a body grows
+-- the unread bytes are unchanged when the open body grows
 pub unread-store : (old new : StoreState) (more : List ℕ) (frames : List Frame) → new.bytes ≡ old.bytes ++ more → FramesIn (length old.bytes) frames →
     unread new.bytes frames ≡ unread old.bytes frames
 unread-store old new more frames e h = ap (λ (bytes : List ℕ). unread bytes frames) e ∙ unread-store_grown old.bytes more frames h
@@ -152,11 +152,11 @@ pub frames-store : (old new : StoreState) (more : List ℕ) (frames : List Frame
 frames-store old new more frames e h =
     frames-within (length old.bytes) (length new.bytes) frames (omega (arith, ap length e, length-append old.bytes more)) h
 
--- one body more is within the store
+-- one more body is within the store
 pub frames-push : (n : ℕ) (frames : List Frame) (frame : Frame) → FramesIn n frames → IsFrame n frame → FramesIn n (frames ++ frame ∷ [])
 frames-push n frames frame h is = All-append (IsFrame n) frames (frame ∷ []) h (All-cons (IsFrame n) frame [] is (All-nil (IsFrame n)))
 
--- The bytes of a slice behind so many.
+-- The bytes of a slice after its first n.
 
 pub drop-placed_by_step : (place step : ℕ) (bs : List ℕ) (n : ℕ) → drop n (placed_by_step place step bs) ≡ placed_by_step (place + step * n) step (drop n bs)
 unfolding placed_by_step
@@ -164,7 +164,7 @@ drop-placed_by_step place step bs zero = ap (λ (p : ℕ). placed_by_step p step
 drop-placed_by_step place step [] (suc n) = refl
 drop-placed_by_step place step (b ∷ bs) (suc n) = drop-placed_by_step (place + step) step bs n ∙ ap (λ (p : ℕ). placed_by_step p step (drop n bs)) (let e : place + step + step * n ≡ place + step * suc n = grind arith in e)
 
--- one of them, and those behind it
+-- the byte of a slice at an index, and those after it
 pub byte-placed_by_step : (place step : ℕ) (bs : List ℕ) (n : ℕ) → n < length bs → drop n (placed_by_step place step bs) ≡ placed_at (get_or bs n 0) (place + step * n) ∷ placed_by_step (place + step * (n + 1)) step (drop (n + 1) bs)
 unfolding placed_by_step
 byte-placed_by_step place step bs n less =
@@ -180,16 +180,16 @@ pub first_byte : (bytes : List ℕ) (b : ℕ) → slice_get bytes 0 ≡ Some b �
 first_byte [] b some = let bad : None ≡ Some b = some in cc
 first_byte (c ∷ rest) b some = let same : c ≡ b = cc in (rest, ap (λ (b : ℕ). b ∷ rest) same)
 
--- the bytes of some in two parts
+-- the bytes of a list in two parts
 pub split_bytes : (all : List Placed) (p q : List ℕ) → bytes_of all ≡ p ++ q → (bytes_of (take (length p) all) ≡ p) × (bytes_of (drop (length p) all) ≡ q)
 split_bytes all p q is = (
   sym (take-map (λ (x : Placed). x.byte) (length p) all) ∙ ap (take (length p)) is ∙ take-append_seam p q,
   sym (drop-map (λ (x : Placed). x.byte) (length p) all) ∙ ap (drop (length p)) is ∙ drop-append_seam p q,
 )
 
--- What comes next, and what was taken of it.
+-- The next bytes, and those consumed of them.
 
--- bytes in the piece, and in a body
+-- the places of bytes in the piece, and in a body
 pub placed_by_step-one : (place : ℕ) (bs : List ℕ) → placed_by_step place 1 bs ≡ placed_from place bs
 unfolding placed_by_step placed_from
 placed_by_step-one place [] = refl
@@ -219,7 +219,7 @@ take-placed zero n bs = refl
 take-placed (suc k) n [] = refl
 take-placed (suc k) n (b ∷ bs) = ap (λ (xs : List Placed). placed_at b n ∷ xs) (take-placed k (suc n) bs)
 
--- Frames are none, or have bytes to give.
+-- A list of frames is empty, or has unread bytes.
 pub none_or_some : (frames : List Frame) → (frames ≡ []) ⊎ (frames ≢ [])
 none_or_some [] = inl refl
 none_or_some (first ∷ others) = inr (λ none. let bad : ⊥ = cc in bad)
@@ -228,7 +228,7 @@ some_unread : (stored : List ℕ) (frames : List Frame) → FramesIn (length sto
 some_unread stored [] framed some = absurd (some refl)
 some_unread stored (first ∷ others) framed some = omega (arith, frames-unread stored (first ∷ others) framed)
 
--- How many bytes were passed, and how far.
+-- The number of bytes that were passed, and the index after them.
 pub passed_to : {input input' : Input} {count : ℕ} → Passed input input' count → (0 < length (unread_of input) → count ≤ length (unread_of input)) →
     (input'.at ≡ input.at + (count - length (unread_of input))) × (input'.fed ≡ input.fed + (count - length (unread_of input)))
 passed_to {input} passed inside = elim (none_or_some input.frames.stack.items) [
@@ -242,12 +242,12 @@ passed_to {input} passed inside = elim (none_or_some input.frames.stack.items) [
       (omega (arith, moved.0, few), omega (arith, moved.1, few))
 ]
 
--- what the innermost body has comes first of what is unread
+-- the bytes of the innermost body are a prefix of the unread bytes
 body_next : {stored : List ℕ} {frames : List Frame} {text : List ℕ} {place : ℕ} (inner : Innermost stored frames text place) → unread stored frames ≡ all_at place text ++ unread stored inner.before
 body_next {stored} inner =
     ap (unread stored) inner.last ∙ unread-push stored inner.before inner.frame ∙ ap₂ (λ (m : ℕ) (bs : List ℕ). all_at m bs ++ unread stored inner.before) (sym inner.place_is) (sym inner.text_is)
 
--- Where the bytes that come next are none, nothing comes.
+-- If the next slice is empty, no byte comes next.
 pub none_comes : {stored : List ℕ} {frames : List Frame} {piece text : List ℕ} {at fed place : ℕ} → FramesIn (length stored) frames → at ≤ length piece → AreNextBytes stored frames piece at fed text place →
     text ≡ [] → (unread stored frames ≡ []) × (length piece ≤ at)
 none_comes {stored} {frames} {piece} {text} {at} framed within comes none = elim (none_or_some frames) [
@@ -260,7 +260,7 @@ none_comes {stored} {frames} {piece} {text} {at} framed within comes none = elim
 
 -- A slice comes next.
 module _ (input : Input) (piece text : List ℕ) (place : ℕ) (comes : AreNextBytes input.store.bytes input.frames.stack.items piece input.at input.fed text place) where
-  -- what comes begins with its bytes, and behind them comes what is behind
+  -- the next bytes begin with those of the slice, followed by those after it
   pub text_next : (step : ℕ) → (input.frames.stack.items ≡ [] → step ≡ 1) → (input.frames.stack.items ≢ [] → step ≡ 0) → (more : List Placed) × (next_bytes input piece ≡ placed_by_step place step text ++ more)
   text_next step of_one of_none = elim (none_or_some input.frames.stack.items) [
     | inl none ↦
@@ -280,7 +280,7 @@ module _ (input : Input) (piece text : List ℕ) (place : ℕ) (comes : AreNextB
         )
   ]
 
-  -- its first bytes are the first of them
+  -- the first bytes of the slice are the first of the next bytes
   pub taken_next : (n : ℕ) → n ≤ length text → take n (bytes_of (next_bytes input piece)) ≡ take n text
   taken_next n few = elim (none_or_some input.frames.stack.items) [
     | inl none ↦ at_step 1 (λ _. refl) (λ some. absurd (some none))
@@ -294,7 +294,7 @@ module _ (input : Input) (piece text : List ℕ) (place : ℕ) (comes : AreNextB
           ∙ ap (take n) (bytes_of-append (placed_by_step place step text) next.0 ∙ ap (λ (bs : List ℕ). bs ++ bytes_of next.0) (bytes_of-placed_by_step place step text))
           ∙ take-append-le n text (bytes_of next.0) few
 
-  -- how many it has
+  -- the number of bytes of the slice
   pub fits : input.at ≤ length piece → (length (unread_of input) ≡ 0 → input.at + length text ≤ length piece) × (0 < length (unread_of input) → length text ≤ length (unread_of input))
   fits within = elim (none_or_some input.frames.stack.items) [
     | inl none ↦ (
@@ -307,7 +307,7 @@ module _ (input : Input) (piece text : List ℕ) (place : ℕ) (comes : AreNextB
         (λ none. absurd (omega (arith, none, some_unread input.store.bytes input.frames.stack.items input.framed some)), λ _. omega (arith, size, length-all_at place text))
   ]
 
-  -- what is unread once so many of them were passed
+  -- the unread bytes after `count` were passed
   pub passed_rest : {input' : Input} {count : ℕ} → Passed input input' count → count ≤ length text → unread input.store.bytes input'.frames.stack.items ≡ drop count (unread_of input)
   passed_rest {input'} {count} passed few = elim (none_or_some input.frames.stack.items) [
     | inl none ↦ ap (unread input.store.bytes) (passed.moves.of_piece none).0 ∙ sym (ap (λ (frames : List Frame). drop count (unread input.store.bytes frames)) none ∙ drop_all count [] (omega arith))
@@ -316,12 +316,12 @@ module _ (input : Input) (piece text : List ℕ) (place : ℕ) (comes : AreNextB
         ∙ drop_at (all_at place (take count text)) (unread input.store.bytes input'.frames.stack.items) count (length-all_at place (take count text) ∙ length-take-le count text few))
   ]
 
--- frames that are some have a last one
+-- a list of frames that isn't empty has a last one
 last_parts : (first : Frame) (others : List Frame) → (before : List Frame) × (frame : Frame) × (first ∷ others ≡ before ++ frame ∷ [])
 last_parts first [] = ([], first, refl)
 last_parts first (next ∷ others) = let parts = last_parts next others in (first ∷ parts.0, parts.1, ap (λ (frames : List Frame). first ∷ frames) parts.2)
 
--- What comes behind the innermost body.
+-- The byte after the innermost body.
 behind_body : (stored : List ℕ) (frames : List Frame) (piece text : List ℕ) (at place : ℕ) (inner : Innermost stored frames text place) →
     bytes_after stored frames piece at text ≡ bytes_of (unread stored inner.before) ++ drop at piece
 behind_body stored frames piece text at place inner =
@@ -332,13 +332,13 @@ behind_body stored frames piece text at place inner =
     (ap (λ (bs : List ℕ). bs ++ drop at piece) (bytes_of-append (all_at place text) outer ∙ ap (λ (bs : List ℕ). bs ++ bytes_of outer) (bytes_of-all_at place text)) ∙ append_assoc text (bytes_of outer) (drop at piece))
     ∙ drop_at text (bytes_of outer ++ drop at piece) (length text) refl
 
--- a body's bytes, by the first
+-- the bytes of a part, by the first
 first_of_part : (stored : List ℕ) (next end : ℕ) → next < end → end ≤ length stored → sublist stored next end ≡ get_or stored next 0 ∷ take (end - next - 1) (drop (next + 1) stored)
 first_of_part stored next end some within =
     let one_more : end - next ≡ suc (end - next - 1) = omega (arith, some) in
     ap (λ (n : ℕ). take n (drop next stored)) one_more ∙ ap (take (suc (end - next - 1))) (drop_more stored next 0 (omega (arith, some, within)))
 
--- the next byte of the body outside it
+-- the byte after the innermost body is the next byte of the body outside it
 pub behind_in_body : (stored : List ℕ) (frames : List Frame) → FramesIn (length stored) frames → (piece text : List ℕ) (at place : ℕ) → Innermost stored frames text place → (d : Frame) → 1 < length frames →
     (rest : List ℕ) × (bytes_after stored frames piece at text ≡ get_or stored (get_or frames (length frames - 2) d).next 0 ∷ rest)
 behind_in_body stored frames framed piece text at place inner d more = by inner.before refl
@@ -363,7 +363,7 @@ behind_in_body stored frames framed piece text at place inner d more = by inner.
               ∙ ap (λ (f : Frame). get_or stored f.next 0 ∷ ((bytes ++ bytes_of (unread stored parts.0)) ++ drop at piece)) (sym second),
         )
 
--- else the next of the piece
+-- without a body outside it, the byte after the innermost body is the next byte of the piece
 pub behind_in_piece : (stored : List ℕ) (frames : List Frame) (piece text : List ℕ) (at place : ℕ) → Innermost stored frames text place → length frames ≤ 1 → at < length piece →
     (rest : List ℕ) × (bytes_after stored frames piece at text ≡ get_or piece at 0 ∷ rest)
 behind_in_piece stored frames piece text at place inner one within =
@@ -372,7 +372,7 @@ behind_in_piece stored frames piece text at place inner one within =
       behind_body stored frames piece text at place inner ∙ ap (λ (fs : List Frame). bytes_of (unread stored fs) ++ drop at piece) none ∙ drop_more piece at 0 within,
     )
 
--- else nothing
+-- no byte comes after the innermost body
 pub none_behind : (stored : List ℕ) (frames : List Frame) (piece text : List ℕ) (at fed place : ℕ) → length frames ≤ 1 → (frames ≡ []) ⊎ (length piece ≤ at) → AreNextBytes stored frames piece at fed text place →
     bytes_after stored frames piece at text ≡ []
 none_behind stored [] piece text at fed place one none comes =
@@ -385,7 +385,7 @@ none_behind stored (first ∷ others) piece text at fed place one (inr all) come
     let none : inner.before ≡ [] = nil_from_length inner.before (omega (arith, one, ap length inner.last, length-append inner.before (inner.frame ∷ []))) in
     behind_body stored frames piece text at place inner ∙ ap (λ (fs : List Frame). bytes_of (unread stored fs) ++ drop at piece) none ∙ drop_all at piece all
 
--- What came, and what comes then.
+-- The bytes that came, and the next bytes then.
 pub came_coming : (frames rest : List Placed) (piece : List ℕ) (at until fed counted : ℕ) (xs : List Placed) → Came frames rest piece at until fed xs → counted + at ≡ fed + until →
     frames ++ placed_from fed (drop at piece) ≡ xs ++ (rest ++ placed_from counted (drop until piece))
 came_coming frames rest piece at until fed counted xs (of_body some split still) counts =
@@ -402,12 +402,12 @@ came_coming frames rest piece at until fed counted xs (of_piece empty none is fu
     ∙ ap (λ (bs : List ℕ). xs ++ placed_from counted bs) (drop-drop n at piece ∙ ap (λ (k : ℕ). drop k piece) (sym further))
     ∙ ap (λ (zs : List Placed). xs ++ (zs ++ placed_from counted (drop until piece))) (sym none)
 
--- how far the piece was read
+-- the index up to which the piece was read
 pub came_within : (frames rest : List Placed) (piece : List ℕ) (at until fed : ℕ) (xs : List Placed) → at ≤ length piece → Came frames rest piece at until fed xs → (at ≤ until) × (until ≤ length piece)
 came_within frames rest piece at until fed xs within (of_body some is same) = (omega (arith, same), omega (arith, same, within))
 came_within frames rest piece at until fed xs within (of_piece empty none is moved inside) = (omega (arith, moved), inside)
 
--- where none came, those that come next are the same
+-- if no bytes came, the next bytes are unchanged
 pub came_none : (frames rest : List Placed) (piece : List ℕ) (at until fed : ℕ) (xs : List Placed) → xs ≡ [] → Came frames rest piece at until fed xs → (rest ≡ frames) × (until ≡ at)
 came_none frames rest piece at until fed xs none (of_body some split same) = (sym (split ∙ ap (λ (zs : List Placed). zs ++ rest) none), same)
 came_none frames rest piece at until fed xs none (of_piece empty gone is moved within) = (gone ∙ sym empty, omega (arith, moved, ap length none))
@@ -426,7 +426,7 @@ some_come stored frames framed piece at fed = by frames refl
           record { of_piece = λ none. absurd (some none); of_body = λ _. record { before = parts.0; frame = parts.1; last = is ∙ parts.2; text_is = refl; place_is = refl } },
         )
 
--- A byte comes next, in some slice.
+-- The next byte is in some slice.
 pub byte_comes : {input : Input} {piece : List ℕ} {byte place : ℕ} → IsNextByte input piece byte place →
     (text : List ℕ) × (first : ℕ) × AreNextBytes input.store.bytes input.frames.stack.items piece input.at input.fed text first × (1 ≤ length text)
 byte_comes {input} {piece} {byte} {place} next = by there.0 refl
@@ -440,18 +440,18 @@ byte_comes {input} {piece} {byte} {place} next = by there.0 refl
         absurd (omega (arith, ap length (sym next.is ∙ ap (λ (zs : List Placed). zs ++ placed_from input.fed (drop input.at piece)) nothing.0), length-placed input.fed (drop input.at piece), length-drop input.at piece, nothing.1))
     by (b ∷ bs) some = (there.0, there.1, there.2, omega (arith, ap length some))
 
--- It can be passed.
+-- The next byte can be passed.
 pub can_pass : {input : Input} {piece : List ℕ} {byte place : ℕ} → IsNextByte input piece byte place → CanAdvance input 1
 can_pass {input} {piece} next = let c = byte_comes next in record { piece = piece; reads = next.reads; place = c.1; text = c.0; comes = c.2; few = c.3 }
 
--- a slice is where it is
+-- the place of a byte of a slice
 pub place_at-placed_by_step : (place step : ℕ) (bs : List ℕ) (i : ℕ) → i < length bs → place_at (placed_by_step place step bs) i ≡ place + step * i
 unfolding placed_by_step
 place_at-placed_by_step place step [] i less = absurd (omega (arith, less))
 place_at-placed_by_step place step (b ∷ bs) zero less = grind arith
 place_at-placed_by_step place step (b ∷ bs) (suc i) less = place_at-placed_by_step (place + step) step bs i (omega (arith, less)) ∙ grind arith
 
--- What comes of a body that is being read.
+-- The next slice is of a body that is being read.
 module _ (stored : List ℕ) (frames : List Frame) (text : List ℕ) (place : ℕ) (inner : Innermost stored frames text place) where
   pub some_inside : frames ≢ []
   some_inside none = omega (arith, ap length (sym none ∙ inner.last), length-append inner.before (inner.frame ∷ []))
@@ -459,13 +459,13 @@ module _ (stored : List ℕ) (frames : List Frame) (text : List ℕ) (place : �
   pub comes_inside : (piece : List ℕ) (at fed : ℕ) → AreNextBytes stored frames piece at fed text place
   comes_inside piece at fed = record { of_piece = λ none. absurd (some_inside none); of_body = λ _. inner }
 
-  -- it has a byte to give
+  -- a body that is being read has an unread byte
   pub text_inside : FramesIn (length stored) frames → 0 < length text
   text_inside framed =
       let is = last-frame (length stored) frames inner.before inner.frame inner.last framed in
       omega (arith, is.0, ap length inner.text_is, length-sublist stored inner.frame.next inner.frame.end (omega (arith, is.0)) is.1)
 
-  -- where it lies in the store, and its first bytes
+  -- the index of a body's bytes in the store, and its first bytes
   pub part_inside : FramesIn (length stored) frames → (n : ℕ) → n ≤ length text → (inner.frame.next + n ≤ length stored) × (sublist stored inner.frame.next (inner.frame.next + n) ≡ take n text)
   part_inside framed n few =
       let is = last-frame (length stored) frames inner.before inner.frame inner.last framed in
@@ -477,13 +477,13 @@ module _ (stored : List ℕ) (frames : List Frame) (text : List ℕ) (place : �
             ∙ ap (take n) (sym inner.text_is),
       )
 
--- Nothing comes of bodies, nor of the piece.
+-- No bytes of bodies are left, nor of the piece.
 pub none_left : (input : Input) (piece : List ℕ) → input.frames.stack.items ≡ [] → length piece ≤ input.at → next_bytes input piece ≡ []
 unfolding placed_from
 none_left input piece none all =
     ap (λ (frames : List Frame). unread input.store.bytes frames ++ placed_from input.fed (drop input.at piece)) none ∙ ap (placed_from input.fed) (drop_all input.at piece all)
 
--- The open body has more bytes.
+-- The open body has grown.
 module _ (input : Input) (new : StoreState) (more : List ℕ) (is : new ≡ store_grown input.store more) where
   pub grown_unread : unread new.bytes input.frames.stack.items ≡ unread_of input
   grown_unread = unread-store input.store new more input.frames.stack.items (ap (λ (t : StoreState). t.bytes) is) input.framed
@@ -501,13 +501,13 @@ module _ (input : Input) (new : StoreState) (more : List ℕ) (is : new ≡ stor
   grown_paired =
       omega (arith, input.paired, ap (λ (t : StoreState). t.stored + length t.body) is, length-append input.store.body more, ap (λ (t : StoreState). length t.bytes) is, length-append input.store.bytes more)
 
--- it has them, or memory was wanting and it has none
+-- the open body has the bytes, or memory was lacking and it has none
 pub grown_either : {E : Type 0} (r : Result (Unit {0}) E) (old new : StoreState) (more : List ℕ) → OnOk r (new ≡ store_grown old more) → OnErr r (new ≡ old) → (some : List ℕ) × (length some ≤ length more) × (new ≡ store_grown old some)
 grown_either (Ok done) old new more ok err = (more, omega arith, ok)
 grown_either (Err e) old new more ok err =
     ([], omega arith, err ∙ sym (ap₂ (λ (bytes body : List ℕ). record old { bytes = bytes; body = body }) (append-nil old.bytes) (append-nil old.body)))
 
--- What comes next is the same where the open body has more bytes.
+-- The next bytes are unchanged when the open body grows.
 pub comes_still : (stored more : List ℕ) (frames : List Frame) → FramesIn (length stored) frames → (piece : List ℕ) (at fed : ℕ) (text : List ℕ) (place : ℕ) → AreNextBytes stored frames piece at fed text place → AreNextBytes (stored ++ more) frames piece at fed text place
 comes_still stored more frames framed piece at fed text place comes = record {
   of_piece = comes.of_piece;
@@ -523,7 +523,7 @@ comes_still stored more frames framed piece at fed text place comes = record {
       };
 }
 
--- So many bytes came: of bodies, or of the piece.
+-- The n bytes that came: of bodies, or of the piece.
 pub came_take : (frames : List Placed) (piece : List ℕ) (at fed n : ℕ) → at ≤ length piece → (length frames ≡ 0 → at + n ≤ length piece) → (0 < length frames → n ≤ length frames) →
     Came frames (drop n frames) piece at (at + (n - length frames)) fed (take n (frames ++ placed_from fed (drop at piece)))
 came_take [] piece at fed n within alone inside =
@@ -534,7 +534,7 @@ came_take (x ∷ xs) piece at fed n within alone inside =
     let few = inside (omega arith) in
     of_body (omega arith) (sym (take-append-drop n (x ∷ xs)) ∙ ap (λ (ys : List Placed). ys ++ drop n (x ∷ xs)) (sym (take-append-le n (x ∷ xs) (placed_from fed (drop at piece)) few))) (omega (arith, few))
 
--- the byte that comes next came
+-- the next byte came
 pub came_next : (rest : List Placed) (piece : List ℕ) (until fed : ℕ) (x : Placed) (bytes_after : List Placed) → until ≤ length piece → rest ++ placed_from fed (drop until piece) ≡ x ∷ bytes_after →
     Came rest (drop 1 rest) piece until (until + (1 - length rest)) fed (x ∷ [])
 came_next rest piece until fed x bytes_after within is =

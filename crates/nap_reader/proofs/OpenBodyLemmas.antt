@@ -4,7 +4,7 @@ use Rattle.nap_reader.proofs.ReadingLemmas.{place_at-behind, front_body, leads_l
 use Rattle.nap_reader.proofs.StreamLemmas.{bytes_of-append, outcome_from-front}
 use Rattle.nap_reader.proofs.SpelledLemmas.{escape_unfinished}
 
--- What the next byte of an open body does.
+-- The effect of the next byte of an open body.
 
 -- a byte that is neither ESC nor has the eighth bit
 pub record IsPlain (byte : ℕ) : Type 0 where
@@ -33,7 +33,7 @@ plain_front room byte bytes plain =
     let other : eqb byte 27 ≡ false = grind (arith, nat_tests, plain.other) in
     rw (low, other) refl
 
--- ESC, and behind it a byte that doesn't end the body
+-- ESC, and after it a byte that doesn't end the body
 pub escape_front : (room byte : ℕ) (bytes : List ℕ) → byte < 128 → ends_body byte ≡ false →
     body_front room (27 ∷ byte ∷ bytes) ≡ stores room (body_front (room - 1) (byte ∷ bytes))
 unfolding body_front
@@ -41,7 +41,7 @@ escape_front room byte bytes few ends =
     let low : leb 128 byte ≡ false = grind (arith, nat_tests) in
     rw (low, ends) refl
 
--- ESC, and behind it a byte that ends the body
+-- ESC, and after it a byte that ends the body
 pub ended_front : (room byte : ℕ) (bytes : List ℕ) → ends_body byte ≡ true → body_front room (27 ∷ byte ∷ bytes) ≡ bodies.ended 0
 unfolding body_front
 ended_front room byte bytes ends =
@@ -60,7 +60,7 @@ eighth_escape room byte bytes high =
     let test : leb 128 byte ≡ true = grind (arith, nat_tests) in
     rw test refl
 
--- a byte that belongs to the body, whatever comes behind it
+-- a byte that belongs to the body, whatever comes after it
 of_body : (room : ℕ) (body : List ℕ) (byte : ℕ) (next more : List ℕ) →
     body_front room (body ++ (byte ∷ (next ++ more))) ≡ body_front_after (length body) (stores (room - length body) (body_front (room - length body - 1) (next ++ more))) →
     room - length body ≢ 0 →
@@ -104,7 +104,7 @@ body_begins b h none mode empty still half =
 held_length : (rest : List Placed) (b : OpenBody) (h : ReadingState) (next : List ℕ) → AtBody rest b h next → length h.body ≡ length rest
 held_length rest b h next at = ap length (sym at.body) ∙ length-map rest _
 
--- what stands at the front of bytes of a body, and of what comes behind them
+-- the front of the bytes of a body and of those after them
 body_at : (rest : List Placed) (b : OpenBody) (h : ReadingState) (next : List ℕ) (xs : List Placed) (more : List ℕ) → AtBody rest b h next → bytes_of xs ≡ next ++ more →
     front h.machine (rest ++ xs)
     ≡ body_front_by h.machine b.name b.show (rest ++ xs) (body_front_after (length h.body) (body_front (store_limit - h.machine.stored - length h.body) (next ++ more)))
@@ -115,7 +115,7 @@ body_at rest b h next xs more at is =
     (bytes_of-append rest xs ∙ ap (λ (bs : List ℕ). bs ++ bytes_of xs) at.body ∙ ap (λ (bs : List ℕ). h.body ++ bs) is)
     ∙ at.goes_on more)
 
--- what is known before the next byte of a body
+-- the state before the next byte of a body
 module _ {S : Type 0} {g : Ghosts S} {s : S} {o : Outcome} {t : S} {h : ReadingState} {b : OpenBody} {x : Placed} {pending : List Placed} (k : ReadsOn g s o t h b x pending) where
   abbrev room : ℕ
   room = store_limit - h.machine.stored - length h.body
@@ -126,7 +126,7 @@ module _ {S : Type 0} {g : Ghosts S} {s : S} {o : Outcome} {t : S} {h : ReadingS
       body_at k.rest b h (x.byte ∷ []) (x ∷ pending) (bytes_of pending) k.at refl
       ∙ ap (λ (f : BodyFront). body_front_by h.machine b.name b.show (k.rest ++ x ∷ pending) (body_front_after (length h.body) f)) e
 
-  -- it is refused
+  -- the next byte is refused
   refused_next : (fault : Fault) → body_front room (x.byte ∷ bytes_of pending) ≡ bodies.refused fault 0 → IsRefused g s o t h (refusal fault x.place)
   refused_next fault e =
       let place = place_at-behind k.rest x pending (length h.body + 0) (omega (arith, held_length k.rest b h (x.byte ∷ []) k.at)) in
@@ -141,7 +141,7 @@ module _ {S : Type 0} {g : Ghosts S} {s : S} {o : Outcome} {t : S} {h : ReadingS
   pub byte_full : IsPlain x.byte → room ≡ 0 → IsRefused g s o t h (refusal Store x.place)
   byte_full plain none = refused_next Store (plain_front room x.byte (bytes_of pending) plain ∙ stores-none room _ none)
 
-  -- what is held once the byte is read
+  -- the reading state after the byte
   abbrev pub reading_on : Option ℕ → List ℕ → ReadingState
   reading_on escape body = record h {
     machine = record h.machine { mode = in_body b.name b.show };
@@ -166,7 +166,7 @@ module _ {S : Type 0} {g : Ghosts S} {s : S} {o : Outcome} {t : S} {h : ReadingS
   bytes_more : bytes_of (k.rest ++ x ∷ []) ≡ h.body ++ x.byte ∷ []
   bytes_more = bytes_of-append k.rest (x ∷ []) ∙ ap (λ (bs : List ℕ). bs ++ x.byte ∷ []) k.at.body
 
-  -- it is a byte of the body
+  -- the byte is a byte of the body
   pub byte_kept : IsPlain x.byte → room ≢ 0 → Continues g s o t (reading_on None (h.body ++ x.byte ∷ [])) pending
   byte_kept plain some = shifts (reading_on None (h.body ++ x.byte ∷ [])) refl (record {
     bytes = k.rest ++ x ∷ [];
@@ -182,7 +182,7 @@ module _ {S : Type 0} {g : Ghosts S} {s : S} {o : Outcome} {t : S} {h : ReadingS
     };
   })
 
-  -- it is ESC
+  -- the byte is ESC
   pub escape_held : x ≡ record { byte = 27; place = x.place } → Continues g s o t (reading_on (Some x.place) h.body) pending
   escape_held is = shifts (reading_on (Some x.place) h.body) refl (record {
     bytes = k.rest;
@@ -196,7 +196,7 @@ module _ {S : Type 0} {g : Ghosts S} {s : S} {o : Outcome} {t : S} {h : ReadingS
     };
   })
 
--- a byte behind an open body
+-- a byte after an open body
 module _ {S : Type 0} {g : Ghosts S} {s : S} {o : Outcome} {t : S} {h : ReadingState} {b : OpenBody} {x : Placed} {pending : List Placed} (opened : h.open_body ≡ Some b) (k : Continues g s o t h (x ∷ pending)) where
   pub held_body : IsOpenBody k.rest b h
   held_body = subst (ArePendingIn k.rest h) opened k.held
@@ -204,12 +204,12 @@ module _ {S : Type 0} {g : Ghosts S} {s : S} {o : Outcome} {t : S} {h : ReadingS
   abbrev unread_room : ℕ
   unread_room = store_limit - h.machine.stored - length h.body
 
-  -- what is held once the body has ended
+  -- the reading state once the body has ended
   pub body_over : (m : Machine) → m.mode ≡ between → ArePending [] (record h { machine = m; open_run = None; run = []; open_body = None; body = [] })
   body_over m mode =
       holds_nothing (record h { machine = m; open_run = None; run = []; open_body = None; body = [] }) refl mode refl refl held_body.at.half
 
-  -- where no ESC is held
+  -- no ESC is pending
   pub reads_on : b.escape ≡ None → ReadsOn g s o t h b x pending
   reads_on none =
       let at : AtBody held_body.bytes b h [] = subst (λ (e : Option ℕ). AtBody held_body.bytes b h (bytes_of (pending_escape e))) none held_body.at in
@@ -223,7 +223,7 @@ module _ {S : Type 0} {g : Ghosts S} {s : S} {o : Outcome} {t : S} {h : ReadingS
         leads = k.leads ∙ ap (λ (xs : List Placed). prepend k.done (outcome_from h.machine (xs ++ x ∷ pending))) all;
       }
 
-  -- what stands at the front where an ESC is held at this place
+  -- the front of the next bytes, if an ESC is pending at this place
   module _ {place : ℕ} (held : b.escape ≡ Some place) where
     abbrev escape : Placed
     escape = record { byte = 27; place = place }
@@ -247,14 +247,14 @@ module _ {S : Type 0} {g : Ghosts S} {s : S} {o : Outcome} {t : S} {h : ReadingS
     body_length : length h.body ≡ length held_body.bytes
     body_length = held_length held_body.bytes b h (27 ∷ []) at_escape
 
-    -- it belongs to the body, and has no room
+    -- the ESC belongs to the body, which has no space for it
     pub escape_full : x.byte < 128 → ends_body x.byte ≡ false → unread_room ≡ 0 → IsRefused g s o t h (refusal Store place)
     escape_full few ends none =
         let e = escape_at_front (bodies.refused Store 0) (escape_front unread_room x.byte (bytes_of pending) few ends ∙ stores-none unread_room _ none) in
         let there = place_at-behind held_body.bytes escape (x ∷ pending) (length h.body + 0) (omega (arith, body_length)) in
         leads_to_refusal k _ (e ∙ ap (λ (n : ℕ). refuse (refusal Store n)) there)
 
-    -- it belongs to the body
+    -- the ESC belongs to the body
     pub escape_kept : x.byte < 128 → ends_body x.byte ≡ false → unread_room ≢ 0 → ReadsOn g s o t (record h { body = h.body ++ 27 ∷ [] }) b x pending
     escape_kept few ends some =
         record {
@@ -293,7 +293,7 @@ module _ {S : Type 0} {g : Ghosts S} {s : S} {o : Outcome} {t : S} {h : ReadingS
       pair_left : drop (length h.body) xs ≡ escape ∷ x ∷ pending
       pair_left = drop_at held_body.bytes (escape ∷ x ∷ pending) (length h.body) (sym body_length)
 
-      -- and its end is the next code
+      -- the body is bound, and its end is the next code
       pub body_binds : b.show ≡ false →
           front h.machine (k.rest ++ x ∷ pending) ≡ act [] (after_body h.machine b.name h.body) (escape ∷ x ∷ pending)
       body_binds hidden =
@@ -313,7 +313,7 @@ module _ {S : Type 0} {g : Ghosts S} {s : S} {o : Outcome} {t : S} {h : ReadingS
       unfolding body_bound leads_past leads_shift code_goes_on
       same_done hidden = refl
 
-      -- or it is shown
+      -- the body is presented
       pub body_shows : b.show ≡ true →
           front h.machine (k.rest ++ x ∷ pending) ≡ shown_front (after_body h.machine b.name h.body) x.place (h.body ++ 27 ∷ x.byte ∷ []) pending
       body_shows shown =
@@ -336,7 +336,7 @@ module _ {S : Type 0} {g : Ghosts S} {s : S} {o : Outcome} {t : S} {h : ReadingS
           ∙ ap (λ (bs : List ℕ). shown_front (after_body h.machine b.name h.body) x.place bs (drop (n + 2) xs)) bytes
           ∙ ap (shown_front (after_body h.machine b.name h.body) x.place (h.body ++ 27 ∷ x.byte ∷ [])) left
 
-      -- and is charged
+      -- the body that is presented is charged
       pub body_charged : b.show ≡ true → length h.body + 2 ≤ h.machine.left → o.machine.left < h.machine.left
       body_charged shown few =
           let bytes = h.body ++ 27 ∷ x.byte ∷ [] in
@@ -363,7 +363,7 @@ module _ {S : Type 0} {g : Ghosts S} {s : S} {o : Outcome} {t : S} {h : ReadingS
           (escape_at_front held _ (eighth_escape unread_room x.byte (bytes_of pending) high)
           ∙ ap (λ (n : ℕ). refuse (refusal EighthBit n)) there)
 
--- a held ESC and a byte behind it belong to a body, which has room for all of them that are stored
+-- a pending ESC and the byte after it belong to a body, which has space for all of them that are stored
 module _ {S : Type 0} {g : Ghosts S} {s : S} {o : Outcome} {t : S} {h : ReadingState} {b : OpenBody} {x : Placed} {place : ℕ} (opened : h.open_body ≡ Some b) (k : Continues g s o t h (x ∷ [])) (held : b.escape ≡ Some place)
     (few : x.byte < 128) (ends : ends_body x.byte ≡ false) (some : store_limit - h.machine.stored - length h.body ≢ 0) where
   both_kept : ReadsOn g s o t (record h { body = h.body ++ 27 ∷ [] }) b x []

@@ -2,15 +2,15 @@ use Rattle.nap_reader.proofs.Common.{All, All-head, All-tail, Bool, Fits, IfSome
 use Rattle.std.proofs.lemmas.Simd.{chunk-drop, leading_from_mask_l, length-chunk, mask_l-mod, trailing_mask_l}
 use lib.Lanes.{Each1, chunk, mask_l, top, zip2}
 
--- Operand bytes at the front, and their words.
--- Bytes of a range at the front, seen by blocks through the mask of those that are others.
+-- Operand bytes of a prefix, and their words. Bytes of a range in a prefix, counted in blocks by the mask of the
+-- others.
 
 pub operands_in_front : (bytes : List ℕ) (n : ℕ) → n ≤ prefix_len is_operand_byte bytes → All (λ b. is_operand_byte b ≡ true) (take n bytes)
 operands_in_front bytes n few = λ k d within.
     let k_few : k < n = omega (arith, within, length-take-le n bytes (omega (arith, few, prefix_len-le-length is_operand_byte bytes))) in
     ap is_operand_byte (get_or-take n bytes k d k_few) ∙ prefix_len_passes is_operand_byte bytes k d (omega (arith, k_few, few))
 
--- no operand comes behind them
+-- no operand comes after the operand bytes of a prefix
 pub run_over : (piece behind : List ℕ) (n : ℕ) → n ≡ prefix_len is_operand_byte piece → (n ≡ length piece → IsOver behind) → IsOver (drop n piece ++ behind)
 run_over piece behind n counted over = by (drop n piece) refl
   where
@@ -28,7 +28,7 @@ run_over piece behind n counted over = by (drop n piece) refl
           ∙ prefix_len_stops is_operand_byte piece 0 (omega (arith, counted, ap length some, length-drop n piece));
     }
 
--- they are a whole run, where another byte comes behind them
+-- the operand bytes of a prefix are a complete run if another byte comes after them
 pub whole_run_is : (piece behind : List ℕ) (n : ℕ) → n ≡ prefix_len is_operand_byte piece → (n ≡ length piece → IsOver behind) → IsWholeRun piece behind (take n piece)
 whole_run_is piece behind n counted over = record {
   within = let least = prefix_len-le-length is_operand_byte piece in omega (arith, length-take-le n piece (omega (arith, counted, least)), counted, least);
@@ -38,7 +38,8 @@ whole_run_is piece behind n counted over = record {
   over = run_over piece behind n counted over;
 }
 
--- the last run, where they are all of the piece: how many there are, that it is whole, and why there is none
+-- the last run, if all bytes of the piece are operand bytes: their number, that the run is complete, and why there is
+-- none
 pub last_run_is : {R : Type 0} (now : R → List ℕ) (piece : List ℕ) (n : ℕ) → n ≡ prefix_len is_operand_byte piece → n ≤ run_limit → n ≡ length piece → (ended : Bool) (result : Option R) →
     MatchOption result (ended ≡ false) (λ run. (ended ≡ true) × (now run ≡ piece)) →
     IfSome result (λ run. length (now run) ≤ run_limit) × IfSome result (λ run. (behind : List ℕ) → (ended ≡ true → IsOver behind) → IsWholeRun piece behind (now run))
@@ -62,7 +63,7 @@ same_words (b ∷ bytes) all =
     ap₂ (λ w ws. w ∷ ws) (same_word b (All-head (λ x. is_operand_byte x ≡ true) b bytes all))
     (same_words bytes (All-tail (λ x. is_operand_byte x ≡ true) b bytes all))
 
--- The bytes that are kept of an open run.
+-- The operand bytes that an open run keeps.
 
 pub words_kept : (open_run : Option OpenRun) (opened : OpenRun) (bytes : List ℕ) → open_run ≡ Some opened → run_by open_run bytes ≡ operand_words bytes
 words_kept open_run opened bytes is = ap (λ (o : Option OpenRun). run_by o bytes) is
@@ -70,7 +71,7 @@ words_kept open_run opened bytes is = ap (λ (o : Option OpenRun). run_by o byte
 pub as_many_words : (open_run : Option OpenRun) (opened : OpenRun) (bytes : List ℕ) → open_run ≡ Some opened → length (run_by open_run bytes) ≡ length bytes
 as_many_words open_run opened bytes is = ap length (words_kept open_run opened bytes is) ∙ length-map bytes (λ b. b % 64)
 
--- operand bytes behind them are as many words more
+-- operand bytes after those of an open run are as many further words
 pub more_words : (open_run : Option OpenRun) (opened : OpenRun) (bytes more : List ℕ) → open_run ≡ Some opened → All (λ b. is_operand_byte b ≡ true) more →
     run_by open_run (bytes ++ more) ≡ run_by open_run bytes ++ map (λ b. b - 64) more
 more_words open_run opened bytes more is all =
@@ -103,7 +104,7 @@ other_mask least v small long fits =
     ∙ ap (λ l. mask_l l % 2 ^ 64) (other_lanes least v small fits)
     ∙ mask_l-mod (map (is_other least) v) 64 (omega (arith, length-map v (is_other least), long))
 
--- ---- the bytes at the front of what is left
+-- ---- the first of the bytes that are left
 
 not-not : (b : Bool) → b ≡ not (not b)
 not-not true = refl
@@ -124,21 +125,21 @@ all_pass least (b ∷ bytes) e = none_other (is_other least b) _ (length bytes) 
 by_block : (least : ℕ) (piece : List ℕ) (i n : ℕ) → prefix_len (is_from least) (drop i piece) ≡ cond (eqb (prefix_len (is_from least) (chunk i n piece)) (length (chunk i n piece))) (length (chunk i n piece) + prefix_len (is_from least) (drop (i + n) piece)) (prefix_len (is_from least) (chunk i n piece))
 by_block least piece i n = ap (prefix_len (is_from least)) (chunk-drop i n piece) ∙ prefix_len-append (is_from least) (chunk i n piece) (drop (i + n) piece)
 
--- a block of such bytes alone
+-- a block with bytes of the range alone
 pub past_block : (least : ℕ) (piece : List ℕ) (i n : ℕ) → i + n ≤ length piece → mask_l (map (is_other least) (chunk i n piece)) ≡ 0 → prefix_len (is_from least) (drop i piece) ≡ n + prefix_len (is_from least) (drop (i + n) piece)
 past_block least piece i n room none =
     let block = chunk i n piece in
     by_block least piece i n ∙ ap (λ x. cond x (length block + prefix_len (is_from least) (drop (i + n) piece)) (prefix_len (is_from least) block)) (eq-eqb _ _ (same_run least block ∙ leading_from_mask_l (is_other least) block none))
     ∙ ap (λ k. k + prefix_len (is_from least) (drop (i + n) piece)) (length-chunk i n piece room)
 
--- a block in which they end
+-- a block in which the bytes of the range end
 pub in_block : (least : ℕ) (piece : List ℕ) (i n : ℕ) → i + n ≤ length piece → n ≤ 64 → 0 < mask_l (map (is_other least) (chunk i n piece)) → prefix_len (is_from least) (drop i piece) ≡ count_trailing_zeros 64 (mask_l (map (is_other least) (chunk i n piece)))
 in_block least piece i n room short some =
     let block = chunk i n piece in
     by_block least piece i n ∙ ap (λ x. cond x (length block + prefix_len (is_from least) (drop (i + n) piece)) (prefix_len (is_from least) block)) (ne_eqb _ _ (λ (e : prefix_len (is_from least) block ≡ length block). omega (arith, all_pass least block (sym (same_run least block) ∙ e))))
     ∙ same_run least block ∙ sym (trailing_mask_l (is_other least) 64 block (omega (arith, length-chunk i n piece room)) some)
 
--- ---- the bytes at the front
+-- ---- the first bytes
 
 pub at_front : (test : ℕ → Bool) (piece bytes : List ℕ) → bytes ≡ take (prefix_len test piece) piece → (length bytes ≤ length piece) × (take (length bytes) piece ≡ bytes)
 at_front test piece bytes is =
@@ -147,11 +148,11 @@ at_front test piece bytes is =
 
 -- ---- bytes of a text
 
--- so many at the front are of it, and then comes none from 20 to 7F
+-- the first n bytes are of a text, and the next one isn't from 20 to 7F
 abbrev pub PassesGraphic : List ℕ → ℕ → Type 0
 PassesGraphic xs n = (prefix_len is_of_text xs ≡ n + prefix_len is_of_text (drop n xs)) × (prefix_len (is_from 32) (drop n xs) ≡ 0)
 
--- this is so of those from 20 to 7F at the front
+-- the first bytes from 20 to 7F pass so
 pub past_graphic : (xs : List ℕ) → PassesGraphic xs (prefix_len (is_from 32) xs)
 past_graphic [] = (refl, refl)
 past_graphic (b ∷ xs) = by (is_from 32 b) refl (past_graphic xs)
@@ -164,7 +165,7 @@ past_graphic (b ∷ xs) = by (is_from 32 b) refl (past_graphic xs)
         subst (PassesGraphic (b ∷ xs)) further (omega (arith, all, rest.0), rest.1)
     by false e rest = (omega arith, ap (λ (x : Bool). cond x (1 + prefix_len (is_from 32) xs) 0) e)
 
--- and so it is of a move by itself with those from 20 to 7F behind it
+-- a format effector and the bytes from 20 to 7F after it pass so
 pub past_effector : (xs : List ℕ) (at n : ℕ) → at < length xs → is_some (format_effector (get_or xs at 0)) ≡ true → n ≡ prefix_len (is_from 32) (drop (at + 1) xs) →
     (prefix_len is_of_text (drop at xs) ≡ 1 + n + prefix_len is_of_text (drop (at + 1 + n) xs)) × (prefix_len (is_from 32) (drop (at + 1 + n) xs) ≡ 0)
 past_effector xs at n within is counted =
@@ -175,7 +176,7 @@ past_effector xs at n within is counted =
       sym (ap (prefix_len (is_from 32)) there) ∙ past.1,
     )
 
--- a byte of a text is a move by itself, or a code of a set
+-- a byte of a text is a format effector of one byte, or a code of a set
 pub of_text_is : (b : ℕ) → is_of_text b ≡ true → IsTextByte b
 of_text_is b is none =
     let both = and_parts (leb 32 b) (ltb b 128) (ap (λ (step : Option TextStep). is_some step || is_from 32 b) (sym none) ∙ is) in

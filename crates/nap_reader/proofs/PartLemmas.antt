@@ -7,7 +7,7 @@ use Rattle.nap_reader.proofs.SpelledLemmas.{nothing_yet}
 
 -- A character or a control acts.
 
--- nothing comes of nothing
+-- no bytes have an empty outcome
 nothing_comes : (m : Machine) → (u : Unfinished) × (outcome_from m [] ≡ paused m [] (Some u))
 unfolding front body_front
 nothing_comes m = in_mode m.mode refl
@@ -19,7 +19,7 @@ nothing_comes m = in_mode m.mode refl
     in_mode between mode = (nothing, waits nothing (half_read_pauses m [] [] mode refl (nothing_yet m.sets)))
     in_mode (in_body name show) mode = (open_body, waits open_body (ap (λ (mode : Mode). front_in mode m []) mode))
 
--- what a sink has of what comes
+-- the entries that a sink took of the outcome's further ones
 pub took_front : {S : Type 0} (g : Ghosts S) (s : S) (known more : List Entry) (t : S) (cause : Cause) → TookPart g s known more t cause → TookFront g s known more t cause
 took_front {S} g s known more t cause part = at cause part
   where
@@ -39,7 +39,7 @@ pub record Fails {S : Type 0} (g : Ghosts S) (by : Result RuleResult DrawFault) 
   pub wants : fault ≡ draw_faults.Memory → WantsBy g by t u
   pub gives : fault ≡ draw_faults.Sink → GivesSome by
 
--- The last byte that came makes a code whole, which acts by a rule, and not all of its entries could be put.
+-- The last byte completes a code, which acts by a rule, and not all of its entries could be put.
 module _ {S : Type 0} {g : Ghosts S} {s : S} {known : List Entry} {o : Outcome} {t : S} {h : ReadingState} {x : Placed} (k : ContinuesPast g s known o t h (x ∷ [])) where
   known_taken : Known g s known t
   known_taken = record { taken = subst (λ (es : List Entry). g.took s es t) k.done k.continues.taken; clear = k.continues.clear }
@@ -75,18 +75,18 @@ module _ {S : Type 0} {g : Ghosts S} {s : S} {known : List Entry} {o : Outcome} 
       some_by draw_faults.Sink drawn wants gives broke none = gives refl none
       some_by _ drawn wants gives broke none = absurd (broke refl)
 
--- what was known was taken, and more comes
+-- the known entries were taken, and further ones come
 module _ {S : Type 0} {g : Ghosts S} {s : S} {known : List Entry} {o : Outcome} {t : S} {h : ReadingState} {xs : List Placed} (k : ContinuesPast g s known o t h xs) where
   past_taken : g.took s known t
   past_taken = subst (λ (es : List Entry). g.took s es t) k.done k.continues.taken
 
-  -- memory was wanting before any further entry, and nothing is refused
+  -- memory was lacking before any further entry, and nothing is refused
   pub wants_next : o.refusal ≡ None → BreaksNext g s known o t memory
   wants_next unrefused =
       let more = (outcome_from h.machine (k.continues.rest ++ xs)).entries in
       record { more = more; adds = ap (λ (o : Outcome). o.entries) k.continues.leads ∙ ap (λ (es : List Entry). es ++ more) k.done; unrefused = unrefused; part = inl past_taken }
 
-  -- or it may be
+  -- memory was lacking before any further entry
   pub wants_from : BreaksFrom g s known o t memory
   wants_from =
       let more = (outcome_from h.machine (k.continues.rest ++ xs)).entries in
@@ -96,7 +96,7 @@ module _ {S : Type 0} {g : Ghosts S} {s : S} {known : List Entry} {o : Outcome} 
         part = took_front g s known more t memory (inl past_taken);
       }
 
-  -- A body could be charged, and couldn't be read for want of memory.
+  -- A body could be charged, and couldn't be read for lack of memory.
   pub call_breaks : (m : Machine) (place : ℕ) (bytes : List ℕ) (ys : List Placed) → front h.machine (k.continues.rest ++ xs) ≡ shown_front m place bytes ys → m.left ≡ h.machine.left → 0 < length bytes → length bytes ≤ m.left → BreaksSome g s known o t h.machine.left memory
   call_breaks m place bytes ys shows same some few =
       let e = shows ∙ cond-false (ltb m.left (length bytes)) _ _ (le-ltb m.left (length bytes) few) in
@@ -110,14 +110,14 @@ pub some_in_body : {S : Type 0} {g : Ghosts S} {s : S} {known : List Entry} {o :
 some_in_body (charged_broke less from) = body_broke less from
 some_in_body (some_broke past) = next_broke past.next
 
--- what breaks in a body has a part of what comes
+-- the sink has a part of the further entries if reading breaks in a body
 pub body_breaks_from : {S : Type 0} {g : Ghosts S} {s : S} {known : List Entry} {o : Outcome} {t : S} {left : ℕ} {cause : Cause} → BreaksInBody g s known o t left cause → BreaksFrom g s known o t cause
 body_breaks_from (body_broke less from) = from
 body_breaks_from {g = g} {s = s} {known = known} {t = t} {cause = cause} (next_broke next) = record { more = next.more; adds = next.adds; part = took_front g s known next.more t cause next.part }
 
--- What a sink has of what comes, where reading breaks.
+-- The further entries that a sink has if reading breaks.
 
--- it is so of an outcome that has other entries before or behind, and of a sink that tells the same
+-- a break is also one of an outcome with other entries before or after, and of a sink with the same model
 breaks_as : {S : Type 0} {g : Ghosts S} {s t u : S} {known : List Entry} {o whole : Outcome} {cause : Cause} (known' before behind : List Entry) → (g.failed t ≡ true → g.failed s ≡ true) →
     ((first : List Entry) → g.took t (known ++ first) u → g.took s (known' ++ (before ++ first)) u) → ((first : List Entry) (next : Entry) → g.broke t (known ++ first) next u → g.broke s (known' ++ (before ++ first)) next u) →
     (h : BreaksFrom g t known o u cause) → whole.entries ≡ known' ++ (before ++ (h.more ++ behind)) → BreaksFrom g s known' whole u cause
@@ -135,23 +135,23 @@ breaks_as {S} {g} {s} {t} {u} {known} {o} {whole} {cause} known' before behind f
     at device (inl (set, part)) = inl (failed set, takes part)
     at device (inr (first, next, rest, parts, broken)) = inr (before ++ first, next, rest ++ behind, all first (next ∷ rest) parts, broke first next broken)
 
--- fewer entries are said to be known
+-- a break with fewer known entries
 pub breaks_longer : {S : Type 0} {g : Ghosts S} {s : S} {o : Outcome} {t : S} {cause : Cause} (known es : List Entry) → BreaksFrom g s (known ++ es) o t cause → BreaksFrom g s known o t cause
 breaks_longer {g = g} {s = s} {t = t} known es h =
     breaks_as known es [] (λ set. set) (λ first. subst (λ (xs : List Entry). g.took s xs t) (append_assoc known es first)) (λ first next. subst (λ (xs : List Entry). g.broke s xs next t) (append_assoc known es first)) h
     (h.adds ∙ append_assoc known es h.more ∙ ap (λ (xs : List Entry). known ++ (es ++ xs)) (sym (append-nil h.more)))
 
--- more comes behind
+-- a break with more entries after it
 pub breaks_more : {S : Type 0} {g : Ghosts S} {s : S} {known : List Entry} {o whole : Outcome} {t : S} {cause : Cause} (es : List Entry) → whole.entries ≡ o.entries ++ es → BreaksFrom g s known o t cause → BreaksFrom g s known whole t cause
 breaks_more {known = known} es more h =
     breaks_as known [] es (λ set. set) (λ first took. took) (λ first next broke. broke) h (more ∙ ap (λ (xs : List Entry). xs ++ es) h.adds ∙ append_assoc known h.more es)
 
--- a list was taken before
+-- a break after a list that was taken
 pub breaks_behind : {S : Type 0} {g : Ghosts S} {s t u : S} {known : List Entry} {o whole : Outcome} {cause : Cause} → Lawful g → Known g s known t → whole.entries ≡ known ++ o.entries → BreaksFrom g t [] o u cause → BreaksFrom g s known whole u cause
 breaks_behind {g = g} {s = s} {t = t} {u = u} {known = known} laws k is h =
     breaks_as known [] [] (was_failed g s t k.clear) (λ first. laws.more s t u known first k.taken) (λ first next. laws.broken s t u known first next k.taken) h (is ∙ ap (λ (xs : List Entry). known ++ xs) (h.adds ∙ sym (append-nil h.more)))
 
--- the entries of a list come first of those of a longer one
+-- the entries of a list are a prefix of those of a longer one
 pub entries_first : (m : Machine) (xs ys : List Placed) → (es : List Entry) × ((outcome_from m (xs ++ ys)).entries ≡ (outcome_from m xs).entries ++ es)
 entries_first m xs ys =
     let k = at (outcome_from m xs).refusal in
@@ -161,7 +161,7 @@ entries_first m xs ys =
     at (Some r) = ([], sym (append-nil (outcome_from m xs).entries))
     at None = ((outcome_from (outcome_from m xs).machine ((outcome_from m xs).rest ++ ys)).entries, refl)
 
--- the rule of what stands at the front acts, and not all of its entries could be put
+-- the rule of the front acts, and not all of its entries could be put
 pub rule_breaks : {S : Type 0} {g : Ghosts S} {s : S} {o : Outcome} {t : S} {h : ReadingState} {pending : List Placed} (k : Continues g s o t h pending) (m : Machine) (place : ℕ) (ys : List Placed) (by : Result RuleResult DrawFault) → front h.machine (k.rest ++ pending) ≡ drawn_front m place ys by →
     Lawful g → {u : S} (fault : DrawFault) → draws.DrawsBy g.took g.broke g.failed by t u fault (draws.cause_of fault) → cause_of (draw_fault fault) ≢ stream → BreaksFrom g s [] o u (cause_of (draw_fault fault))
 rule_breaks {g = g} {s = s} {o = o} k m place ys by acts laws {u} fault drew broke =
@@ -172,7 +172,7 @@ rule_breaks {g = g} {s = s} {o = o} k m place ys by acts laws {u} fault drew bro
     record { more = drawn.entries; adds = refl; part = took_front g s k.done drawn.entries u (cause_of (draw_fault fault)) part } in
     breaks_longer [] k.done (breaks_more behind (ap (λ (o : Outcome). o.entries) there ∙ sym (append_assoc k.done drawn.entries behind)) drew)
 
--- the same outcome with fewer bytes pending
+-- the outcome with fewer bytes pending
 pub cut : {S : Type 0} {g : Ghosts S} {s : S} {o : Outcome} {t : S} {h : ReadingState} (xs ys : List Placed) → (k : Continues g s o t h (xs ++ ys)) →
     (less : Outcome) × (es : List Entry) × (o.entries ≡ less.entries ++ es) × Continues g s less t h xs
 cut {h = h} xs ys k =

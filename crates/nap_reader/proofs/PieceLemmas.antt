@@ -1,16 +1,16 @@
 use Rattle.nap_reader.proofs.Common.{Acted, All, All-append, All-cons, All-head, All-nil, AmidCall, BreaksFrom, Came, Cause, Continues, LeadsThrough, Entry, Ghosts, ReadingState, IsBroken, IsKnown, IsOwn, LeadsOn, LeadsTo, List, Machine, None, Outcome, Passes, Placed, Reaches, Reader, Refusal, RunAt, Some, HasRead, StopsBy, [], ap, append-nil, append_assoc, arith, as_it_was, begun, budget_of, bytes_of, cause_of, device, drop, drop_more, fed_of, get_or, length, length-append, length-drop, length-take-le, memory, of_body, of_piece, outcome_from, placed_at, placed_from, refl, refusal_of, stream, subst, sym, take, take-add, ℕ, ◌++◌, ◌+◌, ◌<◌, ◌∙◌, ◌∷◌, ◌≡◌, ◌≢◌, ◌≤◌}
 use Rattle.nap_reader.proofs.Base.{IsAt, Lawful, TookMore, acted_then, all_front, all_rest, breaks_behind, came_none, leads_entries, leads_left, leads_machine, leads_more, leads_unrefused, left_acted, passes_acted, run_acted, taken_more, uses_breaks}
 
--- How a piece is taken.
+-- How a piece is consumed.
 
--- a piece up to an index, and bytes from there
+-- a piece up to an index, and bytes from there on
 pub taken_further : (p piece bytes : List ℕ) (at : ℕ) → take (length bytes) (drop at piece) ≡ bytes → (p ++ take at piece) ++ bytes ≡ p ++ take (at + length bytes) piece
 taken_further p piece bytes at front =
     append_assoc p (take at piece) bytes
     ∙ ap (λ (q : List ℕ). p ++ (take at piece ++ q)) (sym front)
     ∙ ap (λ (q : List ℕ). p ++ q) (sym (take-add at (length bytes) piece))
 
--- how many bytes came by then
+-- the number of bytes up to an index
 pub length_taken : (p piece : List ℕ) (at : ℕ) → at ≤ length piece → length (p ++ take at piece) ≡ length p + at
 length_taken p piece at within = length-append p (take at piece) ∙ ap (λ (n : ℕ). length p + n) (length-take-le at piece within)
 
@@ -18,7 +18,7 @@ pub first_placed : (piece : List ℕ) (at n : ℕ) → at < length piece → pla
 unfolding placed_from
 first_placed piece at n less = ap (λ (bs : List ℕ). placed_from n (take 1 bs)) (drop_more piece at 0 less)
 
--- A byte of the piece is read in part, with what it called or showed.
+-- A byte of the piece is read in part, with the body that it called or presented.
 module _ {S : Type 0} {g : Ghosts S} {old : Reader S g} {piece : List ℕ} {i : ℕ} {t : S} {h : ReadingState} {frames : List Placed} {s : S} {p : List ℕ} (live : refusal_of old ≡ None) (within : i < length piece)
     (amid : AmidCall old piece i t h frames) (stood : HasRead old s p) where
   -- the stream up to the byte, and with it
@@ -40,11 +40,11 @@ module _ {S : Type 0} {g : Ghosts S} {old : Reader S g} {piece : List ℕ} {i : 
       subst (λ (n : ℕ). Continues g s o amid.sink amid.holding (placed_at b n ∷ [])) place_is
       (leads_more (budget_of old) q (b ∷ []) (amid.before s p stood))
 
-  -- what is known with it
+  -- the outcome that is known with the byte
   pub known_amid : Continues g s o t h frames
   known_amid = subst (Continues g s o t h) (append-nil frames) (amid.since s o [] begun_there)
 
-  -- reading breaks there
+  -- reading breaks at the byte
   pub broken_amid : {u : S} {left : ℕ} {r : Refusal} → Lawful g → left ≡ h.machine.left → r.place ≡ fed_of old + i →
       ((s : S) (o : Outcome) → Continues g s o t h frames → BreaksFrom g s [] o u (cause_of r.fault)) → IsBroken g s (budget_of old) q b u left r
   unfolding leads_more placed_from
@@ -69,7 +69,7 @@ module _ {S : Type 0} {g : Ghosts S} {old : Reader S g} {piece : List ℕ} {i : 
         charged = omega (arith, same, after);
       }
 
--- A reading stops by its own refusal, or breaks.
+-- A reading stops by the stream's refusal, or breaks.
 pub stops_by : {S : Type 0} {g : Ghosts S} (s : S) (budget : ℕ) (p : List ℕ) (b : ℕ) (t : S) (left : ℕ) (r : Refusal) →
     (IsOwn r → IsKnown g s (begun budget (p ++ b ∷ [])) t left (Some r)) → (cause_of r.fault ≢ stream → IsBroken g s budget p b t left r) →
     StopsBy g s budget p b t left r (cause_of r.fault)
@@ -80,14 +80,14 @@ stops_by {S} {g} s budget p b t left r own broken = at (cause_of r.fault) refl
     at memory e = broken (λ own. let bad : memory ≡ stream = sym e ∙ own in cc)
     at device e = broken (λ own. let bad : device ≡ stream = sym e ∙ own in cc)
 
--- Bytes of the piece come next, where no body is read.
+-- Bytes of the piece come next, and no body is being read.
 pub known_with : {S : Type 0} {g : Ghosts S} {old : Reader S g} {piece : List ℕ} {at : ℕ} {t : S} {h : ReadingState} {frames : List Placed} {s : S} {p : List ℕ} → LeadsTo old piece at t h frames → frames ≡ [] → (bytes : List ℕ) → HasRead old s p →
     Continues g s (begun (budget_of old) ((p ++ take at piece) ++ bytes)) t h (placed_from (fed_of old + at) bytes)
 known_with {g = g} {old = old} {piece = piece} {at = at} {t = t} {h = h} {s = s} {p = p} leads empty bytes stood =
     subst (λ (n : ℕ). Continues g s (begun (budget_of old) ((p ++ take at piece) ++ bytes)) t h (placed_from n bytes)) (length_taken p piece at leads.within ∙ ap (λ (n : ℕ). n + at) (sym (stood.fed leads.live)))
     (leads_more (budget_of old) (p ++ take at piece) bytes (leads.alone empty s p stood))
 
--- Bytes that come next were taken, and these come of bodies by them.
+-- The next bytes were consumed, and these bytes of bodies come next by them.
 record AddsEntries {S : Type 0} (g : Ghosts S) (t : S) (h : ReadingState) (xs : List Placed) (u : S) (h' : ReadingState) (came : List Placed) : Type 0 where
   left : h.machine.left ≡ h'.machine.left + length came
   there : (n : ℕ) → All (IsAt n) xs → All (IsAt n) came
@@ -96,7 +96,7 @@ record AddsEntries {S : Type 0} (g : Ghosts S) (t : S) (h : ReadingState) (xs : 
   passes : Passes g t h xs u h' came
 
 module _ {S : Type 0} {g : Ghosts S} {old : Reader S g} {piece : List ℕ} {at : ℕ} {t u : S} {h h' : ReadingState} {frames came xs : List Placed} (leads : LeadsTo old piece at t h frames) (brings : AddsEntries g t h xs u h' came) where
-  -- they belong to a body
+  -- the bytes belong to a body
   module _ {i : ℕ} (rest : List Placed) (amid : AmidCall old piece i t h frames) (front : frames ≡ xs ++ rest) where
     further : AmidCall old piece i u h' (came ++ rest)
     further =
@@ -121,7 +121,7 @@ module _ {S : Type 0} {g : Ghosts S} {old : Reader S g} {piece : List ℕ} {at :
         subst (λ (q : List ℕ). Continues g s (begun (budget_of old) q) u h' []) all
         (subst (Continues g s (begun (budget_of old) ((p ++ take i piece) ++ get_or piece i 0 ∷ [])) u h') empty (known_amid leads.live inside further stood))
 
-  -- or to the piece
+  -- the bytes belong to the piece
   module _ {until : ℕ} (empty : frames ≡ []) (is : xs ≡ placed_from (fed_of old + at) (take (length xs) (drop at piece))) (moved : until ≡ at + length xs) (inside : until ≤ length piece) where
     abbrev bytes : List ℕ
     bytes = take (length xs) (drop at piece)
@@ -171,12 +171,12 @@ module _ {S : Type 0} {g : Ghosts S} {old : Reader S g} {piece : List ℕ} {at :
       let comes : came ≡ came ++ rest = sym (ap (λ (ys : List Placed). came ++ ys) none ∙ append-nil came) in
       subst (LeadsTo old piece until u h') comes (record { live = leads.live; within = inside; alone = ends_alone empty is moved inside; amid = called_by empty is moved inside })
 
--- What leads to a sink and to what is held, and then on.
+-- What leads to a sink and to a reading state, and then on.
 module _ {S : Type 0} {g : Ghosts S} {old : Reader S g} {piece : List ℕ} {at : ℕ} {t : S} {h : ReadingState} {frames : List Placed} (more : TookMore g) (by : Reaches old piece at t h frames) where
   abbrev next : List ℕ
   next = bytes_of frames ++ drop at piece
 
-  -- Some bytes that come next lead on.
+  -- Some of the next bytes lead on.
   pub leads_past : {x : Placed} {xs rest : List Placed} {until : ℕ} (bs : List ℕ) → next ≡ x.byte ∷ bs → (c : LeadsThrough g t h (x ∷ xs)) → Came frames rest piece at until (fed_of old + at) (x ∷ xs) → LeadsTo old piece until c.sink c.holding rest
   leads_past {x} {xs} bs first c = advances {came = []} by.leads (record {
     left = omega (arith, c.left, left_acted by.acted);
@@ -186,7 +186,7 @@ module _ {S : Type 0} {g : Ghosts S} {old : Reader S g} {piece : List ℕ} {at :
     passes = λ s o pending k. c.passes s o pending (passes_acted more (λ b cs there. ap (λ (zs : List ℕ). get_or zs 0 0) (sym first ∙ there)) by.acted k);
   })
 
-  -- Bytes that come next lead on.
+  -- The next bytes lead on.
   pub reaches_on : {u : S} {h' : ReadingState} {rest : List Placed} {until : ℕ} (xs : List Placed) → Came frames rest piece at until (fed_of old + at) xs → LeadsOn g t h u h' xs (bytes_of rest ++ drop until piece) →
       next ≡ bytes_of xs ++ (bytes_of rest ++ drop until piece) → Reaches old piece until u h' rest
   reaches_on {u} {h'} {rest} {until} [] came then first =
@@ -209,7 +209,7 @@ module _ {S : Type 0} {g : Ghosts S} {old : Reader S g} {piece : List ℕ} {at :
     acted = then.acted;
   }
 
-  -- A byte calls or shows a body, which comes next.
+  -- A byte calls or presents a body, which comes next.
   pub reaches_called : {u : S} {h' : ReadingState} {rest : List Placed} {x : Placed} {until : ℕ} (came : List Placed) → Came frames rest piece at until (fed_of old + at) (x ∷ []) → Passes g t h (x ∷ []) u h' came →
       (bs : List ℕ) → next ≡ x.byte ∷ bs → h.machine.left ≡ h'.machine.left + length came → ((n : ℕ) → x.place ≡ n → All (IsAt n) came) → h'.open_run ≡ None → Reaches old piece until u h' (came ++ rest)
   reaches_called {u} {h'} {x = x} came came_first passes bs first left there closed = record {

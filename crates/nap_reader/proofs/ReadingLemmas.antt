@@ -11,7 +11,7 @@ use Rattle.nap_codes.specs.declared.code.Step.TheVariants as steps
 use Rattle.nap_reader.specs.declared.kind.Kind.TheVariants as kinds
 use Rattle.nap_reader.proofs.SpelledLemmas.{nothing_yet}
 
--- a list, cut behind one of its bytes
+-- a list, split after one of its bytes
 
 drop_past : (rest : List Placed) (x : Placed) (pending : List Placed) (n : ℕ) → n ≡ suc (length rest) → drop n (rest ++ x ∷ pending) ≡ pending
 drop_past rest x pending n e = ap (drop n) (sym (append_assoc rest (x ∷ []) pending)) ∙ drop_at (rest ++ x ∷ []) pending n (omega (arith, e, length-append rest (x ∷ [])))
@@ -35,7 +35,7 @@ pub front_between : (m : Machine) (xs : List Placed) → m.mode ≡ between → 
 unfolding front
 front_between m xs mode = ap (λ (mode : Mode). front_in mode m xs) mode
 
--- a half-read code, which this byte makes whole
+-- an incomplete code, which this byte completes
 pub front_code : {half : List ℕ} {c : Code} {n : ℕ} {after : CodeSets} (m : Machine) (rest : List Placed) (x : Placed) (pending : List Placed) → m.mode ≡ between →
     bytes_of rest ≡ half → codes.front m.sets (half ++ x.byte ∷ []) ≡ codes.whole c n after → n ≡ length (half ++ x.byte ∷ []) →
     front m (rest ++ x ∷ pending) ≡ code_front (record m { sets = after }) (kind_of c) x.place pending
@@ -47,7 +47,7 @@ front_code {half} {c} {n} {after} m rest x pending mode is e len =
     front_between m (rest ++ x ∷ pending) mode
     ∙ rw (found, last, place_at-behind rest x pending (length rest) refl, drop_past rest x pending n count) refl
 
--- a half-read code, which this byte can't continue
+-- an incomplete code, which this byte can't continue
 pub front_fault : {half : List ℕ} {fault : CodeFault} {i : ℕ} (m : Machine) (rest : List Placed) (x : Placed) (pending : List Placed) → m.mode ≡ between →
     bytes_of rest ≡ half → codes.front m.sets (half ++ x.byte ∷ []) ≡ codes.refused fault i → i ≡ length half →
     front m (rest ++ x ∷ pending) ≡ refuse (refusal (code_fault fault) x.place)
@@ -57,7 +57,7 @@ front_fault {half} {fault} {i} m rest x pending mode is e index =
     let at : i ≡ length rest = index ∙ length_past rest half is in
     front_between m (rest ++ x ∷ pending) mode ∙ rw (found, at, place_at-behind rest x pending (length rest) refl) refl
 
--- an open run and what is behind it
+-- an open run and what is after it
 
 opcode_first : (m : Machine) (rest : List Placed) (open_run : OpenRun) (run : List ℕ) (pending : List Placed) → m.mode ≡ between →
     (h : IsOpenRun rest open_run run m.sets) →
@@ -90,7 +90,7 @@ short_run : (rest : List Placed) (open_run : OpenRun) (run : List ℕ) (sets : C
 short_run rest open_run run sets h =
     not_long (length h.operands) (omega (arith, h.short, ap length h.words, length-words_of h.operands))
 
--- an open run is over where a byte comes that is no operand byte
+-- an open run is over at a byte that is no operand byte
 pub front_run : (m : Machine) (rest : List Placed) (open_run : OpenRun) (run : List ℕ) (x : Placed) (pending : List Placed) → m.mode ≡ between →
     IsOpenRun rest open_run run m.sets → is_operand x ≡ false →
     front m (rest ++ x ∷ pending) ≡ drawn_front m open_run.place (x ∷ pending) (rule m.work open_run.op run)
@@ -101,7 +101,7 @@ front_run m rest open_run run x pending mode h other =
     opcode_first m rest open_run run (x ∷ pending) mode h
     ∙ rw (ends, taken, dropped, short_run rest open_run run m.sets h, h.words) refl
 
--- an open run that goes on
+-- an open run that continues
 run_goes_on : (operands pending : List Placed) → run_length operands ≡ length operands →
     run_length (operands ++ pending) ≡ length operands + run_length pending
 run_goes_on operands pending all = rw (prefix_len-append is_operand operands pending, all, eq-eqb (length operands) (length operands) refl) refl
@@ -117,7 +117,7 @@ front_long m rest open_run run x pending mode h word many =
     omega (arith, length-prefix_len is_operand (h.operands ++ x ∷ pending), goes, one, many, ap length h.words, length-words_of h.operands) in
     opcode_first m rest open_run run (x ∷ pending) mode h ∙ rw (lt-ltb run_limit _ long) refl
 
--- An open run waits for more.
+-- An open run waits for further bytes.
 pub open_run_pauses : (m : Machine) (rest : List Placed) (open_run : OpenRun) (run : List ℕ) → m.mode ≡ between → IsOpenRun rest open_run run m.sets →
     front m rest ≡ pause (model.open_run open_run.op open_run.place run)
 open_run_pauses m rest open_run run mode h =
@@ -128,7 +128,7 @@ open_run_pauses m rest open_run run mode h =
     ∙ opcode_first m rest open_run run [] mode h
     ∙ rw (all, none, taken, short_run rest open_run run m.sets h, h.words) refl
 
--- A half-read code waits for more.
+-- An incomplete code waits for further bytes.
 pub half_read_pauses : (m : Machine) (rest : List Placed) (half : List ℕ) → m.mode ≡ between → bytes_of rest ≡ half →
     codes.front m.sets half ≡ codes.unfinished → front m rest ≡ pause (half_read half)
 half_read_pauses m rest half mode is e =
@@ -164,23 +164,23 @@ joins_run rest open_run run sets x h word few = record {
   short = omega (arith, length-append run ((x.byte - 64) ∷ []), few);
 }
 
--- one list was taken after another
+-- a list taken after another is one list taken
 abbrev pub TookMore : {S : Type 0} → Ghosts S → Type 0
 TookMore {S} g = (s t u : S) (d e : List Entry) → g.took s d t → g.took t e u → g.took s (d ++ e) u
 
--- a failure came after a list was taken
+-- a failure after a list was taken is a failure of both lists
 abbrev pub TookBroke : {S : Type 0} → Ghosts S → Type 0
 TookBroke {S} g = (s t u : S) (d e : List Entry) (x : Entry) → g.took s d t → g.broke t e x u → g.broke s (d ++ e) x u
 
--- what is wanted behind a list that was taken is wanted for all
+-- memory that may be lacking for a list after another may be lacking for both lists
 abbrev pub WantsMore : {S : Type 0} → Ghosts S → Type 0
 WantsMore {S} g = (s t : S) (d e f : List Entry) → g.took s d t → g.wants t e → g.wants s (d ++ (e ++ f))
 
--- nothing was taken
+-- an empty list leaves the sink unchanged
 abbrev pub TookNone : {S : Type 0} → Ghosts S → Type 0
 TookNone {S} g = (s : S) → g.took s [] s
 
--- what a sink tells of what it took
+-- the laws of a sink's model
 pub record Lawful {S : Type 0} (g : Ghosts S) : Type 0 where
   pub more : TookMore g
   pub broken : TookBroke g
@@ -194,7 +194,7 @@ is_between h rest no_body held = subst (ArePendingIn rest h) no_body held
 pub holds_between : (h : ReadingState) (rest : List Placed) → h.open_body ≡ None → ArePendingBetweenCodes rest h → ArePending rest h
 holds_between h rest no_body held = subst (ArePendingIn rest h) (sym no_body) held
 
--- no end of a body is seen yet
+-- the end of a body isn't seen yet
 escape_waits : (room : ℕ) (escape : Option ℕ) → body_front room (bytes_of (pending_escape escape)) ≡ bodies.unfinished
 unfolding body_front
 escape_waits room None = refl
@@ -211,14 +211,14 @@ open_body_waits rest body h k =
     ∙ k.at.goes_on []
     ∙ ap (body_front_after (length h.body)) (ap (body_front (room - length h.body)) none ∙ escape_waits (room - length h.body) body.escape)
 
--- what stands at the front of an open body
+-- the front of an open body
 pub front_body : (rest : List Placed) (body : OpenBody) (h : ReadingState) (pending : List Placed) → h.machine.mode ≡ in_body body.name body.show →
     front h.machine (rest ++ pending)
     ≡ body_front_by h.machine body.name body.show (rest ++ pending) (body_front (store_limit - h.machine.stored) (bytes_of (rest ++ pending)))
 unfolding front
 front_body rest body h pending mode = ap (λ (mode : Mode). front_in mode h.machine (rest ++ pending)) mode
 
--- what is held back waits for more
+-- pending bytes wait for further ones
 pub held_pauses : (h : ReadingState) (rest : List Placed) → ArePending rest h → front h.machine rest ≡ pause (unfinished_of h)
 unfolding front
 held_pauses h rest held = in_mode h.open_body held
@@ -250,12 +250,12 @@ same_cause draw_faults.Sink = refl
 same_cause _ = refl
 
 module _ {S : Type 0} {g : Ghosts S} {s : S} {o : Outcome} {t : S} {h : ReadingState} {pending : List Placed} (k : Continues g s o t h pending) where
-  -- what the front of what is held and pending says of the outcome
+  -- the outcome, by the front of the pending and the next bytes
   pub by_front : (f : Front) → front h.machine (k.rest ++ pending) ≡ f → o ≡ prepend k.done (outcome_by_front outcome_from h.machine (k.rest ++ pending) f)
   by_front f e =
       k.leads ∙ ap (prepend k.done) (outcome_from-front h.machine (k.rest ++ pending) ∙ ap (outcome_by_front outcome_from h.machine (k.rest ++ pending)) e)
 
-  -- what stands at the front acts, and then nothing is held
+  -- the front acts, and then nothing is pending
   unfoldable pub leads_on : (u : S) (es : List Entry) (h' : ReadingState) (ys : List Placed) → TookMore g → ArePending [] h' →
       front h.machine (k.rest ++ pending) ≡ act es h'.machine ys → g.took t es u → (g.failed t ≡ false → g.failed u ≡ false) →
       Continues g s o u h' ys
@@ -268,7 +268,7 @@ module _ {S : Type 0} {g : Ghosts S} {s : S} {o : Outcome} {t : S} {h : ReadingS
     leads = by_front (act es h'.machine ys) e ∙ sym (prepend-append k.done es (outcome_from h'.machine ys));
   }
 
-  -- what stands at the front acts, and puts nothing
+  -- the front acts, and puts nothing
   unfoldable pub leads_past : (h' : ReadingState) (ys : List Placed) → ArePending [] h' → front h.machine (k.rest ++ pending) ≡ act [] h'.machine ys → Continues g s o t h' ys
   leads_past h' ys held e = record {
     done = k.done;
@@ -279,7 +279,7 @@ module _ {S : Type 0} {g : Ghosts S} {s : S} {o : Outcome} {t : S} {h : ReadingS
     leads = by_front (act [] h'.machine ys) e;
   }
 
-  -- what stands at the front is refused
+  -- the front is refused
   pub leads_to_refusal : (r : Refusal) → front h.machine (k.rest ++ pending) ≡ refuse r → IsRefused g s o t h r
   leads_to_refusal r e =
       let is = by_front (refuse r) e in (
@@ -288,7 +288,7 @@ module _ {S : Type 0} {g : Ghosts S} {s : S} {o : Outcome} {t : S} {h : ReadingS
         ap (λ (x : Outcome). x.machine.left) is,
       )
 
-  -- what stands at the front is a body that comes next
+  -- the front is a body that comes next
   pub leads_shown : (m : Machine) (place : ℕ) (bytes : List ℕ) (ys : List Placed) → front h.machine (k.rest ++ pending) ≡ shown_front m place bytes ys →
       length bytes ≤ m.left → (h' : ReadingState) → h'.machine ≡ after_charge m (length bytes) → ArePending [] h' → Continues g s o t h' (all_at place bytes ++ ys)
   leads_shown m place bytes ys e few h' same held =
@@ -297,13 +297,13 @@ module _ {S : Type 0} {g : Ghosts S} {s : S} {o : Outcome} {t : S} {h : ReadingS
       ∙ cond-false (ltb m.left (length bytes)) _ _ (le-ltb m.left (length bytes) few)
       ∙ ap (λ (m : Machine). act [] m (all_at place bytes ++ ys)) (sym same))
 
-  -- or it can't be charged
+  -- the front is a body that can't be charged
   pub leads_budget : (m : Machine) (place : ℕ) (bytes : List ℕ) (ys : List Placed) → front h.machine (k.rest ++ pending) ≡ shown_front m place bytes ys →
       m.left < length bytes → IsRefused g s o t h (refusal Budget place)
   leads_budget m place bytes ys e many =
       leads_to_refusal (refusal Budget place) (e ∙ cond-true (ltb m.left (length bytes)) _ _ (lt-ltb m.left (length bytes) many))
 
-  -- the rule of what stands at the front is refused
+  -- the rule of the front is refused
   pub leads_to_fault : (u : S) (m : Machine) (place : ℕ) (ys : List Placed) (by : Result RuleResult DrawFault) → front h.machine (k.rest ++ pending) ≡ drawn_front m place ys by →
       (fault : DrawFault) → draws.DrawsBy g.took g.broke g.failed by t u fault (draws.cause_of fault) → cause_of (draw_fault fault) ≡ stream →
       IsRefused g s o u h (refusal (draw_fault fault) place)
@@ -312,7 +312,7 @@ module _ {S : Type 0} {g : Ghosts S} {s : S} {o : Outcome} {t : S} {h : ReadingS
       subst (λ (v : S). IsRefused g s o v h (refusal (draw_fault fault) place)) (sym d.1)
       (leads_to_refusal (refusal (draw_fault fault) place) (at ∙ ap (drawn_front m place ys) d.0))
 
--- what is held back takes the first of what pends
+-- the first of the next bytes become pending
 unfoldable pub leads_shift : {S : Type 0} {g : Ghosts S} {s : S} {o : Outcome} {t : S} {h : ReadingState} {x : Placed} {pending : List Placed} (k : Continues g s o t h (x ∷ pending)) (h' : ReadingState) →
     h'.machine ≡ h.machine → ArePending (k.rest ++ x ∷ []) h' → Continues g s o t h' pending
 leads_shift {x = x} {pending = pending} k h' same held = record {
@@ -328,7 +328,7 @@ leads_shift {x = x} {pending = pending} k h' same held = record {
 }
 
 module _ {S : Type 0} {g : Ghosts S} {s : S} {o : Outcome} {t : S} {h : ReadingState} (k : Continues g s o t h []) where
-  -- nothing whole is held back, and nothing pends
+  -- no complete code is pending, and no byte comes next
   pub leads_paused : o ≡ prepend k.done (paused h.machine k.rest (Some (unfinished_of h)))
   leads_paused =
       k.leads
@@ -349,7 +349,7 @@ module _ {S : Type 0} {g : Ghosts S} {s : S} {o : Outcome} {t : S} {h : ReadingS
   pub leads_unfinished : o.unfinished ≡ Some (unfinished_of h)
   leads_unfinished = ap (λ (x : Outcome). x.unfinished) leads_paused
 
--- no more is left to charge than is left where it leads on
+-- no more is left to charge in the outcome than in the reading state
 pub leads_left : {S : Type 0} {g : Ghosts S} {s : S} {o : Outcome} {t : S} {h : ReadingState} {pending : List Placed} → Continues g s o t h pending → o.machine.left ≤ h.machine.left
 leads_left {h = h} {pending = pending} k =
     let there = ap (λ (x : Outcome). x.machine.left) k.leads in
@@ -372,9 +372,9 @@ leads_more {h = h} budget p q k =
           ∙ ap (λ (es : List Entry). prepend es (outcome_from h.machine (k.rest ++ placed_from (length p) q))) (append-nil k.done);
     }
 
--- What a sink has where entries come behind what was known, and not all of them could be put.
+-- The entries of a sink, if not all entries after the known ones could be put.
 
--- a sink that has failed, and whose failures stay, had failed before
+-- a sink that has failed had failed before, if it works afterwards whenever it worked before
 pub was_failed : {S : Type 0} (g : Ghosts S) (s t : S) → (g.failed s ≡ false → g.failed t ≡ false) → g.failed t ≡ true → g.failed s ≡ true
 was_failed {S} g s t clear set = at (g.failed s) refl
   where
@@ -391,7 +391,7 @@ pub fails_part : {S : Type 0} {g : Ghosts S} {s t : S} {known : List Entry} (u :
 fails_part {g = g} {s = s} {t = t} {known = known} u more laws k (inl (set, same)) = inl (was_failed g s t k.clear set, subst (g.took s known) (sym same) k.taken)
 fails_part {s = s} {t = t} {known = known} u more laws k (inr (first, next, rest, parts, broke)) = inr (first, next, rest, parts, laws.broken s t u known first next k.taken broke)
 
--- an opcode's or a code's rule acts, and not all of its entries could be put
+-- the rule of an opcode or a code acts, and not all of its entries could be put
 pub rule_part : {S : Type 0} {g : Ghosts S} {s t : S} {known : List Entry} (u : S) (by : Result RuleResult DrawFault) → Lawful g → Known g s known t → (fault : DrawFault) → draws.DrawsBy g.took g.broke g.failed by t u fault (draws.cause_of fault) →
     cause_of (draw_fault fault) ≢ stream → (drawn : RuleResult) × (by ≡ Ok drawn) × TookPart g s known drawn.entries u (cause_of (draw_fault fault))
 rule_part {g = g} {s = s} {known = known} u by laws k draw_faults.Memory (drawn, is, inl same) broke = (drawn, is, inl (subst (g.took s known) (sym same) k.taken))
@@ -428,7 +428,7 @@ if_err_by (Err e) f = f e refl
 pub matched_err : {A E : Type 0} (F : A → Type 0) (G : E → Type 0) (r : Result A E) (e : E) → r ≡ Err e → MatchResult r F G → G e
 matched_err {A} {E} F G r e is h = subst (λ (x : Result A E). MatchResult x F G) is h
 
--- what a step of the lexer says of the front
+-- the front, by a step of the lexer
 
 pub more_of : (f : codes.Front) (old : LexerState) (b : ℕ) (new : LexerState) → StepsBy f old b steps.More new →
     (f ≡ codes.unfinished) × (new ≡ record { sets = old.sets; half = old.half ++ b ∷ [] })
@@ -457,11 +457,11 @@ pub holds_half : (h : ReadingState) (rest : List Placed) → h.open_body ≡ Non
 holds_half h rest no_body mode empty is bytes unfinished =
     holds_between h rest no_body (record { mode = mode; body = empty; half = subst (ArePendingBy rest h) (sym is) (bytes, unfinished) })
 
--- nothing is held back between two codes
+-- nothing is pending between two codes
 pub holds_nothing : (h : ReadingState) → h.open_body ≡ None → h.machine.mode ≡ between → h.body ≡ [] → h.open_run ≡ None → h.half ≡ [] → ArePending [] h
 holds_nothing h no_body mode empty is none = holds_half h [] no_body mode empty is (sym none) (ap (codes.front h.machine.sets) none ∙ nothing_yet h.machine.sets)
 
--- a byte behind an open run
+-- a byte after an open run
 module _ {S : Type 0} {g : Ghosts S} {s : S} {o : Outcome} {t : S} {h : ReadingState} {open_run : OpenRun} {x : Placed} {pending : List Placed} (no_body : h.open_body ≡ None) (is : h.open_run ≡ Some open_run)
     (k : Continues g s o t h (x ∷ pending)) where
   half_of : ArePendingBetweenCodes k.rest h
@@ -470,7 +470,7 @@ module _ {S : Type 0} {g : Ghosts S} {s : S} {o : Outcome} {t : S} {h : ReadingS
   open_of : IsOpenRun k.rest open_run h.run h.machine.sets × (h.half ≡ [])
   open_of = is_open_run h k.rest open_run no_body is k.held
 
-  -- it is a word that joins the run
+  -- the byte is a word that joins the run
   pub word_joins : is_operand x ≡ true → length h.run < run_limit → Continues g s o t (record h { run = h.run ++ (x.byte - 64) ∷ [] }) pending
   word_joins word few =
       let h' : ReadingState = record h { run = h.run ++ (x.byte - 64) ∷ [] } in
@@ -480,18 +480,18 @@ module _ {S : Type 0} {g : Ghosts S} {s : S} {o : Outcome} {t : S} {h : ReadingS
   pub word_too_many : is_operand x ≡ true → run_limit ≤ length h.run → IsRefused g s o t h (refusal LongRun open_run.place)
   word_too_many word many = leads_to_refusal k _ (front_long h.machine k.rest open_run h.run x pending half_of.mode open_of.0 word many)
 
-  -- it ends the run
+  -- the byte ends the run
   pub over : is_operand x ≡ false → (by : Result RuleResult DrawFault) → rule h.machine.work open_run.op h.run ≡ by →
       front h.machine (k.rest ++ x ∷ pending) ≡ drawn_front h.machine open_run.place (x ∷ pending) by
   over other by e =
       front_run h.machine k.rest open_run h.run x pending half_of.mode open_of.0 other
       ∙ ap (drawn_front h.machine open_run.place (x ∷ pending)) e
 
-  -- nothing is held once its opcode has acted
+  -- nothing is pending once the run's opcode has acted
   pub none_held : (m : Machine) → m.mode ≡ h.machine.mode → ArePending [] (record h { machine = m; open_run = None; run = [] })
   none_held m mode = holds_nothing (record h { machine = m; open_run = None; run = [] }) no_body (mode ∙ half_of.mode) half_of.body refl open_of.1
 
--- a byte where no run is open
+-- a byte while no run is open
 module _ {S : Type 0} {g : Ghosts S} {s : S} {o : Outcome} {t : S} {h : ReadingState} {x : Placed} {pending : List Placed} (no_body : h.open_body ≡ None) (is : h.open_run ≡ None) (k : Continues g s o t h (x ∷ pending)) where
   pub between_held : ArePendingBetweenCodes k.rest h
   between_held = is_between h k.rest no_body k.held
@@ -499,28 +499,28 @@ module _ {S : Type 0} {g : Ghosts S} {s : S} {o : Outcome} {t : S} {h : ReadingS
   pub half_held : (bytes_of k.rest ≡ h.half) × (codes.front h.machine.sets h.half ≡ codes.unfinished)
   half_held = is_half h k.rest no_body is k.held
 
-  -- its code is still half read
+  -- the byte's code is still incomplete
   unfoldable pub code_goes_on : codes.front h.machine.sets (h.half ++ x.byte ∷ []) ≡ codes.unfinished → Continues g s o t (record h { half = h.half ++ x.byte ∷ [] }) pending
   code_goes_on e =
       leads_shift k (record h { half = h.half ++ x.byte ∷ [] }) refl
       (holds_half (record h { half = h.half ++ x.byte ∷ [] }) _ no_body between_held.mode between_held.body is
       (bytes_of-append k.rest (x ∷ []) ∙ ap (λ (bs : List ℕ). bs ++ x.byte ∷ []) half_held.0) e)
 
-  -- it is refused
+  -- the byte is refused
   pub byte_refused : (fault : CodeFault) (i : ℕ) → codes.front h.machine.sets (h.half ++ x.byte ∷ []) ≡ codes.refused fault i →
       i ≡ length h.half → IsRefused g s o t h (refusal (code_fault fault) x.place)
   byte_refused fault i e at = leads_to_refusal k _ (front_fault h.machine k.rest x pending between_held.mode half_held.0 e at)
 
-  -- it ends a code
+  -- the byte ends a code
   pub code_ends : (c : Code) (n : ℕ) (after : CodeSets) → codes.front h.machine.sets (h.half ++ x.byte ∷ []) ≡ codes.whole c n after → n ≡ length (h.half ++ x.byte ∷ []) →
       front h.machine (k.rest ++ x ∷ pending) ≡ code_front (record h.machine { sets = after }) (kind_of c) x.place pending
   code_ends c n after e len = front_code h.machine k.rest x pending between_held.mode half_held.0 e len
 
-  -- and nothing is held then
+  -- the byte ends a code, and nothing is pending then
   pub code_over : (h' : ReadingState) → h'.open_body ≡ None → h'.machine.mode ≡ h.machine.mode → h'.body ≡ h.body → h'.open_run ≡ None → h'.half ≡ [] → ArePending [] h'
   code_over h' no_body' mode body is' none = holds_nothing h' no_body' (mode ∙ between_held.mode) (body ∙ between_held.body) is' none
 
-  -- an opcode opens a run, where no code was half read
+  -- an opcode opens a run, with no incomplete code before it
   pub run_opens : (op : Opcode) → h.half ≡ [] → codes.front h.machine.sets (x.byte ∷ []) ≡ codes.whole (code.Op op) 1 h.machine.sets →
       Continues g s o t (record h { half = []; open_run = Some (record { op = op; place = x.place }); run = [] }) pending
   run_opens op none alone =

@@ -6,13 +6,13 @@ use Rattle.nap_draw.specs.Draws as draws
 use Rattle.nap_reader.specs.declared.machine.codes.CodeOutcome.TheVariants as outcomes
 use Rattle.nap_reader.proofs.CodesLemmas.{StartsRun, open_at, run_opened}
 
--- A stretch of bytes is its bytes in turn.
+-- A stretch of bytes has the effect of its bytes one after another.
 
 -- the words of operand bytes
 abbrev pub words : List ℕ → List ℕ
 words bytes = map (λ b. b - 64) bytes
 
--- operand bytes of an open run join it, whatever comes behind them
+-- operand bytes of an open run join it, whatever comes after them
 pub words_join : {S : Type 0} {g : Ghosts S} {s : S} {o : Outcome} {t : S} {h : ReadingState} {open_run : OpenRun} (xs pending : List Placed) → h.open_body ≡ None → h.open_run ≡ Some open_run → Continues g s o t h (xs ++ pending) →
     All (λ b. is_operand_byte b ≡ true) (bytes_of xs) → length h.run + length xs ≤ run_limit → Continues g s o t (record h { run = h.run ++ words (bytes_of xs) }) pending
 words_join {h = h} [] pending between opened k all few = rw (append-nil h.run) k
@@ -27,23 +27,23 @@ words_join {g = g} {s = s} {o = o} {t = t} {h = h} (x ∷ xs) pending between op
 
 -- Operands of an open run.
 
--- This run is open, and no body.
+-- The run is open, and no body is.
 pub record IsOpen (h : ReadingState) (open_run : OpenRun) : Type 0 where
   pub is : h.open_run ≡ Some open_run
   pub between : h.open_body ≡ None
 
--- So many bytes at the front are operands, for which a run has room.
+-- The first k bytes are operands, for which the run has space.
 pub record HasRoom (h : ReadingState) (all : List Placed) (k : ℕ) : Type 0 where
   pub few : k ≤ length all
   pub operands : All (λ b. is_operand_byte b ≡ true) (bytes_of (take k all))
   pub short : length h.run + k ≤ run_limit
 
 module _ {S : Type 0} (g : Ghosts S) (t : S) {h : ReadingState} {open_run : OpenRun} (run : IsOpen h open_run) {all : List Placed} {k : ℕ} (room : HasRoom h all k) where
-  -- what is held with them
+  -- the reading state with these operands
   abbrev pub joined : ReadingState
   joined = record h { run = h.run ++ words (bytes_of (take k all)) }
 
-  -- They join the run.
+  -- The operands join the run.
   unfoldable pub joins : LeadsThrough g t h (take k all)
   joins = record {
     sink = t;
@@ -54,24 +54,24 @@ module _ {S : Type 0} (g : Ghosts S) (t : S) {h : ReadingState} {open_run : Open
     none = λ empty. (refl, ap (λ (ws : List ℕ). record h { run = ws }) (ap (λ (xs : List Placed). h.run ++ words (bytes_of xs)) empty ∙ append-nil h.run));
   }
 
-  -- They wait.
+  -- The operands wait for further bytes.
   operands_wait : {v : S} {held : ReadingState} (next : List ℕ) → v ≡ t → held ≡ joined → LeadsOn g t h v held (take k all) next
   unfolding joins
   operands_wait next sink same = record { conveys = joins; acted = as_it_was sink same }
 
-  -- The run acts ahead of a byte that is no operand.
+  -- The run acts before a byte that is no operand.
   pub operands_act : {next : List ℕ} → IsOver next → {v : S} {h' : ReadingState} → ActsRun g t joined v h' → LeadsOn g t h v h' (take k all) next
   unfolding joins
   operands_act over acts = record { conveys = joins; acted = ahead over.byte over.rest over.is over.other acts }
 
-  -- It is refused, or breaks, there.
+  -- The run is refused, or breaks, before a byte that is no operand.
   pub operands_stop : IsOver (bytes_of (drop k all)) → {v : S} {r : Refusal} → StopsRun g t joined v r → (many : ℕ) → Stops g t h all many k v r
   unfolding joins
   operands_stop over {v} {r} stops many =
       let (x, ys, left, byte, others) = first_of (drop k all) over.byte over.rest over.is in
       at_byte x ys left joins (stops_run (ap is_operand_byte byte ∙ over.other) stops)
 
-  -- There are more than it has room for.
+  -- The operands are more than the run has space for.
   pub operands_long : (x : Placed) (zs : List Placed) → drop k all ≡ x ∷ zs → is_operand_byte x.byte ≡ true → length h.run + k ≡ run_limit → (many : ℕ) → Stops g t h all many k t (refusal LongRun open_run.place)
   unfolding joins
   operands_long x zs left word full many =
@@ -82,9 +82,9 @@ module _ {S : Type 0} (g : Ghosts S) (t : S) {h : ReadingState} {open_run : Open
         broke = λ broke. absurd (broke refl);
       })
 
--- The operand bytes at the front of a slice.
+-- The operand bytes of a prefix of a slice.
 
--- how many there are
+-- the number of operand bytes of a prefix
 abbrev pub operands_in : List Placed → ℕ
 operands_in xs = prefix_len is_operand_byte (bytes_of xs)
 
@@ -102,18 +102,18 @@ module _ (xs behind : List Placed) where
   bytes_left k few =
       ap bytes_of (drop-append-le k xs behind (omega (arith, few, within))) ∙ bytes_of-append (drop k xs) behind ∙ ap (λ (bs : List ℕ). bs ++ bytes_of behind) (sym (drop-map (λ (x : Placed). x.byte) k xs))
 
-  -- the byte behind some of them
+  -- the byte after some of the operand bytes
   next_byte : (k : ℕ) → k < operands_in xs → (x : Placed) × (zs : List Placed) × (drop k (xs ++ behind) ≡ x ∷ zs) × (is_operand_byte x.byte ≡ true)
   next_byte k less =
       let (x, zs, left, byte, others) = first_of (drop k (xs ++ behind)) (get_or (bytes_of xs) k 0) (drop (k + 1) (bytes_of xs) ++ bytes_of behind)
       (bytes_left k (omega (arith, less)) ∙ ap (λ (bs : List ℕ). bs ++ bytes_of behind) (drop_more (bytes_of xs) k 0 (omega (arith, less, within, size)))) in
       (x, zs, left, ap is_operand_byte byte ∙ prefix_len_passes is_operand_byte (bytes_of xs) k 0 less)
 
-  -- no operand comes behind them all
+  -- no operand comes after all of the operand bytes
   over_behind : (operands_in xs ≡ length xs → IsOver (bytes_of behind)) → IsOver (bytes_of (drop (operands_in xs) (xs ++ behind)))
   over_behind over = subst IsOver (sym (bytes_left (operands_in xs) (omega arith))) (run_over (bytes_of xs) (bytes_of behind) (operands_in xs) refl (λ all. over (all ∙ size)))
 
--- What a machine makes of them, whose run is open.
+-- The effect of operand bytes on a machine with an open run.
 
 module _ {S : Type 0} {g : Ghosts S} (old : Machine S g) (open_run : OpenRun) (is : old.open_run ≡ Some open_run) (h : ReadingState) where
   is_open : h.open_body ≡ None → IsOpen (with_machine h old) open_run
@@ -129,7 +129,7 @@ module _ {S : Type 0} {g : Ghosts S} (old : Machine S g) (open_run : OpenRun) (i
     short = omega (arith, short, counted);
   }
 
--- More come than the run has room for.
+-- The operand bytes are more than the run has space for.
 pub run_too_long : {S : Type 0} {g : Ghosts S} {old new : Machine S g} {open_run : OpenRun} {xs : List Placed} (ended : Bool) (most : ℕ) → old.open_run ≡ Some open_run → most < operands_in xs → length old.run.items + most ≡ run_limit →
     new.refusal ≡ Some (refusal LongRun open_run.place) → new.sink ≡ old.sink → Takes old new xs ended most Stop
 run_too_long {g = g} {old = old} {open_run = open_run} {xs = xs} ended most is less full refused same =
@@ -138,7 +138,7 @@ run_too_long {g = g} {old = old} {open_run = open_run} {xs = xs} ended most is l
     let (x, zs, left, word) = next_byte xs behind most less in
     operands_long g old.sink (is_open old open_run is h between) (has_room old open_run is h xs behind most (omega (arith, less)) (omega (arith, full))) x zs left word (omega (arith, full, counted old open_run is h)) (length xs))
 
--- Memory is wanting for them.
+-- Memory is lacking for the operand bytes.
 pub run_lacks : {S : Type 0} {g : Ghosts S} {old new : Machine S g} {open_run : OpenRun} {xs : List Placed} (ended : Bool) → old.open_run ≡ Some open_run → 0 < operands_in xs → length old.run.items + operands_in xs ≤ run_limit →
     new.refusal ≡ Some (refusal Memory (place_at xs 0)) → new.sink ≡ old.sink → Takes old new xs ended 0 Stop
 run_lacks {g = g} {old = old} {open_run = open_run} {xs = xs} ended is some short refused same =
@@ -160,7 +160,7 @@ run_lacks {g = g} {old = old} {open_run = open_run} {xs = xs} ended is some shor
           });
     }))
 
--- They joined the open run.
+-- The operand bytes joined the open run.
 pub record Joins {S : Type 0} {g : Ghosts S} (old mid : Machine S g) (open_run : OpenRun) (xs : List Placed) : Type 0 where
   pub is : old.open_run ≡ Some open_run
   pub short : length old.run.items + operands_in xs ≤ run_limit
@@ -180,7 +180,7 @@ module _ {S : Type 0} {g : Ghosts S} {old mid : Machine S g} {open_run : OpenRun
   room_in : (h : ReadingState) (behind : List Placed) → HasRoom (with_machine h old) (xs ++ behind) (operands_in xs)
   room_in h behind = has_room old open_run j.is h xs behind (operands_in xs) (omega arith) j.short
 
-  -- what is held then
+  -- the reading state with the operand bytes
   held_joined : (h : ReadingState) (between : h.open_body ≡ None) (behind : List Placed) → with_machine h mid ≡ joined g old.sink (open_in h between) (room_in h behind)
   held_joined h between behind =
       held_is h mid old.work old.lexer old.open_run j.work j.lexer j.open_run_is
@@ -188,7 +188,7 @@ module _ {S : Type 0} {g : Ghosts S} {old mid : Machine S g} {open_run : OpenRun
       (ap (run_by old.open_run) j.items ∙ more_words old.open_run open_run old.run.items (take (operands_in xs) (bytes_of xs)) j.is (operands_in_front (bytes_of xs) (operands_in xs) (omega arith))
       ∙ ap (λ (bs : List ℕ). run_by old.open_run old.run.items ++ words bs) (sym (bytes_taken xs behind (operands_in xs) (omega arith))))
 
-  -- They are all of the bytes.
+  -- The operand bytes are all bytes of the slice.
   pub run_waits : IsLive mid → operands_in xs ≡ length xs → Takes old mid xs ended (operands_in xs) Nothing
   run_waits live all = record {
     within = few;
@@ -199,7 +199,7 @@ module _ {S : Type 0} {g : Ghosts S} {old mid : Machine S g} {open_run : OpenRun
         operands_wait g old.sink (open_in h between) (room_in h behind) (bytes_of (drop (operands_in xs) (xs ++ behind))) j.sink (held_joined h between behind);
   }
 
-  -- The byte behind them is known, and the opcode acts.
+  -- The byte after the operand bytes is known, and the opcode acts.
   leads : (operands_in xs ≡ length xs → ended ≡ true) → (new : Machine S g) (clears : Bool) → Executes mid new clears → (h : ReadingState) (behind : List Placed) → h.open_body ≡ None → (ended ≡ true → IsOver (bytes_of behind)) →
       LeadsOn g old.sink (with_machine h old) new.sink (state_after_request (with_machine h new) (clear_request_if clears)) (take (operands_in xs) (xs ++ behind)) (bytes_of (drop (operands_in xs) (xs ++ behind)))
   leads ends new clears (works, store_bound, acted) h behind between over =
@@ -211,7 +211,7 @@ module _ {S : Type 0} {g : Ghosts S} {old mid : Machine S g} {open_run : OpenRun
   run_acts ends {new} clears executes =
       asks_takes clears (record { live = executes.0.live; clear = λ clear. executes.0.clear (ap g.failed j.sink ∙ clear) }) executes.1 few (λ some. inr (inr (executes.1, λ none. no_some (sym j.is ∙ none)))) (leads ends new clears executes)
 
-  -- It is refused, or breaks.
+  -- The opcode of the run is refused, or breaks.
   pub run_stops : (operands_in xs ≡ length xs → ended ≡ true) → {failed new : Machine S g} {r : Refusal} → FailsRun mid failed r → Refuses failed new r → Takes old new xs ended (operands_in xs) Stop
   run_stops ends {failed} {new} {r} (stopped, tells) refuses =
       stop_takes refuses.is refuses.sink few (tells.0, λ works fails. tells.1 (ap g.failed j.sink ∙ works) fails)
@@ -219,18 +219,18 @@ module _ {S : Type 0} {g : Ghosts S} {old mid : Machine S g} {open_run : OpenRun
       operands_stop g old.sink (open_in h between) (room_in h behind) (over_behind xs behind (λ all. over (ends all)))
       (subst (λ (h' : ReadingState). StopsRun g old.sink h' failed.sink r) (held_joined h between behind) (subst (λ (t : S). StopsRun g t (with_machine h mid) failed.sink r) j.sink (stopped h between))) (length xs))
 
--- What a machine makes of an opcode, where no run is open.
+-- The effect of an opcode on a machine without an open run.
 
--- It is at the front, where no code is half read.
+-- The first byte is an opcode, with no incomplete code before it.
 pub record AtOpcode {S : Type 0} {g : Ghosts S} (old : Machine S g) (byte : ℕ) (op : Opcode) : Type 0 where
   pub closed : old.open_run ≡ None
   pub is : IsOpcodeByte old.lexer.half old.lexer.sets byte op
 
--- where this byte is it
+-- the byte is the opcode
 starts : {S : Type 0} {g : Ghosts S} {old : Machine S g} {x : Placed} {op : Opcode} → AtOpcode old x.byte op → (h : ReadingState) → h.open_body ≡ None → StartsRun (with_machine h old) x op
 starts at h between = record { between = between; closed = at.closed; is = at.is }
 
--- Its run is whole: these bytes are it and what stands behind it, of which this is its run.
+-- The opcode's run is complete: these bytes are the opcode, its run, and what comes after it.
 pub record RunsWhole {S : Type 0} {g : Ghosts S} (old : Machine S g) (op : Opcode) (bytes : List ℕ) (ended : Bool) (run : List ℕ) : Type 0 where
   pub byte : ℕ
   pub rest : List ℕ
@@ -243,7 +243,7 @@ module _ {S : Type 0} {g : Ghosts S} {old : Machine S g} {op : Opcode} {bytes : 
   run_within : length run + 1 ≤ length bytes
   run_within = omega (arith, ap length r.bytes_is, (r.whole (0 ∷ []) (λ _. record { byte = 0; rest = []; is = refl; other = refl })).within)
 
-  -- They are these, and others come behind them.
+  -- The next bytes are these, and others come after them.
   record AreNextBytes (h : ReadingState) (x : Placed) (ys behind : List Placed) : Type 0 where
     between : h.open_body ≡ None
     byte : x.byte ≡ r.byte
@@ -312,7 +312,7 @@ module _ {S : Type 0} {g : Ghosts S} {old : Machine S g} {op : Opcode} {bytes : 
           drew = subst (λ (words : List ℕ). DrawsBy g.took g.broke g.failed (rule old.work op words) old.sink u fault (draws.cause_of fault)) run_words drew;
         }) (length (x ∷ ys) - 1))
 
-  -- It is the first of some bytes, which others are behind.
+  -- The byte is the first of some bytes, and others come after it.
   first_is : (P : List Placed → Type 0) → ((x : Placed) (ys : List Placed) → ((h : ReadingState) (behind : List Placed) → h.open_body ≡ None → (ended ≡ true → IsOver (bytes_of behind)) → AreNextBytes h x ys behind) → length run + 1 ≤ length (x ∷ ys) → P (x ∷ ys)) →
       (xs : List Placed) → bytes_of xs ≡ bytes → P xs
   first_is P takes xs is =
@@ -320,7 +320,7 @@ module _ {S : Type 0} {g : Ghosts S} {old : Machine S g} {op : Opcode} {bytes : 
       subst P (sym all)
       (takes x ys (λ h behind between over. record { between = between; byte = byte; rest = rest; over = over }) (omega (arith, run_within, ap length is, length-map xs (λ (x : Placed). x.byte), ap (λ (zs : List Placed). length zs) all)))
 
-  -- It acts.
+  -- The opcode acts on its run.
   pub opcode_acts : {new : Machine S g} (drawn : RuleResult) → LeftBy old new drawn.work old.lexer → Drew g (rule old.work op (operand_words run)) old.sink drawn new.sink → IsLive new → TookMore g → Codes old new bytes ended (outcomes.Acted (length run + 1) drawn.clears)
   opcode_acts {new} drawn left drew live more = record {
     within = (omega arith, run_within);
@@ -333,7 +333,7 @@ module _ {S : Type 0} {g : Ghosts S} {old : Machine S g} {op : Opcode} {bytes : 
         (whole_leads (comes h behind between over) new drawn left drew more)));
   }
 
-  -- It is refused, or breaks.
+  -- The opcode is refused on its run, or breaks.
   pub opcode_stops : {new : Machine S g} (fault : DrawFault) → new.open_run ≡ old.open_run → DrawsBy g.took g.broke g.failed (rule old.work op (operand_words run)) old.sink new.sink fault (draws.cause_of fault) →
       FaultMatchesSink g old.sink new.sink (draw_fault fault) → TookMore g → Codes old new bytes ended (outcomes.Stopped (length run + 1) (draw_fault fault) 0)
   opcode_stops {new} fault store_bound drew told more = record {
@@ -347,7 +347,7 @@ module _ {S : Type 0} {g : Ghosts S} {old : Machine S g} {op : Opcode} {bytes : 
         (stops (comes h behind between over) new.sink fault drew more)));
   }
 
--- Its run opens.
+-- The opcode's run opens.
 
 pub record OpensRun {S : Type 0} {g : Ghosts S} (old mid : Machine S g) (x : Placed) (op : Opcode) : Type 0 where
   pub at : AtOpcode old x.byte op
@@ -367,7 +367,7 @@ module _ {S : Type 0} {g : Ghosts S} {old mid : Machine S g} {x : Placed} {op : 
       ∙ ap (λ (run : List ℕ). record (with_machine h old) { half = []; open_run = Some open_run; run = operand_words run }) o.items in
       run_opened (starts o.at h between) next o.sink held
 
--- What the machine takes behind it is taken with it.
+-- The bytes that the machine consumes after the opcode are consumed with it.
 pub open_takes : {S : Type 0} {g : Ghosts S} {old mid new : Machine S g} {x : Placed} {op : Opcode} {xs : List Placed} {ended : Bool} {count : ℕ} {request : Request} → IsLive mid → Takes mid new xs ended count request → OpensRun old mid x op → TookMore g →
     Takes old new (x ∷ xs) ended (1 + count) request
 open_takes {g = g} {old = old} {mid = mid} {x = x} {xs = xs} {ended = ended} {count = count} {request = request} live takes o more =

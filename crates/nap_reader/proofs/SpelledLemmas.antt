@@ -12,7 +12,7 @@ use Rattle.nap_codes.specs.declared.control.TextStep.TheVariants as steps
 use Rattle.nap_list.specs.Entry.{IsCode, StepMade}
 use Rattle.nap_reader.specs.declared.kind.Kind.TheVariants as kinds
 
--- What some bytes spell.
+-- Codes and faults, by their spellings.
 
 -- whether a row is a code of some kind
 abbrev pub row_is : (Code → Bool) → Row → Bool
@@ -20,7 +20,7 @@ row_is kind (Whole c) = kind c
 row_is kind More = false
 row_is kind (Out name) = false
 
--- whether none of these is
+-- whether no row is such a code
 abbrev pub none_is : (Code → Bool) → List (ℕ × Row) → Bool
 none_is kind [] = true
 none_is kind (row ∷ rows) = cond (row_is kind row.1) false (none_is kind rows)
@@ -36,7 +36,7 @@ row_none kind (first ∷ rows) byte row none found = at (eqb byte first.0) (row_
     at true false e none found ih = let same : first.1 ≡ row = cc in cc (ap (row_is kind) same)
     at false false e none found ih = ih none found
 
--- An opcode is of the PDI set, and then no byte is a character.
+-- An opcode is of the PDI set, and no byte is a character then.
 
 abbrev opens : Code → Bool
 opens (code.Op op) = true
@@ -82,7 +82,7 @@ opcode_alone sets b op is set all =
     not_pdi sets (0x20 ∷ []) (code.Char set 0x20) sets ((whole_is_spelled sets (0x20 ∷ []) (code.Char set 0x20) 1 sets).0 (all 0x20 (omega arith, omega arith))).1 refl refl
     (in_pdi sets (b ∷ []) (code.Op op) sets ((whole_is_spelled sets (b ∷ []) (code.Op op) 1 sets).0 is).1 refl refl)
 
--- The name of a macro calls it where the macro set is in GL, and so does SS3 with the name where the set is G3.
+-- The name of a macro calls it if the macro set is in GL, and SS3 with the name calls it if that set is in G3.
 
 macro_call : (sets : CodeSets) (set : CodeSet) (b : ℕ) → set ≡ code_sets.Macros → codes.non_pdi_code set b ≡ Some (code.Call b)
 unfolding codes.non_pdi_code
@@ -94,17 +94,17 @@ byte_calls sets b macros graphic = (whole_is_spelled sets (b ∷ []) (code.Call 
 pub name_calls : (sets : CodeSets) (b : ℕ) → sets.g3 ≡ code_sets.Macros → IsGraphic b → codes.front sets (0x1D ∷ b ∷ []) ≡ codes.whole (code.Call b) 2 sets
 name_calls sets b macros graphic = (whole_is_spelled sets (0x1D ∷ b ∷ []) (code.Call b) 2 sets).1 (omega arith, spelling.single_shift3 graphic (macro_call sets sets.g3 b macros))
 
--- no byte is an unfinished code
+-- no bytes are an unfinished code
 pub nothing_yet : (sets : CodeSets) → codes.front sets [] ≡ codes.unfinished
 unfolding codes.front
 nothing_yet sets = refl
 
--- ESC is a half-read code
+-- ESC is an incomplete code
 pub escape_unfinished : (sets : CodeSets) → codes.front sets (27 ∷ []) ≡ codes.unfinished
 unfolding codes.front codes.control0_front row_of control0_rows codes.one_byte_later codes.more_front codes.escape_front
 escape_unfinished sets = refl
 
--- what the lexer does with ESC
+-- the effect of ESC on the lexer
 pub escape_steps : (old : LexerState) (step : Step) (new : LexerState) → old.half ≡ [] → StepsBy (codes.front old.sets (old.half ++ 27 ∷ [])) old 27 step new →
     new ≡ record { sets = old.sets; half = 27 ∷ [] }
 escape_steps old step new none h =
@@ -146,7 +146,7 @@ no_escape sets _ _ _ (spelling.operand pdi least most) is = omega arith
 no_escape sets _ _ _ (spelling.single_shift2 graphic plain) is = omega (arith, graphic.0)
 no_escape sets _ _ _ (spelling.single_shift3 graphic plain) is = omega (arith, graphic.0)
 
--- a code is half read behind ESC
+-- a code is incomplete after ESC
 pub escape_waits : (old new : LexerState) (step : Step) → Steps old 27 step new → new.half ≢ []
 escape_waits old new step steps none = at (codes.front old.sets (old.half ++ 27 ∷ [])) refl steps
   where
@@ -161,9 +161,9 @@ escape_waits old new step steps none = at (codes.front old.sets (old.half ++ 27 
         let bad : codes.unfinished ≡ codes.refused fault i = sym (escape_unfinished old.sets) ∙ ap (λ (half : List ℕ). codes.front old.sets (half ++ 27 ∷ [])) (sym empty) ∙ e in
         cc
 
--- Calls of macros whose name is at hand.
+-- Calls of macros whose name is among the bytes.
 
--- SS3 by itself isn't a whole code
+-- SS3 by itself isn't a complete code
 shift_begins : (sets : CodeSets) → codes.front sets (0x1D ∷ []) ≡ codes.unfinished
 unfolding codes.front codes.control0_front codes.more_front codes.single_shift_front codes.one_byte_later tables.row_of tables.control0_rows
 shift_begins sets = refl
@@ -232,9 +232,9 @@ definition_length sets bytes name show n after e =
     let long = spelled_long sets (take n bytes) (code.DefMacro name show) after spelled.1 refl in
     omega (arith, long, length-take-le n bytes spelled.0)
 
--- What is known of a body stays where more bytes come.
+-- The state of a body that is known is unchanged by further bytes.
 
--- the second is known of as many bytes as n and of more behind them, where the first is known of these
+-- the second state is known of n bytes and of others after them, if the first is known of the n bytes
 pub data Settled (n : ℕ) : BodyFront → BodyFront → Type 0 where
   waits : {f : BodyFront} → Settled n unfinished f
   refuses : {fault : Fault} {i : ℕ} → i < n → Settled n (refused fault i) (refused fault i)
@@ -265,7 +265,7 @@ body_front-Settled room (byte ∷ bytes) more =
     let further = body_front-Settled (room - 1) bytes more in
     Settled-cond _ (refuses (omega arith)) (Settled-cond (eqb byte 27) (at_escape-Settled room bytes more further) (stores-Settled room further))
 
--- The codes that act have their bytes in range.
+-- The codes that act have parameters in range.
 
 graphic_code : (byte : ℕ) → IsGraphic byte → IsCode byte
 graphic_code byte range = (range.0, omega arith)
@@ -280,7 +280,7 @@ range_made (code.DefGlyph byte) range = graphic_code byte range
 range_made (code.Step step) ranges = step_made step ranges
 range_made _ range = tt
 
--- a code that acts is made, and the name of a macro is in range
+-- a code that acts has parameters in range, and so has the name of a macro
 abbrev pub KindMade : Kind → Type 0
 KindMade (kinds.Acts c) = IsMade c
 KindMade (kinds.Calls name) = IsGraphic name
@@ -292,11 +292,11 @@ kind_made (code.Call name) range made = range
 kind_made (code.DefMacro name show) range made = range
 kind_made _ range made = made
 
--- the code at a front is made
+-- the code at a front has parameters in range
 pub front_made : (sets : CodeSets) (xs : List ℕ) (c : Code) (n : ℕ) (after : CodeSets) → codes.front sets xs ≡ codes.whole c n after → IsMade c
 front_made sets xs c n after e = range_made c (code_ranges sets xs c n after e)
 
--- and so is one that acts
+-- a code at a front that acts has parameters in range
 pub front_kind_made : (sets : CodeSets) (xs : List ℕ) (c : Code) (n : ℕ) (after : CodeSets) → codes.front sets xs ≡ codes.whole c n after → KindMade (kind_of c)
 front_kind_made sets xs c n after e = kind_made c (code_ranges sets xs c n after e) (front_made sets xs c n after e)
 

@@ -7,14 +7,14 @@ pub taken_more : (p piece : List ℕ) (i : ℕ) → i < length piece → (p ++ t
 taken_more p piece i within =
     append_assoc p (take i piece) (get_or piece i 0 ∷ []) ∙ ap (λ (q : List ℕ). p ++ q) (sym (take_more piece i 0 within))
 
--- and what is behind it
+-- a piece up to a byte, that byte, and those after it
 pub taken_all : (p piece : List ℕ) (i : ℕ) → i < length piece → ((p ++ take i piece) ++ get_or piece i 0 ∷ []) ++ drop (i + 1) piece ≡ p ++ piece
 taken_all p piece i within =
     ap (λ (q : List ℕ). q ++ drop (i + 1) piece) (taken_more p piece i within)
     ∙ append_assoc p (take (i + 1) piece) (drop (i + 1) piece)
     ∙ ap (λ (q : List ℕ). p ++ q) (take-append-drop (i + 1) piece)
 
--- A reader whose held bytes lead on stands for the bytes so far.
+-- A reader whose pending bytes lead on has read the bytes so far.
 pub stands_by : {S : Type 0} {g : Ghosts S} (reader : Reader S g) (s : S) (p : List ℕ) → refusal_of reader ≡ None → fed_of reader ≡ length p →
     Continues g s (begun (budget_of reader) p) (sink_of reader) (reading_state reader) [] → HasRead reader s p
 stands_by {S} {g} reader s p live fed k = record {
@@ -27,7 +27,7 @@ stands_by {S} {g} reader s p live fed k = record {
   continues = λ _. k;
 }
 
--- a refusal stands for all that comes after it
+-- a refusal is the answer whatever bytes come after it
 known_stays : {S : Type 0} (g : Ghosts S) (s : S) (budget : ℕ) (p q : List ℕ) (t : S) (n : ℕ) (r : Refusal) →
     IsKnown g s (begun budget p) t n (Some r) → IsKnown g s (begun budget (p ++ q)) t n (Some r)
 known_stays g s budget p q t n r h = rw (more_bytes_keep_refusal budget p q r h.refusal) h
@@ -65,7 +65,7 @@ stands_refused {S} {g} reader r s p is h = record {
   continues = λ e. let bad : ⊥ = cc (is, e) in absurd bad;
 }
 
--- A refused reader stands for all that comes after it.
+-- A refused reader has read whatever bytes come after the refusal.
 pub stays : {S : Type 0} {g : Ghosts S} (reader : Reader S g) (r : Refusal) → refusal_of reader ≡ Some r → (s : S) (p q : List ℕ) →
     HasRead reader s p → HasRead reader s (p ++ q)
 stays {S} {g} reader r is s p q h =
@@ -73,7 +73,7 @@ stays {S} {g} reader r is s p q h =
     (answers_stay g s (budget_of reader) p q (sink_of reader) (left_of reader) r (cause_of r.fault)
     (subst (Answers g s (budget_of reader) p (sink_of reader) (left_of reader)) is h.answers))
 
--- A reader that was refused at a byte stands for it and all that comes after it.
+-- A reader that was refused at a byte has read it and whatever bytes come after it.
 pub stands_stopped : {S : Type 0} {g : Ghosts S} (reader : Reader S g) (r : Refusal) (s : S) (p : List ℕ) (b : ℕ) (q : List ℕ) → refusal_of reader ≡ Some r →
     StopsBy g s (budget_of reader) p b (sink_of reader) (left_of reader) r (cause_of r.fault) → HasRead reader s ((p ++ b ∷ []) ++ q)
 stands_stopped {S} {g} reader r s p b q is h =
@@ -81,7 +81,7 @@ stands_stopped {S} {g} reader r s p b q is h =
     (answers_stay g s (budget_of reader) (p ++ b ∷ []) q (sink_of reader) (left_of reader) r (cause_of r.fault)
     (stop_answers g s (budget_of reader) p b (sink_of reader) (left_of reader) r (cause_of r.fault) h))
 
--- a reader that was refused in a piece stands for the piece
+-- a reader that was refused in a piece has read the piece
 pub stands_behind_stop : {S : Type 0} {g : Ghosts S} {old new : Reader S g} {piece : List ℕ} {r : Refusal} {i : ℕ} → refusal_of new ≡ Some r → budget_of new ≡ budget_of old →
     StopsAt old new piece r i → (s : S) (p : List ℕ) → HasRead old s p → HasRead new s (p ++ piece)
 stands_behind_stop {S} {g} {old} {new} {piece} {r} {i} refused budget stops s p h =

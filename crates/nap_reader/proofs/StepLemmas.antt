@@ -11,7 +11,7 @@ use Rattle.nap_reader.proofs.OpenBodyLemmas.{body_bound, held_body, same_done}
 pub no_some : {A : Type 0} {x : A} → Some x ≡ None → ⊥
 no_some e = cc
 
--- What a reader does with one byte, by what stands at the front then.
+-- The effect of one byte on a reader, by the front with it.
 
 -- the fault of a sink is one fault, for the rule and for the reader
 pub sink_fault : (fault : DrawFault) → draw_fault fault ≡ Sink → fault ≡ draw_faults.Sink
@@ -23,7 +23,7 @@ pub code_fault_own : (fault : CodeFault) → cause_of (code_fault fault) ≡ str
 code_fault_own code_faults.EighthBit = refl
 code_fault_own _ = refl
 
--- Where no run is open, nor a body, only a code breaks.
+-- If neither a run nor a body is open, only a code breaks.
 pub breaks_code : {S : Type 0} {g : Ghosts S} {t : S} {h : ReadingState} {x : Placed} {u : S} {r : Refusal} → h.open_body ≡ None → h.open_run ≡ None → Breaks g t h x u r → BreaksCode g t h x u r
 breaks_code between closed (at_word lacks) = let bad : Some lacks.open_run ≡ None = sym lacks.is ∙ closed in cc
 breaks_code between closed (in_run other stops) = let bad : Some stops.open_run ≡ None = sym stops.is ∙ closed in cc
@@ -31,7 +31,7 @@ breaks_code between closed (in_code none code) = code
 breaks_code between closed (behind_run v h' other acts code) = let bad : Some acts.open_run ≡ None = sym acts.is ∙ closed in cc
 breaks_code between closed (in_body body) = let bad : Some body.body ≡ None = sym body.is ∙ between in cc
 
--- The opcode of the open run acts, and the byte that ended it is still to be read.
+-- The opcode of the open run acts, and the byte that ended the run is still to be read.
 pub passes_run : {S : Type 0} {g : Ghosts S} {t : S} {h : ReadingState} {u : S} {h' : ReadingState} {x : Placed} {s : S} {o : Outcome} {pending : List Placed} → TookMore g → (acts : ActsRun g t h u h') → is_operand x ≡ false →
     Continues g s o t h (x ∷ pending) → Continues g s o u h' (x ∷ pending)
 passes_run {g = g} {h = h} {u = u} {x = x} {s = s} {o = o} {pending = pending} more acts other k =
@@ -39,7 +39,7 @@ passes_run {g = g} {h = h} {u = u} {x = x} {s = s} {o = o} {pending = pending} m
     subst (λ (h : ReadingState). Continues g s o u h (x ∷ pending)) (sym acts.holds)
     (leads_on k u acts.drawn.entries (record h { machine = m; open_run = None; run = [] }) (x ∷ pending) more (none_held acts.between acts.is k m refl) (over acts.between acts.is k other _ acts.by) acts.took acts.clear)
 
--- It is refused, or breaks.
+-- The opcode of the open run is refused, or breaks.
 pub stops_run : {S : Type 0} {g : Ghosts S} {t : S} {h : ReadingState} {x : Placed} {u : S} {r : Refusal} → is_operand x ≡ false → StopsRun g t h u r → StopsByte g t h x u r
 stops_run {g = g} {h = h} {x = x} {u = u} other stops = record {
   own = λ own s o pending k.
@@ -48,7 +48,7 @@ stops_run {g = g} {h = h} {x = x} {u = u} other stops = record {
   broke = λ broke. in_run other stops;
 }
 
--- What was held leads on to the byte that comes, whether the opcode of the open run has acted or not.
+-- The reading state leads on to the next byte, whether the opcode of the open run has acted or not.
 module _ {S : Type 0} {g : Ghosts S} {t : S} {h : ReadingState} {u : S} {h' : ReadingState} {next : List ℕ} {x : Placed} (more : TookMore g) (first : (b : ℕ) (bs : List ℕ) → next ≡ b ∷ bs → x.byte ≡ b) where
   pub passes_acted : {s : S} {o : Outcome} {pending : List Placed} → Acted g t h u h' next → Continues g s o t h (x ∷ pending) → Continues g s o u h' (x ∷ pending)
   passes_acted {s} {o} {pending} (as_it_was sink holding) k =
@@ -100,15 +100,15 @@ left_acted (as_it_was sink holding) = ap (λ (h : ReadingState). h.machine.left)
 left_acted (ahead b bs is other acts) = ap (λ (h : ReadingState). h.machine.left) acts.holds
 left_acted (bound b bs is ends sink binds) = binds.left
 
--- the run that is open is where it was
+-- the open run has the place that it had
 pub run_acted : {S : Type 0} {g : Ghosts S} {t : S} {h : ReadingState} {u : S} {h' : ReadingState} {next : List ℕ} (n : ℕ) → Acted g t h u h' next → RunAt n h.open_run → RunAt n h'.open_run
 run_acted n (as_it_was sink holding) run = subst (λ (h : ReadingState). RunAt n h.open_run) (sym holding) run
 run_acted n (ahead b bs is other acts) run = subst (λ (h : ReadingState). RunAt n h.open_run) (sym acts.holds) tt
 run_acted n (bound b bs is ends sink binds) run = subst (RunAt n) (sym binds.closed) tt
 
--- One after another.
+-- One step after another.
 
--- Nothing was taken, and all is as it was.
+-- A step that consumes nothing, and changes nothing.
 abbrev pub conveys_nothing : {S : Type 0} (g : Ghosts S) (t : S) (h : ReadingState) → LeadsThrough g t h []
 conveys_nothing g t h = record { sink = t; holding = h; left = refl; run = λ n all before. before; passes = λ s o pending k. k; none = λ _. (refl, refl) }
 
@@ -118,7 +118,7 @@ leads_nowhere {g = g} {t = t} {h = h} next sink same = record { conveys = convey
 abbrev pub IsAt : ℕ → Placed → Type 0
 IsAt n x = x.place ≡ n
 
--- what is at one place in front of more is, and so is the rest
+-- a property of all bytes of a list, for its prefix and for the rest
 pub all_front : (n : ℕ) (xs ys : List Placed) → All (IsAt n) (xs ++ ys) → All (IsAt n) xs
 all_front n [] ys all = All-nil (IsAt n)
 all_front n (x ∷ xs) ys all = All-cons (IsAt n) x xs (All-head (IsAt n) x (xs ++ ys) all) (all_front n xs ys (All-tail (IsAt n) x (xs ++ ys) all))
@@ -127,7 +127,7 @@ pub all_rest : (n : ℕ) (xs ys : List Placed) → All (IsAt n) (xs ++ ys) → A
 all_rest n [] ys all = all
 all_rest n (x ∷ xs) ys all = all_rest n xs ys (All-tail (IsAt n) x (xs ++ ys) all)
 
--- An opcode acts ahead of a byte once, or a body is bound.
+-- An opcode acts before a byte once, or a body is bound.
 pub acted_then : {S : Type 0} {g : Ghosts S} {t : S} {h : ReadingState} {u : S} {h' : ReadingState} {v : S} {h'' : ReadingState} {next : List ℕ} → Acted g t h u h' next → Acted g u h' v h'' next → Acted g t h v h'' next
 acted_then {S = S} {g = g} {t = t} {h' = h'} {v = v} {h'' = h''} {next = next} (as_it_was sink holding) then = subst (λ (held : ReadingState). Acted g t held v h'' next) holding (subst (λ (w : S). Acted g w h' v h'' next) sink then)
 acted_then {S = S} {g = g} {t = t} {h = h} {h' = h'} {v = v} {next = next} first (as_it_was sink holding) = subst (λ (held : ReadingState). Acted g t h v held next) (sym holding) (subst (λ (w : S). Acted g t h w h' next) (sym sink) first)
@@ -140,15 +140,15 @@ acted_then (ahead b bs is other acts) (bound c cs is' ends' sink' binds') =
 acted_then (bound b bs is ends sink binds) (bound c cs is' ends' sink' binds') =
     absurd (no_some (sym binds'.is ∙ binds.between))
 
--- It acted, or is bound, where no byte is a character by itself, or a code is half read.
+-- An opcode has acted or a body is bound only if no byte is a character by itself, or a code is incomplete.
 pub acted_typed : {S : Type 0} {g : Ghosts S} {t : S} {h : ReadingState} {u : S} {h' : ReadingState} {next : List ℕ} → Acted g t h u h' next → (set : CharSet) → h'.half ≡ [] → AllCharacters h'.machine.sets set → (u ≡ t) × (h' ≡ h)
 acted_typed (as_it_was sink holding) set rested chars = (sink, holding)
 acted_typed (ahead b bs is other acts) set rested chars = absurd (acts.alone set (subst (λ (held : ReadingState). AllCharacters held.machine.sets set) acts.holds chars))
 acted_typed (bound b bs is ends sink binds) set rested chars = absurd (binds.waits rested)
 
--- Bytes were taken, and then more of those that came next.
+-- Bytes were consumed, and then more of those that came next.
 module _ {S : Type 0} {g : Ghosts S} {t : S} {h : ReadingState} {u : S} {h' : ReadingState} {xs : List Placed} {next : List ℕ} (more : TookMore g) (first : LeadsOn g t h u h' xs next) where
-  -- what these come to, where the first of them comes next
+  -- the bytes in two steps, if the first of the second step comes next
   unfoldable pub conveys_then : (x : Placed) (ys : List Placed) → (rest : List ℕ) → next ≡ x.byte ∷ rest → LeadsThrough g u h' (x ∷ ys) → LeadsThrough g t h (xs ++ x ∷ ys)
   conveys_then x ys rest is then =
       let c = first.conveys in
@@ -181,7 +181,7 @@ module _ {S : Type 0} {g : Ghosts S} {t : S} {h : ReadingState} {u : S} {h' : Re
     acted = then.acted;
   }
 
-  -- They lead to a byte that is refused or breaks, or to characters of which one does.
+  -- The bytes lead to a byte that is refused or breaks, or to characters of which one does.
   pub stops_then : {x : Placed} {v : S} {r : Refusal} (ys : List Placed) (rest : List ℕ) → next ≡ bytes_of ys ++ x.byte ∷ rest → (c : LeadsThrough g u h' ys) → StopsByte g c.sink c.holding x v r →
       (k : LeadsThrough g t h (xs ++ ys)) × StopsByte g k.sink k.holding x v r
   unfolding conveys_then
@@ -210,7 +210,7 @@ module _ {S : Type 0} {g : Ghosts S} {t : S} {h : ReadingState} {u : S} {h' : Re
 pub stops_own : {S : Type 0} (g : Ghosts S) (t : S) (h : ReadingState) (x : Placed) (u : S) (r : Refusal) → cause_of r.fault ≡ stream → ((s : S) (o : Outcome) (pending : List Placed) → Continues g s o t h (x ∷ pending) → IsRefused g s o u h r) → StopsByte g t h x u r
 stops_own g t h x u r is refuses = record { own = λ own. refuses; broke = λ broke. absurd (broke is) }
 
--- a byte calls or shows a body that can't be charged, or for which memory is wanting
+-- a byte calls or presents a body that can't be charged, or for which memory is lacking
 pub cannot_stops : {S : Type 0} {g : Ghosts S} {t : S} {h : ReadingState} {x : Placed} {fault : Fault} (left : ℕ) (m : Machine) (bytes : List ℕ) → left ≡ m.left →
     ((s : S) (o : Outcome) (pending : List Placed) (k : Continues g s o t h (x ∷ pending)) → front h.machine (k.rest ++ x ∷ pending) ≡ shown_front m x.place bytes pending) →
     (0 < length bytes → length bytes ≤ m.left → Breaks g t h x t (refusal Memory x.place)) →

@@ -4,7 +4,7 @@ use Rattle.nap_reader.proofs.PieceLemmas.{broken_amid, first_placed, known_amid,
 use Rattle.nap_reader.proofs.TakingLemmas.{place_at-drop}
 use Rattle.nap_reader.proofs.TextLemmas.{halts_in, not_own, text_breaks_off, text_stops}
 
--- Where the reading of a piece stops.
+-- The places at which the reading of a piece stops.
 
 place_of_placed : (fed : ℕ) (bs : List ℕ) (i : ℕ) → i < length bs → place_at (placed_from fed bs) i ≡ fed + i
 unfolding placed_from
@@ -68,7 +68,7 @@ module _ {S : Type 0} {g : Ghosts S} {old : Reader S g} {piece : List ℕ} {at :
         },
       )
 
-  -- One of the characters that came wasn't taken, or broke.
+  -- One of the characters that came was refused, or broke.
   pub stops_text : {texts rest : List Placed} {until index : ℕ} {r : Refusal} → StopsText g t h (bytes_of texts) index (sink_of new) r → Came frames rest piece at until (fed_of old + at) texts → place_at texts index ≡ r.place → index < length texts →
       fed_of new ≡ fed_of old + at + (index + 1 - length frames) → (i : ℕ) × StopsAt old new piece r i
   stops_text {texts = texts} {index = index} {r = r} stops (of_piece empty gone placed moved inside) place less fed =
@@ -105,7 +105,7 @@ place_at-taken [] (suc n) i less = refl
 place_at-taken (x ∷ xs) (suc n) zero less = refl
 place_at-taken (x ∷ xs) (suc n) (suc i) less = place_at-taken xs n i (omega (arith, less))
 
--- Where what came so far leads to a byte that is refused or breaks, or to characters of which one does.
+-- The bytes that came lead to a byte that is refused or breaks, or to characters of which one does.
 module _ {S : Type 0} {g : Ghosts S} {old : Reader S g} {piece : List ℕ} {at : ℕ} {t : S} {h : ReadingState} {frames : List Placed} (by : Reaches old piece at t h frames) (laws : Lawful g) (many : ℕ)
     (fit : (length frames ≡ 0 → at + many ≤ length piece) × (0 < length frames → many ≤ length frames)) where
   abbrev all : List Placed
@@ -120,7 +120,7 @@ module _ {S : Type 0} {g : Ghosts S} {old : Reader S g} {piece : List ℕ} {at :
   all_long : many ≤ length all
   all_long = grind (arith, fit.0, fit.1, length-append frames (placed_from (fed_of old + at) (drop at piece)), length-placed (fed_of old + at) (drop at piece), length-drop at piece)
 
-  -- so many of those that come next came
+  -- n of the next bytes came
   module _ (n : ℕ) (few : n ≤ many) where
     abbrev until : ℕ
     until = at + (n - length frames)
@@ -136,7 +136,7 @@ module _ {S : Type 0} {g : Ghosts S} {old : Reader S g} {piece : List ℕ} {at :
         ap (drop n) (came_coming frames rest piece at until (fed_of old + at) (fed_of old + until) (take n all) came (omega arith))
         ∙ drop_at (take n all) (rest ++ placed_from (fed_of old + until) (drop until piece)) n (length-take-le n all (omega (arith, few, all_long)))
 
-    -- what leads there
+    -- what leads to the stop
     reached : (P : S → ReadingState → Type 0) → (c : LeadsThrough g t h (take n all)) → P c.sink c.holding → (n ≡ 0 → P t h → P by.sink by.holding) →
         (u : S) × (held : ReadingState) × LeadsTo old piece until u held rest × (h.machine.left ≡ held.machine.left) × P u held
     reached P c here first = by_first (take n all) refl
@@ -158,7 +158,7 @@ module _ {S : Type 0} {g : Ghosts S} {old : Reader S g} {piece : List ℕ} {at :
             (leads_past laws.more by (bytes_of ys ++ bytes_of (drop n all)) front) in
             (c.sink, c.holding, past c came, sym c.left, here)
 
-  -- It stops there. The bytes of the input are counted up to and with the one that stops it.
+  -- Reading stops there. The bytes of the input are counted up to and with the one that stops it.
   pub stops_reached : {r : Refusal} {index : ℕ} (new : Reader S g) → left_of new ≡ h.machine.left → index ≤ many → Stops g t h all many index (sink_of new) r → fed_of new ≡ fed_of old + at + (index + 1 - length frames) → (i : ℕ) × StopsAt old new piece r i
   stops_reached {r} {index} new left few (at_byte x behind is c stops) fed =
       let (u, held, leads, same, there) =

@@ -37,13 +37,13 @@ module _ {M E F U B : Type 0} (front : M → List B → course.Front M E F U B) 
       at (refuse x) e ih = omega arith
       at (act es m' ys) e ih = omega (arith, ih m' ys, falls m xs es m' ys e)
 
-  -- what comes of an input doesn't raise it
+  -- the outcome of an input doesn't raise the count
   pub outcome-falls : (m : M) (xs : List B) → count (outcome front left m xs).machine ≤ count m
   unfolding outcome
   outcome-falls m xs = outcome_within-falls (suc (length xs + left m)) m xs
 
 module _ {M E F U B : Type 0} (front : M → List B → course.Front M E F U B) (left : M → ℕ) (lessens : Lessens front left) where
-  -- fronts to spare change nothing
+  -- more fronts than are needed change nothing
   outcome_within-spare : (f g : ℕ) (m : M) (xs : List B) → length xs + left m < f → length xs + left m < g →
       outcome_within front f m xs ≡ outcome_within front g m xs
   unfolding outcome_within
@@ -61,7 +61,7 @@ module _ {M E F U B : Type 0} (front : M → List B → course.Front M E F U B) 
           let less = lessens m xs es m' ys e in
           ap (prepend es) (ih m' ys (omega arith) (omega arith))
 
-  -- what comes of an input is what its front gives, and then what comes of the rest
+  -- the outcome of an input is that of its front, and then that of the rest
   pub outcome-front : (m : M) (xs : List B) → outcome front left m xs ≡ outcome_by_front (outcome front left) m xs (front m xs)
   unfolding outcome outcome_within
   outcome-front m xs = at (front m xs) refl
@@ -94,26 +94,27 @@ module _ {M E F U B : Type 0} (front : M → List B → course.Front M E F U B) 
           rw (whole m xs, e, whole m (xs ++ ys), stays.acting m xs es m' zs ys e, ih m' zs (omega arith))
           (sym (continue-prepend (outcome front left) es (outcome front left m' zs) ys))
 
-  -- what comes of an input in two pieces
+  -- the outcome of an input in two pieces
   pub outcome-append : (m : M) (xs ys : List B) →
       outcome front left m (xs ++ ys) ≡ continue (outcome front left) (outcome front left m xs) ys
   outcome-append m xs ys = in_pieces (suc (length xs + left m)) m xs ys (omega arith)
 
--- What each front comes to: what it puts, and what is left behind it.
+-- The effect of each front: the entries that it puts, and what is left after it.
 
 -- an open run is of words
 abbrev pub IsOfWords : Unfinished → Type 0
 IsOfWords (open_run op place run) = All IsWord run
 IsOfWords _ = ⊤
 
--- these entries are put, and the work is then this: nothing, what an opcode's rule gives of words, or what a code's rule gives
+-- the entries are put, and this is the work then: nothing, the result of an opcode's rule on words, or the result of a
+-- code's rule
 pub data Puts (work : Work) : List Entry → Work → Type 0 where
   puts_nothing : Puts work [] work
   by_rule : (op : Opcode) (run : List ℕ) (d : RuleResult) → All IsWord run → rule work op run ≡ Ok d → Puts work d.entries d.work
   by_code : (c : Code) (d : RuleResult) → IsMade c → code_rule work c ≡ Ok d → Puts work d.entries d.work
 
--- The second is the first with these bytes behind. What is unread after it and what is left then, taken together, are below k,
--- and no more is left to charge.
+-- The second front is the first with these bytes after it. What is unread after it and what is left then, taken
+-- together, are below k, and no more is left to charge.
 pub data Fronts (q : List Placed) (work : Work) (left k : ℕ) : Front → Front → Type 0 where
   pauses : {u : Unfinished} {f : Front} → IsOfWords u → Fronts q work left k (course.pause u) f
   refuses : {r : Refusal} → Fronts q work left k (course.refuse r) (course.refuse r)
@@ -142,7 +143,7 @@ Fronts-cond_left false f g = g refl
 carries_word : (b : ℕ) → is_operand_byte b ≡ true → IsWord (b - 64)
 carries_word b is = grind (arith, nat_tests)
 
--- the operand bytes at the front carry words
+-- the operand bytes of a prefix carry words
 run_words : (xs : List Placed) → All IsWord (words_of (take (run_length xs) xs))
 run_words [] = All-nil IsWord
 run_words (x ∷ xs) = at (is_operand x) refl (run_words xs)
@@ -184,7 +185,7 @@ drawn_fronts : (m : Machine) (place : ℕ) (rest q : List Placed) (by : Result R
 drawn_fronts m place rest q (Ok drawn) k h puts = acts refl h (omega arith) (puts drawn refl)
 drawn_fronts m place rest q (Err fault) k h puts = refuses
 
--- what is charged for the bytes is no less than they are
+-- at least as much is charged for the bytes as there are
 shown_fronts : (m : Machine) (place : ℕ) (bytes : List ℕ) (rest q : List Placed) (k : ℕ) → length rest + left_of m < k → Fronts q m.work m.left k (shown_front m place bytes rest) (shown_front m place bytes (rest ++ q))
 shown_fronts m place bytes rest q k h =
     Fronts-cond (ltb m.left (length bytes)) (λ _. refuses) (λ e.
@@ -227,7 +228,7 @@ opcode_fronts m op place xs q k h = at (eqb (run_length xs) (length xs)) refl
         rw (same, take-append-le _ xs q le, drop-append-le _ xs q le)
         (ended_fronts m op place _ (drop (run_length xs) xs) q k (simp length-drop (omega arith)) (run_words xs) (simp length-drop (omega arith)))
 
--- the fewest bytes that a code of this kind has
+-- the smallest number of bytes of a code of this kind
 abbrev least : Kind → ℕ
 least (kinds.Binds name show) = 2
 least _ = 1
@@ -296,7 +297,7 @@ body_fronts m name show xs q waits = pauses tt
 body_fronts m name show xs q (settled.refuses {i = i} within) = rw (place_at-append xs q i within) refuses
 body_fronts m name show xs q (ends {k = k} within) = bound_fronts m name show k xs q within
 
--- what is known of the body at the front of a list, where these come behind it
+-- the state of the body at the beginning of a list, if these bytes come after it
 settled_body : (m : Machine) (xs q : List Placed) →
     Settled (length xs) (body_front (store_limit - m.stored) (bytes_of xs)) (body_front (store_limit - m.stored) (bytes_of xs ++ bytes_of q))
 settled_body m xs q =
@@ -323,11 +324,11 @@ front-stays = record {
   refusing = λ m xs r q e. Fronts-refusing (rw e at (front_fronts m xs q));
 }
 
--- what comes of a list is what its front gives, and then what comes of the rest
+-- the outcome of a list is that of its front, and then that of the rest
 pub outcome_from-front : (m : Machine) (xs : List Placed) → outcome_from m xs ≡ outcome_by_front outcome_from m xs (front m xs)
 outcome_from-front = outcome-front front left_of front-lessens
 
--- what comes of a list in two pieces
+-- the outcome of a list in two pieces
 pub outcome_from-append : (m : Machine) (xs ys : List Placed) → outcome_from m (xs ++ ys) ≡ continue outcome_from (outcome_from m xs) ys
 outcome_from-append = outcome-append front left_of front-lessens front-stays
 
@@ -338,12 +339,12 @@ placed_from-append n (b ∷ p) q =
     ap (λ (xs : List Placed). record { byte = b; place = n } ∷ xs)
     (placed_from-append (suc n) p q ∙ ap (λ (m : ℕ). placed_from (suc n) p ++ placed_from m q) (omega arith))
 
--- what is known of a stream once more of it has come
+-- the outcome of a stream once more of it has come
 pub begun-append : (budget : ℕ) (p q : List ℕ) → begun budget (p ++ q) ≡ continue outcome_from (begun budget p) (placed_from (length p) q)
 begun-append budget p q =
     ap (outcome_from (start_machine budget)) (placed_from-append 0 p q ∙ ap (λ (m : ℕ). placed_from 0 p ++ placed_from m q) (omega arith))
     ∙ outcome_from-append (start_machine budget) (placed_from 0 p) (placed_from (length p) q)
 
--- what comes of a list leaves no more to charge
+-- the outcome of a list leaves no more to charge
 pub outcome_from-left : (m : Machine) (xs : List Placed) → (outcome_from m xs).machine.left ≤ m.left
 outcome_from-left = outcome-falls front left_of (λ m. m.left) front-falls

@@ -3,15 +3,15 @@ use Rattle.nap_reader.proofs.Base.{TookMore, byte-placed_by_step, bytes_of-appen
 use Rattle.nap_draw.specs.Draws as draws
 use Rattle.nap_reader.specs.declared.machine.Machine.{Machine}
 
--- What is held where a machine is known.
+-- The reading state, by the machine.
 
--- A rule drew: a sink that was t is u.
+-- A rule drew, on a sink that was t and is u.
 pub record Drew {S : Type 0} (g : Ghosts S) (by : Result RuleResult DrawFault) (t : S) (drawn : RuleResult) (u : S) : Type 0 where
   pub is : by ≡ Ok drawn
   pub took : g.took t drawn.entries u
   pub clear : g.failed t ≡ false → g.failed u ≡ false
 
--- what is held once codes have acted
+-- the reading state once codes have acted
 pub held_is : {S : Type 0} {g : Ghosts S} (h : ReadingState) (m : Machine S g) (work : Work) (lexer : LexerState) (open_run : Option OpenRun) → m.work ≡ work → m.lexer ≡ lexer → m.open_run ≡ open_run →
     with_machine h m ≡ record h { machine = record h.machine { work = work; sets = lexer.sets }; half = lexer.half; open_run = open_run; run = run_by open_run m.run.items }
 held_is h m work lexer open_run is_work is_lexer is_run =
@@ -35,7 +35,7 @@ pub record LeftBy {S : Type 0} {g : Ghosts S} (old new : Machine S g) (work : Wo
   pub work_is : new.work ≡ work
   pub lexer_is : new.lexer ≡ lexer
 
--- this is held then
+-- the reading state then
 pub left_is : {S : Type 0} {g : Ghosts S} {old new : Machine S g} {work : Work} {lexer : LexerState} → LeftBy old new work lexer → (h : ReadingState) →
     with_machine h new ≡ record (with_machine h old) { machine = record h.machine { work = work; sets = lexer.sets }; half = lexer.half }
 left_is {old = old} {new = new} {work = work} {lexer = lexer} left h =
@@ -44,7 +44,7 @@ left_is {old = old} {new = new} {work = work} {lexer = lexer} left h =
 
 -- The open run of a machine.
 module _ {S : Type 0} {g : Ghosts S} (old : Machine S g) (open_run : OpenRun) (is : old.open_run ≡ Some open_run) where
-  -- it acts
+  -- the open run acts
   pub executes : (new : Machine S g) (drawn : RuleResult) → (new.work ≡ drawn.work) × (new.lexer ≡ old.lexer) × (new.open_run ≡ None) → Drew g (rule old.work open_run.op (operand_words old.run.items)) old.sink drawn new.sink → (h : ReadingState) → h.open_body ≡ None →
       ActsRun g old.sink (with_machine h old) new.sink (state_after_request (with_machine h new) (clear_request_if drawn.clears))
   executes new drawn (work, lexer, store_bound) drew h between = record {
@@ -61,7 +61,7 @@ module _ {S : Type 0} {g : Ghosts S} (old : Machine S g) (open_run : OpenRun) (i
         ∙ asked_is (record (with_machine h old) { open_run = None; run = [] }) drawn;
   }
 
-  -- or doesn't
+  -- the open run is refused, or breaks
   pub fails_run : (u : S) (fault : DrawFault) → DrawsBy g.took g.broke g.failed (rule old.work open_run.op (operand_words old.run.items)) old.sink u fault (draws.cause_of fault) → (h : ReadingState) → h.open_body ≡ None →
       StopsRun g old.sink (with_machine h old) u (refusal (draw_fault fault) open_run.place)
   fails_run u fault drew h between = record {
@@ -75,7 +75,7 @@ module _ {S : Type 0} {g : Ghosts S} (old : Machine S g) (open_run : OpenRun) (i
 
 -- What a machine answers.
 
--- what a call left that worked, and one that lacked memory
+-- the state after a call that worked, and after one that lacked memory
 pub worked : {T E : Type 0} (r : Result T E) (A : Type 0) (failed : Bool) → failed ≡ is_err r → failed ≡ false → OnOk r A → A
 worked (Ok _) A failed was works so = so
 worked (Err _) A failed was works so = let bad : ⊥ = cc in absurd bad
@@ -84,7 +84,7 @@ pub lacked : {T E : Type 0} (r : Result T E) (A : Type 0) (failed : Bool) → fa
 lacked (Ok _) A failed was fails so = let bad : ⊥ = cc in absurd bad
 lacked (Err _) A failed was fails so = so
 
--- it stops
+-- the machine stops
 pub stop_takes : {S : Type 0} {g : Ghosts S} {old new : Machine S g} {bytes : List Placed} {ended : Bool} {count : ℕ} {r : Refusal} {u : S} → new.refusal ≡ Some r → new.sink ≡ u → count ≤ length bytes → FaultMatchesSink g old.sink u r.fault →
     ((h : ReadingState) (behind : List Placed) → h.open_body ≡ None → (ended ≡ true → IsOver (bytes_of behind)) → Stops g old.sink (with_machine h old) (bytes ++ behind) (length bytes) count u r) → Takes old new bytes ended count Stop
 stop_takes {S} {g} {old} {new} {bytes} {ended} {count} {r} is same few tells stops = record {
@@ -95,11 +95,11 @@ stop_takes {S} {g} {old} {new} {bytes} {ended} {count} {r} is same few tells sto
   by = λ h behind between over. (r, is, subst (λ (u : S). Stops g old.sink (with_machine h old) (bytes ++ behind) (length bytes) count u r) (sym same) (stops h behind between over));
 }
 
--- a fault that isn't the sink's tells nothing of it
+-- a fault that isn't the sink's says nothing of the sink
 pub own_tells : {S : Type 0} (g : Ghosts S) (t : S) {fault : Fault} → fault ≢ Sink → FaultMatchesSink g t t fault
 own_tells g t other = (λ device. absurd (other device), λ works fails. absurd (false≢true (sym works ∙ fails)))
 
--- it goes on where its sink worked if it did before
+-- the machine continues from a state if its sink works whenever it did before
 pub leaves_from : {S : Type 0} {g : Ghosts S} (old mid new : Machine S g) (request : Request) → (g.failed old.sink ≡ false → g.failed mid.sink ≡ false) → Leaves mid new request → Leaves old new request
 leaves_from {g = g} old mid new request still leaves = by request leaves
   where
@@ -110,14 +110,14 @@ leaves_from {g = g} old mid new request still leaves = by request leaves
     by Stop l = record { why = l.why; is = l.is; tells = (l.tells.0, λ clear fails. l.tells.1 (still clear) fails) }
     by _ w = works w
 
--- it may ask that all names are unbound
+-- the code may request that all names are unbound
 pub asks_takes : {S : Type 0} {g : Ghosts S} {old new : Machine S g} {xs : List Placed} {ended : Bool} {count : ℕ} (clears : Bool) → Works old new → new.open_run ≡ None → count ≤ length xs → (0 < length xs → Progresses old new count (clear_request_if clears)) →
     ((h : ReadingState) (behind : List Placed) → h.open_body ≡ None → (ended ≡ true → IsOver (bytes_of behind)) →
     LeadsOn g old.sink (with_machine h old) new.sink (state_after_request (with_machine h new) (clear_request_if clears)) (take count (xs ++ behind)) (bytes_of (drop count (xs ++ behind)))) → Takes old new xs ended count (clear_request_if clears)
 asks_takes true works store_bound few goes leads = record { within = few; leaves = works; goes = goes; closed = λ nothing less. store_bound; by = leads }
 asks_takes false works store_bound few goes leads = record { within = few; leaves = works; goes = goes; closed = λ nothing less. store_bound; by = leads }
 
--- It takes one byte.
+-- The machine consumes one byte.
 pub one_takes : {S : Type 0} {g : Ghosts S} {old new : Machine S g} {x : Placed} {zs : List Placed} {ended : Bool} {request : Request} → Leaves old new request → new.open_run ≡ None →
     ((h : ReadingState) (behind : List Placed) → h.open_body ≡ None → TakesBy g old.sink (with_machine h old) new.sink (with_machine h new) (x ∷ (zs ++ behind)) (length (x ∷ zs)) 1 new.refusal request) → Takes old new (x ∷ zs) ended 1 request
 one_takes leaves store_bound by = record {
@@ -135,7 +135,7 @@ takes_at {old = old} {new = new} place step bytes at less {ended} {count} {n} {r
     subst (λ (k : ℕ). Takes old new (drop at (placed_by_step place step bytes)) ended k request) (let e : n ≡ count - at = omega (arith, is) in e)
     (subst (λ (xs : List Placed). Takes old new xs ended n request) (sym (byte-placed_by_step place step bytes at less)) takes)
 
--- What a machine takes of bytes, and then of those behind them.
+-- The bytes that a machine consumes, and then some of those after them.
 
 pub place_at-drop : (xs : List Placed) (n i : ℕ) → place_at (drop n xs) i ≡ place_at xs (n + i)
 place_at-drop [] zero i = refl
@@ -147,14 +147,14 @@ place_at-drop (x ∷ xs) (suc n) i = place_at-drop xs n i ∙ ap (λ (k : ℕ). 
 two_parts : (all : List Placed) (n m : ℕ) → (take (n + m) all ≡ take n all ++ take m (drop n all)) × (drop m (drop n all) ≡ drop (n + m) all)
 two_parts all n m = (take-add n m all, drop-drop m n all ∙ ap (λ (k : ℕ). drop k all) (omega arith))
 
--- what comes next in two parts
+-- the next bytes in two parts
 next_parts : (all : List Placed) (n m : ℕ) → bytes_of (drop n all) ≡ bytes_of (take m (drop n all)) ++ bytes_of (drop (n + m) all)
 next_parts all n m =
     ap bytes_of (sym (take-append-drop m (drop n all))) ∙ bytes_of-append (take m (drop n all)) (drop m (drop n all))
     ∙ ap (λ (xs : List Placed). bytes_of (take m (drop n all)) ++ bytes_of xs) (two_parts all n m).1
 
 module _ {S : Type 0} {g : Ghosts S} {t : S} {h : ReadingState} {u : S} {h' : ReadingState} (all : List Placed) (n : ℕ) (more : TookMore g) (first : LeadsOn g t h u h' (take n all) (bytes_of (drop n all))) where
-  -- They lead on.
+  -- The bytes lead on.
   pub leads_behind : {v : S} {h'' : ReadingState} (m : ℕ) → LeadsOn g u h' v h'' (take m (drop n all)) (bytes_of (drop m (drop n all))) →
       LeadsOn g t h v h'' (take (n + m) all) (bytes_of (drop (n + m) all))
   leads_behind {v} {h''} m later =
@@ -163,7 +163,7 @@ module _ {S : Type 0} {g : Ghosts S} {t : S} {h : ReadingState} {u : S} {h' : Re
       (leads_then more first v h'' (take m (drop n all)) (bytes_of (drop (n + m) all)) (next_parts all n m)
       (subst (λ (xs : List Placed). LeadsOn g u h' v h'' (take m (drop n all)) (bytes_of xs)) parts.1 later))
 
-  -- They lead to a byte, or to characters.
+  -- The bytes lead to a byte that stops, or to characters of which one does.
   pub stops_behind : {v : S} {r : Refusal} (many m : ℕ) → Stops g u h' (drop n all) (many - n) m v r → Stops g t h all many (n + m) v r
   stops_behind {v} {r} many m (at_byte x behind there c stops) =
       let parts = two_parts all n m in
@@ -180,7 +180,7 @@ module _ {S : Type 0} {g : Ghosts S} {t : S} {h : ReadingState} {u : S} {h' : Re
       in_text (n + before) taken size (omega (arith, is)) less (omega (arith, within, less)) (sym (place_at-drop all n m) ∙ place) k.0
       (subst (λ (xs : List Placed). StopsText g k.0.sink k.0.holding (bytes_of (take size xs)) taken v r) parts.1 k.1)
 
-  -- They lead to a call.
+  -- The bytes lead to a call.
   pub calls_behind : {v : S} {h'' : ReadingState} {name : ℕ} (m : ℕ) → Calls g u h' v h'' (drop n all) m name → Calls g t h v h'' all (n + m) name
   calls_behind m calls = record {
     byte = calls.byte;
@@ -203,14 +203,14 @@ module _ {S : Type 0} {g : Ghosts S} {t : S} {h : ReadingState} {u : S} {h' : Re
   takes_behind new k Stop many m (why, is, stops) = (why, is, stops_behind many m stops)
   takes_behind new k _ many m later = leads_behind m later
 
--- The machine took so many bytes of a slice, and goes on behind them.
+-- The machine consumed `count` bytes of a slice, and continues after them.
 pub record Took {S : Type 0} {g : Ghosts S} (old new : Machine S g) (xs : List Placed) (ended : Bool) (count : ℕ) : Type 0 where
   pub within : count ≤ length xs
   pub works : Works old new
   pub by : (h : ReadingState) (behind : List Placed) → h.open_body ≡ None → (ended ≡ true → IsOver (bytes_of behind)) →
       LeadsOn g old.sink (with_machine h old) new.sink (with_machine h new) (take count (xs ++ behind)) (bytes_of (drop count (xs ++ behind)))
 
--- It took none so far, and is as it was.
+-- The machine consumed none so far, and is unchanged.
 pub took_same : {S : Type 0} {g : Ghosts S} {old mid : Machine S g} {xs : List Placed} {ended : Bool} → LeftBy old mid old.work old.lexer → mid.sink ≡ old.sink → IsLive mid → Took old mid xs ended 0
 took_same {g = g} {xs = xs} left same live = record {
   within = omega arith;
@@ -221,11 +221,11 @@ took_same {g = g} {xs = xs} left same live = record {
 pub took_none : {S : Type 0} {g : Ghosts S} {old : Machine S g} (xs : List Placed) (ended : Bool) → IsLive old → old.open_run ≡ None → Took old old xs ended 0
 took_none xs ended live store_bound = took_same (record { before = store_bound; closed = store_bound; work_is = refl; lexer_is = refl }) refl live
 
--- Nothing is asked.
+-- The machine requests nothing.
 pub took : {S : Type 0} {g : Ghosts S} {old new : Machine S g} {xs : List Placed} {ended : Bool} {count : ℕ} → Takes old new xs ended count Nothing → Took old new xs ended count
 took takes = record { within = takes.within; works = takes.leaves; by = takes.by }
 
--- It took all of them.
+-- The machine consumed all of the bytes.
 pub took_all : {S : Type 0} {g : Ghosts S} {old new : Machine S g} {xs : List Placed} {ended : Bool} {count : ℕ} → Took old new xs ended count → length xs ≤ count → Takes old new xs ended count Nothing
 took_all t all = record {
   within = t.within;
@@ -235,7 +235,7 @@ took_all t all = record {
   by = t.by;
 }
 
--- It takes more of those that are left.
+-- The machine consumes more of the bytes that are left.
 pub takes_then : {S : Type 0} {g : Ghosts S} {old mid new : Machine S g} {xs : List Placed} {ended : Bool} {count n : ℕ} {request : Request} → Took old mid xs ended count → TookMore g → (0 < count) ⊎ ((count < length xs) × (mid.open_run ≡ None)) →
     Takes mid new (drop count xs) ended n request → Takes old new xs ended (count + n) request
 takes_then {g = g} {old = old} {mid = mid} {new = new} {xs = xs} {count = count} {n = n} {request = request} t more further takes = record {
@@ -259,12 +259,12 @@ takes_then {g = g} {old = old} {mid = mid} {new = new} {xs = xs} {count = count}
     by_further (inl some) = inl (omega (arith, some))
     by_further (inr (less, store_bound)) = by_goes store_bound (takes.goes (omega (arith, less, length-drop count xs)))
 
--- It took none before, and was as it is.
+-- The machine had consumed none before, and was unchanged.
 pub takes_same : {S : Type 0} {g : Ghosts S} {old mid new : Machine S g} {xs : List Placed} {ended : Bool} {n : ℕ} {request : Request} → Takes mid new xs ended n request → LeftBy old mid old.work old.lexer → mid.sink ≡ old.sink → IsLive mid → TookMore g → 0 < length xs →
     Takes old new xs ended n request
 takes_same {old = old} {new = new} {xs = xs} {ended = ended} {n = n} {request = request} takes left same live more some =
     subst (λ (k : ℕ). Takes old new xs ended k request) (let e : 0 + n ≡ n = omega arith in e) (takes_then (took_same left same live) more (inr (some, left.closed)) takes)
 
--- the bytes that are left, of which the place of each is known
+-- the bytes that are left, and the place of each
 pub left_bytes : (xs : List Placed) (count : ℕ) → bytes_of (drop count xs) ≡ drop count (bytes_of xs)
 left_bytes xs count = sym (drop-map (λ (x : Placed). x.byte) count xs)

@@ -5,9 +5,9 @@ use Rattle.nap_list.specs.declared.sink.SinkFault.TheVariants as sink_faults
 use Rattle.nap_reader.specs.declared.kind.Kind.TheVariants as kinds
 use Rattle.nap_reader.proofs.PieceLemmas.{length_taken, stops_by, taken_further}
 
--- A stretch of a text is its characters, and the moves among them, in turn.
+-- A stretch of text has the effect of its characters and format effectors one after another.
 
--- Where all bytes from 20 to 7F are characters, each byte of a text is the move that it is by itself, or such a character.
+-- If all bytes from 20 to 7F are characters, each byte of a text is a format effector of one byte, or such a character.
 are_typed : (sets : CodeSets) (set : CharSet) → AllCharacters sets set → (b : ℕ) → IsTextByte b → codes.front sets (b ∷ []) ≡ codes.whole (text_code set b) 1 sets
 are_typed sets set are b is = by (format_effector b) refl
   where
@@ -15,16 +15,16 @@ are_typed sets set are b is = by (format_effector b) refl
     by (Some step) e = (format_effector_front b step e).1 sets
     by None e = are b ((is e).0, omega (arith, (is e).1))
 
--- either acts
+-- a character and a format effector act by their rule
 typed_acts : (step : Option TextStep) (set : CharSet) (b : ℕ) → kind_of (code_as step set b) ≡ kinds.Acts (code_as step set b)
 typed_acts (Some step) set b = refl
 typed_acts None set b = refl
 
--- what a byte of a text draws in this state
+-- the entry of a byte of a text in this state
 abbrev pub typed_in : State → CharSet → ℕ → Entry
 typed_in s set b = text_entry set (hand_of s.drawing) b
 
--- the machine once they were put
+-- the machine after the text was put
 abbrev pub with_text : Machine → CharSet → List ℕ → Machine
 with_text m set q = record m { work = (rule_result m.work (text m.work.state set q)).work }
 
@@ -37,7 +37,7 @@ one_char : (s : State) (set : CharSet) (b : ℕ) → text s set (b ∷ []) ≡ t
 unfolding text
 one_char s set b = refl
 
--- what comes of them is their text, and then what comes of the machine that they leave
+-- the outcome of characters is their text, and then the outcome of the machine after them
 text_acts : (m : Machine) (set : CharSet) (xs pending : List Placed) → m.mode ≡ between → AllCharacters m.sets set → All IsTextByte (bytes_of xs) →
     outcome_from m (xs ++ pending) ≡ prepend (text m.work.state set (bytes_of xs)) (outcome_from (with_text m set (bytes_of xs)) pending)
 unfolding text walk
@@ -54,7 +54,7 @@ text_acts m set (x ∷ xs) pending mode are all =
     ∙ ap (drawn_front m x.place rest) (typed_rule m.work set b))
     ∙ ap (prepend (e ∷ [])) (text_acts m' set xs pending mode are (All-tail IsTextByte b (bytes_of xs) all))
 
--- what comes of them alone
+-- the outcome of characters alone
 text_comes : (m : Machine) (set : CharSet) (q : List ℕ) (n : ℕ) → m.mode ≡ between → AllCharacters m.sets set → All IsTextByte q →
     outcome_from m (placed_from n q) ≡ prepend (text m.work.state set q) (paused (with_text m set q) [] (Some nothing))
 text_comes m set q n mode are all =
@@ -74,14 +74,14 @@ closed_still : (o : Outcome) (word : Bool) (known : List Entry) → o.entries �
 closed_still o true known is none = is
 closed_still o false known is none = ap (λ (u : Option Unfinished). (with_run_by o u).entries) none ∙ is
 
--- Where the putting of a text halts.
+-- The entry at which the put of a text halts.
 
--- these were taken, and the next one wasn't, up to which memory may be wanting, or broke
+-- the entries were taken, and the next one wasn't, up to which memory may be lacking, or broke
 abbrev pub Halted : {S : Type 0} → Ghosts S → List Entry → Entry → S → S → SinkFault → Type 0
 Halted g es next t u sink_faults.Memory = g.took t es u × g.wants t (es ++ next ∷ [])
 Halted g es next t u sink_faults.Write = ((g.failed t ≡ true) × (u ≡ t) × (es ≡ [])) ⊎ g.broke t es next u
 
--- what a text draws up to where its putting halts
+-- the entries of a text up to where its put halts
 pub record HaltsIn {S : Type 0} (g : Ghosts S) (s : State) (set : CharSet) (q : List ℕ) (i : ℕ) (t u : S) (fault : SinkFault) : Type 0 where
   pub es : List Entry
   pub next : Entry
@@ -99,7 +99,7 @@ halts_in g s set (b ∷ q) i t u sink_faults.Write some (inl h) =
     record { es = []; next = typed_in s set b; rest = text (after s (typed_in s set b)) set q; parts = refl; count = h.2; halted = inl (h.0, h.1, refl) }
 halts_in g s set q i t u sink_faults.Write some (inr h) = record { es = h.front; next = h.next; rest = h.rest; parts = h.parts; count = sym h.count; halted = inr h.broken }
 
--- the first entries of a text are the text of its first bytes, and the next one is what the byte behind them draws
+-- the first entries of a text are the text of its first bytes, and the next one is the entry of the byte after them
 pub record IsTextOf (s : State) (set : CharSet) (q : List ℕ) (es : List Entry) (e : Entry) : Type 0 where
   pub before : List ℕ
   pub byte : ℕ
@@ -135,7 +135,7 @@ halts_less g s set q i t u fault some h =
     let is = text_parts s set q halt.es halt.next halt.rest halt.parts in
     omega (arith, halt.count, is.count, ap (λ (xs : List ℕ). length xs) is.parts, length-append is.before (is.byte ∷ is.behind))
 
--- Characters pend before other bytes.
+-- Characters are pending before other bytes.
 module _ {S : Type 0} {g : Ghosts S} {s : S} {o : Outcome} {t : S} {h : ReadingState} {set : CharSet} (xs pending : List Placed) (k : Continues g s o t h (xs ++ pending)) (in_text : IsText h set (bytes_of xs)) where
   acts : o ≡ prepend (k.done ++ text h.machine.work.state set (bytes_of xs)) (outcome_from (with_text h.machine set (bytes_of xs)) pending)
   acts =
@@ -189,7 +189,7 @@ module _ {S : Type 0} {g : Ghosts S} {s : S} {o : Outcome} {t : S} {h : ReadingS
           )
       at sink_faults.Write (inr broke) = inr (first, halt.next, halt.rest ++ bytes_after, parts, laws.broken s t u k.done halt.es halt.next k.taken broke)
 
--- Characters come.
+-- The next bytes are characters.
 module _ {S : Type 0} {g : Ghosts S} {s : S} {t : S} {h : ReadingState} {set : CharSet} (budget : ℕ) (p : List ℕ) {q : List ℕ} (k : Continues g s (begun budget p) t h []) (in_text : IsText h set q) where
   pub comes : (q : List ℕ) → All IsTextByte q → begun budget (p ++ q) ≡ prepend (k.done ++ text h.machine.work.state set q) (paused (with_text h.machine set q) [] (Some nothing))
   unfolding leads_more
@@ -251,12 +251,12 @@ module _ {S : Type 0} {g : Ghosts S} {s : S} {t : S} {h : ReadingState} {set : C
           fails_part u _ laws (record { taken = subst (λ (es : List Entry). g.took s es t) (sym (ap (λ (es : List Entry). k.done ++ es) empty ∙ append-nil k.done)) k.taken; clear = k.clear }) (inl (failed, stays))
       part (inr broke) = inr ([], halt.next, [], refl, subst (λ (es : List Entry). g.broke s es halt.next u) (sym (append-nil (k.done ++ halt.es))) (laws.broken s t u k.done halt.es halt.next k.taken broke))
 
--- it is no refusal of the stream's own
+-- a sink's fault is no refusal of the stream's own
 pub not_own : (fault : SinkFault) → cause_of (draw_fault (fault_of fault)) ≢ stream
 not_own sink_faults.Memory is = let bad : ⊥ = cc in bad
 not_own sink_faults.Write is = let bad : ⊥ = cc in bad
 
--- Where a reading of the piece stops in characters: at the byte with this index.
+-- A reading of the piece stops in characters: at the byte with this index.
 pub text_stops : {S : Type 0} {g : Ghosts S} {old : Reader S g} {piece : List ℕ} {at : ℕ} {t : S} {h : ReadingState} {frames : List Placed} {q : List ℕ} {i : ℕ} {r : Refusal} (new : Reader S g) → LeadsTo old piece at t h frames → frames ≡ [] → left_of new ≡ h.machine.left →
     Lawful g → StopsText g t h q i (sink_of new) r → take (length q) (drop at piece) ≡ q → r.place ≡ fed_of old + at + i → fed_of new ≡ fed_of old + at + (i + 1) → StopsAt old new piece r (at + i)
 text_stops {S} {g} {old} {piece} {at} {t} {h} {q = q} {i = i} {r = r} new leads empty left laws stops front place fed =

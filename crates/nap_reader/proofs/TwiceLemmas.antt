@@ -16,14 +16,14 @@ use Rattle.nap_reader.proofs.PublicLaws.{begun_comes_first, end_breaks_among, fe
 
 -- A page that is read twice.
 
--- the parts of a list that goes on
+-- the parts of a list that continues
 parted : (known first left rest whole more : List Entry) → whole ≡ (known ++ more) ++ rest → more ≡ first ++ left → whole ≡ (known ++ first) ++ (left ++ rest)
 parted known first left rest whole more is parts = is ∙ ap (λ (more : List Entry). (known ++ more) ++ rest) parts ∙ joined known first left rest
   where
     joined : (k f l r : List Entry) → (k ++ (f ++ l)) ++ r ≡ (k ++ f) ++ (l ++ r)
     joined k f l r = simp append_assoc
 
--- what a sink took of some entries behind others it took of all
+-- the entries that a sink took of some, after others that it took completely
 part_of_whole : {S : Type 0} (g : Ghosts S) (s : S) (known more rest whole : List Entry) (t : S) (cause : Cause) → whole ≡ (known ++ more) ++ rest →
     TookFront g s known more t cause → TookFront g s [] whole t cause
 part_of_whole g s known more rest whole t stream is part = absurd part
@@ -34,7 +34,7 @@ part_of_whole g s known more rest whole t device is (inr (front, next, left, par
     inr (known ++ front, next, left ++ rest, parted known front (next ∷ left) rest whole more is parts, broke)
 
 module _ {S : Type 0} (g : Ghosts S) (s : S) (budget : ℕ) (p : List ℕ) (t : S) (r : Refusal) where
-  -- what broke with the bytes of a page, or at their end
+  -- reading broke with the bytes of a page, or at their end
   breaks_off : (known : List Entry) (o : Outcome) (rest : List Entry) → (means budget p).entries ≡ o.entries ++ rest → (cause_of r.fault ≡ device → g.failed t ≡ true) →
       BreaksAmong g s budget p known o t r → BreaksOff g s budget p t r
   breaks_off known o rest is fails among = record {

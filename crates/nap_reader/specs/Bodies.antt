@@ -19,7 +19,7 @@ body_of names name = get_or names (name - 0x20) []
 abbrev pub bind : List (List ℕ) → ℕ → List ℕ → List (List ℕ)
 bind names name body = set names (name - 0x20) body
 
--- the most bytes of bodies in one stream (our profile)
+-- the most bytes of bodies in one stream (PROFILE.md, Limits)
 abbrev pub store_limit : ℕ
 store_limit = 1048576
 
@@ -30,7 +30,7 @@ pub data BodyFront : Type 0 where
   refused : Fault → ℕ → BodyFront
   ended : ℕ → BodyFront
 
--- the body's state with one byte before those of which it is known, which belongs to the body
+-- the state of a body with one more byte of the body before the known ones
 abbrev pub one_byte_later : BodyFront → BodyFront
 one_byte_later unfinished = unfinished
 one_byte_later (refused fault i) = refused fault (suc i)

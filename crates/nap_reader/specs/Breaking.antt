@@ -6,7 +6,7 @@ use Rattle.nap_reader.specs.declared.fault.Fault.TheVariants as faults
 use Rattle.nap_reader.specs.declared.fault.Refusal.{Refusal}
 use Rattle.nap_reader.specs.Stream.{Outcome, Unfinished, open_run, open_body, is_operand_byte, begun, with_run}
 
--- Where reading breaks though the stream itself isn't refused: memory is lacking, or the sink's device fails.
+-- Breaks: the stream itself isn't refused, but memory is lacking, or the sink's device fails.
 
 -- the cause of a refusal, by its fault
 abbrev pub cause_of : Fault → Cause
@@ -38,7 +38,7 @@ IsInBody o = o.unfinished ≡ Some open_body
 abbrev pub IsCharged : ℕ → List ℕ → ℕ → Type 0
 IsCharged budget p b = (begun budget (p ++ b ∷ [])).machine.left < (begun budget p).machine.left
 
--- A byte after p is in a body, or calls or presents one, of which further bytes are read then.
+-- A byte after p is in a body, or calls or presents one, whose bytes are read next.
 abbrev pub UsesBody : ℕ → List ℕ → ℕ → Type 0
 UsesBody budget p b = IsInBody (begun budget p) ⊎ IsCharged budget p b
 
@@ -52,7 +52,7 @@ AddsEntries budget p b =
     Joins (begun budget p) b ⊎ ((begun budget (p ++ b ∷ [])).entries ≢ (closed_by (begun budget p) b).entries) ⊎ UsesBody budget p b
 
 -- The place of what breaks at a byte after p: that of the opcode whose run the byte ends, or of the byte, if it is one
--- that can break. The stream itself isn't refused there, except by what comes of a body that is charged.
+-- that can break. The stream itself isn't refused there, except in a body that is charged.
 abbrev pub PlacedWith : (ℕ → List ℕ → ℕ → Type 0) → ℕ → List ℕ → ℕ → ℕ → Type 0
 PlacedWith Can budget p b place =
     ((is_operand_byte b ≡ false) × (open_place (begun budget p) ≡ Some place) × ((with_run (begun budget p)).refusal ≡ None))
@@ -80,8 +80,8 @@ CanLackAt budget p b place = PlacedWith WantsMemory budget p b place
 abbrev pub LacksWithin : ℕ → List ℕ → ℕ → Type 0
 LacksWithin budget p place = PlacedWithin WantsMemory budget p place
 
--- What a sink has then: a sink that was s took the known entries, and none or a prefix of those that come next, after
--- which there is at least one that it hasn't; or one of them broke.
+-- A sink that was s took the known entries, and none or a prefix of the further ones, of which at least one is left; or
+-- one of them broke.
 abbrev pub TookPart : {S : Type 0} → Ghosts S → S → List Entry → List Entry → S → Cause → Type 0
 TookPart g s known more t stream = ⊥
 TookPart g s known more t memory = g.took s known t ⊎ Stops (λ s es t. g.took s (known ++ es) t) s more t
@@ -100,7 +100,7 @@ pub record BreaksBetween {S : Type 0} (g : Ghosts S) (s : S) (before after : Out
 abbrev pub TakesPart : {S : Type 0} → Ghosts S → S → List Entry → List Entry → S → Type 0
 TakesPart g s known more t = (first : List Entry) × (rest : List Entry) × (more ≡ first ++ rest) × g.took s (known ++ first) t
 
--- What a sink has then if a body is charged: the known entries, and a prefix of those that come next; or one of them
+-- A sink that was s took the known entries and a prefix of the further ones, for a body that is charged; or one of them
 -- broke.
 abbrev pub TookFront : {S : Type 0} → Ghosts S → S → List Entry → List Entry → S → Cause → Type 0
 TookFront g s known more t stream = ⊥
@@ -120,7 +120,7 @@ pub record BreaksInRun {S : Type 0} (g : Ghosts S) (s : S) (budget : ℕ) (p : L
   pub part : BreaksBetween g s (begun budget p) (with_run (begun budget p)) t (cause_of r.fault)
 
 -- The sink has the entries known once the byte after p shows whether a run is over, and a part of those known with the
--- byte, not all; or the entries known before, and those that came of a body that is charged.
+-- byte, not all; or the entries known before, and some of those of a body that is charged.
 abbrev pub BreaksWith : {S : Type 0} → Ghosts S → S → ℕ → List ℕ → ℕ → S → Cause → Type 0
 BreaksWith g s budget p b t cause =
     BreaksBetween g s (closed_by (begun budget p) b) (begun budget (p ++ b ∷ [])) t cause
@@ -134,11 +134,11 @@ pub record BreaksAtByte {S : Type 0} (g : Ghosts S) (s : S) (budget : ℕ) (p : 
   pub wants : cause_of r.fault ≡ memory → WantsMemory budget p b ⊎ g.wants s (begun budget (p ++ b ∷ [])).entries
   pub part : BreaksWith g s budget p b t (cause_of r.fault)
 
--- the entries of the one outcome are the first of the other's
+-- the entries of the one outcome are a prefix of the other's
 abbrev pub Begins : Outcome → Outcome → Type 0
 Begins o whole = (more : List Entry) × (whole.entries ≡ o.entries ++ more)
 
--- The byte after p breaks: either the opcode whose run it ends, whose entries come first of those with the byte; or
+-- The byte after p breaks: either the opcode whose run it ends, whose entries are a prefix of those with the byte; or
 -- what the byte adds itself.
 abbrev pub BreaksAt : {S : Type 0} → Ghosts S → S → ℕ → List ℕ → ℕ → S → Refusal → Type 0
 BreaksAt g s budget p b t r =

@@ -12,7 +12,7 @@ abbrev pub HasRule : Option OpenRun → Type 0
 HasRule None = ⊤
 HasRule (Some open_run) = IsDrawn open_run.op
 
--- HasRule has at most one proof, so a value may carry it.
+-- HasRule has at most one proof, so a value may carry one.
 pub HasRule-prop : (open_run : Option OpenRun) → IsProp (HasRule open_run)
 HasRule-prop None = hlevel props
 HasRule-prop (Some open_run) = IsDrawn-prop open_run.op

@@ -37,7 +37,7 @@ IsDrained most p seen (Err fault) = ReadFailed seen p ⊎ (NoneFailed seen × (s
 
 -- A page is read into a sink that counts.
 
--- a number of entries is this many, if 64 bits can hold it
+-- the number of entries is n, if 64 bits can hold it
 abbrev pub IsCount : Option ℕ → ℕ → Type 0
 IsCount None n = 2 ^ 64 ≤ n
 IsCount (Some k) n = k ≡ n

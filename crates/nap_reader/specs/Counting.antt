@@ -4,14 +4,13 @@ use Rattle.nap_list.specs.declared.entry.Entry.{Entry}
 use Rattle.nap_list.specs.declared.sink.Sink.{Ghosts}
 use Rattle.nap_list.specs.Putting.{SinkModel}
 
--- What a sink shows that counts the entries of another sink: that sink, and the number of entries it took, if a `u64`
+-- The model of a sink that counts the entries of another sink: that sink, and the number of entries it took, if a `u64`
 -- can hold it.
 pub record CountedSink (S : Type 0) : Type 0 where
   pub sink : S
   pub count : Option ℕ
 
--- A count grows by this many entries: it is the sum if the count was known, and is unknown only if 64 bits can't hold
--- it.
+-- A count grows by n entries: it is the sum if the count was known, and is unknown only if 64 bits can't hold it.
 abbrev pub GrowsBy : ℕ → Option ℕ → Option ℕ → Type 0
 GrowsBy n None None = Unit {0}
 GrowsBy n None (Some k) = ⊥
@@ -23,7 +22,7 @@ pub record Took {S : Type 0} (g : Ghosts S) (s : CountedSink S) (d : List Entry)
   pub took : g.took s.sink d t.sink
   pub count : GrowsBy (length d) s.count t.count
 
--- what a counting sink shows
+-- the model of a counting sink
 abbrev pub counting_sink_model : {S : Type 0} → Ghosts S → SinkModel (CountedSink S)
 counting_sink_model g = record {
   state = λ s. g.state s.sink;
@@ -33,7 +32,7 @@ counting_sink_model g = record {
   broke = λ s d e t. g.broke s.sink d e t.sink;
 }
 
--- What the trait of sinks asks of a counting sink.
+-- The laws of the trait of sinks, for a counting sink.
 
 pub grows_none : (c : Option ℕ) → GrowsBy 0 c c
 grows_none None = tt

@@ -1,13 +1,13 @@
 use Rattle.std.specs.Prelude.{ℕ, suc, zero, ◌+◌, ◌≡◌, ◌<◌, List, [], ◌++◌, length, Option, Some, None}
 
--- What is at the front of a machine's input: no complete code yet, with what is unfinished; a refusal; or a code that
--- acts, with its entries, the machine after it, and the input that remains.
+-- The front of a machine's input: no complete code yet, with what is unfinished; a refusal; or a code that acts, with
+-- its entries, the machine after it, and the input that remains.
 pub data Front (M E F U B : Type 0) : Type 0 where
   pause : U → Front M E F U B
   refuse : F → Front M E F U B
   act : List E → M → List B → Front M E F U B
 
--- What comes of an input: the entries; the refusal, or else what is unfinished; the machine, and the input that isn't
+-- The outcome of an input: the entries; the refusal, or else what is unfinished; the machine, and the input that isn't
 -- complete.
 pub record Outcome (M E F U B : Type 0) : Type 0 where
   pub entries : List E
@@ -32,17 +32,17 @@ outcome_by_front next m xs (pause u) = paused m xs (Some u)
 outcome_by_front next m xs (refuse f) = refused m f
 outcome_by_front next m xs (act es m' ys) = prepend es (next m' ys)
 
--- the outcome after this many fronts at most
+-- the outcome after at most a given number of fronts
 unfoldable pub outcome_within : {M E F U B : Type 0} → (M → List B → Front M E F U B) → ℕ → M → List B → Outcome M E F U B
 outcome_within front zero m xs = paused m xs None
 outcome_within front (suc fuel) m xs = outcome_by_front (outcome_within front fuel) m xs (front m xs)
 
 -- The outcome of all fronts, until no complete code is left. Each code that acts lessens what is unread and what the
--- machine has left, taken together, so this many fronts are enough.
+-- machine has left, taken together, so as many fronts as these are enough.
 unfoldable pub outcome : {M E F U B : Type 0} → (M → List B → Front M E F U B) → (M → ℕ) → M → List B → Outcome M E F U B
 outcome front left m xs = outcome_within front (suc (length xs + left m)) m xs
 
--- the outcome once more of the input has come, if the outcome of the input before is known
+-- the outcome of an input with more input after it, if the outcome of the first part is known
 abbrev pub continue_by : {M E F U B : Type 0} → (M → List B → Outcome M E F U B) → Option F → Outcome M E F U B → List B → Outcome M E F U B
 continue_by next (Some f) o ys = o
 continue_by next None o ys = prepend o.entries (next o.machine (o.rest ++ ys))
@@ -55,7 +55,7 @@ abbrev pub Lessens : {M E F U B : Type 0} → (M → List B → Front M E F U B)
 Lessens {M} {E} {F} {U} {B} front left = (m : M) (xs : List B) (es : List E) (m' : M) (ys : List B) →
     front m xs ≡ act es m' ys → length ys + left m' < length xs + left m
 
--- A complete front stays what it is when more input comes after it.
+-- A complete front is unchanged by more input after it.
 pub record Stays {M E F U B : Type 0} (front : M → List B → Front M E F U B) : Type 0 where
   pub acting : (m : M) (xs : List B) (es : List E) (m' : M) (ys zs : List B) →
       front m xs ≡ act es m' ys → front m (xs ++ zs) ≡ act es m' (ys ++ zs)

@@ -38,7 +38,7 @@ pub record Innermost (bytes : List ℕ) (frames : List Frame) (text : List ℕ) 
   pub text_is : text ≡ sublist bytes frame.next frame.end
   pub place_is : place ≡ frame.place
 
--- this many bytes at the beginning of the text were given, each at this place
+-- `count` bytes at the beginning of the text were given, each at this place
 abbrev pub GivesFrom : List ℕ → List Frame → ℕ → List ℕ → ℕ → List Frame → Type 0
 GivesFrom bytes old place text count new = unread bytes old ≡ all_at place (take count text) ++ unread bytes new
 
@@ -55,7 +55,7 @@ all_next stored frames piece at = bytes_of (unread stored frames) ++ drop at pie
 abbrev pub bytes_after : List ℕ → List Frame → List ℕ → ℕ → List ℕ → List ℕ
 bytes_after stored frames piece at text = drop (length text) (all_next stored frames piece at)
 
--- this many of the bytes that come next were taken
+-- n of the next bytes were consumed
 pub record MovesOn (stored : List ℕ) (old new : List Frame) (at until fed counted n : ℕ) : Type 0 where
   pub of_piece : old ≡ [] → (new ≡ []) × (until ≡ at + n) × (counted ≡ fed + n)
   pub of_body : old ≢ [] → (until ≡ at) × (counted ≡ fed)

@@ -7,7 +7,7 @@ use Rattle.nap_list.specs.State.{Legal}
 use Rattle.nap_list.specs.Range.{AllInRange}
 use Rattle.nap_reader.specs.Standing.{StopsBy}
 
--- The outcome of a list is what its front gives, and then the outcome of the list that remains.
+-- The outcome of a list is that of its front, and then that of the list that remains.
 abbrev pub FrontAfterFront : Type 0
 FrontAfterFront = (m : Machine) (xs : List Placed) → outcome_from m xs ≡ outcome_by_front outcome_from m xs (front m xs)
 
@@ -28,7 +28,7 @@ abbrev pub RunWaits : Type 0
 RunWaits = (m : Machine) (op : Opcode) (x : Placed) (operands : List Placed) → IsRun m op x operands →
     front m (x ∷ operands) ≡ pause (open_run op x.place (words_of operands))
 
--- The code stands alone: it is neither an opcode nor an operand, and neither calls nor defines a macro.
+-- The code acts alone: it is neither an opcode nor an operand, and neither calls nor defines a macro.
 abbrev pub IsAlone : Code → Type 0
 IsAlone (code.Op op) = ⊥
 IsAlone (code.Operand word) = ⊥
@@ -43,7 +43,7 @@ pub record IsCodeAlone (m : Machine) (c : Code) (before : List Placed) (last : P
   pub alone : IsAlone c
   pub names : codes.front m.sets (bytes_of before ++ last.byte ∷ []) ≡ codes.whole c (length before + 1) after
 
--- A code that stands alone acts by its rule, or adds nothing, whatever comes after it.
+-- A code that acts alone acts by its rule, or adds nothing, whatever comes after it.
 abbrev pub CodeActs : Type 0
 CodeActs = (m : Machine) (c : Code) (before : List Placed) (last : Placed) (after : CodeSets) (ys : List Placed) → IsCodeAlone m c before last after →
     front m (before ++ last ∷ ys) ≡ drawn_front (record m { sets = after }) last.place ys (code_rule m.work c)
@@ -63,7 +63,7 @@ abbrev pub joined : List (List ℕ) → List ℕ
 joined [] = []
 joined (piece ∷ pieces) = piece ++ joined pieces
 
--- the outcome of a stream once these pieces have come, from this place on
+-- the outcome of a stream after these pieces, from this place on
 abbrev pub in_pieces : ℕ → Outcome → List (List ℕ) → Outcome
 in_pieces n o [] = o
 in_pieces n o (piece ∷ pieces) = in_pieces (n + length piece) (continue outcome_from o (placed_from n piece)) pieces
@@ -80,7 +80,7 @@ AcceptedIsLegal = (budget : ℕ) (p : List ℕ) → (means budget p).refusal ≡
 abbrev pub ReadValuesAreInRange : Type 0
 ReadValuesAreInRange = (budget : ℕ) (p : List ℕ) → AllInRange (begun budget p).entries × AllInRange (means budget p).entries
 
--- The entries so far are the first of those of the whole stream.
+-- The entries so far are a prefix of those of the whole stream.
 abbrev pub BegunComesFirst : Type 0
 BegunComesFirst = (budget : ℕ) (p : List ℕ) → (more : List Entry) × ((means budget p).entries ≡ (begun budget p).entries ++ more)
 
@@ -88,8 +88,8 @@ BegunComesFirst = (budget : ℕ) (p : List ℕ) → (more : List Entry) × ((mea
 abbrev pub WantsSome : {S : Type 0} → Ghosts S → S → List Entry → Type 0
 WantsSome g s list = (first : List Entry) × (rest : List Entry) × (list ≡ first ++ rest) × g.wants s first
 
--- Reading of the bytes p broke where it can break. The sink has all known entries, and a part of those that the outcome
--- has more. Memory was lacking to the reader itself, or to its sink for some of the first entries.
+-- Reading of the bytes p broke where it can break. The sink has all known entries, and a part of the outcome's further
+-- ones. Memory was lacking to the reader itself, or to its sink for some of the first entries.
 pub record BreaksAmong {S : Type 0} (g : Ghosts S) (s : S) (budget : ℕ) (p : List ℕ) (known : List Entry) (o : Outcome) (t : S) (r : Refusal) : Type 0 where
   pub place : BreaksWithin budget p r.place
   pub wants : cause_of r.fault ≡ memory → LacksWithin budget p r.place ⊎ WantsSome g s o.entries

@@ -16,7 +16,7 @@ pub record Reads (input : Input) (piece : List ℕ) : Type 0 where
   pub small : length piece < 2 ^ 63
   pub few : input.fed + (length piece - input.at) < 2 ^ 63
 
--- These bytes come next, the first at this place and each further one this far after the one before. If `ended`, no
+-- The next bytes, the first at this place and each further one this far after the one before. If `ended`, no
 -- operand comes after them.
 pub record IsNext (input : Input) (piece : List ℕ) (place step : ℕ) (text : List ℕ) (ended : Bool) : Type 0 where
   pub comes : AreNextBytes input.store.bytes input.frames.stack.items piece input.at input.fed text place
@@ -25,7 +25,7 @@ pub record IsNext (input : Input) (piece : List ℕ) (place step : ℕ) (text : 
   pub some : 0 < length text
   pub over : ended ≡ true → IsOver (bytes_after input.store.bytes input.frames.stack.items piece input.at text)
 
--- This many of the bytes that come next can be passed.
+-- An input can pass `count` of the next bytes.
 pub record CanAdvance (input : Input) (count : ℕ) : Type 0 where
   pub piece : List ℕ
   pub reads : Reads input piece
@@ -34,14 +34,14 @@ pub record CanAdvance (input : Input) (count : ℕ) : Type 0 where
   pub comes : AreNextBytes input.store.bytes input.frames.stack.items piece input.at input.fed text place
   pub few : count ≤ length text
 
--- This many bytes were passed, and nothing more was charged.
+-- An input has passed `count` bytes, and charged nothing more.
 pub record Passed (old new : Input) (count : ℕ) : Type 0 where
   pub moves : MovesOn old.store.bytes old.frames.stack.items new.frames.stack.items old.at new.at old.fed new.fed count
   pub turns : new.turns ≡ old.turns + count
   pub budget : new.budget ≡ old.budget
   pub charged : new.charged ≡ old.charged
 
--- This many bytes were passed, and nothing else was done.
+-- An input has passed `count` bytes, and done nothing else.
 pub record Advances (old new : Input) (count : ℕ) : Type 0 where
   pub passed : Passed old new count
   pub store : new.store ≡ old.store
@@ -60,20 +60,20 @@ pub record KeepsNextBytes (old new : Input) : Type 0 where
   pub frames : new.frames.stack.items ≡ old.frames.stack.items
   pub charged : new.charged ≡ old.charged
 
--- These bodies are stored, and this body is open; the bytes that come next are unchanged.
+-- An input stores these bodies, and this body is open; the next bytes are unchanged.
 pub record StoresBody (old new : Input) (store : StoreState) (opened : Option OpenBody) : Type 0 where
   pub still : KeepsNextBytes old new
   pub store_is : new.store ≡ store
   pub body : new.body ≡ opened
 
--- This many of the bytes that come next belong to the open body, and were passed.
+-- An input has passed `count` of the next bytes, which belong to the open body.
 pub record Keeps (old new : Input) (piece : List ℕ) (count : ℕ) : Type 0 where
   pub mid : Input
   pub sets : StoresBody old mid (store_grown old.store (take count (bytes_of (next_bytes old piece)))) old.body
   pub passes : Advances mid new count
 
--- This part of the store, which has these bytes, was charged and comes next at this place. The store is this one, and
--- this body is open.
+-- An input has charged this part of the store, which has these bytes and comes next at this place. The store is this
+-- one, and this body is open.
 pub record Shows (old new : Input) (store : StoreState) (opened : Option OpenBody) (bytes : List ℕ) (place : ℕ) : Type 0 where
   pub few : length bytes ≤ old.budget - old.charged
   pub charged : new.charged ≡ old.charged + length bytes
@@ -90,14 +90,14 @@ pub record CannotShow (old new : Input) (bytes : List ℕ) (fault : Fault) : Typ
       ⊎ ((fault ≡ faults.Memory) × (0 < length bytes) × (length bytes ≤ old.budget - old.charged))
   pub still : KeepsNextBytes old new
 
--- An input has read on, by this many bytes at least.
+-- An input has read on, by at least `count` bytes.
 pub record HasReadOn (old new : Input) (piece : List ℕ) (count : ℕ) : Type 0 where
   pub reads : Reads new piece
   pub budget : new.budget ≡ old.budget
   pub fed : new.fed + old.at ≡ old.fed + new.at
   pub turns : old.turns + count ≤ new.turns
 
--- This byte comes next, at this place.
+-- The next byte is this one, at this place.
 pub record IsNextByte (input : Input) (piece : List ℕ) (byte place : ℕ) : Type 0 where
   pub reads : Reads input piece
   pub rest : List Placed

@@ -9,10 +9,10 @@ use Rattle.nap_reader.specs.Steps.{Acted, Takes}
 
 -- How a piece is read. No caller sees these definitions.
 
--- How much of a piece was taken.
+-- Which bytes of a piece were consumed.
 
--- The byte with this index called or presented a body, which is read in part: what the sink was and what was pending
--- before the byte, and what led on since. All that comes of bodies has the place of the byte, and so has an open run.
+-- The byte with this index called or presented a body, which is read in part: the sink and the pending bytes before the
+-- byte, and what led on since. All bytes of bodies have the place of the byte, and so has an open run.
 pub record AmidCall {S : Type 0} {g : Ghosts S} (old : Reader S g) (piece : List ℕ) (i : ℕ) (t : S) (h : ReadingState) (frames : List Placed) : Type 0 where
   pub sink : S
   pub holding : ReadingState
@@ -23,8 +23,8 @@ pub record AmidCall {S : Type 0} {g : Ghosts S} (old : Reader S g) (piece : List
   pub there : All (λ (x : Placed). x.place ≡ fed_of old + i) frames
   pub run : RunAt (fed_of old + i) h.open_run
 
--- The bytes of a piece before this index were taken, the last of them perhaps in part: what the sink is, what is
--- pending, and what comes of bodies.
+-- The bytes of a piece before this index were consumed, the last of them perhaps in part: the sink, the pending bytes,
+-- and the bytes of bodies that come next.
 pub record LeadsTo {S : Type 0} {g : Ghosts S} (old : Reader S g) (piece : List ℕ) (at : ℕ) (t : S) (h : ReadingState) (frames : List Placed) : Type 0 where
   pub live : refusal_of old ≡ None
   pub within : at ≤ length piece
@@ -54,12 +54,12 @@ abbrev pub GoesOn : {S : Type 0} {g : Ghosts S} → List ℕ → Machine S g →
 GoesOn {S} {g} piece machine input machine' input' =
     (old : Reader S g) → refusal_of old ≡ None → ReadsTo old piece machine input → ReadsTo old piece machine' input'
 
--- A reader that had read the piece up to some index has read at least this many bytes more.
+-- A reader that had read the piece up to some index has read at least `count` bytes more.
 pub record Goes {S : Type 0} {g : Ghosts S} (piece : List ℕ) (count : ℕ) (machine : Machine S g) (input : Input) (machine' : Machine S g) (input' : Input) : Type 0 where
   pub counts : HasReadOn input input' piece count
   pub on : GoesOn piece machine input machine' input'
 
--- All bytes of the piece were taken.
+-- All bytes of the piece were consumed.
 pub record TakesPiece {S : Type 0} {g : Ghosts S} (old new : Reader S g) (piece : List ℕ) : Type 0 where
   pub live : refusal_of new ≡ None
   pub budget : budget_of new ≡ budget_of old
@@ -85,7 +85,7 @@ abbrev pub StopsFrom : {S : Type 0} {g : Ghosts S} → List ℕ → Machine S g 
 StopsFrom {S} {g} piece machine input machine' input' = IsSome machine'.refusal
     × ((old new : Reader S g) → refusal_of old ≡ None → ReadsTo old piece machine input → new.machine ≡ machine' → new.input ≡ input' → RefusesPiece old new piece)
 
--- The machine took bytes of the slice that comes next, the last of them at this place, while no body was open.
+-- The machine consumed bytes of the next slice, the last of them at this place, while no body was open.
 pub record TakesSlice {S : Type 0} {g : Ghosts S} (old now : Machine S g) (input : Input) (piece : List ℕ) (count : ℕ) (request : Request) (place : ℕ) : Type 0 where
   pub reads : Reads input piece
   pub between : input.body ≡ None
@@ -97,7 +97,7 @@ pub record TakesSlice {S : Type 0} {g : Ghosts S} (old now : Machine S g) (input
   pub takes : Takes old now (placed_by_step first step text) ended count request
   pub last : 0 < count → place ≡ place_at (placed_by_step first step text) (count - 1)
 
--- A reader at the beginning of the piece took all of it; or it was refused.
+-- A reader at the beginning of the piece consumed all of it; or the stream is refused.
 abbrev pub ReadsPiece : {S : Type 0} {g : Ghosts S} → List ℕ → Machine S g → Input → Machine S g → Input → Type 0
 ReadsPiece {S} {g} piece machine input machine' input' =
     (old new : Reader S g) → old.machine ≡ machine → old.input ≡ input → new.machine ≡ machine' → new.input ≡ input' → TakesPiece old new piece

@@ -13,10 +13,11 @@ use Rattle.nap_reader.specs.Bodies.{Mode, between, in_body, BodyFront, store_lim
 use Rattle.nap_reader.specs.Framed.{unread}
 use Rattle.nap_reader.specs.Course.{prepend}
 use Rattle.nap_reader.specs.Stream as model
-use Rattle.nap_reader.specs.Stream.{Placed, Machine, Outcome, Unfinished, open_body, after_charge, refusal, bytes_of, words_of, is_operand_byte, run_length, half_read, outcome_from, begun, with_run}
+use Rattle.nap_reader.specs.Stream.{Placed, Machine, Outcome, Unfinished, open_body, refusal, bytes_of, words_of, is_operand_byte, run_length, half_read, outcome_from, begun, with_run}
 use Rattle.nap_reader.specs.Breaking.{cause_of, TookPart, BreaksInRun, BreaksFrom, Begins}
 
--- What a reader keeps between two bytes, and how it leads to what the stream means. No caller sees these definitions.
+-- The state of a reader between two bytes, and how it leads to the meaning of the stream. No caller sees these
+-- definitions.
 
 -- the machine, the bytes of a half-read code, the open run with its words, and the open body with its bytes
 pub record ReadingState : Type 0 where
@@ -89,23 +90,23 @@ abbrev pub ArePendingBy : List Placed → ReadingState → Option OpenRun → Ty
 ArePendingBy rest h (Some open_run) = IsOpenRun rest open_run h.run h.machine.sets × (h.half ≡ [])
 ArePendingBy rest h None = (bytes_of rest ≡ h.half) × (codes.front h.machine.sets h.half ≡ codes.unfinished)
 
--- ESC, if one is pending of which it isn't known yet whether it belongs to a body
+-- ESC, if it is undecided whether a body has it
 abbrev pub pending_escape : Option ℕ → List Placed
 pending_escape None = []
 pending_escape (Some place) = record { byte = 0x1B; place = place } ∷ []
 
--- what is known of a body with this many bytes before
+-- what is known of a body with n bytes before
 abbrev pub body_front_after : ℕ → BodyFront → BodyFront
 body_front_after n bodies.unfinished = bodies.unfinished
 body_front_after n (bodies.refused fault i) = bodies.refused fault (n + i)
 body_front_after n (bodies.ended k) = bodies.ended (n + k)
 
--- These are bytes of a body if the next bytes come after them: what is there then has the same outcome as right after
--- the name, with less space.
+-- The bytes are of a body before the next bytes: the body's state at them has the outcome of the state after its name,
+-- with less space.
 abbrev pub AreOfBody : ℕ → List ℕ → List ℕ → Type 0
 AreOfBody room body next = (more : List ℕ) → body_front room (body ++ (next ++ more)) ≡ body_front_after (length body) (body_front (room - length body) (next ++ more))
 
--- these bytes are those of a body that hasn't ended, if the next bytes come after them
+-- before the next bytes, these bytes are those of a body that hasn't ended
 pub record AtBody (rest : List Placed) (b : OpenBody) (h : ReadingState) (next : List ℕ) : Type 0 where
   pub mode : h.machine.mode ≡ in_body b.name b.show
   pub body : bytes_of rest ≡ h.body
@@ -113,7 +114,7 @@ pub record AtBody (rest : List Placed) (b : OpenBody) (h : ReadingState) (next :
   pub still : h.open_run ≡ None
   pub half : h.half ≡ []
 
--- these bytes are those of a body that hasn't ended, and maybe a pending ESC
+-- before the next bytes, these bytes are those of a body that hasn't ended, and maybe a pending ESC
 pub record IsOpenBody (rest : List Placed) (b : OpenBody) (h : ReadingState) : Type 0 where
   pub bytes : List Placed
   pub is : rest ≡ bytes ++ pending_escape b.escape
@@ -133,8 +134,8 @@ ArePendingIn rest h (Some body) = IsOpenBody rest body h
 abbrev pub ArePending : List Placed → ReadingState → Type 0
 ArePending rest h = ArePendingIn rest h h.open_body
 
--- A sink that was s took the first entries of the outcome; the others come of the pending bytes and then of those that
--- come next.
+-- A sink that was s took the first entries of the outcome; the others are those of the pending bytes followed by the
+-- next bytes.
 pub record Continues {S : Type 0} (g : Ghosts S) (s : S) (o : Outcome) (t : S) (h : ReadingState) (pending : List Placed) : Type 0 where
   pub done : List Entry
   pub taken : g.took s done t
@@ -153,31 +154,31 @@ pub record ReadsOn {S : Type 0} (g : Ghosts S) (s : S) (o : Outcome) (t : S) (h 
   pub at : AtBody rest b h (x.byte ∷ [])
   pub leads : o ≡ prepend done (outcome_from h.machine (rest ++ x ∷ pending))
 
--- A sink that was s took these entries, the first of the outcome; the others come of the pending bytes and then of
--- those that come next.
+-- A sink that was s took these entries, the first of the outcome; the others are those of the pending bytes followed by
+-- the next bytes.
 pub record ContinuesPast {S : Type 0} (g : Ghosts S) (s : S) (known : List Entry) (o : Outcome) (t : S) (h : ReadingState) (pending : List Placed) : Type 0 where
   pub continues : Continues g s o t h pending
   pub done : continues.done ≡ known
 
--- A sink that was s has the known entries, and a part of those that the outcome has more. The outcome has no refusal.
+-- A sink that was s has the known entries, and a part of the outcome's further ones. The outcome has no refusal.
 pub record BreaksNext {S : Type 0} (g : Ghosts S) (s : S) (known : List Entry) (o : Outcome) (t : S) (cause : Cause) : Type 0 where
   pub more : List Entry
   pub adds : o.entries ≡ known ++ more
   pub unrefused : o.refusal ≡ None
   pub part : TookPart g s known more t cause
 
--- There are entries after the known ones. If memory was lacking, the sink may lack it for these.
+-- The outcome has entries after the known ones. If memory was lacking, the sink may lack it for these.
 pub record BreaksPast {S : Type 0} (g : Ghosts S) (s : S) (known : List Entry) (o : Outcome) (t : S) (cause : Cause) : Type 0 where
   pub next : BreaksNext g s known o t cause
   pub some : next.more ≢ []
   pub wants : cause ≡ memory → g.wants s (known ++ next.more)
 
--- What comes next broke; or a body is charged, and the sink has a part of what comes.
+-- The next bytes broke; or a body is charged, and the sink has a part of their entries.
 pub data BreaksInBody {S : Type 0} (g : Ghosts S) (s : S) (known : List Entry) (o : Outcome) (t : S) (left : ℕ) (cause : Cause) : Type 0 where
   next_broke : BreaksNext g s known o t cause → BreaksInBody g s known o t left cause
   body_broke : o.machine.left < left → BreaksFrom g s known o t cause → BreaksInBody g s known o t left cause
 
--- What comes next broke, or a body is charged; and some entries come.
+-- The next bytes broke, or a body is charged; and there are further entries.
 pub data BreaksSome {S : Type 0} (g : Ghosts S) (s : S) (known : List Entry) (o : Outcome) (t : S) (left : ℕ) (cause : Cause) : Type 0 where
   some_broke : BreaksPast g s known o t cause → BreaksSome g s known o t left cause
   charged_broke : o.machine.left < left → BreaksFrom g s known o t cause → BreaksSome g s known o t left cause
@@ -198,7 +199,7 @@ pub record Ends {S : Type 0} (g : Ghosts S) (s : S) (o : Outcome) (t : S) (h : R
   pub work : o.machine.work ≡ h.machine.work
   pub half : o.unfinished ≡ Some (half_read h.half)
 
--- the entries of the open run after p come first of those with any byte that ends the run
+-- the entries of the open run after p are a prefix of those with any byte that ends the run
 abbrev pub BeginsAll : ℕ → List ℕ → Type 0
 BeginsAll budget p = (b : ℕ) → is_operand_byte b ≡ false → Begins (with_run (begun budget p)) (begun budget (p ++ b ∷ []))
 

@@ -1,7 +1,7 @@
 use Rattle.std.specs.Prelude.{◌≡◌, ◌-◌, ◌+◌, ◌<◌, ◌≤◌, ◌++◌, ℕ, List, [], ◌∷◌, Option, Some, None, length, take, slice_index}
 use Rattle.nap_reader.specs.Shared.{Ghosts, Cause, stream, Refusal, Reader, store_limit, Outcome, begun, cause_of, BreaksAt, Continues, reading_state}
 
--- what a reader shows
+-- What a reader shows.
 
 abbrev pub sink_of : {S : Type 0} {g : Ghosts S} → Reader S g → S
 sink_of reader = reader.machine.sink
@@ -25,7 +25,7 @@ charged_of reader = reader.input.charged
 abbrev pub left_of : {S : Type 0} {g : Ghosts S} → Reader S g → ℕ
 left_of reader = budget_of reader - charged_of reader
 
--- What a reader keeps of bodies: the number that are being read, the number of their bytes, and the number of bytes
+-- The bodies that a reader keeps: the number that are being read, the number of their bytes, and the number of bytes
 -- that ended those which were presented.
 
 abbrev pub frames_of : {S : Type 0} {g : Ghosts S} → Reader S g → ℕ
@@ -75,13 +75,13 @@ Answers g s budget p t left None = IsKnown g s (begun budget p) t left None
 Answers g s budget p t left (Some r) = AnswersBy g s budget p t left r (cause_of r.fault)
 
 -- A reader has read these bytes into the sink that it was given: it shows their outcome, and unless that is refused,
--- the outcome of these bytes with any others after them comes of what it keeps.
+-- what it keeps leads to the outcome of these bytes with any others after them.
 pub record HasRead {S : Type 0} {g : Ghosts S} (reader : Reader S g) (s : S) (p : List ℕ) : Type 0 where
   pub answers : Answers g s (budget_of reader) p (sink_of reader) (left_of reader) (refusal_of reader)
   pub fed : refusal_of reader ≡ None → fed_of reader ≡ length p
   pub continues : refusal_of reader ≡ None → Continues g s (begun (budget_of reader) p) (sink_of reader) (reading_state reader) []
 
--- The refusal came at the byte with this index, after which nothing was taken.
+-- The refusal came at the byte with this index, after which nothing was consumed.
 pub record StopsAt {S : Type 0} {g : Ghosts S} (old new : Reader S g) (piece : List ℕ) (r : Refusal) (i : ℕ) : Type 0 where
   pub within : i < length piece
   pub fed : fed_of new ≡ fed_of old + (i + 1)

@@ -18,15 +18,15 @@ use Rattle.nap_reader.specs.Carried.{AllCharacters}
 use Rattle.nap_reader.specs.Bodies as bodies
 use Rattle.nap_reader.specs.Stream as model
 
--- What a reader does with the bytes that come next. No caller sees these definitions.
+-- What a reader does with the next bytes. No caller sees these definitions.
 
--- Bytes were taken, and then others come before those that came next. A sink that was t is u then.
+-- Bytes were consumed, and then others come next instead. A sink that was t is u then.
 abbrev pub Passes : {S : Type 0} → Ghosts S → S → ReadingState → List Placed → S → ReadingState → List Placed → Type 0
 Passes {S} g t h xs u h' came = (s : S) (o : Outcome) (pending : List Placed) → Continues g s o t h (xs ++ pending) → Continues g s o u h' (came ++ pending)
 
 -- The opcode of the open run.
 
--- It acts on its words, and no byte is a character by itself.
+-- The opcode of the open run acts on its words, and no byte is a character by itself.
 pub record ActsRun {S : Type 0} (g : Ghosts S) (t : S) (h : ReadingState) (u : S) (h' : ReadingState) : Type 0 where
   pub open_run : OpenRun
   pub between : h.open_body ≡ None
@@ -85,7 +85,7 @@ pub record BreaksCode {S : Type 0} (g : Ghosts S) (t : S) (h : ReadingState) (x 
   pub place : r.place ≡ x.place
   pub part : (s : S) (known : List Entry) (o : Outcome) → ContinuesPast g s known o t h (x ∷ []) → BreaksSome g s known o u h.machine.left (cause_of r.fault)
 
--- not all that a byte of a body adds is there
+-- a byte of a body adds more than was stored or put
 pub record BreaksBody {S : Type 0} (g : Ghosts S) (t : S) (h : ReadingState) (x : Placed) (u : S) (r : Refusal) : Type 0 where
   pub body : OpenBody
   pub is : h.open_body ≡ Some body
@@ -106,7 +106,7 @@ pub record StopsByte {S : Type 0} (g : Ghosts S) (t : S) (h : ReadingState) (x :
   pub own : IsOwn r → (s : S) (o : Outcome) (pending : List Placed) → Continues g s o t h (x ∷ pending) → IsRefused g s o u h r
   pub broke : cause_of r.fault ≢ stream → Breaks g t h x u r
 
--- These bytes are characters, or moves among them, and nothing is pending before them.
+-- The bytes are characters, or format effectors among them, and nothing is pending before them.
 pub record IsText (h : ReadingState) (set : CharSet) (text : List ℕ) : Type 0 where
   pub between : h.open_body ≡ None
   pub closed : h.open_run ≡ None
@@ -123,16 +123,16 @@ pub record StopsText {S : Type 0} (g : Ghosts S) (t : S) (h : ReadingState) (tex
   pub halts : HaltsAfter (sink_model_of g) (draws_codes.text h.machine.work.state set text) t u index fault
   pub why : r.fault ≡ draw_fault (fault_of fault)
 
--- Bytes that come next.
+-- The next bytes.
 
--- These bytes were the first of those of bodies, or came from the piece, whose next byte has this index and this place;
--- after them this comes of bodies, and the piece was read up to that index.
+-- The bytes were the first of those of bodies, or came from the piece, whose next byte has this index and this place;
+-- after them these bytes of bodies are left, and the piece was read up to that index.
 pub data Came (frames rest : List Placed) (piece : List ℕ) (at until fed : ℕ) (xs : List Placed) : Type 0 where
   of_body : 0 < length frames → frames ≡ xs ++ rest → until ≡ at → Came frames rest piece at until fed xs
   of_piece : frames ≡ [] → rest ≡ [] → xs ≡ placed_from fed (take (length xs) (drop at piece)) → until ≡ at + length xs → until ≤ length piece → Came frames rest piece at until fed xs
 
--- Where bytes lead that were taken: to a sink, and to pending bytes. A run that is open there has the place of these
--- bytes, or of the run that was open before them.
+-- What consumed bytes lead to: a sink, and pending bytes. A run that is open there has the place of these bytes, or of
+-- the run that was open before them.
 pub record LeadsThrough {S : Type 0} (g : Ghosts S) (t : S) (h : ReadingState) (xs : List Placed) : Type 0 where
   pub sink : S
   pub holding : ReadingState
@@ -141,20 +141,20 @@ pub record LeadsThrough {S : Type 0} (g : Ghosts S) (t : S) (h : ReadingState) (
   pub passes : Passes g t h xs sink holding []
   pub none : xs ≡ [] → (sink ≡ t) × (holding ≡ h)
 
--- They were taken, and others come next. The opcode of a run that they end with may have acted.
+-- The bytes were consumed, and others come next. The opcode of a run that they end with may have acted.
 pub record LeadsOn {S : Type 0} (g : Ghosts S) (t : S) (h : ReadingState) (u : S) (h' : ReadingState) (xs : List Placed) (next : List ℕ) : Type 0 where
   pub conveys : LeadsThrough g t h xs
   pub acted : Acted g conveys.sink conveys.holding u h' next
 
--- The first of these bytes is no operand byte.
+-- The first byte is no operand byte.
 pub record IsOver (bytes : List ℕ) : Type 0 where
   pub byte : ℕ
   pub rest : List ℕ
   pub is : bytes ≡ byte ∷ rest
   pub other : is_operand_byte byte ≡ false
 
--- These are all operand bytes at the front, and another byte comes after them, which may be the first of those after
--- the slice.
+-- The run is all operand bytes of a prefix, and another byte comes after it, which may be the first of those after the
+-- slice.
 pub record IsWholeRun (bytes bytes_after run : List ℕ) : Type 0 where
   pub within : length run ≤ length bytes
   pub operands : All (λ b. is_operand_byte b ≡ true) run
@@ -202,16 +202,15 @@ pub record Calls {S : Type 0} (g : Ghosts S) (t : S) (h : ReadingState) (u : S) 
   pub still : (s : S) (o : Outcome) (pending : List Placed) → Continues g s o u holding (byte ∷ pending) → ArePending [] h'
   pub named : name < 0x80
 
--- The bytes before this index lead to a state in which the byte there is refused or breaks; or to characters, one of
--- which does, and which end within this many bytes.
+-- The bytes before this index lead to a state in which the byte there is refused or breaks; or to characters, of which
+-- one does, and which end within `many` bytes.
 pub data Stops {S : Type 0} (g : Ghosts S) (t : S) (h : ReadingState) (all : List Placed) (many index : ℕ) (u : S) (r : Refusal) : Type 0 where
   at_byte : (x : Placed) (bytes_after : List Placed) → drop index all ≡ x ∷ bytes_after → (c : LeadsThrough g t h (take index all)) → StopsByte g c.sink c.holding x u r →
       Stops g t h all many index u r
   in_text : (before taken size : ℕ) → index ≡ before + taken → taken < size → before + size ≤ many → place_at all index ≡ r.place →
       (c : LeadsThrough g t h (take before all)) → StopsText g c.sink c.holding (bytes_of (take size (drop before all))) taken u r → Stops g t h all many index u r
 
--- This many of these bytes were taken, and the last code makes this request to the input. The slice has this many of
--- them.
+-- The machine consumed `count` bytes, and their last code makes this request to the input. The slice has `many` bytes.
 abbrev pub TakesBy : {S : Type 0} → Ghosts S → S → ReadingState → S → ReadingState → List Placed → ℕ → ℕ → Option Refusal → Request → Type 0
 TakesBy g t h u h' all many count r requests.Stop = (why : Refusal) × (r ≡ Some why) × Stops g t h all many count u why
 TakesBy g t h u h' all many count r (requests.Call name) = (index : ℕ) × (count ≡ index + 1) × Calls g t h u h' all index name
@@ -229,7 +228,7 @@ pub record Works {S : Type 0} {g : Ghosts S} (old new : Machine S g) : Type 0 wh
   pub live : IsLive new
   pub clear : g.failed old.sink ≡ false → g.failed new.sink ≡ false
 
--- This refusal is kept, and all else is unchanged.
+-- The refusal is kept, and all else is unchanged.
 pub record Refuses {S : Type 0} {g : Ghosts S} (old new : Machine S g) (r : Refusal) : Type 0 where
   pub is : new.refusal ≡ Some r
   pub sink : new.sink ≡ old.sink
@@ -251,11 +250,11 @@ abbrev pub Leaves : {S : Type 0} {g : Ghosts S} → Machine S g → Machine S g 
 Leaves old new requests.Stop = Latches old new
 Leaves old new _ = Works old new
 
--- At least one byte was taken; or the machine is refused, or the open run has ended.
+-- At least one byte was consumed; or the machine is refused, or the open run has ended.
 abbrev pub Progresses : {S : Type 0} {g : Ghosts S} → Machine S g → Machine S g → ℕ → Request → Type 0
 Progresses old new count request = (0 < count) ⊎ (request ≡ requests.Stop) ⊎ ((new.open_run ≡ None) × (old.open_run ≢ None))
 
--- The machine took this many bytes of a slice that has these, after which others come: none of an operand if the run
+-- The machine consumed `count` bytes of a slice that has these, after which others come: none of an operand if the run
 -- has ended. If the machine requests nothing, only a run may be open after the last of them.
 pub record Takes {S : Type 0} {g : Ghosts S} (old new : Machine S g) (bytes : List Placed) (ended : Bool) (count : ℕ) (request : Request) : Type 0 where
   pub within : count ≤ length bytes
@@ -279,7 +278,7 @@ pub record AreCharacters (lexer : LexerState) (set : CharSet) : Type 0 where
   pub rested : lexer.half ≡ []
   pub chars : AllCharacters lexer.sets set
 
--- What is at the front if this byte comes next.
+-- the kind of the first code, if this byte comes next
 abbrev pub IsFrontCode : LexerState → ℕ → FrontCode → Type 0
 IsFrontCode lexer byte (fronts.Opcode op) = IsOpcodeByte lexer.half lexer.sets byte op
 IsFrontCode lexer byte (fronts.Characters set) = AreCharacters lexer set × (0x20 ≤ byte)
@@ -287,7 +286,7 @@ IsFrontCode lexer byte fronts.Shift = IsShift lexer byte
 IsFrontCode lexer byte (fronts.Effector step) = (lexer.half ≡ []) × (codes.front lexer.sets (byte ∷ []) ≡ codes.whole (code.Step step) 1 lexer.sets)
 IsFrontCode lexer byte fronts.Other = ⊤
 
--- This many bytes at the front call a macro: the last is its name, and those before it are unfinished.
+-- The first `count` bytes call a macro: the last is its name, and those before it are unfinished.
 pub record CallsBy (lexer : LexerState) (bytes : List ℕ) (count : ℕ) : Type 0 where
   pub before : List ℕ
   pub name : ℕ
@@ -307,15 +306,14 @@ CodeWithin old new bytes (outcomes.Stopped count fault index) = (count ≤ lengt
 CodeWithin old new bytes (outcomes.Opens op) = (new ≡ old) × (byte : ℕ) × (rest : List ℕ) × (bytes ≡ byte ∷ rest) × IsOpcodeByte old.lexer.half old.lexer.sets byte op
 CodeWithin old new bytes outcomes.Other = new ≡ old
 
--- What a machine took with the code. If the code is refused or breaks, the refusal is kept, with the place of the byte
--- with this index.
+-- The machine consumed the code, or kept its refusal, with the place of the byte with this index.
 abbrev pub CodeTakes : {S : Type 0} {g : Ghosts S} → Machine S g → Machine S g → List Placed → Bool → CodeOutcome → Type 0
 CodeTakes old new xs ended (outcomes.Acted count clears) = Takes old new xs ended count (clear_request_if clears)
 CodeTakes {S} {g} old new xs ended (outcomes.Stopped count fault index) =
     (kept : Machine S g) → Refuses new kept (refusal fault (place_at xs index)) → Takes old kept xs ended count requests.Stop
 CodeTakes old new xs ended _ = ⊤
 
--- The machine took the code at the front of these bytes, after which others come: none of an operand if the run has
+-- The machine consumed the code at the front of these bytes, after which others come: none of an operand if the run has
 -- ended.
 pub record Codes {S : Type 0} {g : Ghosts S} (old new : Machine S g) (bytes : List ℕ) (ended : Bool) (outcome : CodeOutcome) : Type 0 where
   pub within : CodeWithin old new bytes outcome

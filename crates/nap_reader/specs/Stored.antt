@@ -35,7 +35,7 @@ store_shown store name ender = record (store_bound store name) { bytes = store.b
 abbrev pub IsBefore : ℕ → Span → Type 0
 IsBefore n span = (span.start ≤ span.end) × (span.end ≤ n)
 
--- all bound bodies lie before the open one, and all bodies together are within the limit
+-- all bound bodies are before the open one, and all bodies together are within the limit
 pub record IsStore (bytes : List ℕ) (spans : List Span) (from stored : ℕ) : Type 0 where
   pub bound : All (IsBefore from) spans
   pub all : length spans ≡ 96

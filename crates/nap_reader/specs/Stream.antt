@@ -33,8 +33,8 @@ bytes_of xs = map (λ x. x.byte) xs
 abbrev pub all_at : ℕ → List ℕ → List Placed
 all_at place bytes = map (λ b. record { byte = b; place = place }) bytes
 
--- what is known between two codes, or before a body: the drawing state, the code sets, what may still be charged, the
--- bodies by their names, and the number of bytes of bodies
+-- the machine between two codes, or before a body: the drawing state, the code sets, the bytes that may still be
+-- charged, the bodies by their names, and the number of bytes of bodies
 pub record Machine : Type 0 where
   pub work : Work
   pub sets : CodeSets
@@ -70,7 +70,7 @@ is_operand_byte b = nat_le 64 b && nat_lt b 128
 abbrev pub is_operand : Placed → Bool
 is_operand x = is_operand_byte x.byte
 
--- the number of operand bytes at the front
+-- the number of operand bytes at the beginning
 abbrev pub run_length : List Placed → ℕ
 run_length xs = prefix_len is_operand xs
 
@@ -102,7 +102,7 @@ run_front m op place run rest =
 abbrev pub opcode_front : Machine → Opcode → ℕ → List Placed → Front
 opcode_front m op place xs = run_front m op place (take (run_length xs) xs) (drop (run_length xs) xs)
 
--- the machine after this many bytes were charged
+-- the machine after n bytes were charged
 abbrev pub after_charge : Machine → ℕ → Machine
 after_charge m n = record m { left = m.left - n }
 
@@ -142,8 +142,8 @@ front_by m xs (codes.whole code n sets) = code_front (record m { sets = sets }) 
 abbrev pub after_body : Machine → ℕ → List ℕ → Machine
 after_body m name body = record m { names = bind m.names name body; stored = m.stored + length body; mode = between }
 
--- The front if the body is complete: this many bytes, and after them the two that end the body, which are the next code
--- of the stream. A body that is presented comes next once more, with these two, before what comes after them.
+-- The front if the body is complete: n bytes, and after them the two that end the body, which are the next code of the
+-- stream. A body that is presented comes next once more, with these two, before what comes after them.
 abbrev pub bound_front : Machine → ℕ → Bool → ℕ → List Placed → Front
 bound_front m name false n xs = course.act [] (after_body m name (take n (bytes_of xs))) (drop n xs)
 bound_front m name true n xs =
@@ -154,7 +154,7 @@ body_front_by m name show xs bodies.unfinished = course.pause open_body
 body_front_by m name show xs (bodies.refused fault i) = course.refuse (refusal fault (place_at xs i))
 body_front_by m name show xs (bodies.ended n) = bound_front m name show n xs
 
--- what is at the front of the list, in this mode
+-- the front of the list, in this mode
 abbrev pub front_in : Mode → Machine → List Placed → Front
 front_in between m xs = front_by m xs (codes.front m.sets (bytes_of xs))
 front_in (in_body name show) m xs = body_front_by m name show xs (body_front (store_limit - m.stored) (bytes_of xs))
@@ -180,7 +180,7 @@ outcome_from m xs = course.outcome front left_of m xs
 abbrev pub start_machine : ℕ → Machine
 start_machine budget = record { work = start_work; sets = start_sets; left = budget; names = no_names; stored = 0; mode = between }
 
--- the outcome of a stream so far, which may go on
+-- the outcome of a stream so far, to which bytes may be added
 abbrev pub begun : ℕ → List ℕ → Outcome
 begun budget p = outcome_from (start_machine budget) (placed_from 0 p)
 

@@ -6,7 +6,7 @@ use Rattle.nap_reader.specs.Breaking.{cause_of, BreaksWithin, TookFront}
 use Rattle.nap_reader.specs.Collecting.{LacksMemoryFor, RefusedBy}
 use Rattle.nap_reader.specs.Stream.{means}
 
--- A page is read into a sink, and where it is accepted read again into another.
+-- A page is read into a sink and, if it is accepted, again into another.
 
 -- The reading broke: a sink that was s has a part of the entries, or one of them broke.
 pub record BreaksOff {S : Type 0} (g : Ghosts S) (s : S) (budget : ℕ) (p : List ℕ) (t : S) (r : Refusal) : Type 0 where

@@ -28,7 +28,7 @@ impl Budget {
     /// The default budget, in bytes.
     pub const USUAL: u32 = 1_048_576;
 
-    /// Returns the budget of this many bytes, or `None` above `MOST_WORDS`.
+    /// Returns the budget of `bytes`, or `None` above `MOST`.
     pub fn new(bytes: u32) -> Option<Budget>
         ensures found { IsSome result ↔ (bytes ≤ most_budget) }
         ensures value { IfSome result (λ budget. budget ≡ bytes) }

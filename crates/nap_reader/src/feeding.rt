@@ -30,7 +30,7 @@ impl From<Refusal> for FeedFault {
     }
 }
 
-/// Feeds a new reader all that an input gives, reading into `scratch`. Nothing is read after a refusal or a failed read.
+/// Feeds a new reader all that an input gives, reading into `room`. Nothing is read after a refusal or a failed read.
 pub fn feed_from<I: Inlet, S: Sink>(
     reader: &mut Reader<S>,
     input: &mut I,

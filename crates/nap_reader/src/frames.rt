@@ -101,7 +101,7 @@ impl Frames {
         Some(piece[at])
     }
 
-    /// Advances past `operand_count` bytes of the innermost body, which has as many.
+    /// Advances past `count` bytes of the innermost body, which has as many.
     pub(crate) fn take_from_innermost(&mut self, bytes: &[u8], count: usize)
         requires { FramesIn (length bytes.now) self.old.stack.items }
         ensures given { (text : List ℕ) (place : ℕ) → Innermost bytes.now self.old.stack.items text place → count ≤ length text →

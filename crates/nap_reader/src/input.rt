@@ -66,7 +66,7 @@ impl Input {
         }
     }
 
-    /// Nothing was read yet, under this budget, in the memory of the old input.
+    /// Returns the input before any byte, under this budget, in the memory of the old input.
     pub(crate) fn again(self, budget: Budget) -> Input
         ensures store { result.store ≡ record { names = no_names; bytes = []; body = []; stored = 0 } }
         ensures none { (result.body ≡ None) × (result.frames.stack.items ≡ []) }
@@ -99,8 +99,7 @@ impl Input {
         self.at = 0;
     }
 
-    /// Returns the next bytes that lie together, if there are any, and whether a byte that isn't an operand byte
-    /// follows them.
+    /// Returns the next contiguous bytes, if there are any, and whether a byte that isn't an operand byte follows them.
     #[inline(always)]
     pub(crate) fn next_slice<'a>(&'a self, piece: &'a [u8]) -> Option<(Slice<'a>, bool)>
         requires { Reads self.now piece.now }
@@ -138,7 +137,7 @@ impl Input {
         }
     }
 
-    /// Advances past `operand_count` of the next bytes, at most those of their slice.
+    /// Advances past `count` of the next bytes, at most those of their slice.
     #[inline(always)]
     pub(crate) fn advance(&mut self, count: usize)
         requires { CanAdvance self.old count }

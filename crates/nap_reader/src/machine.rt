@@ -94,7 +94,7 @@ impl<S: Sink> Machine<S> {
         }
     }
 
-    /// The machine before any code, in the memory of this one; and the sink of this one.
+    /// Returns the machine before any code, in the memory of this one; and the sink of this one.
     pub(crate) fn again<T: Sink>(self, sink: T) -> (S, Machine<T>)
         ensures first { result.0 ≡ self.sink }
         ensures work { result.1.work ≡ start_work }
@@ -176,7 +176,7 @@ impl<S: Sink> Machine<S> {
     }
 }
 
-/// Returns that `operand_count` bytes were consumed, and nothing is requested.
+/// Returns that `count` bytes were consumed, and nothing is requested.
 #[inline(always)]
 fn took(count: usize) -> Taken
     ensures { result ≡ record { count = count; request = Request.Nothing } }

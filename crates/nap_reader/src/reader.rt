@@ -51,7 +51,8 @@ impl<S: Sink> Reader<S> {
         }
     }
 
-    /// A reader at the start of a stream, as `new` makes it, in the memory of this one; and the sink of this one.
+    /// Returns a reader at the start of a stream, as `new` returns it, in the memory of this one; and the sink of this
+    /// one.
     pub(crate) fn again<T: Sink>(self, budget: Budget, sink: T) -> (S, Reader<T>)
         requires { T.state sink ≡ start }
         ensures first { result.0 ≡ sink_of self }

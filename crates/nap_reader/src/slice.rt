@@ -1,7 +1,7 @@
-//! The next bytes that lie together.
+//! The next contiguous bytes.
 ghost use Rattle.std.specs.Prelude.{◌≡◌, ◌<◌, ◌≤◌, ◌+◌, ◌*◌, ◌^◌, length};
 
-/// The next bytes that lie together: the rest of the innermost body, else of the piece.
+/// The next contiguous bytes: the rest of the innermost body, else of the piece.
 #[derive(Clone, Copy, Drop)]
 pub(crate) struct Slice<'a> {
     /// The bytes, at least one.

@@ -1,4 +1,4 @@
-//! Reads a page into one sink, and where it is accepted into another.
+//! Reading of a page into one sink, and, if it is accepted, into another.
 ghost use Rattle.std.specs.Prelude.{◌≡◌, [], None, false};
 ghost use Rattle.nap_list.specs.State.{start};
 ghost use Rattle.nap_reader.specs.Standing.{HasRead, budget_of, fed_of, refusal_of, sink_of};
@@ -10,7 +10,7 @@ use crate::reader::Reader;
 use nap_list::Sink;
 use std::alloc::Global;
 
-/// Reads a whole stream, of which nothing was read yet.
+/// Reads a whole stream, with a reader that has read nothing.
 fn read_whole<S: Sink>(reader: &mut Reader<S>, stream: &[u8]) -> Result<(), Refusal>
     requires unread { fed_of reader.old ≡ 0 }
     requires unrefused { refusal_of reader.old ≡ None }
@@ -21,8 +21,8 @@ fn read_whole<S: Sink>(reader: &mut Reader<S>, stream: &[u8]) -> Result<(), Refu
     Ok(())
 }
 
-/// Reads a stream into the first sink, and where it is accepted reads it again into the second, in the memory that the
-/// reader has by then. The second sink, and the first one if both took all entries.
+/// Reads a stream into the first sink and, if it is accepted, again into the second, in the memory that the reader has.
+/// Returns the second sink, and the first one if both took all entries.
 pub fn read_twice<S: Sink + Drop, T: Sink + Drop>(
     alloc: Global,
     budget: Budget,

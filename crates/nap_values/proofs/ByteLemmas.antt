@@ -10,7 +10,7 @@ use Rattle.nap_values.specs.PackedCoordinates.{words_in, HoldsWords, x_in, y_in}
 use Rattle.nap_values.specs.Spellings.{words_of_pairs, operand_bytes}
 use Rattle.nap_values.proofs.DigitLemmas.{value_of-below, value_of-digits_of}
 use Rattle.nap_values.proofs.CoordinateLemmas.{bits_of-signed_of}
-use Rattle.nap_values.proofs.PackedLemmas.{length-words_in, holding_fits, pair_words-values, x_in-below, y_in-below}
+use Rattle.nap_values.proofs.PackedLemmas.{length-words_in, packed_fits, pair_words-values, x_in-below, y_in-below}
 
 -- The bytes that carry words, from a number of 64 bits.
 
@@ -18,7 +18,7 @@ byte_at-quotient : (i n : ℕ) → byte_at i n ≡ n / 256 ^ i % 256
 byte_at-quotient zero n = ap (λ m. m % 256) (sym (div-one n))
 byte_at-quotient (suc i) n = refl
 
--- the lowest bytes of a number, of which the higher part is of no weight
+-- the lowest bytes of a number, whose higher part has no weight
 bytes_of_value : (places high : ℕ) (bytes : List ℕ) → All (λ b. b < 256) bytes → length bytes ≡ places →
     bytes_high_first places (high * 256 ^ places + value_of 256 places bytes) ≡ bytes
 unfolding value_of
@@ -40,7 +40,7 @@ bytes_of_value (suc places) high (byte ∷ bytes) all len =
     ) refl
 bytes_of_value _ high bytes all len = absurd (omega arith)
 
--- bytes have the value of their words and of the mark in each
+-- bytes have the value of their words plus that of the mark in each
 value_of-operand_bytes : (places : ℕ) (words : List ℕ) → length words ≡ places →
     value_of 256 places (operand_bytes words) ≡ value_of 256 places (replicate places 64) + value_of 256 places words
 unfolding value_of
@@ -69,7 +69,7 @@ bytes_of_words n words =
     let below : All (λ b. b < 256) (operand_bytes ws) =
     All-map (λ b. b < 256) (λ word. 64 + word) ws (All-weaker IsWord (λ word. 64 + word < 256) (λ word fits. omega arith) ws words) in
     let len : length (operand_bytes ws) ≡ 8 = length-map ws (λ word. 64 + word) ∙ length-words_in n words in
-    let is : value_of 256 8 ws ≡ n = value_of-digits_of 256 8 n (omega arith) (omega (arith, holding_fits n words)) in
+    let is : value_of 256 8 ws ≡ n = value_of-digits_of 256 8 n (omega arith) (omega (arith, packed_fits n words)) in
     let value = value_of-operand_bytes 8 ws (length-words_in n words) in
     let number : 0x4040_4040_4040_4040 + n ≡ 0 * 256 ^ 8 + value_of 256 8 (operand_bytes ws) = omega (arith, is, value, marks) in
     let high_first : to_be_bytes w64 (0x4040_4040_4040_4040 + n) ≡ operand_bytes ws =
@@ -77,7 +77,7 @@ bytes_of_words n words =
     le_bytes_8 (operand_bytes ws) (swap_bytes w64 (0x4040_4040_4040_4040 + n)) len (each_below (operand_bytes ws) below)
     (swapped (0x4040_4040_4040_4040 + n) ∙ ap (from_le_bytes w64) high_first)
 
--- the words of a number are those of its parts
+-- the words of a number are those of its x and y
 pub words_of_point : (n : ℕ) → HoldsWords n → (x y : ℕ) → x_in n ≡ x → y_in n ≡ y → words_in n ≡ words_of_pairs (digits_of 8 8 x) (digits_of 8 8 y)
 unfolding x_in y_in
 words_of_point n words x y x_is y_is =

@@ -22,11 +22,11 @@ signed_of-low n fits = grind (arith, nat_tests)
 pub signed_of-high : (n : ℕ) → n < 16777216 → signed_of n <ℤ pos 8388608
 signed_of-high n fits = grind (arith, nat_tests)
 
--- a point of the square is the point with its coordinates
+-- a point of the unit screen is the point with its coordinates
 pub point_with-in_square : (p : Coordinates) → IsInSquare p → point_with (pos p.x) (pos p.y) ≡ Some p
 point_with-in_square p inside = grind (arith, nat_tests)
 
--- what is made only where a test passes
+-- a value that is made only if a test passes
 made_where : {A : Type 0} (b : Bool) (made x : A) → cond b (Some made) None ≡ Some x → (b ≡ true) × (made ≡ x)
 made_where true made x is = (refl, cc)
 made_where false made x is = absurd (cc)
@@ -34,7 +34,7 @@ made_where false made x is = absurd (cc)
 tests_pass : (x y : ℕ) → (nat_lt x 8388608 && nat_lt y 8388608) ≡ true → (x < 8388608) × (y < 8388608)
 tests_pass x y pass = (grind (arith, nat_tests), grind (arith, nat_tests))
 
--- the point with these coordinates is in the square and has them
+-- the point with these coordinates is on the unit screen and has them
 pub point_with-back : (x y : ℤ) (p : Coordinates) → point_with x y ≡ Some p → IsInSquare p × (x ≡ pos p.x) × (y ≡ pos p.y)
 point_with-back (pos x) (pos y) p is =
     let made = made_where (nat_lt x 8388608 && nat_lt y 8388608) (record { x = x; y = y }) p is in

@@ -32,7 +32,7 @@ value_of-below base (suc places) (digit ∷ digits) pos all =
     let rest = value_of-below base places digits pos (All-tail (λ d. d < base) digit digits all) in
     rw pow-suc (mul-add-lt digit (base ^ places) (value_of base places digits) base first rest)
 
--- a number that fits so many places is the value of its digits
+-- a number below the base to the power `places` is the value of its digits
 pub value_of-digits_of : (base places n : ℕ) → 0 < base → n < base ^ places → value_of base places (digits_of base places n) ≡ n
 unfolding value_of digits_of
 value_of-digits_of base zero n pos fits = omega (arith, pow-zero base)
@@ -40,7 +40,7 @@ value_of-digits_of base (suc places) n pos fits =
     rw (value_of-digits_of base places (n % base ^ places) pos (mod_below n (base ^ places) (pow_pos base places pos)))
     (div-add-mod' n (base ^ places))
 
--- so many digits are those of their value
+-- `places` digits are those of their value
 pub digits_of-value_of : (base places : ℕ) (digits : List ℕ) → 0 < base → All (λ d. d < base) digits → length digits ≡ places →
     digits_of base places (value_of base places digits) ≡ digits
 unfolding value_of digits_of
@@ -61,7 +61,7 @@ value_of-zeros base zero n = refl
 value_of-zeros base (suc places) zero = refl
 value_of-zeros base (suc places) (suc n) = omega (arith, value_of-zeros base places n)
 
--- zeros at the end leave the value
+-- zeros at the end don't change the value
 pub value_of-append-zeros : (base places : ℕ) (digits : List ℕ) (n : ℕ) → value_of base places (digits ++ replicate n 0) ≡ value_of base places digits
 unfolding value_of
 value_of-append-zeros base zero digits n = refl
@@ -69,7 +69,7 @@ value_of-append-zeros base (suc places) [] zero = refl
 value_of-append-zeros base (suc places) [] (suc n) = omega (arith, value_of-zeros base places n)
 value_of-append-zeros base (suc places) (digit ∷ digits) n = ap (λ v. digit * base ^ places + v) (value_of-append-zeros base places digits n)
 
--- digits behind the last place are of no weight
+-- digits after the last place have no weight
 pub value_of-take : (base places count : ℕ) (digits : List ℕ) → places ≤ count → value_of base places (take count digits) ≡ value_of base places digits
 unfolding value_of
 value_of-take base zero count digits few = refl

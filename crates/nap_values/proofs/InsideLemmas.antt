@@ -8,9 +8,9 @@ use Rattle.nap_values.specs.PackedCoordinates.{words_in, HoldsWords, x_in, y_in}
 use Rattle.nap_values.proofs.CoordinateLemmas.{bits_of-signed_of, point_with-back}
 use Rattle.nap_values.proofs.PackedLemmas.{x_in-below, y_in-below}
 
--- Where the numbers that words hold are inside the unit square.
+-- When the numbers that words hold are on the unit screen.
 
--- the point with the coordinates that two numbers of 24 bits stand for
+-- the point whose coordinates two numbers of 24 bits stand for
 inside-signed : (x y : ℕ) → x < 8388608 → y < 8388608 → point_with (signed_of x) (signed_of y) ≡ Some (record { x = x; y = y })
 inside-signed x y x_below y_below = grind (arith, nat_tests)
 
@@ -35,11 +35,11 @@ spelled_back n words p is =
       back.0,
     )
 
--- where 24 bits of the sums are below 2^23, they are the coordinates of a point, and else there is none
-pub sum_leads : (a b m n : ℕ) → a < 8388608 → b < 8388608 → m < 16777216 → n < 16777216 →
+-- the low 24 bits of the sums stand for the point at the sums, or for none outside the unit screen
+pub sum_point : (a b m n : ℕ) → a < 8388608 → b < 8388608 → m < 16777216 → n < 16777216 →
     point_with (signed_of ((a + m) % 16777216)) (signed_of ((b + n) % 16777216)) ≡ point_with (pos a +ℤ signed_of m) (pos b +ℤ signed_of n)
-sum_leads a b m n a_below b_below m_fits n_fits = grind (arith, nat_tests, ints)
+sum_point a b m n a_below b_below m_fits n_fits = grind (arith, nat_tests, ints)
 
--- the difference of two numbers below 2^23, of which 24 bits are kept, stands for the way between them
+-- the low 24 bits of the difference of two numbers below 2^23 stand for the displacement between them
 pub way_is : (a b : ℕ) → a < 8388608 → b < 8388608 → signed_of ((b + (16777216 - a)) % 16777216) ≡ pos b -ℤ pos a
 way_is a b a_below b_below = grind (arith, nat_tests, ints)

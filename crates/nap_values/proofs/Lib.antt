@@ -13,8 +13,8 @@ mod PartLemmas
 mod MotionLemmas
 mod MovingPointLemmas
 mod SignLemmas
-mod GatherLemmas
+mod CollectLemmas
 mod InsideLemmas
 mod RunLemmas
 mod OperandWordLemmas
-mod FrontLemmas
+mod PaddedLemmas

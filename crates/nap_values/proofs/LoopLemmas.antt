@@ -3,7 +3,7 @@ use Rattle.std.proofs.Math.Nat.{pow-suc, mul-div_cancel, one-le-pow, mul-le-mul_
 use Rattle.std.proofs.Math.ListN.{drop_of_length-le}
 use Rattle.nap_values.specs.Digits.{value_of, digits_of}
 
--- Loops over the digits of a number, from the front.
+-- Loops over the digits of a number, from the first digit on.
 
 -- the digit at an index, and those after it
 value_of-drop : (base places : ℕ) (digit : ℕ → ℕ) (words : List ℕ) (i : ℕ) → i < length words → i < places →
@@ -14,14 +14,14 @@ value_of-drop base places digit words i inside within =
     let e : places - i ≡ suc (places - (i + 1)) = omega arith in
     rw (e, add-one, drop-cons words i 0) refl
 
--- no digits are left past the end
+-- no digits are left after the last one
 value_of-past : (base places : ℕ) (digit : ℕ → ℕ) (words : List ℕ) (i : ℕ) → length words ≤ i →
     value_of base places (map digit (drop i words)) ≡ 0
 unfolding value_of
 value_of-past base zero digit words i past = refl
 value_of-past base (suc places) digit words i past = rw (drop_of_length-le words past) refl
 
--- The unit of the place at an index, from that of the place before.
+-- The unit of the place at an index, from the unit of the place before it.
 module _ (base places i unit : ℕ) (pos : 0 < base) (within : i < places) (unit_is : unit ≡ base ^ (places - i)) where
   unit_split : unit ≡ base ^ (places - (i + 1)) * base
   unit_split =
@@ -39,15 +39,15 @@ module _ (base places i unit : ℕ) (pos : 0 < base) (within : i < places) (unit
       let least : 1 * base ≤ base ^ (places - (i + 1)) * base = mul-le-mul_right base (one-le-pow (places - (i + 1)) base pos) in
       omega (arith, unit_split, least)
 
--- A loop that adds up the digits of words from the front, before the word at an index.
+-- A loop has added the digits of the words before an index.
 pub record IsSumSoFar (base places : ℕ) (digit : ℕ → ℕ) (words : List ℕ) (i unit sum : ℕ) : Type 0 where
   pub unit_is : unit ≡ base ^ (places - i)
-  pub room : sum + unit ≤ base ^ places
+  pub in_limit : sum + unit ≤ base ^ places
   pub below : sum < base ^ places
   pub whole : sum + value_of base (places - i) (map digit (drop i words)) ≡ value_of base places (map digit words)
 
 module _ (base places : ℕ) (digit : ℕ → ℕ) (words : List ℕ) (i unit sum : ℕ) (so_far : IsSumSoFar base places digit words i unit sum) where
-  -- the digit of the word at the index is added, at the next unit
+  -- the digit of the word at the index is added, with the next unit
   pub IsSumSoFar-more : (word : ℕ) → 0 < base → i < length words → i < places → word ≡ get_or words i 0 → digit word < base →
       IsSumSoFar base places digit words (i + 1) (unit / base) (sum + digit word * (unit / base))
   IsSumSoFar-more word pos inside within is below =
@@ -59,20 +59,20 @@ module _ (base places : ℕ) (digit : ℕ → ℕ) (words : List ℕ) (i unit su
       let here : digit word * (unit / base) ≡ digit (get_or words i 0) * base ^ (places - (i + 1)) = rw (is, next) refl in
       record {
         unit_is = next;
-        room = omega (arith, split, fits, so_far.room);
-        below = omega (arith, split, fits, some, so_far.room);
+        in_limit = omega (arith, split, fits, so_far.in_limit);
+        below = omega (arith, split, fits, some, so_far.in_limit);
         whole = omega (arith, rest, here, so_far.whole);
       }
 
-  -- at the end it is the value of all words
+  -- at the end the sum is the value of all words
   pub IsSumSoFar-all : length words ≤ i → sum ≡ value_of base places (map digit words)
   IsSumSoFar-all past = omega (arith, value_of-past base (places - i) digit words i past, so_far.whole)
 
--- A loop that takes the digits of a number from the front, before the digit at an index.
+-- A loop has taken the digits of a number before an index.
 pub record IsRestAt (base places i unit rest : ℕ) : Type 0 where
   pub unit_is : unit ≡ base ^ (places - i)
   pub least : i < places → base ≤ unit
-  pub room : rest < unit
+  pub in_limit : rest < unit
 
 module _ (base places i unit rest : ℕ) (at : IsRestAt base places i unit rest) (pos : 0 < base) (within : i < places) where
   pub IsRestAt-more : IsRestAt base places (i + 1) (unit / base) (rest % (unit / base))
@@ -81,7 +81,7 @@ module _ (base places i unit rest : ℕ) (at : IsRestAt base places i unit rest)
       record {
         unit_is = next;
         least = λ more. unit_least base places (i + 1) (unit / base) pos more next;
-        room = mod-lt rest (next_unit_pos base places i unit pos within at.unit_is);
+        in_limit = mod-lt rest (next_unit_pos base places i unit pos within at.unit_is);
       }
 
   pub digits_of-more : digits_of base (places - i) rest ≡ rest / (unit / base) ∷ digits_of base (places - (i + 1)) (rest % (unit / base))

@@ -7,7 +7,7 @@ use lib.Bits.{and_high}
 use Rattle.nap_values.specs.Digits.{value_of, digits_of}
 use Rattle.nap_values.proofs.DigitLemmas.{value_of-below, digits_of-value_of}
 
--- The same bits of each digit, where a mask keeps them.
+-- The bits of each digit that a mask keeps.
 
 pub pow_of_pow : (width places : ℕ) → (2 ^ width) ^ places ≡ 2 ^ (width * places)
 pow_of_pow width zero = pow-zero (2 ^ width) ∙ ap (λ k. 2 ^ k) (sym (mul-zero width))
@@ -16,7 +16,7 @@ pow_of_pow width (suc places) =
     pow-suc (2 ^ width) places ∙ ap (λ n. n * 2 ^ width) (pow_of_pow width places)
     ∙ sym (pow-add 2 (width * places) width) ∙ ap (λ k. 2 ^ k) steps
 
--- the same so many bits of each digit, where others are masked out
+-- `bits` bits of each digit, with the others masked out
 module _ (width bits low : ℕ) (within : bits + low ≤ width) where
   abbrev field : ℕ
   field = 2 ^ (bits + low) - 2 ^ low
@@ -45,7 +45,7 @@ module _ (width bits low : ℕ) (within : bits + low ≤ width) where
       ∙ ap₂ (λ x y. x * 2 ^ (width * places) + y) (and_high (n / unit) bits low) (masked places (n % unit))
       ∙ ap (λ u. ((n / unit / 2 ^ low % 2 ^ bits) * 2 ^ low) * u + value_of (2 ^ width) places (map (λ d. (d / 2 ^ low % 2 ^ bits) * 2 ^ low) (digits_of (2 ^ width) places (n % unit)))) (sym unit_is)
 
--- digits that are each so many times others have so many times their value
+-- digits that are each `unit` times others have `unit` times their value
 pub value_of-scaled : (base places unit : ℕ) (f g : ℕ → ℕ) (digits : List ℕ) → All (λ d. f d ≡ g d * unit) digits →
     value_of base places (map f digits) ≡ value_of base places (map g digits) * unit
 unfolding value_of
@@ -56,12 +56,12 @@ value_of-scaled base (suc places) unit f g (d ∷ ds) all =
     let rest = value_of-scaled base places unit f g ds (All-tail (λ d. f d ≡ g d * unit) d ds all) in
     rw (first, rest) (omega arith)
 
--- what is true of every number
+-- a statement that is true of every number
 pub everywhere : (P : ℕ → Type 0) (xs : List ℕ) → ((x : ℕ) → P x) → All P xs
 everywhere P [] is = All-nil P
 everywhere P (x ∷ xs) is = All-cons P x xs (is x) (everywhere P xs is)
 
--- the same digits by two rules
+-- two rules give the same digits
 pub map_same : (f g : ℕ → ℕ) (xs : List ℕ) → All (λ x. f x ≡ g x) xs → map f xs ≡ map g xs
 map_same f g [] same = refl
 map_same f g (x ∷ xs) same =
@@ -94,7 +94,7 @@ moved_bits low n within mask =
     (everywhere (λ d. (d / 2 ^ low % 2 ^ 1) * 2 ^ low ≡ (d / 2 ^ low % 2) * 2 ^ low) digits (λ d. refl)))
     ∙ mul-div_cancel (value_of 256 8 (map (λ d. d / 2 ^ low % 2) digits)) (pow_pos low)
 
--- a mask of bytes keeps of each byte what it keeps of that byte alone
+-- a mask of equal bytes keeps of each byte what it keeps of that byte alone
 pub masked_bytes : (mask : ℕ) → mask < 256 → (places count : ℕ) (bytes : List ℕ) → All (λ b. b < 256) bytes → length bytes ≡ places →
     bit_and (value_of 256 places bytes) (value_of 256 places (replicate count mask)) ≡ value_of 256 places (map (λ b. bit_and b mask) (take count bytes))
 unfolding value_of

@@ -33,7 +33,7 @@ y_byte : (sum carry : ℕ) → sum < 15 → carry < 2 →
     ((sum * 2 ^ 0 + 248 + carry) / 256 ≡ (sum + carry) / 8) × ((sum * 2 ^ 0 + 248 + carry) % 256 / 2 ^ 0 % 8 ≡ (sum + carry) % 8)
 y_byte sum carry few small = (omega arith, omega arith)
 
--- the digits that with these make sevens
+-- the digits whose sum with these is 7 each
 abbrev complements : List ℕ → List ℕ
 complements digits = map (λ d. 7 - d) digits
 
@@ -126,7 +126,7 @@ module _ (m n : ℕ) (m_words : HoldsWords m) (n_words : HoldsWords n) where
       ap₂ (λ x y. x + y) x_taken y_taken
       ∙ sym (packed_coordinates-parts ((x_in m + (16777216 - x_in n)) % 16777216) ((y_in m + (16777216 - y_in n)) % 16777216))
 
--- two numbers of which 24 bits are kept
+-- two numbers, of which the low 24 bits are kept
 module _ (x y : ℕ) where
   pub kept-words : HoldsWords (packed_coordinates (x % 16777216) (y % 16777216))
   kept-words = packed_coordinates-words (x % 16777216) (y % 16777216) (omega arith) (omega arith)

@@ -59,7 +59,7 @@ carried_zeros : (n : ℕ) → operand_words (replicate n 0) ≡ replicate n 0
 carried_zeros zero = refl
 carried_zeros (suc n) = ap (λ ws. 0 ∷ ws) (carried_zeros n)
 
--- bytes of zero carry words of zero
-pub zeros_behind : (bytes : List ℕ) (missing : ℕ) → operand_words (bytes ++ replicate missing 0) ≡ operand_words bytes ++ replicate missing 0
-zeros_behind bytes missing =
+-- zero bytes carry zero words
+pub zero_bytes : (bytes : List ℕ) (missing : ℕ) → operand_words (bytes ++ replicate missing 0) ≡ operand_words bytes ++ replicate missing 0
+zero_bytes bytes missing =
     map-append (λ byte. byte % 64) bytes (replicate missing 0) ∙ ap (λ ws. operand_words bytes ++ ws) (carried_zeros missing)

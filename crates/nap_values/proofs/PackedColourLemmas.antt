@@ -64,7 +64,7 @@ triple_words-values words all size =
     let bs = digits_of-value_of 4 8 (map b_digit words) (omega arith) (b_digits-below words all) (length-map words b_digit ∙ size) in
     rw (gs, rs, bs) (sym (words_of_triples-digits words all))
 
--- two bits in each byte, moved so that a mask takes each in its place
+-- two bits of each byte, copied so that a mask keeps each at its position
 module _ (times mask : ℕ) (place : ℕ → ℕ) (mask_fits : mask < 256)
     (kept : (d : ℕ) → d < 4 → (d * times < 256) × (bit_and (d * times) mask ≡ place d)) where
   placed : (ds : List ℕ) → AreTwoBits ds → length ds ≡ 8 →
@@ -84,7 +84,8 @@ module _ (times mask : ℕ) (place : ℕ → ℕ) (mask_fits : mask < 256)
       ∙ map_same (λ d. bit_and (d * times) mask) place ds
       (All-weaker (λ d. d < 4) (λ d. bit_and (d * times) mask ≡ place d) (λ d fits. (kept d fits).1) ds fit))
 
--- where the two bits of a part stand in a word: the higher one three places above the lower one, which has this weight
+-- the positions of a component's two bits in a word: the higher one three places above the lower one, which has this
+-- weight
 abbrev bits_at : ℕ → ℕ → ℕ
 bits_at weight d = d / 2 * (weight * 8) + d % 2 * weight
 
@@ -120,7 +121,7 @@ value_of-words_of_triples (suc places) (g ∷ gs) (r ∷ rs) (b ∷ bs) len_g le
     omega (arith, rest)
 value_of-words_of_triples _ gs rs bs len_g len_r len_b = absurd (omega arith)
 
--- the digits of three parts, each in a byte of its own, put together
+-- the digits of three components, each in bytes of its own, put together
 module _ (g r b : ℕ) (g_fits : g < 65536) (r_fits : r < 65536) (b_fits : b < 65536) where
   pub packed_colour-parts :
       bit_and (value_of 256 8 (digits_of 4 8 g) * 20) 0x2424_2424_2424_2424
@@ -149,7 +150,7 @@ value_of-pairs (suc places) high low (d ∷ ds) = omega (arith, value_of-pairs p
 
 -- a number that holds words
 module _ (n : ℕ) (words : HoldsWords n) where
-  -- the lower and the higher bits of a part, where they are moved to the lowest place
+  -- the lower and the higher bits of a component, moved to the lowest position
   part_digits : (high low : ℕ) (digit : ℕ → ℕ) → 1 + high ≤ 8 → 1 + low ≤ 8 →
       value_of 256 8 (replicate 8 (2 ^ (1 + high) - 2 ^ high)) / 2 ^ high ≡ 0x0101_0101_0101_0101 →
       value_of 256 8 (replicate 8 (2 ^ (1 + low) - 2 ^ low)) / 2 ^ low ≡ 0x0101_0101_0101_0101 →

@@ -85,7 +85,7 @@ value_of-words_of_pairs (suc places) (x ∷ xs) (y ∷ ys) len_x len_y =
     omega (arith, rest)
 value_of-words_of_pairs _ xs ys len_x len_y = absurd (omega arith)
 
--- a number's digits in base 8, in a byte each
+-- a number's digits in base 8, one to a byte
 pub packed_coordinates-parts : (x y : ℕ) → packed_coordinates x y ≡ value_of 256 8 (digits_of 8 8 x) * 8 + value_of 256 8 (digits_of 8 8 y)
 unfolding packed_coordinates
 packed_coordinates-parts x y = value_of-words_of_pairs 8 (digits_of 8 8 x) (digits_of 8 8 y) (length-digits_of 8 8 x) (length-digits_of 8 8 y)
@@ -96,15 +96,15 @@ module _ (n : ℕ) (words : HoldsWords n) where
   unfolding words_in
   length-words_in = length-digits_of 256 8 n
 
-  pub holding_fits : n < 4611686018427387904
+  pub packed_fits : n < 4611686018427387904
   unfolding words_in digits_of
-  holding_fits =
+  packed_fits =
       let top : n / 256 ^ 7 < 64 = All-head IsWord (n / 256 ^ 7) (digits_of 256 7 (n % 256 ^ 7)) words in
       omega (arith, top)
 
   pub value-words_in : value_of 256 8 (words_in n) ≡ n
   unfolding words_in
-  value-words_in = value_of-digits_of 256 8 n (omega arith) (omega (arith, holding_fits))
+  value-words_in = value_of-digits_of 256 8 n (omega arith) (omega (arith, packed_fits))
 
   pub x_in-below : x_in n < 16777216
   unfolding x_in
@@ -134,7 +134,7 @@ module _ (n : ℕ) (words : HoldsWords n) where
       (All-weaker IsWord (λ d. (d / 1 % 8) * 1 ≡ y_digit d * 1) (λ d fits. omega arith) (words_in n) words)
       ∙ omega arith
 
-  -- moved down, the digits of x stand where those of y did
+  -- moved down by three bits, the digits of x are where those of y were
   pub x_moved : bit_and (n / 8) 0x0707_0707_0707_0707 ≡ value_of 256 8 (map x_digit (words_in n))
   x_moved =
       let down : bit_and n 0x3838_3838_3838_3838 / 8 ≡ bit_and (n / 8) 0x0707_0707_0707_0707 = and_shr n 0x3838_3838_3838_3838 3 in
@@ -168,7 +168,7 @@ module _ (m n : ℕ) (m_words : HoldsWords m) (n_words : HoldsWords n) where
   pub crossed-words : HoldsWords (bit_and m 0x3838_3838_3838_3838 + bit_and n 0x0707_0707_0707_0707)
   crossed-words = subst HoldsWords (sym crossed-parts) (packed_coordinates-words (x_in m) (y_in n) (x_in-below m m_words) (y_in-below n n_words))
 
--- a displacement's words are those of its parts
+-- a displacement's words are those of its components
 pub move_words : (n : ℕ) → HoldsWords n → packed_coordinates (bits_of (signed_of (x_in n))) (bits_of (signed_of (y_in n))) ≡ n
 move_words n words = rw (bits_of-signed_of (x_in n) (x_in-below n words), bits_of-signed_of (y_in n) (y_in-below n words)) (packed_coordinates-in n words)
 
@@ -176,6 +176,6 @@ packed_zeros : packed_coordinates 0 0 ≡ 0
 unfolding packed_coordinates value_of digits_of words_of_pairs
 packed_zeros = refl
 
--- zero holds eight words of no bits
+-- zero holds eight zero words
 pub zero_words : HoldsWords 0
 zero_words = subst HoldsWords packed_zeros (packed_coordinates-words 0 0 (omega arith) (omega arith))

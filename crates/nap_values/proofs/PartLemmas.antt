@@ -3,9 +3,9 @@ use Rattle.std.proofs.lemmas.List.Elements.{All-nil, All-cons}
 use Rattle.nap_values.specs.Digits.{value_of, digits_of}
 use Rattle.nap_values.proofs.DigitLemmas.{value_of-digits_of}
 use Rattle.nap_values.proofs.MaskLemmas.{low_bits}
-use Rattle.nap_values.proofs.GatherLemmas.{lower_of_four, lower_of_two, below_base}
+use Rattle.nap_values.proofs.CollectLemmas.{lower_of_four, lower_of_two, below_base}
 
--- what is true of each of eight numbers
+-- a statement that is true of each of eight numbers
 all_eight : (P : ℕ → Type 0) (a b c d e f g h : ℕ) → P a → P b → P c → P d → P e → P f → P g → P h → All P (a ∷ b ∷ c ∷ d ∷ e ∷ f ∷ g ∷ h ∷ [])
 all_eight P a b c d e f g h pa pb pc pd pe pf pg ph =
     All-cons P a (b ∷ c ∷ d ∷ e ∷ f ∷ g ∷ h ∷ []) pa (All-cons P b (c ∷ d ∷ e ∷ f ∷ g ∷ h ∷ []) pb
@@ -107,8 +107,8 @@ module _ (a b c d e f g h : ℕ) (a_fits : a < 4) (b_fits : b < 4) (c_fits : c <
   spread_digits : digits_up (quarters_up (halves_up whole)) ≡ bytes
   spread_digits = ap (λ n. digits_up (quarters_up n)) up_to_halves ∙ ap digits_up up_to_quarters ∙ up_to_digits
 
-  gathered_digits : whole_down (halves_down (quarters_down bytes)) ≡ whole
-  gathered_digits = ap (λ n. whole_down (halves_down n)) down_to_quarters ∙ ap whole_down down_to_halves ∙ down_to_whole
+  collected_parts : whole_down (halves_down (quarters_down bytes)) ≡ whole
+  collected_parts = ap (λ n. whole_down (halves_down n)) down_to_quarters ∙ ap whole_down down_to_halves ∙ down_to_whole
 
 pub spreads : (n : ℕ) → n < 65536 → digits_up (quarters_up (halves_up n)) ≡ value_of 256 8 (digits_of 4 8 n)
 unfolding digits_of
@@ -117,9 +117,9 @@ spreads n fits =
     ∙ spread_digits _ _ _ _ _ _ _ _
     (omega arith) (omega arith) (omega arith) (omega arith) (omega arith) (omega arith) (omega arith) (omega arith)
 
-pub gathers : (n : ℕ) → All (λ d. d < 4) (digits_of 256 8 n) → whole_down (halves_down (quarters_down n)) ≡ value_of 4 8 (digits_of 256 8 n)
+pub collects : (n : ℕ) → All (λ d. d < 4) (digits_of 256 8 n) → whole_down (halves_down (quarters_down n)) ≡ value_of 4 8 (digits_of 256 8 n)
 unfolding digits_of
-gathers n fit =
+collects n fit =
     ap (λ m. whole_down (halves_down (quarters_down m))) (sym (value_of-digits_of 256 8 n (omega arith) (omega (arith, below_base 4 n fit))))
-    ∙ gathered_digits _ _ _ _ _ _ _ _ (fit 0 0 (omega arith)) (fit 1 0 (omega arith)) (fit 2 0 (omega arith)) (fit 3 0 (omega arith))
+    ∙ collected_parts _ _ _ _ _ _ _ _ (fit 0 0 (omega arith)) (fit 1 0 (omega arith)) (fit 2 0 (omega arith)) (fit 3 0 (omega arith))
     (fit 4 0 (omega arith)) (fit 5 0 (omega arith)) (fit 6 0 (omega arith)) (fit 7 0 (omega arith))

@@ -16,7 +16,7 @@ use Rattle.nap_values.proofs.CoordinateLemmas.{bits_of-signed_of, signed_of-bits
 
 -- The laws that crates above cite.
 
--- what the words say of the bytes that carry them
+-- a statement about words, for the bytes that carry them
 spelling_of_words : {V : Type 0} (read : List ℕ → V) (size : ℕ) (value : V) (words : List ℕ) →
     length words ≡ size → All IsWord words → read words ≡ value →
     ((others : List ℕ) → All IsWord others → length others ≡ size → read others ≡ value → others ≡ words) →
@@ -28,7 +28,7 @@ spelling_of_words read size value words size_is all is only = record {
   only = λ others all_words same read_so. ap operand_bytes (only others all_words same read_so);
 }
 
--- displacements with the same parts
+-- displacements with equal components are equal
 displacement_parts : (m k : Displacement) → m.x ≡ k.x → m.y ≡ k.y → m ≡ k
 displacement_parts m k same_x same_y = rw (same_x, same_y) refl
 
@@ -52,7 +52,7 @@ moves_spell_once m within =
     let y_is = sym (bits_of-signed_of (value_of 8 8 (map y_digit others)) (y_value-below others all)) ∙ ap (λ (k : Displacement). bits_of k.y) is in
     rw (x_is, y_is) at (pair_words-values others all size))
 
--- where a point is spelled, so is the displacement to it from the origin
+-- a point is spelled by the bytes of the displacement to it from the origin
 pub points_spell_once : PointsSpellOnce
 unfolding point_at point_bytes move_bytes
 points_spell_once p inside =
@@ -95,7 +95,7 @@ map-replicate : (f : ℕ → ℕ) (n d : ℕ) → map f (replicate n d) ≡ repl
 map-replicate f zero d = refl
 map-replicate f (suc n) d = ap (λ rest. f d ∷ rest) (map-replicate f n d)
 
--- zero words at the end leave the value of digits that are zero in them
+-- zero words at the end don't change the value of digits that are zero in them
 value_of-missing : (base places : ℕ) (digit : ℕ → ℕ) (words : List ℕ) (n : ℕ) → digit 0 ≡ 0 →
     value_of base places (map digit (words ++ replicate n 0)) ≡ value_of base places (map digit words)
 value_of-missing base places digit words n zero_is =
@@ -133,11 +133,11 @@ values_are_in_range words all =
       ),
     )
 
--- a number and the way to another
+-- a number plus the displacement from it to another is the other
 there : (a b : ℕ) → pos a +ℤ (pos b -ℤ pos a) ≡ pos b
 there a b = omega (arith, ints)
 
--- the way between numbers below 2^23
+-- the displacement between numbers below 2^23 is in range
 way_in_range : (a b : ℕ) → a < 8388608 → b < 8388608 → (negsuc 8388607 ≤ℤ (pos b -ℤ pos a)) × ((pos b -ℤ pos a) <ℤ pos 8388608)
 way_in_range a b a_below b_below = (omega (arith, ints), omega (arith, ints))
 

@@ -13,7 +13,7 @@ zeros-words : (n : ℕ) → All IsWord (replicate n 0)
 zeros-words zero = All-nil IsWord
 zeros-words (suc n) = All-cons IsWord 0 (replicate n 0) (omega arith) (zeros-words n)
 
--- words at the front of a number
+-- the first words of a number
 module _ (words : List ℕ) (all : All IsWord words) (few : length words ≤ 8) where
   abbrev missing : ℕ
   missing = 8 - length words

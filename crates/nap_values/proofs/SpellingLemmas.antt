@@ -83,15 +83,15 @@ AreTwoBits ds = All (λ d. d < 4) ds
 head_below : (d : ℕ) (ds : List ℕ) → AreTwoBits (d ∷ ds) → d < 4
 head_below d ds all = All-head (λ k. k < 4) d ds all
 
-tail_below : (d : ℕ) (ds : List ℕ) → AreTwoBits (d ∷ ds) → AreTwoBits ds
-tail_below d ds all = All-tail (λ k. k < 4) d ds all
+rest_two_bits : (d : ℕ) (ds : List ℕ) → AreTwoBits (d ∷ ds) → AreTwoBits ds
+rest_two_bits d ds all = All-tail (λ k. k < 4) d ds all
 
 pub words_of_triples-words : (gs rs bs : List ℕ) → AreTwoBits gs → AreTwoBits rs → AreTwoBits bs → All IsWord (words_of_triples gs rs bs)
 unfolding words_of_triples
 words_of_triples-words (g ∷ gs) (r ∷ rs) (b ∷ bs) all_g all_r all_b =
     All-cons IsWord (colour_word g r b) (words_of_triples gs rs bs)
     (triple_digits g r b (head_below g gs all_g) (head_below r rs all_r) (head_below b bs all_b)).3
-    (words_of_triples-words gs rs bs (tail_below g gs all_g) (tail_below r rs all_r) (tail_below b bs all_b))
+    (words_of_triples-words gs rs bs (rest_two_bits g gs all_g) (rest_two_bits r rs all_r) (rest_two_bits b bs all_b))
 words_of_triples-words _ _ _ all_g all_r all_b = All-nil IsWord
 
 -- the words of triples hold the digits that they are made of
@@ -104,7 +104,7 @@ digits-words_of_triples [] [] [] same_r same_b all_g all_r all_b = (refl, refl, 
 digits-words_of_triples (g ∷ gs) (r ∷ rs) (b ∷ bs) same_r same_b all_g all_r all_b =
     let first = triple_digits g r b (head_below g gs all_g) (head_below r rs all_r) (head_below b bs all_b) in
     let rest =
-    digits-words_of_triples gs rs bs (omega arith) (omega arith) (tail_below g gs all_g) (tail_below r rs all_r) (tail_below b bs all_b) in
+    digits-words_of_triples gs rs bs (omega arith) (omega arith) (rest_two_bits g gs all_g) (rest_two_bits r rs all_r) (rest_two_bits b bs all_b) in
     (rw (first.0, rest.0) refl, rw (first.1, rest.1) refl, rw (first.2, rest.2) refl)
 digits-words_of_triples gs rs bs same_r same_b all_g all_r all_b = absurd (omega arith)
 

@@ -5,33 +5,33 @@ use Rattle.std.proofs.lemmas.Nat.{and_block, or_block, or_lt, and_mask, and_le_r
 use Rattle.nap_values.specs.Digits.{value_of, digits_of}
 use Rattle.nap_values.proofs.DigitLemmas.{value_of-digits_of}
 
--- Eight digits in base 8 are spread from one number, a byte for each.
+-- Eight digits in base 8 are spread from one number, one to a byte.
 
--- A number beside itself so many bits higher, as far as a mask lets them through.
+-- the bits of a number and of its copy shifted up by `gap`, as far as a mask keeps them
 abbrev pub parted : ℕ → ℕ → ℕ → ℕ
 parted gap mask n = bit_and (bit_or n (n * 2 ^ gap)) mask
 
-displaced_point : (a b u v : ℕ) → (a * u + b) * v ≡ (a * v) * u + b * v
-displaced_point a b u v = add-mul (a * u) b v ∙ ap (λ m. m + b * v) (mul_right_comm a u v)
+scaled_block : (a b u v : ℕ) → (a * u + b) * v ≡ (a * v) * u + b * v
+scaled_block a b u v = add-mul (a * u) b v ∙ ap (λ m. m + b * v) (mul_right_comm a u v)
 
 below_moved : (b gap width : ℕ) → b * 2 ^ gap < 2 ^ width → b < 2 ^ width
-below_moved b gap width room = omega (arith, mul-le-mul_left b (pow_pos gap), room)
+below_moved b gap width in_limit = omega (arith, mul-le-mul_left b (pow_pos gap), in_limit)
 
--- two numbers side by side are parted each for itself
+-- two numbers side by side are each parted
 parted-lanes : (width gap mask a b : ℕ) → b * 2 ^ gap < 2 ^ width → mask < 2 ^ width →
     parted gap (mask * 2 ^ width + mask) (a * 2 ^ width + b) ≡ parted gap mask a * 2 ^ width + parted gap mask b
-parted-lanes width gap mask a b room mask_room =
-    let own = below_moved b gap width room in
+parted-lanes width gap mask a b in_limit mask_bound =
+    let own = below_moved b gap width in_limit in
     rw (
-      displaced_point a b (2 ^ width) (2 ^ gap),
-      or_block width a (a * 2 ^ gap) b (b * 2 ^ gap) own room,
-      and_block width (bit_or a (a * 2 ^ gap)) mask (bit_or b (b * 2 ^ gap)) mask (or_lt width b (b * 2 ^ gap) own room) mask_room,
+      scaled_block a b (2 ^ width) (2 ^ gap),
+      or_block width a (a * 2 ^ gap) b (b * 2 ^ gap) own in_limit,
+      and_block width (bit_or a (a * 2 ^ gap)) mask (bit_or b (b * 2 ^ gap)) mask (or_lt width b (b * 2 ^ gap) own in_limit) mask_bound,
     ) refl
 
 or_above : (k high a b : ℕ) → a < 2 ^ k → b < 2 ^ k → bit_or a (high * 2 ^ k + b) ≡ high * 2 ^ k + bit_or a b
-or_above k high a b a_room b_room = simp (zero-mul, zero-add, or_zero_l) at (or_block k 0 high a b a_room b_room)
+or_above k high a b a_bound b_bound = simp (zero-mul, zero-add, or_zero_l) at (or_block k 0 high a b a_bound b_bound)
 
--- two fields of so many bits are parted by the gap
+-- two fields of `bits` bits are parted by the gap
 module _ (bits gap high low : ℕ) (high_fits : high < 2 ^ bits) (low_fits : low < 2 ^ bits) (apart : bits ≤ gap) where
   whole : 2 ^ (bits + gap) ≡ 2 ^ bits * 2 ^ gap
   whole = pow-add 2 bits gap
@@ -39,11 +39,11 @@ module _ (bits gap high low : ℕ) (high_fits : high < 2 ^ bits) (low_fits : low
   abbrev both : ℕ
   both = bit_or (high * 2 ^ bits + low) (low * 2 ^ gap)
 
-  low_room : low * 2 ^ gap < 2 ^ (bits + gap)
-  low_room = rw whole (mul-lt-mul_of_pos_right low_fits (pow_pos gap))
+  low_bound : low * 2 ^ gap < 2 ^ (bits + gap)
+  low_bound = rw whole (mul-lt-mul_of_pos_right low_fits (pow_pos gap))
 
-  own_room : high * 2 ^ bits + low < 2 ^ (bits + gap)
-  own_room =
+  own_bound : high * 2 ^ bits + low < 2 ^ (bits + gap)
+  own_bound =
       let least : 2 ^ bits * 2 ^ bits ≤ 2 ^ bits * 2 ^ gap = mul-le-mul_left (2 ^ bits) (pow-le-pow_right (omega arith) apart) in
       omega (arith, mul-add-lt high (2 ^ bits) low (2 ^ bits) high_fits low_fits, least, whole)
 
@@ -61,8 +61,8 @@ module _ (bits gap high low : ℕ) (high_fits : high < 2 ^ bits) (low_fits : low
       or_mod (high * 2 ^ bits + low) (low * 2 ^ gap) bits
       ∙ rw (mod-mul-add high (2 ^ bits) low low_fits, low_moved_away) (or_zero_r low)
 
-  mask_room : 2 ^ bits - 1 < 2 ^ (bits + gap)
-  mask_room =
+  mask_bound : 2 ^ bits - 1 < 2 ^ (bits + gap)
+  mask_bound =
       let larger : bits ≤ bits + gap = omega arith in
       let least : 2 ^ bits ≤ 2 ^ (bits + gap) = pow-le-pow_right (omega arith) larger in
       omega (arith, least, pow_pos bits)
@@ -70,13 +70,13 @@ module _ (bits gap high low : ℕ) (high_fits : high < 2 ^ bits) (low_fits : low
   joined : bit_or (high * 2 ^ bits + low) ((high * 2 ^ bits + low) * 2 ^ gap) ≡ high * 2 ^ (bits + gap) + both
   joined =
       ap (bit_or (high * 2 ^ bits + low)) moved_high
-      ∙ or_above (bits + gap) high (high * 2 ^ bits + low) (low * 2 ^ gap) own_room low_room
+      ∙ or_above (bits + gap) high (high * 2 ^ bits + low) (low * 2 ^ gap) own_bound low_bound
 
   parted-fields : parted gap ((2 ^ bits - 1) * 2 ^ (bits + gap) + (2 ^ bits - 1)) (high * 2 ^ bits + low) ≡ high * 2 ^ (bits + gap) + low
   parted-fields =
       rw (
         joined,
-        and_block (bits + gap) high (2 ^ bits - 1) both (2 ^ bits - 1) (or_lt (bits + gap) _ _ own_room low_room) mask_room,
+        and_block (bits + gap) high (2 ^ bits - 1) both (2 ^ bits - 1) (or_lt (bits + gap) _ _ own_bound low_bound) mask_bound,
         and_mask high bits,
         and_mask both bits,
         low_part,
@@ -91,7 +91,7 @@ spread_half a b c d a_fits b_fits c_fits d_fits =
     ∙ parted-lanes 16 5 0x0707 (a * 8 + b) (c * 8 + d) (omega arith) (omega arith)
     ∙ ap₂ (λ x y. x * 65536 + y) (parted-fields 3 5 a b a_fits b_fits (omega arith)) (parted-fields 3 5 c d c_fits d_fits (omega arith))
 
--- two numbers of 12 bits side by side are spread each for itself
+-- two numbers of 12 bits side by side are each spread
 spread_halves : (u v : ℕ) → v < 4096 → parted 5 0x0707_0707_0707_0707 (parted 10 0x003F_003F_003F_003F (u * 4294967296 + v))
     ≡ parted 5 0x0707_0707 (parted 10 0x003F_003F u) * 4294967296 + parted 5 0x0707_0707 (parted 10 0x003F_003F v)
 spread_halves u v v_fits =
@@ -126,12 +126,12 @@ spread_parts n fits =
     ∙ spread_digits _ _ _ _ _ _ _ _
     (omega arith) (omega arith) (omega arith) (omega arith) (omega arith) (omega arith) (omega arith) (omega arith)
 
--- the same with a shift in 64 bits
+-- a number parted by a shift of 64 bits
 abbrev pub shifted : ℕ → ℕ → ℕ → ℕ
 shifted gap mask n = bit_and (bit_or n (n * 2 ^ gap % 2 ^ 64)) mask
 
 shifted-whole : (size gap mask n : ℕ) → n < 2 ^ size → size + gap ≤ 64 → shifted gap mask n ≡ parted gap mask n
-shifted-whole size gap mask n fits room = rw (shl_whole n size gap 64 fits room) refl
+shifted-whole size gap mask n fits in_limit = rw (shl_whole n size gap 64 fits in_limit) refl
 
 pub spread-digits_of : (n : ℕ) → n < 16777216 →
     shifted 5 0x0707_0707_0707_0707 (shifted 10 0x003F_003F_003F_003F (shifted 20 0x0000_0FFF_0000_0FFF n)) ≡ value_of 256 8 (digits_of 8 8 n)

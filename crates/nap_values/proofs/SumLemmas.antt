@@ -4,21 +4,21 @@ use Rattle.std.proofs.lemmas.List.Elements.{All-head, All-tail}
 use Rattle.nap_values.specs.Digits.{value_of, digits_of}
 use Rattle.nap_values.proofs.DigitLemmas.{pow_pos, value_of-below}
 
--- Digits that stand in bytes are added, and carries go on to the next byte.
+-- Digits in bytes are added, and carries pass on to the next byte.
 
--- the digit in front of a unit, and what is behind it
+-- the digit above a unit, and the rest below it
 module _ (n unit base top low : ℕ) (split : n ≡ top * unit + low) (fits : low < unit) (pos : 0 < base) where
   rearranged : n ≡ top / base * (unit * base) + (top % base * unit + low)
   rearranged = omega (arith, split, ap (λ t. t * unit) (div-add-mod' top base))
 
-  behind : top % base * unit + low < unit * base
-  behind = omega (arith, mul-add-lt (top % base) unit low base (mod_below top base pos) fits)
+  rest_below : top % base * unit + low < unit * base
+  rest_below = omega (arith, mul-add-lt (top % base) unit low base (mod_below top base pos) fits)
 
   rest_is : n % (unit * base) ≡ top % base * unit + low
-  rest_is = rw rearranged (mod-mul-add (top / base) (unit * base) (top % base * unit + low) behind)
+  rest_is = rw rearranged (mod-mul-add (top / base) (unit * base) (top % base * unit + low) rest_below)
 
   carry_is : n / (unit * base) ≡ top / base
-  carry_is = rw rearranged (div-mul-add (top / base) (unit * base) (top % base * unit + low) behind)
+  carry_is = rw rearranged (div-mul-add (top / base) (unit * base) (top % base * unit + low) rest_below)
 
   digit_is : n % (unit * base) / unit ≡ top % base
   digit_is = rw rest_is (div-mul-add (top % base) unit low fits)
@@ -26,7 +26,8 @@ module _ (n unit base top low : ℕ) (split : n ≡ top * unit + low) (fits : lo
   low_is : n % (unit * base) % unit ≡ low
   low_is = rw rest_is (mod-mul-add (top % base) unit low fits)
 
--- Digits in base 8 stand in bytes, so many times a unit. Where all other bits of one number are set, a carry goes on to the next byte.
+-- Digits in base 8, one to a byte, each times a unit. If all other bits of one number are set, a carry passes on to the
+-- next byte.
 module _ (unit pad : ℕ) (byte : (sum carry : ℕ) → sum < 15 → carry < 2 →
     ((sum * unit + pad + carry) / 256 ≡ (sum + carry) / 8) × ((sum * unit + pad + carry) % 256 / unit % 8 ≡ (sum + carry) % 8)) where
   abbrev pub bytes_sum : ℕ → List ℕ → List ℕ → ℕ → ℕ

@@ -38,7 +38,7 @@ fn spread_digits(n: u32) -> u64
 
 /// Returns the 24-bit number whose base-8 digits are these bytes.
 #[inline]
-fn gathered_number(digits: u64) -> u32
+fn collected_digits(digits: u64) -> u32
     requires { All (λ d. d < 8) (digits_of 256 8 digits) }
     ensures { result ≡ value_of 8 8 (digits_of 256 8 digits) }
 {
@@ -100,7 +100,7 @@ impl PackedWords {
         ensures value { result ≡ x_in self }
         ensures below { result < 16777216 }
     {
-        gathered_number(self.0 / 8 & Y_DIGITS)
+        collected_digits(self.0 / 8 & Y_DIGITS)
     }
 
     /// Returns the 24 bits of y.
@@ -109,7 +109,7 @@ impl PackedWords {
         ensures value { result ≡ y_in self }
         ensures below { result < 16777216 }
     {
-        gathered_number(self.0 & Y_DIGITS)
+        collected_digits(self.0 & Y_DIGITS)
     }
 
     /// Returns the words with y set to zero.

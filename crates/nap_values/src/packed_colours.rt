@@ -37,7 +37,7 @@ fn spread_digits(n: u16) -> u64
 
 /// Returns the 16-bit number whose base-4 digits are these bytes.
 #[inline]
-fn gathered_number(digits: u64) -> u16
+fn collected_digits(digits: u64) -> u16
     requires { All (λ d. d < 4) (digits_of 256 8 digits) }
     ensures { result ≡ value_of 4 8 (digits_of 256 8 digits) }
 {
@@ -74,7 +74,7 @@ fn g_bits(words: PackedWords) -> u16
     ensures { result ≡ g_in words }
 {
     let words = words.get();
-    gathered_number((words / 32 & LOWEST) * 2 + (words / 4 & LOWEST))
+    collected_digits((words / 32 & LOWEST) * 2 + (words / 4 & LOWEST))
 }
 
 /// Returns the 16 bits of red.
@@ -83,7 +83,7 @@ fn r_bits(words: PackedWords) -> u16
     ensures { result ≡ r_in words }
 {
     let words = words.get();
-    gathered_number((words / 16 & LOWEST) * 2 + (words / 2 & LOWEST))
+    collected_digits((words / 16 & LOWEST) * 2 + (words / 2 & LOWEST))
 }
 
 /// Returns the 16 bits of blue.
@@ -92,5 +92,5 @@ fn b_bits(words: PackedWords) -> u16
     ensures { result ≡ b_in words }
 {
     let words = words.get();
-    gathered_number((words / 8 & LOWEST) * 2 + (words & LOWEST))
+    collected_digits((words / 8 & LOWEST) * 2 + (words & LOWEST))
 }

@@ -11,7 +11,7 @@ impl Input {
     ghost use Rattle.nap_reader.specs.Stored.{store_grown};
     ghost use Rattle.nap_reader.specs.Stream.{bytes_of};
 
-    /// Adds the next `operand_count` bytes to the open body, and advances past them.
+    /// Adds the next `count` bytes to the open body, and advances past them.
     #[inline(always)]
     pub(crate) fn keep(&mut self, count: usize, piece: &[u8]) -> Result<(), AllocError>
         requires reads { Reads self.old piece.now }
@@ -25,7 +25,7 @@ impl Input {
         Ok(())
     }
 
-    /// Adds the next `operand_count` bytes to the open body.
+    /// Adds the next `count` bytes to the open body.
     #[inline(always)]
     fn append(&mut self, count: usize, piece: &[u8]) -> Result<(), AllocError>
         requires reads { Reads self.old piece.now }

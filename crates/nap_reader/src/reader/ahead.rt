@@ -1,4 +1,4 @@
-//! What the bytes at the front of the next piece bring, before they are taken.
+//! How many entries the first bytes of the next piece add, found before they are read.
 ghost use Rattle.std.specs.Prelude.{◌≡◌, ◌<◌, ◌≤◌, ℕ, List, None, length};
 
 use super::Reader;
@@ -6,12 +6,12 @@ use crate::operands::operand_prefix_len;
 use crate::text::text_bytes;
 use nap_list::Sink;
 
-/// How many bytes at the front of a piece bring their entries alike.
+/// How many bytes of a prefix of a piece add their entries in one way.
 #[derive(Clone, Copy, PartialEq, Eq, Debug, Drop)]
 pub enum Ahead {
-    /// So many bytes, and those behind the first bring nothing.
+    /// An opcode and operands, or another byte: the number of bytes, of which those after the first add no entries.
     First(usize),
-    /// So many bytes, and each brings one entry.
+    /// Characters and format effectors: the number of bytes, each of which adds one entry.
     Each(usize),
 }
 
@@ -19,7 +19,7 @@ impl<S: Sink> Reader<S> {
     ghost use Rattle.nap_reader.specs.Looking.{BringsAhead, bytes_ahead};
     ghost use Rattle.nap_reader.specs.Standing.{HasRead, budget_of, refusal_of};
 
-    /// What the bytes at the front of this piece bring, if it comes next. Nothing is changed by asking.
+    /// Returns what the first bytes of this piece add, if it comes next. The reader is unchanged.
     pub fn ahead(&self, piece: &[u8]) -> Ahead
         ensures some { 0 < length piece.now → 0 < bytes_ahead result }
         ensures within { bytes_ahead result ≤ length piece.now }

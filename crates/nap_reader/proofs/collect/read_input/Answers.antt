@@ -28,7 +28,7 @@ returns-in_err-drain-in-Err-Refused-clause-collected g c =
     let e = err_from_is_err_and c.from_residual.result c.from_residual.ensures.1 in
     (p ++ more, Consumes-trans _ _ _ p more read rest, rw (e.1) cut)
 
--- all was read
+-- the input was read to its end
 pub returns-clause-collected : goal.returns-clause-collected
 returns-clause-collected g c =
     let I = g.I.Inlet in

@@ -4,7 +4,7 @@ use Rattle.nap_reader.specs.Twice.{ReadsTo}
 use Rattle.nap_reader.proofs.TwiceLemmas.{refused_first}
 use Rattle.nap_reader.proofs.twice.read_twice.Goals as goal
 
--- it is refused
+-- the stream is refused
 pub returns-in-Err : goal.returns-in-Err
 returns-in-Err g c =
     let S = g.S.Sink in

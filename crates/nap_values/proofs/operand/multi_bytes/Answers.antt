@@ -1,6 +1,6 @@
 use Rattle.std.proofs.Common.{◌≡◌, ◌∙◌, ◌-◌, ℕ, List, [], ◌∷◌, length, get_or, refl, ap, arith}
 use Rattle.nap_values.specs.Operands.{operand_words, multi_of}
-use Rattle.nap_values.proofs.OperandWordLemmas.{zeros_behind}
+use Rattle.nap_values.proofs.OperandWordLemmas.{zero_bytes}
 use Rattle.nap_values.proofs.PublicLaws.{missing_words_are_zero}
 use Rattle.nap_values.proofs.operand.multi_bytes.Goals as goal
 
@@ -13,7 +13,7 @@ returns-in-len3 c =
     let run = c.args.operand.now in
     let first = get_or run 0 0 ∷ get_or run 1 0 ∷ get_or run 2 0 ∷ [] in
     c.from_words.ensures
-    ∙ ap multi_of (c.pack_eight.ensures ∙ zeros_behind first 5)
+    ∙ ap multi_of (c.pack_eight.ensures ∙ zero_bytes first 5)
     ∙ (missing_words_are_zero (operand_words first) 5).0
     ∙ ap (λ bytes. multi_of (operand_words bytes)) (three run (omega arith))
 

@@ -6,11 +6,11 @@ use Rattle.nap_values.proofs.SpellingLemmas.{g_digits-below}
 use Rattle.nap_values.proofs.PackedColourLemmas.{g_digits_are}
 use Rattle.nap_values.proofs.packed_colours.g_bits.Goals as goal
 
-pub gathered_number-requires : goal.gathered_number-requires
-gathered_number-requires c =
+pub collected_digits-requires : goal.collected_digits-requires
+collected_digits-requires c =
     let words = c.get-words.ensures.words in
     subst (All (λ d. d < 4)) (sym (g_digits_are _ words)) (g_digits-below (words_in _) words)
 
 pub returns : goal.returns
 unfolding g_in
-returns c = c.gathered_number.ensures ∙ ap (value_of 4 8) (g_digits_are _ c.get-words.ensures.words) ∙ ap g_in c.get-words.ensures.value
+returns c = c.collected_digits.ensures ∙ ap (value_of 4 8) (g_digits_are _ c.get-words.ensures.words) ∙ ap g_in c.get-words.ensures.value

@@ -2,12 +2,12 @@ use Rattle.std.proofs.Common.{rules, ◌∙◌, ap}
 use Rattle.std.specs.Int.{w64, to_le_bytes}
 use Rattle.nap_values.specs.PackedCoordinates.{words_in}
 use Rattle.nap_values.specs.Spellings.{operand_bytes}
-use Rattle.nap_values.proofs.PackedLemmas.{holding_fits}
+use Rattle.nap_values.proofs.PackedLemmas.{packed_fits}
 use Rattle.nap_values.proofs.ByteLemmas.{bytes_of_words}
 use Rattle.nap_values.proofs.spelling.put_words.Goals as goal
 
 pub overflow_add-bytes : goal.overflow_add-bytes
-overflow_add-bytes c = let fits = holding_fits c.get-bytes.result c.get-bytes.ensures.words in search rules
+overflow_add-bytes c = let fits = packed_fits c.get-bytes.result c.get-bytes.ensures.words in search rules
 
 pub returns : goal.returns
 returns c =

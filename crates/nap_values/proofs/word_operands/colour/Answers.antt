@@ -1,7 +1,7 @@
 use Rattle.std.proofs.Common.{◌∙◌, ap}
 use Rattle.nap_values.specs.Operands.{colour_of}
-use Rattle.nap_values.proofs.FrontLemmas.{colour_of-front}
+use Rattle.nap_values.proofs.PaddedLemmas.{colour_of-padded}
 use Rattle.nap_values.proofs.word_operands.colour.Goals as goal
 
 pub returns : goal.returns
-returns c = c.colour_bytes.ensures ∙ ap colour_of c.padded_bytes.ensures ∙ colour_of-front c.args.run.now
+returns c = c.colour_bytes.ensures ∙ ap colour_of c.padded_bytes.ensures ∙ colour_of-padded c.args.run.now

@@ -1,7 +1,7 @@
 use Rattle.std.proofs.Common.{◌∙◌, ap}
 use Rattle.nap_values.specs.Operands.{multi_of}
-use Rattle.nap_values.proofs.FrontLemmas.{multi_of-front}
+use Rattle.nap_values.proofs.PaddedLemmas.{multi_of-padded}
 use Rattle.nap_values.proofs.word_operands.multi.Goals as goal
 
 pub returns : goal.returns
-returns c = c.multi_bytes.ensures ∙ ap multi_of c.padded_bytes.ensures ∙ multi_of-front c.args.run.now
+returns c = c.multi_bytes.ensures ∙ ap multi_of c.padded_bytes.ensures ∙ multi_of-padded c.args.run.now

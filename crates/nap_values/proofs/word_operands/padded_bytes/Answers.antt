@@ -1,10 +1,10 @@
 use Rattle.std.proofs.Common.{◌≡◌, ◌+◌, ◌-◌, ◌<◌, ◌%◌, ◌∙◌, ◌++◌, [], ◌∷◌, ℕ, List, suc, length, take, replicate, set, get_or, length-set, append_assoc, arith, ap, sym}
 use Rattle.std.proofs.lemmas.List.{take_more, map-set, set_at, length-take-le, get_or_read}
 use Rattle.nap_values.specs.Operands.{operand_words}
-use Rattle.nap_values.proofs.FrontLemmas.{front-filled}
+use Rattle.nap_values.proofs.PaddedLemmas.{padded-filled}
 use Rattle.nap_values.proofs.word_operands.padded_bytes.Goals as goal
 
--- one more byte, in the place of a zero
+-- one more byte replaces a zero
 one_byte_more : (bytes run : List ℕ) (at word : ℕ) → at < 8 → at < length run → word % 64 ≡ get_or run at 0 →
     operand_words bytes ≡ take at run ++ replicate (8 - at) 0 → operand_words (set bytes at word) ≡ take (at + 1) run ++ replicate (8 - (at + 1)) 0
 one_byte_more bytes run at word place inside is so_far =
@@ -31,4 +31,4 @@ loop-at-preserved c =
 pub returns : goal.returns
 returns c =
     c.loop-at.invariant.words
-    ∙ front-filled 8 c.loop-at.at c.args.run.now (omega arith) (omega arith) (λ few more. absurd (omega arith))
+    ∙ padded-filled 8 c.loop-at.at c.args.run.now (omega arith) (omega arith) (λ few more. absurd (omega arith))

@@ -7,7 +7,7 @@ use Rattle.nap_list.specs.State.{start, walk}
 use Rattle.nap_fixtures.specs.declared.faltering.Faltering.{Faltering}
 use Rattle.nap_fixtures.proofs.faltering.FalteringSink.put_shape.Goals as goal
 
--- what it shows
+-- the model of the sink
 abbrev faltering : SinkModel Faltering
 faltering = sink_model (λ s. walk start s.list) (λ s d. Unit {0}) (λ s. s.failed) (λ s d t. t.list ≡ s.list ++ d) (λ s d e t. t.list ≡ s.list ++ d)
 

@@ -2,7 +2,7 @@ use Rattle.nap_reader.proofs.{Frame, List, OnOk, [], ap, arith, bytes_of, next_b
 use Rattle.nap_reader.proofs.input.Input.append.Goals as goal
 use Rattle.nap_reader.proofs.input.Input.append.Goals.{After-extend_within, After-next}
 
--- where the bytes lie in the store
+-- the index of the bytes in the store
 lies : (c : After-next) → (next : ℕ) → (before : List Frame) (frame : Frame) → c.args.self.now.frames.stack.items ≡ before ++ frame ∷ [] → next ≡ frame.next →
     (next + c.args.count ≤ length c.args.self.now.store.bytes)
     × (sublist c.args.self.now.store.bytes next (next + c.args.count) ≡ take c.args.count (bytes_of (next_bytes c.args.self.now c.args.piece.now)))
@@ -23,7 +23,7 @@ extend_within-requires-clause-within c =
     let (before, frame, last, is) = c.in-Some.ensures in
     (lies (goal.at.extend_within-requires-clause-within c).After-next c.in-Some.next before frame last is).0
 
--- what was stored
+-- the bytes that were stored
 stored_within : (c : After-extend_within) → (some : List ℕ) × (length some ≤ length (sublist c.args.self.now.store.bytes c.in-Some.next (c.in-Some.next + c.args.count))) × (c.extend_within.new.self ≡ store_grown c.args.self.now.store some)
 stored_within c =
     let bytes = c.args.self.now.store.bytes in

@@ -2,7 +2,7 @@ use Rattle.nap_reader.proofs.{Frame, FramesIn, List, Shows, [], all_at, ap, arit
 use Rattle.nap_reader.proofs.input.Input.call.Goals as goal
 use Rattle.nap_reader.proofs.input.Input.call.Goals.{After-span-span}
 
--- how many bytes the body has
+-- the number of bytes of the body
 counted : (c : After-span-span) → length (body_of c.args.self.now.store.names c.args.name) + c.span-span.result.start ≡ c.span-span.result.end
 counted c =
     let span = c.span-span.result in

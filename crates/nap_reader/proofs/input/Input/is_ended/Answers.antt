@@ -1,7 +1,7 @@
 use Rattle.nap_reader.proofs.{Bool, AreNextBytes, IsOver, IsTrue, List, bytes_after, false, is_operand_byte, not, subst, sym, true, ℕ, ◌∷◌, ◌≡◌}
 use Rattle.nap_reader.proofs.input.Input.is_ended.Goals as goal
 
--- bytes are over where their first is no operand byte
+-- a run is over if the first byte after it is no operand byte
 over_by : (bytes : List ℕ) (b : ℕ) (rest : List ℕ) → bytes ≡ b ∷ rest → (operand : Bool) → operand ≡ is_operand_byte b → IsTrue (not operand) → IsOver bytes
 over_by bytes b rest is true operand ends = let bad : false ≡ true = ends in cc
 over_by bytes b rest is false operand ends = record { byte = b; rest = rest; is = is; other = sym operand }

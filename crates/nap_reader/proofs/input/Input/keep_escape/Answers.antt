@@ -2,7 +2,7 @@ use Rattle.nap_reader.proofs.{List, [], arith, store_grown, grown_either, grown_
 use Rattle.nap_reader.proofs.input.Input.keep_escape.Goals as goal
 use Rattle.nap_reader.proofs.input.Input.keep_escape.Goals.{After-push}
 
--- what was stored
+-- the byte that was stored
 stored : (c : After-push) → (some : List ℕ) × (length some ≤ 1) × (c.push.new.self ≡ store_grown c.args.self.now.store some)
 stored c = grown_either c.push.result c.args.self.now.store c.push.new.self (0x1B ∷ []) c.push.ensures.ok c.push.ensures.err
 

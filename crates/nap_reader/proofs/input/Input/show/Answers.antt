@@ -1,7 +1,7 @@
 use Rattle.nap_reader.proofs.{Frame, FramesIn, List, Placed, Span, StoreState, [], all_at, ap, arith, frames-push, frames-store, length, length-append, length-sublist, length-unread-push, refl, sublist_at, subst, sym, unread, unread-push, unread-store, ℕ, ◌++◌, ◌+◌, ◌-◌, ◌<◌, ◌∙◌, ◌∷◌, ◌≡◌, ◌≤◌}
 use Rattle.nap_reader.proofs.input.Input.show.Goals as goal
 
--- how many bytes come next
+-- the number of bytes that come next
 counted : (bytes : List ℕ) (span : Span) (body : List ℕ) (ender : ℕ) → (span.start < span.end) × (span.end ≤ length bytes) → sublist_at bytes span ≡ body ++ 0x1B ∷ ender ∷ [] → span.end - span.start ≡ length body + 2
 counted bytes span body ender within next =
     omega (arith, within.0, ap (λ (xs : List ℕ). length xs) next, length-append body (0x1B ∷ ender ∷ []), length-sublist bytes span.start span.end (omega (arith, within.0)) within.1)

@@ -4,7 +4,7 @@ use Rattle.nap_reader.proofs.CodesLemmas.{IsAlone}
 use Rattle.nap_reader.proofs.machine.Machine.character.Goals as goal
 use Rattle.nap_reader.proofs.machine.Machine.character.Goals.{In-Some}
 
--- the first of them
+-- the first graphic byte
 first_graphic : (bytes : List ℕ) (b : ℕ) → slice_get bytes 0 ≡ Some b → All IsGraphic bytes → IsGraphic b
 first_graphic bytes b is all = let (rest, parts) = first_byte bytes b is in All-head IsGraphic b rest (subst (All IsGraphic) parts all)
 
@@ -13,7 +13,7 @@ text-requires-clause-made g c =
     let graphic = first_graphic c.args.text.now c.in-Some.byte.now (sym c.in-Some.ensures.value) c.requires.graphic in
     (graphic.0, omega (arith, graphic.1))
 
--- It is a code by itself.
+-- The byte is a code of one byte.
 is_alone : (g : _) (c : In-Some g) (behind : List ℕ) → IsAlone c.args.self.now (code.Char c.args.set c.in-Some.byte.now) c.args.self.now.lexer.sets (c.args.text.now ++ behind)
 is_alone g c behind =
     let b = c.in-Some.byte.now in

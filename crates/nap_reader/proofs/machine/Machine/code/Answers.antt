@@ -39,7 +39,7 @@ returns-in-Shift g c =
 pub control-requires-clause-made : goal.control-requires-clause-made
 control-requires-clause-made g c = front_made _ _ (code.Step c.in-Effector.step) _ _ c.in-Effector.ensures.1
 
--- It is a move by itself.
+-- The byte is a format effector of one byte.
 is_alone : (g : _) (c : In-Effector g) → IsAlone c.args.self.now (code.Step c.in-Effector.step) c.args.self.now.lexer.sets c.args.bytes.now
 is_alone g c =
     let (rest, parts) = first_byte c.args.bytes.now c.in-Some.byte.now (sym c.in-Some.ensures.value) in

@@ -3,12 +3,12 @@ use Rattle.nap_reader.specs.declared.machine.Machine.{Machine}
 use Rattle.nap_reader.proofs.TakingLemmas.{Took}
 use Rattle.nap_reader.proofs.machine.Machine.codes.Goals as goal
 
--- the bytes behind so many
+-- the bytes after the first ones
 bytes_at : (place step : ℕ) (bytes : List ℕ) (count : ℕ) → take (length bytes - count) (drop count bytes) ≡ bytes_of (drop count (placed_by_step place step bytes))
 bytes_at place step bytes count =
     take_all (length bytes - count) (drop count bytes) (omega (arith, length-drop count bytes)) ∙ ap (drop count) (sym (bytes_of-placed_by_step place step bytes)) ∙ sym (left_bytes (placed_by_step place step bytes) count)
 
--- It takes more.
+-- The machine consumes more bytes.
 further : {S : Type 0} {g : Ghosts S} {old mid mid' new : Machine S g} {ended : Bool} {count n : ℕ} {request : Request} (place step : ℕ) (bytes : List ℕ) → Took old mid (placed_by_step place step bytes) ended count → TookMore g → count < length bytes → mid.open_run ≡ None → mid' ≡ mid →
     Takes mid' new (drop count (placed_by_step place step bytes)) ended n request → Takes old new (placed_by_step place step bytes) ended (count + n) request
 further {new = new} {ended = ended} {count = count} {n = n} {request = request} place step bytes t more less closed same takes =

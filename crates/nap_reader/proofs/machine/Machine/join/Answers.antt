@@ -3,11 +3,11 @@ use Rattle.nap_reader.specs.declared.machine.Machine.{Machine}
 use Rattle.nap_reader.proofs.machine.Machine.join.Goals as goal
 use Rattle.nap_reader.proofs.machine.Machine.join.Goals.{After-execute, Else-is_err}
 
--- how many operands there are
+-- the number of operand bytes
 counted : (place step : ℕ) (bytes : List ℕ) (count : ℕ) → count ≡ prefix_len is_operand_byte bytes → operands_in (placed_by_step place step bytes) ≡ count
 counted place step bytes count is = ap (prefix_len is_operand_byte) (bytes_of-placed_by_step place step bytes) ∙ sym is
 
--- They joined the run.
+-- The operand bytes joined the run.
 joined : {S : Type 0} {g : Ghosts S} {m mid : Machine S g} {open_run : OpenRun} (place step : ℕ) (bytes : List ℕ) (count : ℕ) → count ≡ prefix_len is_operand_byte bytes → m.open_run ≡ Some open_run → length m.run.items + count ≤ run_limit →
     mid.run.items ≡ m.run.items ++ take count bytes → (mid.work ≡ m.work) × (mid.lexer ≡ m.lexer) × (mid.open_run ≡ m.open_run) × (mid.sink ≡ m.sink) → Joins m mid open_run (placed_by_step place step bytes)
 joined {m = m} place step bytes count is open_run short items (work, lexer, run, sink) = record {
@@ -42,7 +42,7 @@ returns-then-is_err g c =
     (run_lacks c.args.ended c.requires.run (omega (arith, n, less)) (omega (arith, n, c.if-count-most.false, m.short))
     (kept.is ∙ ap (λ (p : ℕ). Some (refusal Memory p)) first) kept.sink)
 
--- the machine that has them
+-- the machine with the operand bytes
 abbrev mid : (g : _) → Else-is_err g → Machine g.row.S.Denot g.S.Sink
 mid g c = record c.args.self.now { run = c.append.new.run; short = c.self-1.given.0; rule = c.self-1.given.1.0; drawing = c.self-1.given.1.1.0 }
 
@@ -54,7 +54,7 @@ join_of g c =
 count_of : (g : _) (c : Else-is_err g) → operands_in (placed_by_step c.args.slice.now.place c.args.slice.now.step c.args.slice.now.bytes.now) ≡ c.operand_prefix_len-count.result
 count_of g c = counted c.args.slice.now.place c.args.slice.now.step c.args.slice.now.bytes.now c.operand_prefix_len-count.result c.operand_prefix_len-count.ensures
 
--- Where they are all of the bytes, the run has ended.
+-- If the operand bytes are all of the slice, the run has ended.
 ends_of : (g : _) (c : After-execute g) → operands_in (placed_by_step c.args.slice.now.place c.args.slice.now.step c.args.slice.now.bytes.now) ≡ length (placed_by_step c.args.slice.now.place c.args.slice.now.step c.args.slice.now.bytes.now) → c.args.ended ≡ true
 ends_of g c = elim c.else-count-slice.branch [
   | goal.else-count-slice-via-then-count-slice+else-not-ended w ↦ λ all. w.if-not-ended.false

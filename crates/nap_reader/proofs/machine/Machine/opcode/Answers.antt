@@ -2,7 +2,7 @@ use Rattle.nap_reader.proofs.{Err, IsWholeRun, List, RuleResult, RunsWhole, ap, 
 use Rattle.nap_reader.proofs.machine.Machine.opcode.Goals as goal
 use Rattle.nap_reader.proofs.machine.Machine.opcode.Goals.{In-Some}
 
--- Its run is whole.
+-- The run of the opcode is complete.
 runs_whole : (g : _) (c : In-Some g) → RunsWhole c.args.self.now c.args.op c.args.bytes.now c.args.ended c.in-Some.run'.now
 runs_whole g c =
     let (byte, rest, bytes, is) = c.requires.is in

@@ -1,7 +1,7 @@
 use Rattle.nap_reader.proofs.{List, Some, ap, arith, drop, length, length-drop, length-placed_by_step, open_takes, refl, take, take_all, takes_at, ℕ, ◌+◌, ◌-◌, ◌≡◌}
 use Rattle.nap_reader.proofs.machine.Machine.open.Goals as goal
 
--- the bytes behind the opcode
+-- the bytes after the opcode
 bytes_after : (bytes : List ℕ) (at : ℕ) → take (length bytes - (at + 1)) (drop (at + 1) bytes) ≡ drop (at + 1) bytes
 bytes_after bytes at = take_all (length bytes - (at + 1)) (drop (at + 1) bytes) (omega (arith, length-drop (at + 1) bytes))
 

@@ -7,7 +7,7 @@ use Rattle.nap_reader.proofs.machine.Machine.other.Goals.{After-control, In-Code
 abbrev here : (g : _) → In-Code g → Placed
 here g c = placed_at (get_or c.args.slice.now.bytes.now c.args.at 0) (c.args.slice.now.place + c.args.slice.now.step * c.args.at)
 
--- It ends the code.
+-- The byte ends the code.
 lexes : (g : _) (c : In-Code g) → (after : CodeSets) × Lexes c.args.self.now (here g c) c.in-Code.code after × (c.step.new.self ≡ rested after)
 lexes g c =
     let (n, after, front, counted, lexer) = code_of _ c.args.self.now.lexer (here g c).byte c.in-Code.code c.step.new.self c.in-Code.ensures.steps in
@@ -95,7 +95,7 @@ control-requires-clause-made g c =
     let (after, k, lexer) = lexes g (goal.at.control-requires-clause-made g c).In-Code in
     front_made _ _ c.in-Code.code k.count after k.whole
 
--- It draws by a rule.
+-- The code draws by a rule.
 ruled : (g : _) (c : After-control g) → IsRuled c.in-Code.code c.match-of.request
 ruled g c = elim c.match-of.branch [
   | goal.in-Acts w ↦ acts w.in-Acts.field-0 (sym w.in-Acts.ensures) w.request-is

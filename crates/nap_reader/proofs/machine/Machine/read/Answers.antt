@@ -2,7 +2,7 @@ use Rattle.nap_reader.proofs.{ReadsTo, TakesSlice, ap, arith, begin_reads, comes
 use Rattle.nap_reader.proofs.machine.Machine.read.Goals as goal
 use Rattle.nap_reader.proofs.machine.Machine.read.Goals.{After-place_of-place}
 
--- the bytes that were taken
+-- the bytes that were consumed
 turned : (g : _) (c : After-place_of-place g) → TakesSlice {S = g.row.S.Denot} {g = g.S.Sink} c.loop-slice.self c.take-taken.new.self c.loop-slice.input c.args.piece.now c.take-taken.result.count c.take-taken.result.request c.place_of-place.result
 turned g c =
     let last : c.saturating_sub.result ≡ c.take-taken.result.count - 1 = omega (arith, c.saturating_sub.ensures) in

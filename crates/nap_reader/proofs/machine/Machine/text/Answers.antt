@@ -10,14 +10,14 @@ typed_graphic b typed from = by (format_effector b) refl
     by (Some step) is = absurd (omega (arith, from, (format_effector_front b step is).0))
     by None is = (from, omega (arith, (typed is).1))
 
--- so is a text of one byte
+-- a text of one byte that is no format effector is graphic
 one_graphic : (text rest bytes : List ℕ) → text ++ rest ≡ bytes → 0x20 ≤ slice_index bytes 0 → length text < 2 → All IsTextByte text → All IsGraphic text
 one_graphic [] rest bytes is from few typed = All-nil IsGraphic
 one_graphic (b ∷ []) rest bytes is from few typed =
     All-cons IsGraphic b [] (typed_graphic b (All-head IsTextByte b [] typed) (omega (arith, from, ap (λ (bs : List ℕ). get_or bs 0 0) is))) (All-nil IsGraphic)
 one_graphic (b ∷ c ∷ more) rest bytes is from few typed = absurd (omega (arith, few))
 
--- the text and the bytes behind it
+-- the text and the bytes after it
 parts : (bytes text : List ℕ) (n : ℕ) → text ≡ take n bytes → text ++ drop n bytes ≡ bytes
 parts bytes text n is = ap (λ (bs : List ℕ). bs ++ drop n bytes) is ∙ take-append-drop n bytes
 
@@ -29,7 +29,7 @@ pub returns-then-text-lt2 : goal.returns-then-text-lt2
 returns-then-text-lt2 g c = λ ended.
     subst (λ (bytes : List ℕ). Codes c.args.self.now c.character.new.self bytes ended c.character.result) (parts c.args.bytes.now c.text_bytes-text.result.now _ c.text_bytes-text.ensures.bytes) (c.character.ensures ended _)
 
--- It is more than one byte.
+-- The text has more than one byte.
 is_text : (g : _) (c : Else-text-lt2 g) → IsTextOf c.args.self.now c.args.set c.args.bytes.now c.text_bytes-text.result.now
 is_text g c =
     let front = at_front is_of_text c.args.bytes.now c.text_bytes-text.result.now c.text_bytes-text.ensures.bytes in

@@ -28,7 +28,7 @@ returns-in-Err-clause-failed g c = λ live is. c.in-Err.ensures.acts.1.0 is
 pub returns-in-Err-clause-kept : goal.returns-in-Err-clause-kept
 returns-in-Err-clause-kept g c = λ working fails. c.in-Err.ensures.acts.1.1 working fails
 
--- It acted at the end, where there is one.
+-- The opcode of the open run, if there is one, acted at the end.
 ends : (g : _) (c : In_default-end_run g) → EndsRun {S = g.row.S.Denot} {g = g.S.Sink} c.args.self.now.machine c.end_run.new.self
 ends g c = record {
   live = record { live = c.in_default.is; agrees = c.args.self.now.agrees c.in_default.is };
@@ -45,7 +45,7 @@ invariant_of-self-in_default-end_run-clause-rested g c = λ none. c.args.self.no
 pub check_finished-requires : goal.check_finished-requires
 check_finished-requires g c = (ends_works (ends g (goal.at.check_finished-requires g c).In_default-end_run)).live.live
 
--- what the stream means was taken
+-- the entries of the stream's meaning were taken
 settled : (g : _) (c : After-check_finished g) → EndsRun {S = g.row.S.Denot} {g = g.S.Sink} c.args.self.now.machine c.end_run.new.self → (s : g.row.S.Denot) (p : List ℕ) → HasRead {S = g.row.S.Denot} {g = g.S.Sink} c.args.self.now s p →
     MatchResult c.check_finished.result (λ _. IsTaken g.S.Sink s (means c.args.self.now.input.budget p) c.check_finished.new.self.machine.sink None)
     (λ f. IsTaken g.S.Sink s (means c.args.self.now.input.budget p) c.check_finished.new.self.machine.sink (Some f))

@@ -11,7 +11,7 @@ read-requires-clause-live g c = record { live = c.in_default.is; agrees = c.args
 pub read-requires-clause-rested : goal.read-requires-clause-rested
 read-requires-clause-rested g c = c.args.self.now.rested c.in_default.is
 
--- what was refused keeps its refusal
+-- a refused reader keeps its refusal
 was_refused : (g : _) (c : After-read g) (e : _) → c.read.result ≡ Err e → IsSome c.read.new.self.refusal
 was_refused g c e is =
     (matched_err (λ _. ReadsPiece {S = g.row.S.Denot} {g = g.S.Sink} c.args.piece.now c.args.self.now.machine c.args.self.now.input c.read.new.self c.read.new.input)
@@ -25,7 +25,7 @@ invariant_of-self g c =
       agrees = λ none. (unrefused c.read.result c.read.new.self.refusal c.read.ensures.live gone none).agrees;
     }
 
--- the reader once the piece was read
+-- the reader after the piece
 abbrev now : (g : _) (c : After-read g) → Reader g.row.S.Denot g.S.Sink
 now g c = record {
   machine = c.read.new.self;

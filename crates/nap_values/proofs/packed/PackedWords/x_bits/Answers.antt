@@ -5,15 +5,15 @@ use Rattle.nap_values.proofs.SpellingLemmas.{x_digits-below}
 use Rattle.nap_values.proofs.PackedLemmas.{x_digits_are, x_in-below}
 use Rattle.nap_values.proofs.packed.PackedWords.x_bits.Goals as goal
 
-pub gathered_number-requires : goal.gathered_number-requires
-gathered_number-requires c =
+pub collected_digits-requires : goal.collected_digits-requires
+collected_digits-requires c =
     subst (All (λ d. d < 8)) (sym (x_digits_are _ c.self.invariant)) (x_digits-below (words_in _) c.self.invariant)
 
 pub returns-clause-value : goal.returns-clause-value
 unfolding x_in
-returns-clause-value c = rw (← c.self.view_is) (c.gathered_number.ensures ∙ ap (value_of 8 8) (x_digits_are _ c.self.invariant))
+returns-clause-value c = rw (← c.self.view_is) (c.collected_digits.ensures ∙ ap (value_of 8 8) (x_digits_are _ c.self.invariant))
 
 pub returns-clause-below : goal.returns-clause-below
 unfolding x_in
 returns-clause-below c =
-    subst (λ n. n < 16777216) (sym (c.gathered_number.ensures ∙ ap (value_of 8 8) (x_digits_are _ c.self.invariant))) (x_in-below _ c.self.invariant)
+    subst (λ n. n < 16777216) (sym (c.collected_digits.ensures ∙ ap (value_of 8 8) (x_digits_are _ c.self.invariant))) (x_in-below _ c.self.invariant)

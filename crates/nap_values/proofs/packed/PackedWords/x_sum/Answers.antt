@@ -1,9 +1,9 @@
 use Rattle.std.proofs.Common.{arith}
-use Rattle.nap_values.proofs.MovingPointLemmas.{x_onward, x_words}
+use Rattle.nap_values.proofs.MovingPointLemmas.{x_advanced, x_words}
 use Rattle.nap_values.proofs.packed.PackedWords.x_sum.Goals as goal
 
 pub invariant_of-result : goal.invariant_of-result
-invariant_of-result c = x_words _ _ (omega arith) (x_onward _ _ c.self.invariant c.step.invariant (rw c.self.view_is c.requires))
+invariant_of-result c = x_words _ _ (omega arith) (x_advanced _ _ c.self.invariant c.step.invariant (rw c.self.view_is c.requires))
 
 pub returns : goal.returns
-returns c = rw (← c.self.view_is, ← c.step.view_is) (x_onward _ _ c.self.invariant c.step.invariant (rw c.self.view_is c.requires))
+returns c = rw (← c.self.view_is, ← c.step.view_is) (x_advanced _ _ c.self.invariant c.step.invariant (rw c.self.view_is c.requires))

@@ -1,9 +1,9 @@
 use Rattle.std.proofs.Common.{arith}
-use Rattle.nap_values.proofs.MovingPointLemmas.{y_onward, y_words}
+use Rattle.nap_values.proofs.MovingPointLemmas.{y_advanced, y_words}
 use Rattle.nap_values.proofs.packed.PackedWords.y_sum.Goals as goal
 
 pub invariant_of-result : goal.invariant_of-result
-invariant_of-result c = y_words _ _ (omega arith) (y_onward _ _ c.self.invariant c.step.invariant (rw c.self.view_is c.requires))
+invariant_of-result c = y_words _ _ (omega arith) (y_advanced _ _ c.self.invariant c.step.invariant (rw c.self.view_is c.requires))
 
 pub returns : goal.returns
-returns c = rw (← c.self.view_is, ← c.step.view_is) (y_onward _ _ c.self.invariant c.step.invariant (rw c.self.view_is c.requires))
+returns c = rw (← c.self.view_is, ← c.step.view_is) (y_advanced _ _ c.self.invariant c.step.invariant (rw c.self.view_is c.requires))

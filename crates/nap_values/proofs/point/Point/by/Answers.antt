@@ -5,7 +5,7 @@ use Rattle.nap_values.specs.TwosComplement.{signed_of}
 use Rattle.nap_values.specs.PackedCoordinates.{x_in, y_in}
 use Rattle.nap_values.proofs.PackedLemmas.{x_in-below, y_in-below}
 use Rattle.nap_values.proofs.MotionLemmas.{kept-x, kept-y}
-use Rattle.nap_values.proofs.InsideLemmas.{sum_leads}
+use Rattle.nap_values.proofs.InsideLemmas.{sum_point}
 use Rattle.nap_values.proofs.point.Point.by.Goals as goal
 
 pub returns : goal.returns
@@ -16,6 +16,6 @@ returns c =
     c.from_words.ensures
     ∙ ap (λ n. point_with (signed_of (x_in n)) (signed_of (y_in n))) c.sum.ensures
     ∙ ap₂ (λ x y. point_with (signed_of x) (signed_of y)) (kept-x _ _) (kept-y _ _)
-    ∙ sum_leads (x_in c.words.result) (y_in c.words.result) (x_in c.words-2.result) (y_in c.words-2.result) here.x_below here.y_below
+    ∙ sum_point (x_in c.words.result) (y_in c.words.result) (x_in c.words-2.result) (y_in c.words-2.result) here.x_below here.y_below
     (x_in-below c.words-2.result step.words) (y_in-below c.words-2.result step.words)
     ∙ rw (here.x, here.y, step.x, step.y) refl

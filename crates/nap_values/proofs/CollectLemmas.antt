@@ -4,7 +4,7 @@ use Rattle.nap_values.specs.Digits.{value_of, digits_of}
 use Rattle.nap_values.proofs.DigitLemmas.{value_of-digits_of, value_of-below}
 use Rattle.nap_values.proofs.MaskLemmas.{low_bits}
 
--- Eight digits in base 8, a byte for each, are gathered into one number.
+-- Eight digits in base 8, one to a byte, become one number.
 
 -- the lowest bits of each of four digits
 pub lower_of_four : (bits : ℕ) → bits ≤ 16 → (a b c d : ℕ) → a < 65536 → b < 65536 → c < 65536 → d < 65536 →
@@ -40,7 +40,7 @@ pairs_of n = n - bit_and (n / 256) 0x00FF_00FF_00FF_00FF * 248
 abbrev pub quads_of : ℕ → ℕ
 quads_of n = n - bit_and (n / 65536) 0x0000_FFFF_0000_FFFF * 65472
 
--- Eight digits in base 8, a byte for each, are made into four numbers of 6 bits, two of 12 bits and one of 24 bits.
+-- Eight digits in base 8, one to a byte, become four numbers of 6 bits, then two of 12 bits, then one of 24 bits.
 module _ (a b c d e f g h : ℕ) (a_fits : a < 8) (b_fits : b < 8) (c_fits : c < 8) (d_fits : d < 8)
     (e_fits : e < 8) (f_fits : f < 8) (g_fits : g < 8) (h_fits : h < 8) where
   abbrev bytes : ℕ
@@ -85,28 +85,28 @@ module _ (a b c d e f g h : ℕ) (a_fits : a < 8) (b_fits : b < 8) (c_fits : c <
   unfolding value_of
   quads_split = omega arith
 
-  -- what the three steps leave of these digits
-  gathered-digits : quads_of (pairs_of bytes) - quads_of (pairs_of bytes) / 4294967296 * 4294963200 ≡ value_of 8 8 (a ∷ b ∷ c ∷ d ∷ e ∷ f ∷ g ∷ h ∷ [])
-  gathered-digits =
+  -- the result of the three steps for these digits
+  collected-digits : quads_of (pairs_of bytes) - quads_of (pairs_of bytes) / 4294967296 * 4294963200 ≡ value_of 8 8 (a ∷ b ∷ c ∷ d ∷ e ∷ f ∷ g ∷ h ∷ [])
+  collected-digits =
       let is_two : pairs_of bytes ≡ pairs = omega (arith, upper_bytes_are, bytes_split) in
       let is_four : quads_of (pairs_of bytes) ≡ quads = ap quads_of is_two ∙ omega (arith, upper_pairs_are, pairs_split) in
       ap (λ m. m - m / 4294967296 * 4294963200) is_four ∙ omega (arith, quads_split)
 
--- a number whose digits are below a base is below so many times the unit of the first
+-- a number whose digits are below a base is below that base times the unit of its first digit
 pub below_base : (base n : ℕ) → All (λ d. d < base) (digits_of 256 8 n) → n < base * 256 ^ 7
 unfolding digits_of
 below_base base n fit =
     let top : n / 256 ^ 7 < base = All-head (λ d. d < base) (n / 256 ^ 7) (digits_of 256 7 (n % 256 ^ 7)) fit in
     omega (arith, top)
 
--- the three steps gather the digits of a number
+-- the three steps give the number with these digits
 module _ (n : ℕ) (fit : All (λ d. d < 8) (digits_of 256 8 n)) where
-  pub gathers : quads_of (pairs_of n) - quads_of (pairs_of n) / 4294967296 * 4294963200 ≡ value_of 8 8 (digits_of 256 8 n)
+  pub collects : quads_of (pairs_of n) - quads_of (pairs_of n) / 4294967296 * 4294963200 ≡ value_of 8 8 (digits_of 256 8 n)
   unfolding digits_of
-  gathers =
+  collects =
       ap (λ m. quads_of (pairs_of m) - quads_of (pairs_of m) / 4294967296 * 4294963200) (sym (value_of-digits_of 256 8 n (omega arith) (omega (arith, below_base 8 n fit))))
-      ∙ gathered-digits _ _ _ _ _ _ _ _ (fit 0 0 (omega arith)) (fit 1 0 (omega arith)) (fit 2 0 (omega arith)) (fit 3 0 (omega arith))
+      ∙ collected-digits _ _ _ _ _ _ _ _ (fit 0 0 (omega arith)) (fit 1 0 (omega arith)) (fit 2 0 (omega arith)) (fit 3 0 (omega arith))
       (fit 4 0 (omega arith)) (fit 5 0 (omega arith)) (fit 6 0 (omega arith)) (fit 7 0 (omega arith))
 
-  pub gathers-below : quads_of (pairs_of n) - quads_of (pairs_of n) / 4294967296 * 4294963200 < 4294967296
-  gathers-below = omega (arith, gathers, value_of-below 8 8 (digits_of 256 8 n) (omega arith) fit)
+  pub collects-below : quads_of (pairs_of n) - quads_of (pairs_of n) / 4294967296 * 4294963200 < 4294967296
+  collects-below = omega (arith, collects, value_of-below 8 8 (digits_of 256 8 n) (omega arith) fit)
