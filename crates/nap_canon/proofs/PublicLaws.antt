@@ -12,8 +12,8 @@ use Rattle.nap_canon.proofs.plain_codes.PlainTexts as plain_texts
 use Rattle.nap_canon.proofs.sinks.SinkingLemmas as sinks
 use Rattle.nap_canon.proofs.texts.TextLemmas as texts
 
-pub bring_leads : PreludeLeads
-bring_leads = modes.bring_leads
+pub prelude_leads : PreludeLeads
+prelude_leads = modes.prelude_leads
 
 pub text_of_prefix : TextOfPrefix Two
 text_of_prefix = texts.text_of_prefix Two

@@ -1,4 +1,4 @@
--- What a conversion has written when it ends.
+-- The bytes that a conversion has written when it ends.
 
 pub mod WentOutLemmas
 pub mod ConvertLemmas

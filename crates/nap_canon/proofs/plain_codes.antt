@@ -1,4 +1,4 @@
--- Which streams are plain, and that canonical text is.
+-- Plain streams, and that canonical text is plain.
 
 pub mod SpellingLemmas
 pub mod PlainPieces

@@ -1,8 +1,8 @@
--- The bring: commands that lead from the values that stand to those that an entry holds.
+-- The prelude: commands that make the attributes of an entry current.
 
 pub mod EqualityLemmas
 pub mod LeadingLemmas
-pub mod BringLemmas
+pub mod PreludeLemmas
 pub mod KindLemmas
-pub mod StandingLemmas
+pub mod CurrentLemmas
 pub mod ModeLemmas

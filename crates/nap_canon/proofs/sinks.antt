@@ -4,5 +4,5 @@ pub mod SinkingLemmas
 pub mod PageLemmas
 pub mod CutLemmas
 pub mod JoinLemmas
-pub mod FrontLemmas
+pub mod PrefixLemmas
 pub mod PutLemmas

@@ -3,8 +3,8 @@
 pub mod TextLemmas
 pub mod WalkLemmas
 pub mod WriterLemmas
-pub mod GatheredLemmas
-pub mod LaidLemmas
+pub mod PointsLemmas
+pub mod AppendedLemmas
 pub mod FaultLemmas
 pub mod Rows
 pub mod WritingLemmas

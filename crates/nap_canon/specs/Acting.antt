@@ -11,12 +11,12 @@ use Rattle.nap_reader.specs.Bodies.{Mode, between, in_body}
 use Rattle.nap_reader.specs.Course as course
 use Rattle.nap_reader.specs.Stream.{Placed, Machine, Front, bytes_of, front, left_of, start_machine, placed_from}
 
--- an opcode, and the lengths of operands that stand where it acts
+-- an opcode, and the operand lengths under which it acts
 pub record Acting : Type 0 where
   pub op : Opcode
   pub lengths : OperandLengths
 
--- the opcode at a front between two codes, where one stands there
+-- the opcode at a front between two codes, if there is one
 abbrev pub acting_at : Machine → codes.Front → List Acting
 acting_at m (codes.whole (code.Op op) n sets) = record { op = op; lengths = m.work.domain } ∷ []
 acting_at m _ = []
@@ -31,13 +31,14 @@ abbrev pub acting_after : (Machine → List Placed → List Acting) → Front �
 acting_after later (course.act entries m xs) = later m xs
 acting_after later _ = []
 
--- front after front, this many at most
+-- front after front, up to a number of them
 unfoldable pub acting_within : ℕ → Machine → List Placed → List Acting
 acting_within zero m xs = []
 acting_within (suc most) m xs = acting_in m.mode m xs ++ acting_after (acting_within most) (front m xs)
 
 -- The acting opcodes of a list, front after front, until no complete code is left. Each front that acts lessens the sum
--- of the unread bytes and of what is left to charge, with one for the end of a body, so this many fronts are enough.
+-- of the unread bytes and of what is left to charge, with one for the end of a body, so the number of fronts is at most
+-- that sum.
 abbrev pub acting_from : Machine → List Placed → List Acting
 acting_from m xs = acting_within (suc (length xs + left_of m)) m xs
 
@@ -55,7 +56,8 @@ opcodes_of (_ ∷ rest) = opcodes_of rest
 abbrev pub ActsUnderEightAndFour : Acting → Type 0
 ActsUnderEightAndFour a = a.op ≢ opcodes.Domain → a.op ≢ opcodes.Reset → a.lengths ≡ record { multi = 8; single = 4 }
 
--- The opcodes that act in a stream are all the opcodes of the stream, and each acts so.
+-- The opcodes that act in a stream are all the opcodes of the stream, and each acts under operands of eight words and
+-- four words, unless it is DOMAIN or RESET.
 pub record AllActUnderEightAndFour (budget : ℕ) (p : List ℕ) : Type 0 where
   pub all : map (λ a. a.op) (acting budget p) ≡ opcodes_of (lex_result start_sets p).codes
   pub each : All ActsUnderEightAndFour (acting budget p)

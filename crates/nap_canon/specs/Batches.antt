@@ -27,11 +27,11 @@ use Rattle.nap_canon.specs.Text.{gl_of, shift_to_opcodes, shift_to_primary, join
 abbrev pub canon_sink_model : {O : Type 0} → outlet.Ghosts O → SinkModel (Canonical O)
 canon_sink_model o = sink_model (λ s. s.state) (λ s d. ⊥) (λ s. o.failed s.outlet) (Took o) (Broke o)
 
--- this many bytes were taken, and the write of the next one failed
+-- n bytes were taken, and the write of the next one failed
 pub record CutAfter {S : Type 0} (sent : S → List ℕ → Bool → S → Type 0) (s : S) (bytes : List ℕ) (n : ℕ) (t : S) : Type 0 where
   pub less : n < length bytes
   pub mid : S
-  pub front : sent s (take n bytes) false mid
+  pub prefix : sent s (take n bytes) false mid
   pub next : sent mid (slice_index bytes n ∷ []) true t
 
 -- all bytes were taken, or a prefix of them
@@ -39,7 +39,7 @@ abbrev pub SentUpTo : {S : Type 0} → (S → List ℕ → Bool → S → Type 0
 SentUpTo sent s bytes t (Ok _) = sent s bytes false t
 SentUpTo sent s bytes t (Err n) = CutAfter sent s bytes n t
 
--- the opening and all entries of this size were sent, or a prefix that holds this many complete entries
+-- the opening and all entries of this size were sent, or a prefix with as many complete entries as the error says
 abbrev pub SentWhole : {S : Type 0} → (S → List ℕ → Bool → S → Type 0) → S → List ℕ → ℕ → List ℕ → S → Result (Unit {0}) ℕ → Type 0
 SentWhole sent s opening size bytes t (Ok _) = sent s (opening ++ bytes) false t
 SentWhole sent s opening size bytes t (Err whole) = (n : ℕ) × (whole ≡ (n - length opening) / size) × CutAfter sent s (opening ++ bytes) n t
@@ -49,29 +49,29 @@ unfoldable pub points_bytes : List Coordinates → List ℕ
 points_bytes [] = []
 points_bytes (p ∷ ps) = point_bytes p ++ points_bytes ps
 
--- this many points join the run of this opcode, or open one if not even the first joins
+-- count points join the run of this opcode, or open one if not even the first joins
 abbrev pub PointsJoin : Form → TextEnd → ℕ → ℕ → Type 0
 PointsJoin form text_end byte count = (count ≤ 126) × (form ≡ Two) × (joins_open_run text_end byte (8 * count) ≡ joins_open_run text_end byte 8)
 
--- this many of these codes join the last text, or open one if the first is a character and they are few
+-- count of these codes join the last text, or open one if the first is a character and they are few
 abbrev pub TextJoins : TextEnd → List ℕ → ℕ → Type 0
 TextJoins text_end codes count = (text_end ≡ NoRun G0) ⊎ ((count ≤ 1023) × ((code : ℕ) (rest : List ℕ) → codes ≡ code ∷ rest → format_effector code ≡ None))
 
--- this many entries of a batch, from this index on, join the last run or text, or open one
+-- count entries of a batch, from this index on, join the last run or text, or open one
 abbrev pub Joins : Form → TextEnd → State → Batch → ℕ → ℕ → Type 0
 Joins form text_end s (batches.Points points drawing) first count = PointsJoin form text_end 0x26 count
 Joins form text_end s (batches.Lines from points drawing) first count = PointsJoin form text_end 0x28 count × (s.drawing.pen ≡ At (last_point from (take first points.now)))
 Joins form text_end s (batches.Text set codes pen drawing) first count = (set ≡ Primary) × TextJoins text_end (drop first codes.now) count
 
--- this many entries after this one join the last run or text, or open one, once this one was put
+-- count entries after this one join the last run or text, or open one, once this one was put
 abbrev pub JoinsAfter : Form → TextEnd → Batch → ℕ → ℕ → Type 0
 JoinsAfter form text_end batch index count = (s : State) → Joins form text_end (walk s (take 1 (drop index (batch_entries batch)))) batch (index + 1) count
 
--- what comes before this many operand bytes: nothing if they join the run, else their opcode
+-- what comes before count operand bytes: nothing if they join the run, else their opcode
 abbrev pub run_opening : TextEnd → ℕ → ℕ → List ℕ
 run_opening text_end byte count = if joins_open_run text_end byte count then [] else (shift_to_opcodes (gl_of text_end) ++ byte ∷ [])
 
--- what comes before this many entries: nothing if they join, else an opcode or a shift
+-- what comes before count entries: nothing if they join, else an opcode or a shift
 abbrev pub opening : TextEnd → Batch → ℕ → List ℕ
 opening text_end (batches.Points points drawing) count = run_opening text_end 0x26 (8 * count)
 opening text_end (batches.Lines from points drawing) count = run_opening text_end 0x28 (8 * count)
@@ -83,19 +83,19 @@ entry_size (batches.Points points drawing) = 8
 entry_size (batches.Lines from points drawing) = 8
 entry_size (batches.Text set codes pen drawing) = 1
 
--- the bytes of this many entries, from this index on
+-- the bytes of count entries, from this index on
 abbrev pub joined_bytes : Batch → ℕ → ℕ → List ℕ
 joined_bytes (batches.Points points drawing) first count = points_bytes (take count (drop first points.now))
 joined_bytes (batches.Lines from points drawing) first count = points_bytes (take count (drop first points.now))
 joined_bytes (batches.Text set codes pen drawing) first count = take count (drop first codes.now)
 
--- the end of the text after this many entries
+-- the end of the text after count entries
 abbrev pub text_end_after_joined : TextEnd → Batch → ℕ → TextEnd
 text_end_after_joined text_end (batches.Points points drawing) count = InRun (run_after text_end 0x26 (8 * count))
 text_end_after_joined text_end (batches.Lines from points drawing) count = InRun (run_after text_end 0x28 (8 * count))
 text_end_after_joined text_end (batches.Text set codes pen drawing) count = NoRun G0
 
--- the bytes that are appended for this many entries, from this index on: none for no entry
+-- the bytes that are appended for a number of entries, from this index on: none for no entry
 abbrev pub bytes_of_rest : TextEnd → Batch → ℕ → ℕ → List ℕ
 bytes_of_rest text_end batch first zero = []
 bytes_of_rest text_end batch first (suc n) = opening text_end batch (suc n) ++ joined_bytes batch first (suc n)
@@ -105,7 +105,7 @@ abbrev pub text_end_after_rest : TextEnd → Batch → ℕ → TextEnd
 text_end_after_rest text_end batch zero = text_end
 text_end_after_rest text_end batch (suc n) = text_end_after_joined text_end batch (suc n)
 
--- a list that was written up to this many bytes: this many complete entries, and part of the next one
+-- a list of which n bytes were written: k complete entries, and part of the next one
 pub record Parted (form : Form) (text_end : TextEnd) (s : State) (list : List Entry) (k n : ℕ) : Type 0 where
   pub next : Entry
   pub rest : List Entry

@@ -19,8 +19,8 @@ abbrev pub count_of : List ℕ → ℕ
 count_of q = min (length q) (2 ^ 64 - 1)
 
 -- the first list is a prefix of the other
-abbrev pub IsFrontOf : {A : Type 0} → List A → List A → Type 0
-IsFrontOf {A = A} front whole = (rest : List A) × (whole ≡ front ++ rest)
+abbrev pub IsPrefixOf : {A : Type 0} → List A → List A → Type 0
+IsPrefixOf {A = A} prefix whole = (rest : List A) × (whole ≡ prefix ++ rest)
 
 -- All of the stream was read, and q is its canonical stream.
 pub record ConvertsWhole (budget : ℕ) (p : List ℕ) (seen : Reading) (q : List ℕ) : Type 0 where
@@ -40,7 +40,7 @@ pub record LacksMemory (budget : ℕ) (p : List ℕ) (seen : Reading) (q : List 
   pub none_failed : NoneFailed seen
   pub place : LacksWithin budget p r.place
   pub taken : List Entry
-  pub front : IsFrontOf taken (list_of budget p)
+  pub prefix : IsPrefixOf taken (list_of budget p)
   pub text : q ≡ text taken
 
 -- the stream is refused, for this cause; a failed write is no refusal
@@ -57,8 +57,8 @@ pub record StopsReading (budget : ℕ) (p : List ℕ) (seen : Reading) (q : List
 
 -- A write or the flush failed, and q is a prefix of the text.
 pub record StopsWriting (budget : ℕ) (p : List ℕ) (seen : Reading) (q : List ℕ) : Type 0 where
-  pub front : IsFrontOf q (text (list_of budget p))
-  pub left : IsReadWhole seen p ⊎ IsFrontOf q (text (begun budget p).entries)
+  pub prefix : IsPrefixOf q (text (list_of budget p))
+  pub left : IsReadWhole seen p ⊎ IsPrefixOf q (text (begun budget p).entries)
 
 -- The answer, by whether the output has failed.
 abbrev pub Converts : ℕ → List ℕ → Reading → List ℕ → Bool → Result ℕ ConvertFault → Type 0
@@ -72,4 +72,4 @@ Converts budget p seen q failed answer = ⊥
 -- a failed write or a refusal.
 pub record StopsAtOnce {I : Type 0} (i : inlet.Ghosts I) (budget : ℕ) (p : List ℕ) (start end : I) (q : List ℕ) : Type 0 where
   pub last : LastRead i budget p start end
-  pub written : i.calls start < i.calls end → IsFrontOf (text (begun budget last.before).entries) q
+  pub written : i.calls start < i.calls end → IsPrefixOf (text (begun budget last.before).entries) q

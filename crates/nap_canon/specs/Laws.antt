@@ -44,18 +44,19 @@ pub record IsReadAs (budget : ℕ) (p : List ℕ) (es : List Entry) : Type 0 whe
 abbrev pub TextIsRead : Form → Type 0
 TextIsRead form = (budget : ℕ) (es : List Entry) → Legal es → AllInRange es → IsReadAs budget (text_in form es) es
 
--- DOMAIN's lengths of operands in canonical text
+-- the operand lengths of canonical text
 abbrev pub text_lengths : OperandLengths
 text_lengths = record { multi = 8; single = 4 }
 
--- what is known of a stream once its open run has acted: the list and its state, and where the text of it leaves the rest
+-- a stream is accepted so far, and once its open run has acted it has this list and the list's state; the set in GL is
+-- that at the end of the text, and nothing is charged
 pub record LeadsAlong (form : Form) (budget : ℕ) (p : List ℕ) (es : List Entry) : Type 0 where
   pub going : (begun budget p).refusal ≡ None
   pub unrefused : (with_run (begun budget p)).refusal ≡ None
   pub list : (with_run (begun budget p)).entries ≡ es
   pub state : (with_run (begun budget p)).machine.work.state ≡ walk start es
   pub domain : (with_run (begun budget p)).machine.work.domain ≡ text_lengths
-  -- so are those that come back at the end of a definition
+  -- the saved operand lengths, if a definition is open
   pub saved : IsSome (walk start es).definition → (with_run (begun budget p)).machine.work.saved ≡ text_lengths
   pub sets : (with_run (begun budget p)).machine.sets ≡ record start_sets { gl = gl_of (text_end_after text_end_after_header (pieces form start es)) }
   pub uncharged : (with_run (begun budget p)).machine.left ≡ budget
@@ -69,7 +70,7 @@ pub record Shortens (budget : ℕ) (c p : List ℕ) : Type 0 where
   pub canonical : IsCanonicalOf budget c p
   pub no_longer : length c ≤ length p
 
--- The text of a legal list in the first form is a stream whose canonical one is the text of the list, which is no longer.
+-- The text of a legal list in form 1 is a stream whose canonical stream is the text of the list, which is no longer.
 abbrev pub FormsAgree : Type 0
 FormsAgree = (budget : ℕ) (es : List Entry) → Legal es → AllInRange es → Shortens budget (text es) (text1 es)
 
@@ -80,14 +81,14 @@ pub record CanonicalStreams (budget : ℕ) : Type 0 where
       (c ≡ d) ↔ (list_of budget p ≡ list_of other q)
   -- A canonical stream is plain.
   pub plain : (c p : List ℕ) → IsCanonicalOf budget c p → IsPlain c
-  -- A canonical stream is accepted, whatever the budget,
+  -- A canonical stream is accepted, whatever the budget.
   pub accepted : (other : ℕ) (c p : List ℕ) → IsCanonicalOf budget c p → IsAccepted other c
-  -- with the display list of the stream that it was made of.
+  -- The display list of a canonical stream is that of the stream that it was made from.
   pub same_list : (other : ℕ) (c p : List ℕ) → IsCanonicalOf budget c p → list_of other c ≡ list_of budget p
   -- A canonical stream is its own canonical stream.
   pub own : (other : ℕ) (c p : List ℕ) → IsCanonicalOf budget c p → IsCanonicalOf other c c
 
--- Canonical streams are equal exactly where the display lists are; each is plain, is accepted with that same list, and is
--- its own canonical stream.
+-- Canonical streams are equal exactly if their display lists are; each is plain, is accepted with the list of the
+-- stream that it was made from, and is its own canonical stream.
 abbrev pub CanonicalStreamsAgree : Type 0
 CanonicalStreamsAgree = (budget : ℕ) → CanonicalStreams budget

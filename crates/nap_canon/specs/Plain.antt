@@ -65,7 +65,7 @@ AllMayFollow (code ∷ rest) = MayFollowCode code rest × AllMayFollow rest
 pub record ArePlain (list : List Code) : Type 0 where
   pub each : All IsPlainCode list
   pub first : DomainFirst list
-  pub behind : AllMayFollow list
+  pub follow : AllMayFollow list
 
 -- A stream is plain: it is complete codes, which use no macro and no REL opcode, and DOMAIN keeps the operands at eight
 -- words and four words.

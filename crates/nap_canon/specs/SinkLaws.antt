@@ -14,7 +14,7 @@ use Rattle.nap_canon.specs.Text.{pieces_bytes, text_end_after, pieces, entry_pie
 use Rattle.nap_canon.specs.Sinking.{TakesAll, Sends, Canonical, sending_of, entry_bytes, entry_bytes_after, Took, Broke}
 use Rattle.nap_canon.specs.TextParts.{pieces_bytes-append, text_end_after-append, pieces-append}
 
--- written, and written again
+-- laws of sending: no bytes, and bytes after others
 
 pub sends_none : (s : Sending) → Sends s [] false s
 sends_none s = record { grows = grows_none s; failed = refl }
@@ -45,7 +45,7 @@ module _ {O : Type 0} (o : outlet.Ghosts O) where
   took_none s = record { bytes = sends_none (sending_of o s); form = refl; text_end = refl; state = refl }
 
   module _ (s t : Canonical O) (d : List Entry) (form : t.form ≡ s.form) (text_end : t.text_end ≡ text_end_after s.text_end (pieces s.form s.state d)) (state : t.state ≡ walk s.state d) where
-    -- what comes next, in the terms of the first
+    -- the pieces of the second list, in terms of the first sink
     next_join : (e : List Entry) → pieces t.form t.state e ≡ pieces s.form (walk s.state d) e
     next_join e = ap (λ (f : Form). pieces f t.state e) form ∙ ap (λ (u : State). pieces s.form u e) state
 
@@ -57,8 +57,8 @@ module _ {O : Type 0} (o : outlet.Ghosts O) where
         ∙ sym (pieces_bytes-append s.text_end (pieces s.form s.state d) (pieces s.form (walk s.state d) e))
         ∙ ap (pieces_bytes s.text_end) (sym (pieces-append s.form s.state d e))
 
-    tail_join : (e : List Entry) → text_end_after t.text_end (pieces t.form t.state e) ≡ text_end_after s.text_end (pieces s.form s.state (d ++ e))
-    tail_join e =
+    text_end_join : (e : List Entry) → text_end_after t.text_end (pieces t.form t.state e) ≡ text_end_after s.text_end (pieces s.form s.state (d ++ e))
+    text_end_join e =
         ap (text_end_after t.text_end) (next_join e)
         ∙ ap (λ (u : TextEnd). text_end_after u (pieces s.form (walk s.state d) e)) text_end
         ∙ sym (text_end_after-append s.text_end (pieces s.form s.state d) (pieces s.form (walk s.state d) e))
@@ -67,9 +67,9 @@ module _ {O : Type 0} (o : outlet.Ghosts O) where
     state_join : (e : List Entry) → walk t.state e ≡ walk s.state (d ++ e)
     state_join e = ap (λ (u : State). walk u e) state ∙ sym (walks_join s.state d e)
 
-    behind_join : (e : List Entry) (x : Entry) → entry_bytes_after t e x ≡ entry_bytes_after s (d ++ e) x
-    behind_join e x =
-        ap (λ (u : TextEnd). pieces_bytes u (entry_pieces t.form (walk t.state e) x)) (tail_join e)
+    next_bytes_join : (e : List Entry) (x : Entry) → entry_bytes_after t e x ≡ entry_bytes_after s (d ++ e) x
+    next_bytes_join e x =
+        ap (λ (u : TextEnd). pieces_bytes u (entry_pieces t.form (walk t.state e) x)) (text_end_join e)
         ∙ ap (λ (f : Form). pieces_bytes (text_end_after s.text_end (pieces s.form s.state (d ++ e))) (entry_pieces f (walk t.state e) x)) form
         ∙ ap (λ (u : State). pieces_bytes (text_end_after s.text_end (pieces s.form s.state (d ++ e))) (entry_pieces s.form u x)) (state_join e)
 
@@ -78,21 +78,21 @@ module _ {O : Type 0} (o : outlet.Ghosts O) where
     bytes = subst (λ (bytes : List ℕ). TakesAll (sending_of o s) bytes (sending_of o u)) (bytes_join s t d first.form first.text_end first.state e)
         (sends_more (sending_of o s) (sending_of o t) (sending_of o u) (entry_bytes s d) (entry_bytes t e) false first.bytes second.bytes);
     form = second.form ∙ first.form;
-    text_end = second.text_end ∙ tail_join s t d first.form first.text_end first.state e;
+    text_end = second.text_end ∙ text_end_join s t d first.form first.text_end first.state e;
     state = second.state ∙ state_join s t d first.form first.text_end first.state e;
   }
 
   pub took_broke : (s t u : Canonical O) (d e : List Entry) (x : Entry) → Took o s d t → Broke o t e x u → Broke o s (d ++ e) x u
   took_broke s t u d e x first second =
-      let behind = behind_join s t d first.form first.text_end first.state e x in
+      let next_bytes = next_bytes_join s t d first.form first.text_end first.state e x in
       record {
         part = second.part;
-        less = subst (λ (bytes : List ℕ). second.part < length bytes) behind second.less;
+        less = subst (λ (bytes : List ℕ). second.part < length bytes) next_bytes second.less;
         grows =
             let all : entry_bytes s d ++ (entry_bytes t e ++ take second.part (entry_bytes_after t e x)) ≡ entry_bytes s (d ++ e) ++ take second.part (entry_bytes_after s (d ++ e) x) =
             sym (append_assoc (entry_bytes s d) (entry_bytes t e) (take second.part (entry_bytes_after t e x)))
             ∙ ap (λ (bytes : List ℕ). bytes ++ take second.part (entry_bytes_after t e x)) (bytes_join s t d first.form first.text_end first.state e)
-            ∙ ap (λ (bytes : List ℕ). entry_bytes s (d ++ e) ++ take second.part bytes) behind in
+            ∙ ap (λ (bytes : List ℕ). entry_bytes s (d ++ e) ++ take second.part bytes) next_bytes in
             subst (λ (bytes : List ℕ). Grows (sending_of o s) bytes (sending_of o u)) all
             (grows_more (sending_of o s) (sending_of o t) (sending_of o u) (entry_bytes s d) (entry_bytes t e ++ take second.part (entry_bytes_after t e x)) first.bytes.grows second.grows);
         failed = second.failed;

@@ -26,7 +26,7 @@ abbrev pub run_length_of : TextEnd → ℕ
 run_length_of (NoRun gl) = 0
 run_length_of (InRun run) = run.length
 
--- whether this many operand bytes join the last run: it has the same opcode, and space for them
+-- whether count operand bytes join the last run: it has the same opcode, and space for them
 abbrev pub joins_open_run : TextEnd → ℕ → ℕ → Bool
 joins_open_run (NoRun gl) byte count = false
 joins_open_run (InRun run) byte count = run.opcode == byte && nat_le (run.length + count) run_limit
@@ -48,7 +48,7 @@ piece_bytes t (group byte operands) = if joins_open_run t byte (length operands)
 piece_bytes t (primary code) = shift_to_primary (gl_of t) ++ code ∷ []
 piece_bytes t (control bytes) = bytes
 
--- the run after this many operand bytes joined or opened it
+-- the run after count operand bytes joined or opened it
 abbrev pub run_after : TextEnd → ℕ → ℕ → Run
 run_after t byte count = record { opcode = byte; length = if joins_open_run t byte count then (run_length_of t + count) else count }
 

@@ -18,7 +18,7 @@ use Rattle.nap_canon.specs.Text.{piece_bytes, text_end_after_piece, pieces_bytes
 
 -- these bytes were appended, and this is the end of the text
 pub record AppendsBytes (bytes : List ℕ) (end : TextEnd) (w t : Pending) : Type 0 where
-  pub laid : t.bytes ≡ w.bytes ++ bytes
+  pub appended : t.bytes ≡ w.bytes ++ bytes
   pub text_end : t.text_end ≡ end
 
 -- a piece was appended
@@ -68,7 +68,7 @@ WritesPendingAnd sends p w t r = WritesBytes sends (w.pending.bytes ++ piece_byt
 abbrev pub WritesPieces : {T F E : Type 0} → (T → List ℕ → Bool → T → Type 0) → List Piece → Writer T F → Writer T F → Result (Unit {0}) E → Type 0
 WritesPieces sends ps w t r = WritesBytes sends (w.pending.bytes ++ pieces_bytes w.pending.text_end ps) (text_end_after w.pending.text_end ps) w t r
 
--- the opening and all entries of this size were sent, with this end of the text, or this many of them
+-- the opening and all entries of this size were sent, with this end of the text, or as many of them as the error says
 pub record WritesWhole {T F : Type 0} (sends : T → List ℕ → Bool → T → Type 0) (opening : List ℕ) (size : ℕ) (bytes : List ℕ) (end : TextEnd) (w t : Writer T F) (r : Result (Unit {0}) ℕ) : Type 0 where
   pub sent : SentWhole sends w.target opening size bytes t.target r
   pub text_end : OnOk r (t.pending.text_end ≡ end)
@@ -82,8 +82,8 @@ pub record Puts {T F E : Type 0} (sends : T → List ℕ → Bool → T → Type
   pub state : OnOk r (t.state ≡ after w.state e)
   pub still : OnErr r (t.state ≡ w.state)
 
--- this many first entries of a list were put in one write
-pub record WritesFront {T F : Type 0} (sends : T → List ℕ → Bool → T → Type 0) (list : List Entry) (w t : Writer T F) (count : ℕ) : Type 0 where
+-- the first entries of a list, count of them, were put in one write
+pub record WritesPrefix {T F : Type 0} (sends : T → List ℕ → Bool → T → Type 0) (list : List Entry) (w t : Writer T F) (count : ℕ) : Type 0 where
   pub some : 0 < count
   pub few : count ≤ length list
   pub sent : sends w.target (pieces_bytes w.pending.text_end (pieces w.form w.state (take count list))) false t.target
@@ -91,8 +91,8 @@ pub record WritesFront {T F : Type 0} (sends : T → List ℕ → Bool → T →
   pub form : t.form ≡ w.form
   pub state : t.state ≡ walk w.state (take count list)
 
--- this many first entries of a list, sent in one write, were taken completely
-pub record CutsFront {T F : Type 0} (sends : T → List ℕ → Bool → T → Type 0) (list : List Entry) (w t : Writer T F) (whole : ℕ) : Type 0 where
+-- of the first entries of a list, sent in one write, a number was taken completely
+pub record CutsPrefix {T F : Type 0} (sends : T → List ℕ → Bool → T → Type 0) (list : List Entry) (w t : Writer T F) (whole : ℕ) : Type 0 where
   pub count : ℕ
   pub few : count ≤ length list
   pub less : whole < count
@@ -101,7 +101,7 @@ pub record CutsFront {T F : Type 0} (sends : T → List ℕ → Bool → T → T
   pub parted : Parted w.form w.pending.text_end w.state (take count list) whole far
   pub state : t.state ≡ walk w.state (take whole list)
 
--- a prefix of a list was put in one write, or this many of its entries
-abbrev pub PutsFront : {T F : Type 0} → (T → List ℕ → Bool → T → Type 0) → List Entry → Writer T F → Writer T F → Result ℕ ℕ → Type 0
-PutsFront sends list w t (Ok count) = WritesFront sends list w t count
-PutsFront sends list w t (Err whole) = CutsFront sends list w t whole
+-- a prefix of a list was put in one write, or as many of its entries as the error says
+abbrev pub PutsPrefix : {T F : Type 0} → (T → List ℕ → Bool → T → Type 0) → List Entry → Writer T F → Writer T F → Result ℕ ℕ → Type 0
+PutsPrefix sends list w t (Ok count) = WritesPrefix sends list w t count
+PutsPrefix sends list w t (Err whole) = CutsPrefix sends list w t whole

@@ -95,7 +95,7 @@ impl<O: Outlet + Drop> CanonSink<O> {
     #[inline(always)]
     fn put_one_write(&mut self, batch: &Batch, first: usize) -> Result<usize, usize>
         requires some { first < length (batch_entries batch.now) }
-        requires stand { EachIsCurrent self.old.state (drop first (batch_entries batch.now)) }
+        requires current { EachIsCurrent self.old.state (drop first (batch_entries batch.now)) }
         requires works { O.failed self.old.outlet ≡ false }
         ensures { PutsSome O.Outlet (drop first (batch_entries batch.now)) self.old self.new result }
     {
@@ -111,7 +111,7 @@ impl<O: Outlet + Drop> CanonSink<O> {
     #[inline(always)]
     fn put_current(&mut self, batch: &Batch, first: usize) -> Result<(), usize>
         requires few { first ≤ length (batch_entries batch.now) }
-        requires stand { EachIsCurrent self.old.state (drop first (batch_entries batch.now)) }
+        requires current { EachIsCurrent self.old.state (drop first (batch_entries batch.now)) }
         requires works { O.failed self.old.outlet ≡ false }
         ensures { PutsAfter O.Outlet first (batch_entries batch.now) self.old self.new result }
     {

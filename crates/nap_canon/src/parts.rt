@@ -10,7 +10,7 @@ pub(crate) fn item<X: Copy>(items: &[X], index: usize) -> X
     items[index]
 }
 
-/// Returns `operand_count` items of a slice, from `first` on.
+/// Returns `count` items of a slice, from `first` on.
 #[inline(always)]
 pub(crate) fn part<X>(items: &[X], first: usize, count: usize) -> &[X]
     requires { count + first ≤ length items.now }

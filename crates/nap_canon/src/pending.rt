@@ -84,7 +84,7 @@ impl Pending {
         requires space { length self.old.bytes + 2 ≤ buffer_limit }
         ensures bytes { self.new.bytes ≡ self.old.bytes ++ (shift_to_opcodes (gl_of self.old.text_end) ++ code ∷ []) }
         ensures most { length self.new.bytes ≤ length self.old.bytes + 2 }
-        ensures tail { self.new.text_end ≡ self.old.text_end }
+        ensures text_end { self.new.text_end ≡ self.old.text_end }
     {
         if self.text_end.gl() != GSet::G1 {
             self.bytes.push(0x0E);
@@ -101,7 +101,7 @@ impl Pending {
         operands: &[u8],
     )
         requires { length self.old.bytes + (2 + length first_operands.now + length operands.now) ≤ buffer_limit }
-        ensures lays { AppendsPiece (opcode code (first_operands.now ++ operands.now)) self.old self.new }
+        ensures appends { AppendsPiece (opcode code (first_operands.now ++ operands.now)) self.old self.new }
         ensures most { length self.new.bytes ≤ length self.old.bytes + (2 + length first_operands.now + length operands.now) }
     {
         self.append_opcode(code);
@@ -110,14 +110,14 @@ impl Pending {
         self.text_end = TextEnd::NoRun(GSet::G1);
     }
 
-    /// Appends the opcode for `operand_count` operand bytes, unless they continue the current run.
+    /// Appends the opcode for `count` operand bytes, unless they continue the current run.
     #[inline(always)]
     pub(crate) fn append_opcode_unless_joined(&mut self, code: u8, count: usize)
         requires few { count ≤ buffer_limit }
         requires space { length self.old.bytes + 2 ≤ buffer_limit }
         ensures bytes { self.new.bytes ≡ self.old.bytes ++ run_opening self.old.text_end code count }
         ensures most { length self.new.bytes ≤ length self.old.bytes + 2 }
-        ensures tail { self.new.text_end ≡ InRun (run_after self.old.text_end code count) }
+        ensures text_end { self.new.text_end ≡ InRun (run_after self.old.text_end code count) }
     {
         if self.text_end.joins(code, count) {
             let length = self.text_end.run_length() + count;
@@ -155,7 +155,7 @@ impl Pending {
         requires space { length self.old.bytes + 1 ≤ buffer_limit }
         ensures bytes { self.new.bytes ≡ self.old.bytes ++ shift_to_primary (gl_of self.old.text_end) }
         ensures most { length self.new.bytes ≤ length self.old.bytes + 1 }
-        ensures tail { self.new.text_end ≡ NoRun G0 }
+        ensures text_end { self.new.text_end ≡ NoRun G0 }
     {
         if self.text_end.gl() != GSet::G0 {
             self.bytes.push(0x0F);
@@ -167,7 +167,7 @@ impl Pending {
     #[inline(always)]
     pub(crate) fn append_control(&mut self, bytes: &[u8])
         requires { length self.old.bytes + length bytes.now ≤ buffer_limit }
-        ensures lays { AppendsPiece (control bytes.now) self.old self.new }
+        ensures appends { AppendsPiece (control bytes.now) self.old self.new }
         ensures most { length self.new.bytes ≤ length self.old.bytes + length bytes.now }
     {
         self.bytes.extend(bytes);

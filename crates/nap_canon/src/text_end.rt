@@ -35,7 +35,7 @@ impl TextEnd {
         }
     }
 
-    /// Whether this many operand bytes join the run: it has the same opcode, and space for them.
+    /// Whether `count` operand bytes join the run: it has the same opcode, and space for them.
     pub(crate) fn joins(self, opcode: u8, count: usize) -> bool
         requires few { count ≤ buffer_limit }
         ensures { result ≡ joins_open_run self opcode count }

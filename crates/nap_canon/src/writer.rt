@@ -13,9 +13,9 @@ ghost use Rattle.nap_canon.specs.Buffers.{piece_limit, buffer_limit};
 
 use crate::byte_buffer::ByteBuffer;
 use crate::byte_sink::ByteSink;
+use crate::current::{step_rect, step_shape};
 use crate::form::Form;
 use crate::pending::{Path, Pending, opcodes, path_of, shape_opcode};
-use crate::standing::{step_rect, step_shape};
 use crate::text_end::TextEnd;
 use nap_codes::GSet;
 use nap_list::{Entry, Ink, Shape, ShapeKind, State, line_start};
@@ -44,7 +44,7 @@ impl<T: ByteSink + Drop> Writer<T> {
     pub(crate) fn new(form: Form, target: T) -> Writer<T>
         ensures to { result.target ≡ target }
         ensures form { result.form ≡ form }
-        ensures tail { result.pending.text_end ≡ text_end_after_header }
+        ensures text_end { result.pending.text_end ≡ text_end_after_header }
         ensures state { result.state ≡ start }
     {
         Writer {
@@ -165,7 +165,7 @@ impl<T: ByteSink + Drop> Writer<T> {
         }
     }
 
-    /// Writes what was laid, and how a rectangle is spelled.
+    /// Writes the pending text, and the spelling of a rectangle whose attributes are current.
     #[inline(always)]
     fn spell_rect(&mut self, filled: bool, from: Point, to: Point) -> Result<(), T::Fault>
         requires { length self.old.pending.bytes + piece_limit ≤ buffer_limit }
@@ -189,7 +189,7 @@ impl<T: ByteSink + Drop> Writer<T> {
         self.target.write_all(self.pending.bytes.as_slice())
     }
 
-    /// Writes an entry that may come next, but for a rectangle: its bring, and its spelling.
+    /// Writes an entry that fits and isn't a rectangle: its prelude and its spelling.
     #[inline(always)]
     fn put_other(&mut self, entry: &Entry) -> Result<(), T::Fault>
         requires { Fits self.old.state entry.now }
@@ -202,16 +202,16 @@ impl<T: ByteSink + Drop> Writer<T> {
         Ok(())
     }
 
-    /// Writes a rectangle that may come next, as any entry.
+    /// Writes a rectangle that fits, as `put_ref` writes its entry.
     #[inline(always)]
     fn put_rect(&mut self, filled: bool, from: Point, to: Point, ink: &Ink) -> Result<(), T::Fault>
         requires { Fits self.old.state (Rect filled from to ink.now) }
         ensures { Puts T.sent (Rect filled from to ink.now) self.old self.new result }
     {
         self.pending.bytes.clear();
-        let stands = self.pending.append_ink_prelude(&self.state.drawing, ink);
+        let is_current = self.pending.append_ink_prelude(&self.state.drawing, ink);
         self.spell_rect(filled, from, to)?;
-        step_rect(&mut self.state, filled, from, to, ink, stands);
+        step_rect(&mut self.state, filled, from, to, ink, is_current);
         Ok(())
     }
 
@@ -237,11 +237,11 @@ impl<T: ByteSink + Drop> Writer<T> {
         ensures { Puts T.sent (entry_of_shape shape.now) self.old self.new result }
     {
         self.pending.bytes.clear();
-        let stands = self
+        let is_current = self
             .pending
             .append_ink_prelude(&self.state.drawing, &shape.drawing.ink());
         self.write_shape_spelling(shape)?;
-        step_shape(&mut self.state, shape, stands);
+        step_shape(&mut self.state, shape, is_current);
         Ok(())
     }
 }

@@ -18,14 +18,14 @@ use Rattle.nap_draw.specs.Draws.{Cause, stream, memory, device, cause_of, fault_
 use Rattle.nap_draw.specs.Acts.{Acts, WantsBy, GivesSome}
 use Rattle.nap_draw.specs.Execution.{Fills, Put, ActsByRule, AppliesControl, RefusedBy, SetsWork, clears_nothing}
 
--- The steps by which a code acts, put together.
+-- The steps in which a code is executed, put together.
 
--- what holds of a fault holds of the answer that `?` makes of it
+-- what holds of a fault holds of the result that `?` makes of it
 pub passed : {A : Type 0} (P : Result A DrawFault → Type 0) (fault : DrawFault) (r : Result A DrawFault) → IsErrAnd r (λ e. e ≡ fault) → P (Err fault) → P r
 passed P fault (Ok x) is holds = absurd is
 passed P fault (Err e) is holds = subst (λ (e : DrawFault). P (Err e)) (sym is) holds
 
--- the rule refuses the stream
+-- the rule refuses the code
 pub sets_refused : (by : Result RuleResult DrawFault) (w : Work) (fault : DrawFault) (r : Result (Unit {0}) DrawFault) → IsErrAnd r (λ e. e ≡ fault) → cause_of fault ≡ stream → by ≡ Err fault →
     SetsWork by w w r
 sets_refused by w fault r is cause refused = passed (SetsWork by w w) fault r is (refl, subst (RefusedBy by fault) (sym cause) refused)
@@ -73,7 +73,7 @@ module _ {S : Type 0} (g : Ghosts S) (s : S) (none : g.took s [] s) where
       Fills all [] (Err fault) → ActsByRule g clears_nothing by w w s s r
   does_unfilled by w all fault r is f acts outside inside fills = sets_does by w w r (sets_unfilled by w all fault r is f acts outside inside fills)
 
-  -- there was no memory for what the rule gives
+  -- memory ran out for what the rule gives
   pub does_short : (by : Result RuleResult DrawFault) (w : Work) (d : RuleResult) (r : Result (Unit {0}) DrawFault) → IsErrAnd r (λ e. e ≡ faults.Memory) → by ≡ Ok d → ActsByRule g clears_nothing by w w s s r
   does_short by w d r is drawn = sets_does by w w r (passed (SetsWork by w w) faults.Memory r is (refl, (d, drawn)))
 
@@ -83,7 +83,7 @@ module _ {S : Type 0} (g : Ghosts S) where
       by ≡ Ok (record { entries = list; work = v; clears = clears x }) → Put {S = S} {A = Unit {0}} g list s t (Ok tt) → ActsByRule g clears by w v s t (Ok x)
   does_put clears by w v s t list x is put = (list, is, put.took, put.state, put.works)
 
-  -- one of them wasn't taken
+  -- one of the rule's entries wasn't taken
   stopped : {A : Type 0} (clears : A → Bool) (by : Result RuleResult DrawFault) (w : Work) (s t : S) (d : RuleResult) (e : SinkFault) →
       by ≡ Ok d → Put {S = S} {A = Unit {0}} g d.entries s t (Err e) → ActsByRule g clears by w w s t (Err (fault_of e))
   stopped clears by w s t d sink_faults.Memory is put = (
@@ -98,16 +98,16 @@ module _ {S : Type 0} (g : Ghosts S) where
       by ≡ Ok d → Put {S = S} {A = Unit {0}} g d.entries s t (Err e) → ActsByRule g clears by w w s t r
   does_stop clears by w s t d e r is drawn put = passed (ActsByRule g clears by w w s t) (fault_of e) r is (stopped clears by w s t d e drawn put)
 
-  -- it acted by another form of the rule
+  -- the code acted by another form of its rule
   pub does_as : {A : Type 0} (clears : A → Bool) (by on : Result RuleResult DrawFault) (w v : Work) (s t : S) (r : Result A DrawFault) → by ≡ on →
       ActsByRule g clears on w v s t r → ActsByRule g clears by w v s t r
   does_as clears by on w v s t r is does = subst (λ (by : Result RuleResult DrawFault). ActsByRule g clears by w v s t r) (sym is) does
 
-  -- the points were decoded into a list, and what comes of them was done
-  pub does_filled : {A B : Type 0} (by : Result RuleResult DrawFault) (w v : Work) (s t : S) (r : Result (Unit {0}) DrawFault) (f : Option (List A) → Result RuleResult DrawFault) (lead : List B → List A)
-      (all : Option (List A)) (list points : List B) → by ≡ f all → all ≡ Some (lead list) → points ≡ list → ActsByRule g clears_nothing (f (Some (lead points))) w v s t r → ActsByRule g clears_nothing by w v s t r
-  does_filled {B = B} by w v s t r f lead all list points is fills same does =
-      does_as clears_nothing by (f (Some (lead points))) w v s t r (is ∙ ap f (fills ∙ ap (λ (xs : List B). Some (lead xs)) (sym same))) does
+  -- the points were decoded into a list, and the rest of the rule was done
+  pub does_filled : {A B : Type 0} (by : Result RuleResult DrawFault) (w v : Work) (s t : S) (r : Result (Unit {0}) DrawFault) (f : Option (List A) → Result RuleResult DrawFault) (list_of : List B → List A)
+      (all : Option (List A)) (list points : List B) → by ≡ f all → all ≡ Some (list_of list) → points ≡ list → ActsByRule g clears_nothing (f (Some (list_of points))) w v s t r → ActsByRule g clears_nothing by w v s t r
+  does_filled {B = B} by w v s t r f list_of all list points is fills same does =
+      does_as clears_nothing by (f (Some (list_of points))) w v s t r (is ∙ ap f (fills ∙ ap (λ (xs : List B). Some (list_of xs)) (sym same))) does
 
   -- a character or a control
 

@@ -17,10 +17,10 @@ use Rattle.nap_draw.specs.declared.fault.DrawFault.TheVariants as faults
 use Rattle.nap_draw.specs.declared.work.Work.{Work}
 use Rattle.nap_draw.specs.Operands.{operands}
 use Rattle.nap_draw.specs.Rule.{start_domain, reset_rule, rule_result, map_rule, set_color_under, set_color_rule, blink, blinks, blink_rule}
-use Rattle.nap_draw.proofs.Cuts.{operands-front, operands_none}
+use Rattle.nap_draw.proofs.Cuts.{operands-first, operands_none}
 use Rattle.nap_draw.proofs.Still.{walk_stays, wait_stays, blink_stays}
 
--- What the rules of colours, times and RESET give.
+-- The results of the rules of colours, times and RESET.
 
 -- SET COLOR
 
@@ -32,8 +32,8 @@ set_many work k run some many =
     let n = min k (length run) in
     let rest = drop n run in
     let more : 0 < length rest = omega (arith, length-drop n run) in
-    let one = operands-front k run some (omega arith) in
-    let two = operands-front k rest some more in
+    let one = operands-first k run some (omega arith) in
+    let two = operands-first k rest some more in
     ap (set_color_rule work) (one ∙ ap (λ (os : List (List ℕ)). take n run ∷ os) two)
 
 pub set_one : (work : Work) (k : ℕ) (run : List ℕ) → 1 ≤ k → 0 < length run → length run ≤ k →
@@ -41,7 +41,7 @@ pub set_one : (work : Work) (k : ℕ) (run : List ℕ) → 1 ≤ k → 0 < lengt
 set_one work k run some more few =
     let n = min k (length run) in
     let rest : length (drop n run) ≡ 0 = omega (arith, length-drop n run) in
-    let one = operands-front k run some more in
+    let one = operands-first k run some more in
     let whole : take n run ≡ run = take_all n run (omega arith) in
     ap (set_color_rule work) (one ∙ ap (λ (os : List (List ℕ)). take n run ∷ os) (operands_none k (drop n run) rest)) ∙ ap (λ (o : List ℕ). set_color_under work work.state.drawing.colour (colour_of o)) whole
 
@@ -94,7 +94,7 @@ pub blink_some : (work : Work) (run : List ℕ) → ModeZeroIsBase work.state.dr
     })
 blink_some work run mode more =
     let k = work.domain.single in
-    ap Ok (groups_some work (operands (k + 3) run) _ _ mode (operands-front (k + 3) run (omega arith) more))
+    ap Ok (groups_some work (operands (k + 3) run) _ _ mode (operands-first (k + 3) run (omega arith) more))
 
 -- RESET
 

@@ -12,8 +12,8 @@ carried_length run = length-map run (λ byte. byte % 64)
 pub carried_parts : (run front rest : List ℕ) → run ≡ front ++ rest → operand_words run ≡ operand_words front ++ operand_words rest
 carried_parts run front rest parts = ap (map (λ byte. byte % 64)) parts ∙ map-append (λ byte. byte % 64) front rest
 
-pub carried_front : (n : ℕ) (run front : List ℕ) → front ≡ take n run → operand_words front ≡ take n (operand_words run)
-carried_front n run front is = ap (map (λ byte. byte % 64)) is ∙ sym (take-map (λ byte. byte % 64) n run)
+pub words_prefix : (n : ℕ) (run front : List ℕ) → front ≡ take n run → operand_words front ≡ take n (operand_words run)
+words_prefix n run front is = ap (map (λ byte. byte % 64)) is ∙ sym (take-map (λ byte. byte % 64) n run)
 
 pub carried_rest : (n : ℕ) (run rest : List ℕ) → rest ≡ drop n run → operand_words rest ≡ drop n (operand_words run)
 carried_rest n run rest is = ap (map (λ byte. byte % 64)) is ∙ sym (drop-map (λ byte. byte % 64) n run)
@@ -30,11 +30,11 @@ moves_some k run more = words.moves_some k (operand_words run) (omega (arith, ca
 pub addresses_none : (k : ℕ) (run : List ℕ) → length run ≡ 0 → addresses k (operand_words run) ≡ []
 addresses_none k run none = ap (map single_of) (operands_none k run none)
 
--- a run that was cut behind its first operand
+-- the operands of a run are its first operand and those of the rest
 pub moves_turn : (k n : ℕ) (run front after : List ℕ) → 1 ≤ k → 0 < length run → n ≡ min k (length run) → front ≡ take n run → after ≡ drop n run →
     moves k (operand_words run) ≡ multi_of (operand_words front) ∷ moves k (operand_words after)
 moves_turn k n run front after some more is first rest =
-    words.moves_turn k n (operand_words run) (operand_words front) (operand_words after) some (omega (arith, carried_length run)) (omega (arith, carried_length run)) (carried_front n run front first) (carried_rest n run after rest)
+    words.moves_turn k n (operand_words run) (operand_words front) (operand_words after) some (omega (arith, carried_length run)) (omega (arith, carried_length run)) (words_prefix n run front first) (carried_rest n run after rest)
 
 three_again : (run : List ℕ) → take 3 (take 8 run) ≡ take 3 run
 three_again [] = refl
@@ -47,7 +47,7 @@ pub three_of_eight : (run block after : List ℕ) → 3 ≤ length run → block
 three_of_eight run block after long first rest =
     moves_turn 3 3 run (take 3 block) after (omega arith) (omega arith) (omega arith) (ap (take 3) first ∙ three_again run) rest
 
--- a run from whose front a chunk was cut
+-- a chunk that was cut off at the start of a run is its first operand
 pub operands_chunk : (k size : ℕ) (left x rest : List ℕ) → size ≡ k → 1 ≤ k → left ≡ x ++ rest → length x ≡ min size (length left) → 0 < length left →
     operands k (operand_words left) ≡ operand_words x ∷ operands k (operand_words rest)
 operands_chunk k size left x rest is some parts long more =
@@ -66,10 +66,10 @@ module _ (k size most value : ℕ) (run left x rest : List ℕ) (all : left ≡ 
   pub only_operand : length rest ≡ 0 → operands k (operand_words run) ≡ operand_words x ∷ []
   only_operand none = first_operand ∙ ap (λ (os : List (List ℕ)). operand_words x ∷ os) (operands_none k rest none)
 
-  pub two_operands : (still : ℕ) (y behind : List ℕ) → still ≡ size → rest ≡ y ++ behind → length y ≡ min still (length rest) → 0 < length rest →
-      operands k (operand_words run) ≡ operand_words x ∷ operand_words y ∷ operands k (operand_words behind)
-  two_operands still y behind kept parts long more =
-      first_operand ∙ ap (λ (os : List (List ℕ)). operand_words x ∷ os) (operands_chunk k still rest y behind (omega arith) (omega arith) parts long more)
+  pub two_operands : (still : ℕ) (y others : List ℕ) → still ≡ size → rest ≡ y ++ others → length y ≡ min still (length rest) → 0 < length rest →
+      operands k (operand_words run) ≡ operand_words x ∷ operand_words y ∷ operands k (operand_words others)
+  two_operands still y others kept parts long more =
+      first_operand ∙ ap (λ (os : List (List ℕ)). operand_words x ∷ os) (operands_chunk k still rest y others (omega arith) (omega arith) parts long more)
 
 -- a run of one operand of three words
 pub one_of_three : (k : ℕ) (run : List ℕ) → k ≡ 3 → length run ≡ 3 → moves k (operand_words run) ≡ multi_of (operand_words run) ∷ []

@@ -22,7 +22,7 @@ use Rattle.nap_draw.specs.Laws.{CodeValuesAreInRange}
 use Rattle.nap_draw.proofs.WalkRanges.{after_ranged, walk_ranged}
 use Rattle.nap_draw.proofs.RangeLemmas.{Ranged, silent_ranged, list_ranged, one_ranged}
 
--- What the rules of characters and controls give is in range.
+-- The results of the rules of characters and controls are in range.
 
 byte : (code : ℕ) → IsCode code → IsByte code
 byte code made = omega (arith, made.1)

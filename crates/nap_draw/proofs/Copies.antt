@@ -19,13 +19,13 @@ use Rattle.nap_draw.specs.Rule.{rule_result}
 use Rattle.nap_draw.proofs.Texts.{text_fits}
 use Rattle.nap_draw.proofs.Walks.{left_by}
 
--- What a character leaves, once or many times.
+-- What a character leaves, once or repeated.
 
 -- the last character is a code
 pub last_is_code : (s shown : State) (last : LastChar) → StatesAgree s shown → s.last ≡ Some last → IsCode last.code
 last_is_code s shown last agrees is = subst (λ (o : Option LastChar). IfSome o (λ (last : LastChar). IsCode last.code)) (sym agrees.last ∙ is) agrees.made
 
--- a code of a G set is no move
+-- a code of a character is no move
 code_stays : (code : ℕ) → IsCode code → format_effector code ≡ None
 code_stays code made = by (format_effector code) refl
   where
@@ -61,21 +61,21 @@ module _ (last : LastChar) where
   copies_some s zero some none = omega arith
   copies_some s (suc n) some none = cc
 
-  -- the code as often as it is repeated at most, and the first of these
+  -- the code as often as it is repeated at most, and a prefix of these
 
   module _ (n count : ℕ) (same : count ≡ n) (few : n < 64) where
-    front_is : take count (replicate 63 last.code) ≡ replicate n last.code
-    front_is = rw same (take-replicate n 63 last.code (omega (arith, few)))
+    prefix_is : take count (replicate 63 last.code) ≡ replicate n last.code
+    prefix_is = rw same (take-replicate n 63 last.code (omega (arith, few)))
 
-    pub front_typed : IsCode last.code → All IsTextByte (take count (replicate 63 last.code))
-    front_typed made = rw front_is (copies_typed n made)
+    pub prefix_typed : IsCode last.code → All IsTextByte (take count (replicate 63 last.code))
+    prefix_typed made = rw prefix_is (copies_typed n made)
 
-    pub front_some : (s : State) → 0 < n → text s last.set (take count (replicate 63 last.code)) ≢ []
-    front_some s some = rw front_is (copies_some s n some)
+    pub prefix_some : (s : State) → 0 < n → text s last.set (take count (replicate 63 last.code)) ≢ []
+    prefix_some s some = rw prefix_is (copies_some s n some)
 
-    -- the rule of REPEAT, where there is a character
+    -- the rule of REPEAT, if the last entry is a character
     pub repeat_is : (work : Work) → work.state.last ≡ Some last → IsCode last.code →
         code_rule work (codes.Repeat n) ≡ Ok (rule_result work (text work.state last.set (take count (replicate 63 last.code))))
     repeat_is work is made =
         let here = ap (λ (o : Option LastChar). with_last o (λ last. Ok (rule_result work (repeated_chars work.state last n)))) is in
-        rw front_is (here ∙ ap (λ (list : List Entry). Ok (rule_result work list)) (copies_are work.state n made))
+        rw prefix_is (here ∙ ap (λ (list : List Entry). Ok (rule_result work list)) (copies_are work.state n made))

@@ -16,24 +16,24 @@ use Rattle.nap_draw.specs.Rule.{RuleResult, and_then, at_least_one, moves_of, wi
 
 -- How a run is cut into operands.
 
-cut_operands-front : (k scratch : ℕ) (operand words : List ℕ) →
-    cut_operands k scratch operand words ≡ (operand ++ take (min scratch (length words)) words) ∷ operands k (drop (min scratch (length words)) words)
+cut_operands-first : (k lacking : ℕ) (operand words : List ℕ) →
+    cut_operands k lacking operand words ≡ (operand ++ take (min lacking (length words)) words) ∷ operands k (drop (min lacking (length words)) words)
 unfolding cut_operands operands
-cut_operands-front k zero operand [] = rw append-nil refl
-cut_operands-front k (suc scratch) operand [] = let e : min (suc scratch) 0 ≡ 0 = omega arith in rw (e, append-nil) refl
-cut_operands-front k zero operand (word ∷ words) = let e : min 0 (suc (length words)) ≡ 0 = omega arith in rw (e, append-nil) refl
-cut_operands-front k (suc scratch) operand (word ∷ words) =
-    let e : min (suc scratch) (suc (length words)) ≡ suc (min scratch (length words)) = omega arith in
-    cut_operands-front k scratch (operand ++ word ∷ []) words ∙ rw (e, append_assoc) refl
+cut_operands-first k zero operand [] = rw append-nil refl
+cut_operands-first k (suc lacking) operand [] = let e : min (suc lacking) 0 ≡ 0 = omega arith in rw (e, append-nil) refl
+cut_operands-first k zero operand (word ∷ words) = let e : min 0 (suc (length words)) ≡ 0 = omega arith in rw (e, append-nil) refl
+cut_operands-first k (suc lacking) operand (word ∷ words) =
+    let e : min (suc lacking) (suc (length words)) ≡ suc (min lacking (length words)) = omega arith in
+    cut_operands-first k lacking (operand ++ word ∷ []) words ∙ rw (e, append_assoc) refl
 
--- the first operand is the first k words, or all where there are fewer
-pub operands-front : (k : ℕ) (run : List ℕ) → 1 ≤ k → 0 < length run →
+-- the first operand is the first k words, or all if there are fewer
+pub operands-first : (k : ℕ) (run : List ℕ) → 1 ≤ k → 0 < length run →
     operands k run ≡ take (min k (length run)) run ∷ operands k (drop (min k (length run)) run)
 unfolding operands
-operands-front k [] some more = absurd (omega arith)
-operands-front k (word ∷ words) some more =
+operands-first k [] some more = absurd (omega arith)
+operands-first k (word ∷ words) some more =
     let e : min k (suc (length words)) ≡ suc (min (k - 1) (length words)) = omega arith in
-    cut_operands-front k (k - 1) (word ∷ []) words ∙ rw e refl
+    cut_operands-first k (k - 1) (word ∷ []) words ∙ rw e refl
 
 pub operands_none : (k : ℕ) (run : List ℕ) → length run ≡ 0 → operands k run ≡ []
 unfolding operands
@@ -46,12 +46,12 @@ moves_none k run none = ap (map multi_of) (operands_none k run none)
 pub moves_some : (k : ℕ) (run : List ℕ) → 0 < length run → 0 < length (moves k run)
 unfolding operands
 moves_some k [] more = absurd (omega arith)
-moves_some k (word ∷ words) more = omega (arith, ap (λ (os : List (List ℕ)). length (map multi_of os)) (cut_operands-front k (k - 1) (word ∷ []) words))
+moves_some k (word ∷ words) more = omega (arith, ap (λ (os : List (List ℕ)). length (map multi_of os)) (cut_operands-first k (k - 1) (word ∷ []) words))
 
--- a run that was cut behind its first operand
+-- the operands of a run are its first operand and those of the rest
 pub moves_turn : (k n : ℕ) (run front after : List ℕ) → 1 ≤ k → 0 < length run →
     n ≡ min k (length run) → front ≡ take n run → after ≡ drop n run → moves k run ≡ multi_of front ∷ moves k after
-moves_turn k n run front after some more is first rest = rw (first, rest, is) (ap (map multi_of) (operands-front k run some more))
+moves_turn k n run front after some more is first rest = rw (first, rest, is) (ap (map multi_of) (operands-first k run some more))
 
 pub none_of : (work : Work) (run : List ℕ) → length run ≡ 0 → (f : List Displacement → Result RuleResult DrawFault) → with_operands work run f ≡ Err Missing
 none_of work run none f = ap (λ ms. and_then (at_least_one ms) f) (moves_none work.domain.multi run none)
@@ -64,7 +64,7 @@ unfolding operands
 more_of work [] more f = absurd (more refl)
 more_of work (word ∷ words) more f =
     let k = work.domain.multi in
-    let e = ap (map multi_of) (cut_operands-front k (k - 1) (word ∷ []) words) in
+    let e = ap (map multi_of) (cut_operands-first k (k - 1) (word ∷ []) words) in
     ap (λ ms. and_then ms f) (some_ok _ _ _ e)
 
 -- how many operands there are
@@ -99,26 +99,26 @@ count_within (suc fuel) k (word ∷ words) some most =
     let run : List ℕ = word ∷ words in
     let rest : List ℕ = drop (min k (length run)) run in
     let left : length rest ≡ length run - min k (length run) = length-drop (min k (length run)) run in
-    let front : length (operands k run) ≡ suc (length (operands k rest)) = ap length (operands-front k run some (omega arith)) in
+    let front : length (operands k run) ≡ suc (length (operands k rest)) = ap length (operands-first k run some (omega arith)) in
     front ∙ (ap suc (count_within fuel k rest some (omega arith)) ∙ by_size k run rest some (omega arith) left)
 
 pub moves_count_is : (k : ℕ) (run : List ℕ) → 1 ≤ k → length (moves k run) ≡ div_ceil (length run) k
 moves_count_is k run some = length-map (operands k run) multi_of ∙ count_within (length run) k run some (omega arith)
 
--- a run from whose front a chunk was cut
+-- a chunk that was cut off at the start of a run is its first operand
 pub operands_chunk : (k size : ℕ) (left x rest : List ℕ) → size ≡ k → 1 ≤ k → left ≡ x ++ rest → length x ≡ min size (length left) → 0 < length left →
     operands k left ≡ x ∷ operands k rest
 operands_chunk k size left x rest is some parts long more =
     let n : min k (length left) ≡ length x = omega arith in
     let front : take (min k (length left)) left ≡ x = ap (λ (n : ℕ). take n left) n ∙ (ap (take (length x)) parts ∙ take-append_seam x rest) in
     let back : drop (min k (length left)) left ≡ rest = ap (λ (n : ℕ). drop n left) n ∙ (ap (drop (length x)) parts ∙ drop-append_seam x rest) in
-    operands-front k left some more ∙ (ap (λ (o : List ℕ). o ∷ operands k (drop (min k (length left)) left)) front ∙ ap (λ (l : List ℕ). x ∷ operands k l) back)
+    operands-first k left some more ∙ (ap (λ (o : List ℕ). o ∷ operands k (drop (min k (length left)) left)) front ∙ ap (λ (l : List ℕ). x ∷ operands k l) back)
 
 pub moves_chunk : (k size : ℕ) (left x rest : List ℕ) → size ≡ k → 1 ≤ k → left ≡ x ++ rest → length x ≡ min size (length left) → 0 < length left →
     moves k left ≡ multi_of x ∷ moves k rest
 moves_chunk k size left x rest is some parts long more = ap (map multi_of) (operands_chunk k size left x rest is some parts long more)
 
--- a run that is cut behind its first operand
+-- a run whose first operand was cut off
 
 pub run_some : (k n : ℕ) (run after : List ℕ) → after ≡ drop n run → 0 < length (moves k after) → 0 < length run
 run_some k n (x ∷ xs) after is some = omega arith
@@ -132,7 +132,7 @@ one_at_most k n [] front after some is first rest none = omega (arith, ap length
 one_at_most k n (x ∷ xs) front after some is first rest none =
     omega (arith, ap length (moves_turn k n (x ∷ xs) front after some (omega arith) is first rest))
 
--- more operands than n, where there are more words than n operands have
+-- there are more operands than n if there are more words than n operands have
 pub more_than : (n k : ℕ) (run : List ℕ) → 1 ≤ k → nat_lt n (length (moves k run)) ≡ nat_lt (n * k) (length run)
 more_than n k run some = ap (nat_lt n) (moves_count_is k run some) ∙ at (nat_lt n (div_ceil (length run) k)) refl
   where

@@ -10,7 +10,7 @@ use Rattle.nap_draw.specs.declared.fault.DrawFault.{DrawFault}
 use Rattle.nap_draw.specs.Operands.{moves}
 use Rattle.nap_draw.specs.Rule.{RuleResult, with_drawing, domain_in, domain_rule}
 
--- What DOMAIN gives.
+-- The result of DOMAIN.
 
 with_pel : Work → OperandLengths → Option Displacement → Result RuleResult DrawFault
 with_pel work domain pel = Ok (record {

@@ -11,13 +11,13 @@ use Rattle.nap_draw.specs.Codes.{definition_ended, definition_ended_by}
 use Rattle.nap_draw.specs.Rule.{RuleResult, rule_result}
 use Rattle.nap_draw.specs.Execution.{definition_start}
 
--- What the end of a definition is, by whether one is open.
+-- The result of ending a definition, by whether one is open.
 
 pub not_ended : (work : Work) (o : Option OpenDefinition) → is_some o ≡ false → definition_ended_by work o ≡ rule_result work []
 not_ended work None none = refl
 not_ended work (Some opened) none = let bad : ⊥ = cc in absurd bad
 
--- it puts the values and the lengths of operands back
+-- ending a definition restores the attributes and the operand lengths
 abbrev pub back : Work → RuleResult
 back work = record {
   entries = entries.DefEnd ∷ [];
@@ -38,12 +38,12 @@ unfolding walk
 ended_closed work None is = is
 ended_closed work (Some opened) is = refl
 
--- another may begin behind it
+-- another definition may begin after it
 pub start_fits : (work : Work) (what : Definition) → WellMade (definition_start what) → Fits (definition_ended work).work.state (definition_start what)
 start_fits work (definitions.Glyph code) made = record { values = record { pen = tt; colour = tt; texture = tt }; made = made; comes = ended_closed work work.state.definition refl }
 start_fits work (definitions.Mask mask) made = record { values = record { pen = tt; colour = tt; texture = tt }; made = made; comes = ended_closed work work.state.definition refl }
 
--- where one is put behind others, something is put
-pub one_behind : (es : List Entry) (e : Entry) → es ++ e ∷ [] ≢ []
-one_behind [] e none = cc
-one_behind (x ∷ es) e none = cc
+-- a list with one more entry isn't empty
+pub one_after : (es : List Entry) (e : Entry) → es ++ e ∷ [] ≢ []
+one_after [] e none = cc
+one_after (x ∷ es) e none = cc

@@ -49,7 +49,7 @@ use Rattle.nap_list.specs.declared.shape.ShapeKind.TheVariants as kinds
 use Rattle.nap_list.specs.Shapes.{shape_on}
 use Rattle.nap_draw.proofs.Outlines.{arc_made, poly_made, holds_shape, shape_comes}
 
--- The entries that a rule gives fit.
+-- The entries of a rule's result fit.
 
 -- from agreeing states the entries fit one after another, and the states agree again
 Fitting : Work → RuleResult → Type 0
@@ -133,19 +133,19 @@ pen_fits : (work : Work) (run : List ℕ) (f : Coordinates → List Displacement
     IsFitting work (and_then (at_least_one (moves_of work run)) (λ ms. and_then (pen_point work.state.drawing.pen) (λ p. f p ms)))
 pen_fits work run f each = each_fits work (at_least_one (moves_of work run)) _ (λ ms. each_fits work (pen_point work.state.drawing.pen) (λ p. f p ms) (λ p. each p ms))
 
--- one entry that holds the values that stand
+-- one entry that holds current attributes
 single_fits : (work : Work) (e : Entry) → EqualCurrent (attributes e) work.state.drawing → WellMade e → MayCome work.state e → Fitting work (rule_result work (e ∷ []))
 unfolding Fitting AllFit walk
 single_fits work e holds made comes shown a =
     let fits = agreeing_fits work.state shown e a holds made comes in ((fits.0, tt), fits.1)
 
--- the continuation gets a list that isn't empty
+-- the rest of the rule gets a list that isn't empty
 some_fit : (work : Work) (xs : List Displacement) (f : List Displacement → Result RuleResult DrawFault) → ((ms : List Displacement) → 0 < length ms → IsFitting work (f ms)) →
     IsFitting work (and_then (at_least_one xs) f)
 some_fit work [] f each = fault_fits work faults.Missing
 some_fit work (x ∷ xs) f each = each (x ∷ xs) (omega arith)
 
--- and one that isn't too long
+-- the rest of the rule gets a list that isn't too long
 few_fit : (work : Work) (ms : List Displacement) (f : List Displacement → Result RuleResult DrawFault) → (length ms ≤ steps_limit → IsFitting work (f ms)) →
     IsFitting work (and_then (at_most_limit ms) f)
 few_fit work ms f each = at (ltb steps_limit (length ms)) refl
@@ -242,16 +242,16 @@ direct_agrees : (s : State) (grb : Components) (shown : State) → StatesAgree s
 direct_agrees s grb shown a =
     values_agree s _ shown a (record { pen = a.drawing.pen; base = tt; colour = tt; mode = refl; texture = a.drawing.texture })
 
--- a colour at an address: the colours chosen stay, and those shown are the address
+-- a colour of the colour map, which agrees with any colour that the entries left
 abbrev ColourIsMapped : Colour → Type 0
 ColourIsMapped (colours.Front a) = Unit {0}
 ColourIsMapped (colours.Pair a b) = Unit {0}
 ColourIsMapped _ = ⊥
 
 mapped_agrees : (colour shown : Colour) → ColourIsMapped colour → ColourAgrees colour shown
-mapped_agrees (colours.Front a) shown with_map_colour = tt
-mapped_agrees (colours.Pair a b) shown with_map_colour = tt
-mapped_agrees _ shown with_map_colour = absurd with_map_colour
+mapped_agrees (colours.Front a) shown mapped = tt
+mapped_agrees (colours.Pair a b) shown mapped = tt
+mapped_agrees _ shown mapped = absurd mapped
 
 attribute_fits : (work w : Work) → ((shown : State) → StatesAgree work.state shown → StatesAgree w.state shown) → IsFitting work (Ok (rule_result w []))
 unfolding IsFitting
@@ -360,7 +360,7 @@ nothing_holds d = record { pen = tt; pel = tt; colour = tt; texture = tt; text =
 entry_fits : (work : Work) (e : Entry) → MayFollow work.state e → IsFitting work (one_entry_result work e)
 entry_fits work e follows = list_fits work (e ∷ []) (single_fits work e follows.holds follows.made follows.comes)
 
--- the definition that is open ends
+-- the open definition ends
 
 end_follows : (s : State) (opened : OpenDefinition) → s.definition ≡ Some opened → MayFollow s entries.DefEnd
 end_follows s opened is = record { holds = nothing_holds s.drawing; made = tt; comes = subst (λ (o : Option OpenDefinition). IsSome o) (sym is) refl }
@@ -372,7 +372,7 @@ ended_fits work (Some opened) is shown a =
     let follows = end_follows work.state opened is in
     let fits = agreeing_fits work.state shown entries.DefEnd a follows.holds follows.made follows.comes in ((fits.0, tt), fits.1)
 
--- and another begins
+-- another definition begins
 
 start_follows : (work : Work) (what : Definition) → WellMade (definition_start what) → MayFollow (definition_ended work).work.state (definition_start what)
 start_follows work (definitions.Glyph code) made = record { holds = nothing_holds _; made = made; comes = ended_closed work work.state.definition refl }

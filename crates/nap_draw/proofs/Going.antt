@@ -11,19 +11,19 @@ use Rattle.nap_draw.specs.declared.fault.DrawFault.TheVariants.{Missing}
 use Rattle.nap_draw.specs.Geometry.{cons_if_all, last_or, points_reached, points_at}
 use Rattle.nap_draw.specs.Rule.{RuleResult, with_drawing, and_then, at_least_one, pen_point, from_pen, pen_result, moves_of, with_operands}
 
--- Where a pen goes without drawing.
+-- Where the pen moves without drawing.
 
--- it comes to the last of the points
+-- the pen moves to the last of the points
 pub goes_end : (work : Work) (ps : List Coordinates) (d : Drawing) → d ≡ with_pen_at (last_or None ps) work.state.drawing →
     pen_result work (Some ps) ≡ Ok (record { entries = []; work = with_drawing work d; clears = false })
 unfolding walk
 goes_end work ps d is = ap (λ (d : Drawing). Ok (record { entries = []; work = with_drawing work d; clears = false })) (sym is)
 
--- the last is the one that came last
-pub end_behind : {A : Type 0} (o : Option A) (xs : List A) (x : A) → last_or o (xs ++ x ∷ []) ≡ Some x
+-- the last of a list with one more point is that point
+pub end_after : {A : Type 0} (o : Option A) (xs : List A) (x : A) → last_or o (xs ++ x ∷ []) ≡ Some x
 unfolding last_or
-end_behind o [] x = refl
-end_behind o (y ∷ ys) x = end_behind (Some y) ys x
+end_after o [] x = refl
+end_after o (y ∷ ys) x = end_after (Some y) ys x
 
 -- no point yet
 pub pen_before : (d : Drawing) (pen : Pen) → pen ≡ d.pen → with_pen pen d ≡ with_pen_at (last_or None []) d
@@ -31,19 +31,19 @@ unfolding last_or
 pen_before d pen is = ap (λ (pen : Pen). with_pen pen d) is
 
 -- one point more
-pub pen_behind : (d : Drawing) (front : List Coordinates) (p : Coordinates) → with_pen (pens.At p) d ≡ with_pen_at (last_or None (front ++ p ∷ [])) d
-pen_behind d front p = ap (λ o. with_pen_at o d) (sym (end_behind None front p))
+pub pen_after : (d : Drawing) (prefix : List Coordinates) (p : Coordinates) → with_pen (pens.At p) d ≡ with_pen_at (last_or None (prefix ++ p ∷ [])) d
+pen_after d prefix p = ap (λ o. with_pen_at o d) (sym (end_after None prefix p))
 
--- what goes on from something is not nothing
-onward_some : {A : Type 0} (x : Option A) (next : A → Option (List A)) → cons_if_all x next ≢ Some []
-onward_some None next is = let bad : ⊥ = cc in absurd bad
-onward_some {A} (Some x) next is = behind (next x) is
+-- a list that has a first item isn't empty
+cons_if_all_some : {A : Type 0} (x : Option A) (next : A → Option (List A)) → cons_if_all x next ≢ Some []
+cons_if_all_some None next is = let bad : ⊥ = cc in absurd bad
+cons_if_all_some {A} (Some x) next is = not_empty (next x) is
   where
-    behind : (rest : Option (List A)) → option_map (λ xs. x ∷ xs) rest ≢ Some []
-    behind None is = let bad : ⊥ = cc in absurd bad
-    behind (Some xs) is = let bad : ⊥ = cc in absurd bad
+    not_empty : (rest : Option (List A)) → option_map (λ xs. x ∷ xs) rest ≢ Some []
+    not_empty None is = let bad : ⊥ = cc in absurd bad
+    not_empty (Some xs) is = let bad : ⊥ = cc in absurd bad
 
--- where a run starts from the pen, it has an operand
+-- a run that starts at the pen has an operand
 starts_some : (work : Work) (run : List ℕ) (from : Coordinates) →
     ((f : Coordinates → List Displacement → Result RuleResult DrawFault) → from_pen work run f ≡ f from (moves_of work run)) → moves_of work run ≢ []
 starts_some work run from starts none =
@@ -57,7 +57,7 @@ ends_alike : (p at : Coordinates) (ms : List Displacement) (ps : List Coordinate
 unfolding last_or points_reached
 ends_alike p at ms (q ∷ qs) some is end = end
 ends_alike p at [] [] some is end = absurd (some refl)
-ends_alike p at (m ∷ ms) [] some is end = absurd (onward_some (displaced_point p m) (λ q. points_reached q ms) is)
+ends_alike p at (m ∷ ms) [] some is end = absurd (cons_if_all_some (displaced_point p m) (λ q. points_reached q ms) is)
 
 -- the point that all operands reached
 pub pen_reached : (work : Work) (run : List ℕ) (from at : Coordinates) (ps : List Coordinates) →

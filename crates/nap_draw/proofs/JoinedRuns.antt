@@ -24,9 +24,9 @@ use Rattle.nap_draw.specs.Joining.{IsWhole, RunsJoin}
 use Rattle.nap_draw.proofs.Cuts.{moves_chunk}
 use Rattle.nap_draw.proofs.Outlines.{mapped_some}
 
--- An opcode with one run, and the same opcode with a second, do what it does with both runs as one.
+-- An opcode on a run, and then on a second run, does what it does on both runs joined.
 
--- whole operands at the front of a run are cut as they are alone
+-- complete operands at the start of a run are cut as they are alone
 moves_join : (k count : ℕ) (run more : List ℕ) → length run ≡ count * k → moves k (run ++ more) ≡ moves k run ++ moves k more
 unfolding operands
 moves_join k count [] more whole = refl
@@ -43,13 +43,13 @@ moves_join (suc k) (suc count) run more whole =
     ∙ sym (ap (λ (ms : List Displacement). ms ++ moves (suc k) more) (moves_chunk (suc k) (suc k) run front rest refl (omega arith) parts (omega arith) (omega arith))))
 moves_join k count (word ∷ words) more whole = absurd (omega arith)
 
--- what a step that came out right had before it
+-- the first step gave a result if both steps together did
 
 and_ok : {A B : Type 0} (r : Result A DrawFault) (f : A → Result B DrawFault) (y : B) → and_then r f ≡ Ok y → (x : A) × (r ≡ Ok x) × (f x ≡ Ok y)
 and_ok (Ok x) f y is = (x, refl, is)
 and_ok (Err fault) f y is = let bad : ⊥ = cc in absurd bad
 
--- a test of operands: it lets them through as they are, and where it lets through two lists, it lets through both as one
+-- a check of operands that doesn't change them, and that passes two lists joined if it passes each
 record Gate (gate : List Displacement → Result (List Displacement) DrawFault) : Type 0 where
   same : (ms passed : List Displacement) → gate ms ≡ Ok passed → passed ≡ ms
   both : (ms ns : List Displacement) → gate ms ≡ Ok ms → gate ns ≡ Ok ns → gate (ms ++ ns) ≡ Ok (ms ++ ns)
@@ -86,39 +86,39 @@ pairs_gate = record { same = same; both = both }
         let odd_still : eqb (length (ms ++ n ∷ ns) % 2) 1 ≡ true = grind (arith, nat_tests) in
         ap (λ (b : Bool). cond b (Ok (m ∷ (ms ++ n ∷ ns))) (Err Missing)) odd_still
 
--- where two lists of operands lead, both as one lead to the places of the first and then to those of the second
+-- the points that two lists of operands joined reach are those of the first, and then those of the second
 
-onward_join : {A : Type 0} (o : Option A) (f g : A → Option (List A)) (xs ys : List A) → cons_if_all o f ≡ Some xs →
+cons_if_all_join : {A : Type 0} (o : Option A) (f g : A → Option (List A)) (xs ys : List A) → cons_if_all o f ≡ Some xs →
     ((x : A) (zs : List A) → f x ≡ Some zs → g x ≡ Some (zs ++ ys)) → cons_if_all o g ≡ Some (xs ++ ys)
-onward_join {A = A} None f g xs ys is next = cc
-onward_join {A = A} (Some x) f g xs ys is next =
+cons_if_all_join {A = A} None f g xs ys is next = cc
+cons_if_all_join {A = A} (Some x) f g xs ys is next =
     let there = mapped_some (λ (zs : List A). x ∷ zs) (f x) xs is in
     ap (option_map (λ (zs : List A). x ∷ zs)) (next x there.0 there.1) ∙ ap (λ (zs : List A). Some (zs ++ ys)) there.2
 
 points_join : (ms ns : List Displacement) (ps qs : List Coordinates) → points_at ms ≡ Some ps → points_at ns ≡ Some qs → points_at (ms ++ ns) ≡ Some (ps ++ qs)
 unfolding points_at
 points_join [] ns ps qs a b = let e : [] ≡ ps = cc in b ∙ ap (λ (l : List Coordinates). Some (l ++ qs)) e
-points_join (m ∷ ms) ns ps qs a b = onward_join (point_at m) (λ _. points_at ms) (λ _. points_at (ms ++ ns)) ps qs a (λ p rs is. points_join ms ns rs qs is b)
+points_join (m ∷ ms) ns ps qs a b = cons_if_all_join (point_at m) (λ _. points_at ms) (λ _. points_at (ms ++ ns)) ps qs a (λ p rs is. points_join ms ns rs qs is b)
 
 between_join : (ms ns : List Displacement) (xs ys : List Span) → absolute_spans ms ≡ Some xs → absolute_spans ns ≡ Some ys → absolute_spans (ms ++ ns) ≡ Some (xs ++ ys)
 unfolding absolute_spans
 between_join [] ns xs ys a b = let e : [] ≡ xs = cc in b ∙ ap (λ (l : List Span). Some (l ++ ys)) e
 between_join (m ∷ []) ns xs ys a b = cc
 between_join (m ∷ n ∷ ms) ns xs ys a b =
-    onward_join (span (point_at m) (point_at n)) (λ _. absolute_spans ms) (λ _. absolute_spans (ms ++ ns)) xs ys a (λ s zs is. between_join ms ns zs ys is b)
+    cons_if_all_join (span (point_at m) (point_at n)) (λ _. absolute_spans ms) (λ _. absolute_spans (ms ++ ns)) xs ys a (λ s zs is. between_join ms ns zs ys is b)
 
 away_join : (ms ns : List Displacement) (xs ys : List Span) → relative_spans ms ≡ Some xs → relative_spans ns ≡ Some ys → relative_spans (ms ++ ns) ≡ Some (xs ++ ys)
 unfolding relative_spans
 away_join [] ns xs ys a b = let e : [] ≡ xs = cc in b ∙ ap (λ (l : List Span). Some (l ++ ys)) e
 away_join (m ∷ []) ns xs ys a b = cc
 away_join (m ∷ n ∷ ms) ns xs ys a b =
-    onward_join (span_by (point_at m) n) (λ _. relative_spans ms) (λ _. relative_spans (ms ++ ns)) xs ys a (λ s zs is. away_join ms ns zs ys is b)
+    cons_if_all_join (span_by (point_at m) n) (λ _. relative_spans ms) (λ _. relative_spans (ms ++ ns)) xs ys a (λ s zs is. away_join ms ns zs ys is b)
 
--- what is drawn first and what is drawn second, as one
+-- the results of two runs, one after the other
 abbrev as_one : RuleResult → RuleResult → RuleResult
 as_one first second = record { entries = first.entries ++ second.entries; work = second.work; clears = false }
 
--- entries drawn with the pel, the colour and the texture that stand leave these as they are
+-- entries drawn with the current pel, colour and texture leave these as they are
 abbrev Keeps : {A : Type 0} → (Ink → A → Entry) → Type 0
 Keeps {A = A} entry = (s : State) (ink : Ink) (x : A) → ink_of s.drawing ≡ ink → ink_of (after s (entry ink x)).drawing ≡ ink
 
@@ -144,7 +144,7 @@ module _ {A : Type 0} (entry : Ink → A → Entry) (keeps : Keeps entry) where
       let kept : ink_of (walk work.state (map (entry ink) xs)).drawing ≡ ink = walk_keeps work.state ink xs refl in
       rw (map-append, walks_join, kept) refl
 
-  -- the rule of such an opcode, by where it begins and where its operands lead from there
+  -- the rule of such an opcode, by its start and the points that its operands reach from there
   module _ {B : Type 0} (gate : List Displacement → Result (List Displacement) DrawFault) (by : Gate gate)
       (begin : Pen → Result B DrawFault) (shapes : B → List Displacement → Option (List A))
       (onto : (s : State) (b c : B) (ms ns : List Displacement) (xs ys : List A) → begin s.drawing.pen ≡ Ok b → shapes b ms ≡ Some xs →
@@ -155,7 +155,7 @@ module _ {A : Type 0} (entry : Ink → A → Entry) (keeps : Keeps entry) where
     abbrev of_run : Work → List ℕ → Result RuleResult DrawFault
     of_run work run = and_then (gate (moves_of work run)) (begun work)
 
-    -- what an opcode that drew this had before it
+    -- what an opcode with this result had before it
     record Gave (work : Work) (ms : List Displacement) (d : RuleResult) : Type 0 where
       passed : gate ms ≡ Ok ms
       start : B
@@ -184,7 +184,7 @@ module _ {A : Type 0} (entry : Ink → A → Entry) (keeps : Keeps entry) where
         let led = onto work.state one.start two.start (moves_of work run) (moves_of work more) one.list two.list one.begins one.leads two.begins two.leads in
         rw (moved, passed, one.begins, led) (ap Ok (shapes_join work one.list two.list) ∙ ap₂ (λ f t. Ok (as_one f t)) one.gives two.gives)
 
--- a point keeps the texture that stands, and a line or a rectangle has all three
+-- a point leaves the current texture, and a line or a rectangle holds all three
 
 abbrev point_with : Ink → Coordinates → Entry
 point_with ink at = entries.Point at ink.pel ink.colour
@@ -198,7 +198,7 @@ rect_with filled ink s = entries.Rect filled s.from s.to ink
 point_keeps : Keeps point_with
 point_keeps s ink at is = ap (λ (i : Ink). record ink { texture = i.texture }) is
 
--- lines that go on from the last point
+-- lines that continue from the last point
 
 last_of : Coordinates → List Coordinates → Coordinates
 last_of p [] = p
@@ -224,7 +224,7 @@ lines_on s p q ms ns xs ys begins leads then_ more =
     let last : last_of p one.0 ≡ q = cc (pen_at_last s (ink_of s.drawing) p one.0 begins) in
     ap (option_map (polyline_spans p)) (points_join ms ns one.0 two.0 one.1 two.1) ∙ cc (joined_join p one.0 two.0)
 
--- the rule of an opcode that doesn't go on from the pen
+-- the rule of an opcode that doesn't continue from the pen
 module _ {A : Type 0} (entry : Ink → A → Entry) (keeps : Keeps entry) (gate : List Displacement → Result (List Displacement) DrawFault) (by : Gate gate)
     (shapes : List Displacement → Option (List A))
     (onto : (ms ns : List Displacement) (xs ys : List A) → shapes ms ≡ Some xs → shapes ns ≡ Some ys → shapes (ms ++ ns) ≡ Some (xs ++ ys)) where

@@ -13,7 +13,7 @@ use Rattle.nap_draw.specs.Geometry.{last_or, polyline_spans}
 use Rattle.nap_draw.specs.Rule.{span_line_entry}
 use Rattle.nap_draw.specs.Execution.{chain_spans, rect_spans, pair_spans, figure_entry, figure_end}
 
--- What a loop over a list has left.
+-- What is left of a list in a loop.
 
 pub drop_at : {A : Type 0} (xs : List A) (i : ℕ) (x : A) → i < length xs → x ≡ get_or xs i x → drop i xs ≡ x ∷ drop (i + 1) xs
 drop_at xs i x less is = rw add-one (drop-cons xs i x less ∙ ap (λ y. y ∷ drop (suc i) xs) (sym is))
@@ -63,7 +63,7 @@ pub paired_left : (figure : Figure) (d : Drawing) (from to : Coordinates) (left 
 paired_left figure d from to left rest e is made =
     ap (map (figure_entry figure d)) (ap pair_spans is ∙ paired_turn from to rest) ∙ ap (λ (e : Entry). e ∷ map (figure_entry figure d) (pair_spans rest)) (sym made)
 
--- the last span, one further on
+-- the last span, after one more
 
 pub linked_last : (figure : Figure) (o : Option Span) (at to : Coordinates) (left rest : List Coordinates) → left ≡ to ∷ rest →
     last_or (Some (record { from = at; to = to })) (chain_spans figure (figure_end figure (record { from = at; to = to })) rest) ≡ last_or o (chain_spans figure at left)

@@ -26,10 +26,10 @@ use Rattle.nap_draw.specs.declared.fault.DrawFault.{DrawFault}
 
 -- The points of arcs and polygons, and the rules that draw them.
 
--- all of it is there
-onward_some : {A : Type 0} (x : Option A) (next : A → Option (List A)) (l : List A) → cons_if_all x next ≡ Some l → (y : A) × (ys : List A) × (next y ≡ Some ys) × (l ≡ y ∷ ys)
-onward_some None next l is = let bad : ⊥ = cc in absurd bad
-onward_some {A} (Some y) next l is = at (next y) refl
+-- a list that isn't missing has all its parts
+cons_if_all_some : {A : Type 0} (x : Option A) (next : A → Option (List A)) (l : List A) → cons_if_all x next ≡ Some l → (y : A) × (ys : List A) × (next y ≡ Some ys) × (l ≡ y ∷ ys)
+cons_if_all_some None next l is = let bad : ⊥ = cc in absurd bad
+cons_if_all_some {A} (Some y) next l is = at (next y) refl
   where
     at : (o : Option (List A)) → next y ≡ o → (y : A) × (ys : List A) × (next y ≡ Some ys) × (l ≡ y ∷ ys)
     at None h = let bad : ⊥ = cc in absurd bad
@@ -39,7 +39,7 @@ pub reached_length : (p : Coordinates) (ms : List Displacement) (qs : List Coord
 unfolding points_reached
 reached_length p [] qs is = let e : [] ≡ qs = cc in sym (ap length e)
 reached_length p (m ∷ ms) qs is =
-    let all = onward_some (displaced_point p m) (λ q. points_reached q ms) qs is in
+    let all = cons_if_all_some (displaced_point p m) (λ q. points_reached q ms) qs is in
     ap length all.3 ∙ ap suc (reached_length all.0 ms all.1 all.2)
 
 pub mapped_some : {A B : Type 0} (f : A → B) (o : Option A) (y : B) → option_map f o ≡ Some y → (x : A) × (o ≡ Some x) × (f x ≡ y)
@@ -82,7 +82,7 @@ pub shape_comes : (kind : ShapeKind) (filled : Bool) (d : Drawing) (ps : List Co
 shape_comes kinds.Arc filled d ps t = tt
 shape_comes kinds.Poly filled d ps t = tt
 
--- the last of some points is there
+-- some points have a last one
 last_is : (p : Coordinates) (ps : List Coordinates) → (q : Coordinates) × (slice_get (p ∷ ps) (length ps) ≡ Some q)
 last_is p [] = (p, refl)
 last_is p (q ∷ qs) = last_is q qs
@@ -94,7 +94,7 @@ last_there p ps d q =
     let is = ap (slice_get (p ∷ ps)) n ∙ (last_is p ps).1 in
     rw is refl
 
--- what a shape through these points leaves
+-- the state after a shape through these points
 pub shape_leaves : (kind : ShapeKind) (filled : Bool) (s : State) (p : Coordinates) (ps : List Coordinates) → ModeZeroIsBase s.drawing.base s.drawing.colour →
     after s (shape_on kind filled s.drawing (outline kind (p ∷ ps))) ≡ with_pen_moved s (pens.At (shape_end kind p (outline kind (p ∷ ps))))
 shape_leaves kinds.Arc filled s p ps mode =
@@ -113,13 +113,13 @@ few_ok ms few = let test : ltb steps_limit (length ms) ≡ false = grind (arith,
 few_not : (ms : List Displacement) → steps_limit < length ms → at_most_limit ms ≡ Err ManyPoints
 few_not ms many = let test : ltb steps_limit (length ms) ≡ true = grind (arith, nat_tests) in rw test refl
 
--- the points of a shape, by those that follow the first
+-- the points of a shape, by those after the first
 
 pub outlined : (kind : ShapeKind) (p : Coordinates) (ms : List Displacement) → shape_points kind p ms ≡ option_map (λ qs. outline kind (p ∷ qs)) (points_reached p ms)
 outlined kinds.Arc p ms = refl
 outlined kinds.Poly p ms = refl
 
--- the rules of a shape, behind their checks
+-- the rules of a shape, after their checks
 
 module _ (work : Work) (kind : ShapeKind) (filled : Bool) where
   abbrev on : Drawing → List Coordinates → Entry
@@ -150,7 +150,7 @@ module _ (work : Work) (kind : ShapeKind) (filled : Bool) where
   pen_goes ms p some few is =
       pen_few ms some few ∙ (ap (λ r. and_then r (λ p. entry_result work on (shape_points kind p ms))) (sym is) ∙ ap (entry_result work on) (outlined kind p ms))
 
-  -- the same from the point that the first operand is, where the run is cut behind it
+  -- the rules of a shape from the point of its first operand, which is cut off the run
 
   abbrev from_first : Displacement → List Displacement → Result RuleResult DrawFault
   from_first m ms = entry_result work on (option_and_then (λ p. shape_points kind p ms) (point_at m))

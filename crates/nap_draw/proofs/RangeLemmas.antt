@@ -38,18 +38,18 @@ use Rattle.nap_draw.specs.Rule.{RuleResult, rule, rule_result, with_drawing, ent
 use Rattle.nap_draw.specs.Laws.{DrawnValuesAreInRange}
 use Rattle.nap_draw.proofs.WalkRanges.{setting_ranged, unwrap_ranged, with_pen_at_ranged, with_colour_ranged, at_ranged, walk_ranged}
 
--- What rules give is in range.
+-- The results of rules are in range.
 
 -- the words of operands
 
-cut_ranged : (k scratch : ℕ) (operand words : List ℕ) → All IsWord operand → All IsWord words → All (All IsWord) (cut_operands k scratch operand words)
+cut_ranged : (k lacking : ℕ) (operand words : List ℕ) → All IsWord operand → All IsWord words → All (All IsWord) (cut_operands k lacking operand words)
 unfolding cut_operands
-cut_ranged k scratch operand [] front all = All-cons (All IsWord) operand [] front (All-nil (All IsWord))
+cut_ranged k lacking operand [] front all = All-cons (All IsWord) operand [] front (All-nil (All IsWord))
 cut_ranged k zero operand (word ∷ words) front all =
     All-cons (All IsWord) operand (cut_operands k (k - 1) (word ∷ []) words) front
     (cut_ranged k (k - 1) (word ∷ []) words (All-cons IsWord word [] (All-head IsWord word words all) (All-nil IsWord)) (All-tail IsWord word words all))
-cut_ranged k (suc scratch) operand (word ∷ words) front all =
-    cut_ranged k scratch (operand ++ word ∷ []) words
+cut_ranged k (suc lacking) operand (word ∷ words) front all =
+    cut_ranged k lacking (operand ++ word ∷ []) words
     (All-append IsWord operand (word ∷ []) front (All-cons IsWord word [] (All-head IsWord word words all) (All-nil IsWord))) (All-tail IsWord word words all)
 
 operands_ranged : (k : ℕ) (run : List ℕ) → All IsWord run → All (All IsWord) (operands k run)
@@ -73,7 +73,7 @@ word_ranged [] i all = omega arith
 word_ranged (word ∷ words) zero all = All-head IsWord word words all
 word_ranged (word ∷ words) (suc i) all = word_ranged words i (All-tail IsWord word words all)
 
--- where operands lead
+-- the points that operands reach
 
 point_at_ranged : (m : Displacement) → IfSome (point_at m) IsInSquare
 point_at_ranged m = at (point_at m) refl
@@ -94,19 +94,19 @@ module _ {A : Type 0} (P : A → Type 0) where
   one_more x None first rest = tt
   one_more x (Some xs) first rest = All-cons P x xs first rest
 
-  goes_on : (o : Option A) (next : A → Option (List A)) → IfSome o P → ((x : A) → P x → IfSome (next x) (All P)) → IfSome (cons_if_all o next) (All P)
-  goes_on None next first rest = tt
-  goes_on (Some x) next first rest = one_more x (next x) first (rest x first)
+  one_and_rest : (o : Option A) (next : A → Option (List A)) → IfSome o P → ((x : A) → P x → IfSome (next x) (All P)) → IfSome (cons_if_all o next) (All P)
+  one_and_rest None next first rest = tt
+  one_and_rest (Some x) next first rest = one_more x (next x) first (rest x first)
 
 points_at_ranged : (ms : List Displacement) → IfSome (points_at ms) (All IsInSquare)
 unfolding points_at
 points_at_ranged [] = All-nil IsInSquare
-points_at_ranged (m ∷ ms) = goes_on IsInSquare (point_at m) (λ _. points_at ms) (point_at_ranged m) (λ _ _. points_at_ranged ms)
+points_at_ranged (m ∷ ms) = one_and_rest IsInSquare (point_at m) (λ _. points_at ms) (point_at_ranged m) (λ _ _. points_at_ranged ms)
 
 reached_ranged : (p : Coordinates) (ms : List Displacement) → IfSome (points_reached p ms) (All IsInSquare)
 unfolding points_reached
 reached_ranged p [] = All-nil IsInSquare
-reached_ranged p (m ∷ ms) = goes_on IsInSquare (displaced_point p m) (λ q. points_reached q ms) (moved_ranged p m) (λ q _. reached_ranged q ms)
+reached_ranged p (m ∷ ms) = one_and_rest IsInSquare (displaced_point p m) (λ q. points_reached q ms) (moved_ranged p m) (λ q _. reached_ranged q ms)
 
 abbrev SpanInRange : Span → Type 0
 SpanInRange s = IsInSquare s.from × IsInSquare s.to
@@ -136,7 +136,7 @@ unfolding absolute_spans
 between_ranged [] = All-nil SpanInRange
 between_ranged (m ∷ []) = tt
 between_ranged (m ∷ n ∷ ms) =
-    goes_on SpanInRange (span (point_at m) (point_at n)) (λ _. absolute_spans ms)
+    one_and_rest SpanInRange (span (point_at m) (point_at n)) (λ _. absolute_spans ms)
     (span_ranged (point_at m) (point_at n) (point_at_ranged m) (point_at_ranged n)) (λ _ _. between_ranged ms)
 
 away_ranged : (ms : List Displacement) → IfSome (relative_spans ms) (All SpanInRange)
@@ -144,13 +144,13 @@ unfolding relative_spans
 away_ranged [] = All-nil SpanInRange
 away_ranged (m ∷ []) = tt
 away_ranged (m ∷ n ∷ ms) =
-    goes_on SpanInRange (span_by (point_at m) n) (λ _. relative_spans ms) (span_by_ranged (point_at m) n (point_at_ranged m)) (λ _ _. away_ranged ms)
+    one_and_rest SpanInRange (span_by (point_at m) n) (λ _. relative_spans ms) (span_by_ranged (point_at m) n (point_at_ranged m)) (λ _ _. away_ranged ms)
 
 across_ranged : (p : Coordinates) (ms : List Displacement) → IsInSquare p → IfSome (rect_chain_spans p ms) (All SpanInRange)
 unfolding rect_chain_spans
 across_ranged p [] from = All-nil SpanInRange
 across_ranged p (m ∷ ms) from =
-    goes_on SpanInRange (span_by (Some p) m) (λ s. rect_chain_spans (corner s.from s.to) ms) (span_by_ranged (Some p) m from)
+    one_and_rest SpanInRange (span_by (Some p) m) (λ s. rect_chain_spans (corner s.from s.to) ms) (span_by_ranged (Some p) m from)
     (λ s there. across_ranged (corner s.from s.to) ms (there.1.0, there.0.1))
 
 round_ranged : (ps : List Coordinates) → All IsInSquare ps → All IsInSquare (circle_closed ps)
@@ -174,7 +174,7 @@ unfolding last_or
 end_ranged o [] from all = from
 end_ranged o (p ∷ ps) from all = end_ranged (Some p) ps (All-head IsInSquare p ps all) (All-tail IsInSquare p ps all)
 
--- what rules give
+-- the results of rules
 
 abbrev pub Ranged : Result RuleResult DrawFault → Type 0
 Ranged by = IfOk by (λ d. AllInRange d.entries × StateInRange d.work.state)
@@ -196,7 +196,7 @@ pen_point_ranged pens.After there = tt
 ink_ranged : (d : Drawing) → DrawingInRange d → InkInRange (ink_of d)
 ink_ranged d r = record { pel = r.pel; colour = r.colour; texture = r.texture }
 
--- the values change, and nothing is drawn
+-- the attributes change, and nothing is drawn
 pub silent_ranged : (work : Work) (d : Drawing) → StateInRange work.state → DrawingInRange d → Ranged (Ok (rule_result (with_drawing work d) []))
 unfolding walk
 silent_ranged work d r new = (All-nil InRange, record { drawing = new; definition = r.definition; last = r.last; known = r.known })

@@ -8,9 +8,9 @@ use Rattle.nap_draw.specs.Geometry.{cons_if_all, points_at, span, absolute_spans
 use Rattle.nap_draw.specs.Rule.{from_pen, entries_result, rect_on, rule}
 use Rattle.nap_draw.specs.Execution.{pair_spans}
 
--- Rules in other words.
+-- Other forms of rules.
 
--- pairs of points, where no operand lacks its second
+-- pairs of points, if no operand lacks its second
 
 pair_first : (p q : Option Coordinates) (rest : Option (List Coordinates)) →
     cons_if_all (span p q) (λ _. option_map pair_spans rest) ≡ option_map pair_spans (cons_if_all p (λ _. cons_if_all q (λ _. rest)))

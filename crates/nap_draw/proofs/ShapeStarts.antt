@@ -12,12 +12,12 @@ use Rattle.nap_draw.specs.declared.work.Work.{Work}
 use Rattle.nap_draw.specs.Geometry.{points_reached}
 use Rattle.nap_draw.specs.Rule.{moves_of, pen_point}
 use Rattle.nap_draw.specs.Execution.{shape_result, shape_from, shape_points, start_size}
-use Rattle.nap_draw.proofs.ByteRuns.{carried_front, carried_length, carried_rest}
+use Rattle.nap_draw.proofs.ByteRuns.{words_prefix, carried_length, carried_rest}
 use Rattle.nap_draw.proofs.Outlines.{pen_none, pen_many, pen_lost, pen_goes, point_missing, point_many, point_few, point_goes}
 
--- Shapes by where they start.
+-- Shapes by their start.
 
--- the run is cut behind the operand that the shape starts at
+-- the operand that the shape starts at is cut off the run
 pub record IsCut (start : ShapeStart) (k : ℕ) (run front after : List ℕ) : Type 0 where
   pub size : ℕ
   pub least : 1 ≤ k
@@ -31,12 +31,12 @@ cut_at start size k n run front after same least is first rest = record {
   size = n;
   least = omega arith;
   is = is ∙ ap₂ (start_size start) same (sym (carried_length run));
-  first = carried_front n run front first;
+  first = words_prefix n run front first;
   rest = carried_rest n run after rest;
 }
 
 module _ (work : Work) (kind : ShapeKind) (filled : Bool) (run front after : List ℕ) where
-  -- nothing is cut off where it starts at the pen
+  -- nothing is cut off if the shape starts at the pen
   whole : IsCut starts.AtPen work.domain.multi run front after → after ≡ run
   whole cut = cut.rest ∙ ap (λ n. drop n run) cut.is
 

@@ -16,13 +16,13 @@ use Rattle.nap_list.proofs.PublicLaws.{agreeing_fits}
 use Rattle.nap_draw.specs.Rule.{blink}
 use Rattle.nap_draw.proofs.Walks.{left_by}
 
--- Entries that leave the values as they stand.
+-- Entries that leave the attributes as they are.
 
--- the state with these values, and with this last character
+-- the state with these attributes, and with this last character
 abbrev at : Drawing → State → Option LastChar → State
 at d s last = record s { drawing = d; last = last }
 
--- entries that leave the values as they stand
+-- entries that leave the attributes as they are
 pub record Stays {A : Type 0} (d : Drawing) (entry : A → Entry) : Type 0 where
   pub stays : (x : A) (s : State) (last : Option LastChar) → after (at d s last) (entry x) ≡ at d s None
   pub holds : (x : A) → EqualCurrent (attributes (entry x)) d
@@ -67,8 +67,8 @@ pub blink_made : (k m : ℕ) (colour : Colour) (group address times : List ℕ) 
     a ≡ single_of address → on ≡ get_or times 0 0 → off ≡ get_or times 1 0 → delay ≡ get_or times 2 0 → entries.Blink a on off delay colour ≡ blink k colour group
 blink_made k m colour group address times a on off delay part front back at one two three =
     let by = front ∙ (ap (λ (m : ℕ). take m group) part ∙ take_min k group) in
-    let behind = back ∙ (ap (λ (m : ℕ). drop m group) part ∙ drop_min k group) in
-    rw (at, one, two, three, by, behind) refl
+    let further = back ∙ (ap (λ (m : ℕ). drop m group) part ∙ drop_min k group) in
+    rw (at, one, two, three, by, further) refl
 
 -- the first pause of what is left
 pub pause_left : (run : List ℕ) (i word : ℕ) → i < length run → word ≡ get_or run i 0 % 64 →

@@ -16,9 +16,9 @@ use Rattle.nap_draw.specs.Laws.{TextByteRule}
 use Rattle.nap_draw.specs.Rule.{rule_result}
 use Rattle.nap_draw.proofs.Walks.{left_by}
 
--- What the characters of a text and the moves among them leave.
+-- The state after the characters of a text and the moves among them.
 
--- the code of one puts it
+-- the rule of a byte's code puts its entry
 pub typed_rule : TextByteRule
 typed_rule work set code = by (format_effector code)
   where
@@ -26,7 +26,7 @@ typed_rule work set code = by (format_effector code)
     by (Some step) = refl
     by None = refl
 
--- it holds what stands
+-- the entry holds current attributes
 typed_holds : (s : State) (set : CharSet) (code : ℕ) → EqualCurrent (attributes (text_entry set (hand_of s.drawing) code)) s.drawing
 typed_holds s set code = by (format_effector code)
   where
@@ -34,7 +34,7 @@ typed_holds s set code = by (format_effector code)
     by (Some step) = record { pen = refl; pel = tt; colour = refl; texture = tt; text = refl }
     by None = record { pen = refl; pel = tt; colour = refl; texture = tt; text = refl }
 
--- it may come anywhere
+-- the entry may come anywhere
 typed_comes : (s : State) (set : CharSet) (code : ℕ) → MayCome s (text_entry set (hand_of s.drawing) code)
 typed_comes s set code = by (format_effector code)
   where
@@ -42,10 +42,10 @@ typed_comes s set code = by (format_effector code)
     by (Some step) = tt
     by None = tt
 
-behind : State → CharSet → ℕ → State
-behind s set code = record s { drawing = with_pen pens.After s.drawing; last = last_char_of_text set code }
+after_byte : State → CharSet → ℕ → State
+after_byte s set code = record s { drawing = with_pen pens.After s.drawing; last = last_char_of_text set code }
 
--- what it leaves
+-- the state after the entry
 typed_left : (s : State) (set : CharSet) (code : ℕ) → ModeZeroIsBase s.drawing.base s.drawing.colour →
     after s (text_entry set (hand_of s.drawing) code) ≡ record s { drawing = with_pen pens.After s.drawing; last = last_char_of_text set code }
 typed_left s set code mode = by (format_effector code) (typed_holds s set code)
@@ -56,11 +56,11 @@ typed_left s set code mode = by (format_effector code) (typed_holds s set code)
     by None holds = left_by s (text_entry_as None set (hand_of s.drawing) code) holds mode
 
 pub text_is : (s : State) (set : CharSet) (codes : List ℕ) → ModeZeroIsBase s.drawing.base s.drawing.colour → text s set codes ≡ text_entries_in set (hand_of s.drawing) codes
-unfolding text text_entries_in behind
+unfolding text text_entries_in after_byte
 text_is s set [] mode = refl
 text_is s set (code ∷ codes) mode =
     let e = text_entry set (hand_of s.drawing) code in
-    ap (λ (t : State). e ∷ text t set codes) (typed_left s set code mode) ∙ ap (λ (list : List Entry). e ∷ list) (text_is (behind s set code) set codes mode)
+    ap (λ (t : State). e ∷ text t set codes) (typed_left s set code mode) ∙ ap (λ (list : List Entry). e ∷ list) (text_is (after_byte s set code) set codes mode)
 
 pub text_left : (s : State) (set : CharSet) (codes front : List ℕ) (code : ℕ) (last : Option LastChar) → ModeZeroIsBase s.drawing.base s.drawing.colour → codes ≡ front ++ code ∷ [] →
     last ≡ last_char_of_text set code → walk s (text s set codes) ≡ record s { drawing = with_pen pens.After s.drawing; last = last }
@@ -82,7 +82,7 @@ pub text_none : (s : State) (set : CharSet) (codes : List ℕ) → codes ≡ [] 
 unfolding text walk
 text_none s set codes is = ap (λ (codes : List ℕ). walk s (text s set codes)) is
 
--- the state that a text leaves agrees with the one that it leads to
+-- the state after a text agrees with the one that its entries lead to
 pub text_agrees : (s shown there left : State) (set : CharSet) (codes : List ℕ) → StatesAgree s shown → All IsTextByte codes → there ≡ walk shown (text_entries_in set (hand_of s.drawing) codes) →
     walk s (text s set codes) ≡ left → StatesAgree left there
 text_agrees s shown there left set codes agrees made leads is =

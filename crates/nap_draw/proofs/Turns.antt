@@ -5,16 +5,16 @@ use Rattle.nap_list.specs.State.{corner}
 use Rattle.nap_draw.specs.Geometry.{cons_if_all, points_at, points_reached, span, span_by, relative_spans, rect_chain_spans}
 use Rattle.nap_draw.specs.Execution.{rect_spans}
 
--- Where operands lead, one further on.
+-- The points that operands reach, after one more.
 
--- the first is this
-pub onward_more : {A : Type 0} (l : Option (List A)) (x : Option A) (y : A) (next : A → Option (List A)) →
+-- the first item is this one
+pub cons_if_all_more : {A : Type 0} (l : Option (List A)) (x : Option A) (y : A) (next : A → Option (List A)) →
     l ≡ cons_if_all x next → x ≡ Some y → l ≡ option_map (λ xs. y ∷ xs) (next y)
-onward_more l x y next is first = is ∙ ap (λ o. cons_if_all o next) first
+cons_if_all_more l x y next is first = is ∙ ap (λ o. cons_if_all o next) first
 
--- the first is outside the square
-pub onward_none : {A : Type 0} (l : Option (List A)) (x : Option A) (next : A → Option (List A)) → l ≡ cons_if_all x next → x ≡ None → l ≡ None
-onward_none l x next is first = is ∙ ap (λ o. cons_if_all o next) first
+-- the first point is outside the unit screen
+pub cons_if_all_none : {A : Type 0} (l : Option (List A)) (x : Option A) (next : A → Option (List A)) → l ≡ cons_if_all x next → x ≡ None → l ≡ None
+cons_if_all_none l x next is first = is ∙ ap (λ o. cons_if_all o next) first
 
 pub points_turn : (ms rest : List Displacement) (m : Displacement) → ms ≡ m ∷ rest → points_at ms ≡ cons_if_all (point_at m) (λ _. points_at rest)
 unfolding points_at
@@ -29,7 +29,7 @@ pub across_turn : (p : Coordinates) (ms rest : List Displacement) (m : Displacem
 unfolding rect_chain_spans
 across_turn p ms rest m is = ap (rect_chain_spans p) is
 
--- the first is all
+-- there is only one item
 pub across_once : (p : Coordinates) (ms : List Displacement) (m : Displacement) (o : Option Coordinates) → ms ≡ m ∷ [] → displaced_point p m ≡ o →
     rect_chain_spans p ms ≡ option_map (λ q. rect_spans p (q ∷ [])) o
 unfolding rect_chain_spans rect_spans

@@ -26,7 +26,7 @@ use Rattle.nap_list.specs.Range.{IsAddress, IsByte, MapColourInRange, PenInRange
 
 -- A walk over entries in range, from a state in range, leads to a state in range.
 
--- the values at the start
+-- the attributes at the start
 
 pub start_texture_ranged : TextureInRange start_texture
 start_texture_ranged = record { word = omega arith; mask = tt }
@@ -44,59 +44,59 @@ start_drawing_ranged = record {
   text = start_text_ranged;
 }
 
--- the values that an entry holds
+-- the attributes that an entry holds
 
-record HeldInRange (h : Attributes) : Type 0 where
+record AttributesInRange (h : Attributes) : Type 0 where
   pub pen : IfSome h.pen PenInRange
   pub pel : IfSome h.pel IsInRange
   pub colour : IfSome h.colour ColourInRange
   pub texture : IfSome h.texture TextureInRange
   pub text : IfSome h.text TextInRange
 
-of_ink : (ink : Ink) → InkInRange ink → HeldInRange (ink_attributes ink)
+of_ink : (ink : Ink) → InkInRange ink → AttributesInRange (ink_attributes ink)
 of_ink ink r = record { pen = tt; pel = r.pel; colour = r.colour; texture = r.texture; text = tt }
 
-of_hand : (hand : Hand) → HandInRange hand → HeldInRange (hand_attributes hand)
+of_hand : (hand : Hand) → HandInRange hand → AttributesInRange (hand_attributes hand)
 of_hand hand r = record { pen = r.pen; pel = tt; colour = r.colour; texture = tt; text = r.text }
 
-of_colour : (colour : Colour) → ColourInRange colour → HeldInRange (colour_only colour)
+of_colour : (colour : Colour) → ColourInRange colour → AttributesInRange (colour_only colour)
 of_colour colour r = record { pen = tt; pel = tt; colour = r; texture = tt; text = tt }
 
-of_pen : (pen : Pen) → PenInRange pen → HeldInRange (pen_only pen)
+of_pen : (pen : Pen) → PenInRange pen → AttributesInRange (pen_only pen)
 of_pen pen r = record { pen = r; pel = tt; colour = tt; texture = tt; text = tt }
 
-held_ranged : (e : Entry) → InRange e → HeldInRange (attributes e)
-held_ranged (entries.Point at pel colour) r = record { pen = tt; pel = r.1; colour = r.2; texture = tt; text = tt }
-held_ranged (entries.Line from to ink) r = of_ink ink r.2
-held_ranged (entries.Arc filled points ink) r = of_ink ink r.1
-held_ranged (entries.Rect filled from to ink) r = of_ink ink r.2
-held_ranged (entries.Poly filled points ink) r = of_ink ink r.1
-held_ranged (entries.Char set code hand) r = of_hand hand r.1
-held_ranged (entries.TextMove step hand) r = of_hand hand r.1
-held_ranged (entries.ToEol hand) r = of_hand hand r
-held_ranged (entries.Blink addr on off delay colour) r = of_colour colour r.4
-held_ranged (entries.BlinkEnd colour) r = of_colour colour r
-held_ranged (entries.BlinkMark on colour) r = of_colour colour r
-held_ranged (entries.Field area pen) r = of_pen pen r.1
-held_ranged (entries.Reset first second pen) r = of_pen pen r.2
-held_ranged (entries.Clear pen) r = of_pen pen r
-held_ranged _ r = record { pen = tt; pel = tt; colour = tt; texture = tt; text = tt }
+attributes_ranged : (e : Entry) → InRange e → AttributesInRange (attributes e)
+attributes_ranged (entries.Point at pel colour) r = record { pen = tt; pel = r.1; colour = r.2; texture = tt; text = tt }
+attributes_ranged (entries.Line from to ink) r = of_ink ink r.2
+attributes_ranged (entries.Arc filled points ink) r = of_ink ink r.1
+attributes_ranged (entries.Rect filled from to ink) r = of_ink ink r.2
+attributes_ranged (entries.Poly filled points ink) r = of_ink ink r.1
+attributes_ranged (entries.Char set code hand) r = of_hand hand r.1
+attributes_ranged (entries.TextMove step hand) r = of_hand hand r.1
+attributes_ranged (entries.ToEol hand) r = of_hand hand r
+attributes_ranged (entries.Blink addr on off delay colour) r = of_colour colour r.4
+attributes_ranged (entries.BlinkEnd colour) r = of_colour colour r
+attributes_ranged (entries.BlinkMark on colour) r = of_colour colour r
+attributes_ranged (entries.Field area pen) r = of_pen pen r.1
+attributes_ranged (entries.Reset first second pen) r = of_pen pen r.2
+attributes_ranged (entries.Clear pen) r = of_pen pen r
+attributes_ranged _ r = record { pen = tt; pel = tt; colour = tt; texture = tt; text = tt }
 
--- they become the standing ones
+-- they become current
 
 pub unwrap_ranged : {A : Type 0} (P : A → Type 0) (o : Option A) (x : A) → IfSome o P → P x → P (unwrap_or o x)
 unwrap_ranged P None x some other = other
 unwrap_ranged P (Some y) x some other = some
 
 base_ranged : (base : Base) (colour : Option Colour) → BaseInRange base → IfSome colour ColourInRange → BaseInRange (base_after base colour)
-base_ranged base (Some (colours.Direct grb)) stands shown = shown
-base_ranged base (Some (colours.Own origin)) stands shown = stands
-base_ranged base (Some (colours.Front address)) stands shown = stands
-base_ranged base (Some (colours.Pair front back)) stands shown = stands
-base_ranged base (Some (colours.ByReset preset)) stands shown = stands
-base_ranged base None stands shown = stands
+base_ranged base (Some (colours.Direct grb)) current shown = shown
+base_ranged base (Some (colours.Own origin)) current shown = current
+base_ranged base (Some (colours.Front address)) current shown = current
+base_ranged base (Some (colours.Pair front back)) current shown = current
+base_ranged base (Some (colours.ByReset preset)) current shown = current
+base_ranged base None current shown = current
 
-taking_ranged : (d : Drawing) (h : Attributes) → DrawingInRange d → HeldInRange h → DrawingInRange (with_attributes d h)
+taking_ranged : (d : Drawing) (h : Attributes) → DrawingInRange d → AttributesInRange h → DrawingInRange (with_attributes d h)
 taking_ranged d h r taken = record {
   pen = unwrap_ranged PenInRange h.pen d.pen taken.pen r.pen;
   pel = unwrap_ranged IsInRange h.pel d.pel taken.pel r.pel;
@@ -183,7 +183,7 @@ known_ranged known _ new all = all
 
 pub after_ranged : (s : State) (e : Entry) → StateInRange s → InRange e → StateInRange (after s e)
 after_ranged s e r new =
-    let taken = taking_ranged s.drawing (attributes e) r.drawing (held_ranged e new) in
+    let taken = taking_ranged s.drawing (attributes e) r.drawing (attributes_ranged e new) in
     record {
       drawing = drawn_ranged s.definition (with_attributes s.drawing (attributes e)) e r.definition taken new;
       definition = definition_ranged s.definition (with_attributes s.drawing (attributes e)) e r.definition taken new;

@@ -19,7 +19,7 @@ use Rattle.nap_list.specs.Batches.{point_entry}
 use Rattle.nap_draw.specs.Rule.{RuleResult, entries_result, span_line_entry, rect_on}
 use Rattle.nap_draw.specs.Execution.{with_pen_moved_to, figure_entry, figure_end}
 
--- Where entries lead that only move the pen.
+-- The points that entries which only move the pen lead to.
 
 -- entries of one shape that only move the pen, each to a point of its own
 pub record Lands {A : Type 0} (entry : Drawing → A → Entry) (at : A → Coordinates) : Type 0 where
@@ -43,21 +43,21 @@ module _ {A : Type 0} (entry : Drawing → A → Entry) (at : A → Coordinates)
   walk_from s o [] mode = refl
   walk_from s o (x ∷ xs) mode = ap (λ t. walk t (map (entry s.drawing) xs)) (one s o x mode) ∙ walk_from s (Some x) xs mode
 
-  -- where such entries lead
+  -- the point that such entries lead to
   pub draws_end : (work : Work) (xs : List A) (p : Option Coordinates) → ModeZeroIsBase work.state.drawing.base work.state.drawing.colour → p ≡ option_map at (last_or None xs) →
       entries_result work entry (Some xs) ≡ Ok (record { entries = map (entry work.state.drawing) xs; work = record work { state = with_pen_moved_to work.state p }; clears = false })
   draws_end work xs p mode to =
       let all : State → Result RuleResult DrawFault = λ s. Ok (record { entries = map (entry work.state.drawing) xs; work = record work { state = s }; clears = false }) in
       ap all (walk_from work.state None xs mode ∙ ap (with_pen_moved_to work.state) (sym to))
 
--- what an entry leaves that holds the values that stand
+-- the state after an entry that holds current attributes
 pub left_by : (s : State) (e : Entry) → EqualCurrent (attributes e) s.drawing → ModeZeroIsBase s.drawing.base s.drawing.colour →
     after s e ≡ record { drawing = effect_on_drawing s.definition s.drawing e; definition = definition_after s.definition s.drawing e; last = last_after e; known = known_after s.known e }
 left_by s e holds mode =
     let there : Drawing → State = λ d. record { drawing = effect_on_drawing s.definition d e; definition = definition_after s.definition d e; last = last_after e; known = known_after s.known e } in
     ap there (taking_nothing (attributes e) s.drawing holds mode)
 
--- a pen goes to each point
+-- the pen moves to each point
 pub point_lands : Lands point_entry (λ p. p)
 point_lands = record {
   keeps = λ pen d. refl;
@@ -67,7 +67,7 @@ point_lands = record {
   comes = λ s d p. tt;
 }
 
--- a pen goes to the end of each line
+-- the pen moves to the end of each line
 pub line_lands : Lands span_line_entry (λ s. s.to)
 line_lands = record {
   keeps = λ pen d. refl;
@@ -77,7 +77,7 @@ line_lands = record {
   comes = λ s d span. tt;
 }
 
--- a pen goes to the corner straight across
+-- the pen moves to the corner beside the start
 pub rect_lands : (filled : Bool) → Lands (rect_on filled) (λ s. corner s.from s.to)
 rect_lands filled = record {
   keeps = λ pen d. refl;

@@ -45,9 +45,9 @@ Fills all list (Err _) = ⊥
 -- the progress of decoding a run: the points so far come before the rest, and are in the scratch list unless memory ran
 -- out
 pub record Filling {A : Type 0} (all rest : Option (List A)) (full : Bool) (Keeps : List A → Type 0) : Type 0 where
-  pub front : List A
-  pub parts : all ≡ option_map (λ xs. front ++ xs) rest
-  pub kept : full ≡ false → Keeps front
+  pub prefix : List A
+  pub parts : all ≡ option_map (λ xs. prefix ++ xs) rest
+  pub kept : full ≡ false → Keeps prefix
 
 -- the entry of a figure on a span, with these attributes
 abbrev pub figure_with_ink : Figure → Ink → Span → Entry

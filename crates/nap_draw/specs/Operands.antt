@@ -4,9 +4,9 @@ use Rattle.nap_values.specs.Operands.{multi_of, single_of}
 
 -- the words cut into operands of k words, after an operand that still lacks a number of words
 unfoldable pub cut_operands : ℕ → ℕ → List ℕ → List ℕ → List (List ℕ)
-cut_operands k scratch operand [] = operand ∷ []
+cut_operands k lacking operand [] = operand ∷ []
 cut_operands k zero operand (word ∷ words) = operand ∷ cut_operands k (k - 1) (word ∷ []) words
-cut_operands k (suc scratch) operand (word ∷ words) = cut_operands k scratch (operand ++ word ∷ []) words
+cut_operands k (suc lacking) operand (word ∷ words) = cut_operands k lacking (operand ++ word ∷ []) words
 
 -- the operands of a run, of k words each; the last may have fewer
 unfoldable pub operands : ℕ → List ℕ → List (List ℕ)

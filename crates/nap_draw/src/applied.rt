@@ -16,7 +16,7 @@ use std::alloc::Global;
 
 /// Returns the effects of an opcode on its complete run, and puts its entries into the sink once all checks have
 /// passed; the work passed is unchanged (PROFILE.md, Opcodes). A refused opcode puts nothing. If memory runs out or the
-/// sink fails, the sink may have some of the first entries. The incremental opcodes aren't in the profile. `apply_effect` does
+/// sink fails, the sink may have some of the first entries. The incremental opcodes aren't in the profile. `act` does
 /// the same on bytes.
 pub fn apply<S: Sink>(
     alloc: Global,

@@ -13,7 +13,7 @@ use nap_values::Word;
 const COPIES: usize = 63;
 
 impl Work {
-    /// REPEAT: puts the last character again, `operand_count` times.
+    /// REPEAT: puts the last character again, `count` times.
     pub(crate) fn repeat<S: Sink>(&mut self, count: Word, sink: &mut S) -> Result<(), DrawFault>
         requires { StatesAgree self.old.state (S.state sink.old) }
         ensures { AppliesControl S.Sink (code_rule self.old (codes.Repeat count)) self.old self.new sink.old sink.new result }

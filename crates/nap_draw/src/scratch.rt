@@ -35,7 +35,8 @@ fn put_back(scratch: &mut Vec<Point>, points: Vec<Point>)
     forget(replace(scratch, points));
 }
 
-/// Empties the scratch list and reserves memory for the points of this many bytes. Returns whether memory ran out.
+/// Empties the scratch list and reserves memory for the points of `bytes` operand bytes. Returns whether memory ran
+/// out.
 #[inline(always)]
 fn reset_scratch(scratch: &mut Vec<Point>, bytes: usize, domain: Domain) -> bool
     ensures { scratch.new.items ≡ [] }
@@ -47,7 +48,7 @@ fn reset_scratch(scratch: &mut Vec<Point>, bytes: usize, domain: Domain) -> bool
     scratch.reserve_exact(places).is_err()
 }
 
-/// Empties the scratch list, and returns whether it has memory for this many points.
+/// Empties the scratch list, and returns whether it has memory for `places` points.
 #[inline(always)]
 fn clear_if_fits(scratch: &mut Vec<Point>, places: usize) -> bool
     ensures items { scratch.new.items ≡ [] }

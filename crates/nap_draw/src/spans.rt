@@ -9,7 +9,9 @@ use nap_values::{Move, Point};
 /// A pair of points: from one to the other.
 #[derive(Clone, Copy, Drop)]
 pub(crate) struct Span {
+    /// The start.
     pub from: Point,
+    /// The end.
     pub to: Point,
 }
 

@@ -20,7 +20,7 @@ use Rattle.nap_list.specs.State.{hand_of, ink_of}
 use Rattle.nap_list.specs.declared.batch.Batch.{Batch}
 use Rattle.nap_list.specs.declared.batch.Batch.TheVariants as batches
 use Rattle.nap_list.specs.Batches.{last_point, point_entry, polyline_entries, text_entries_in, text_entry, text_entry_as, batch_entries}
-use Rattle.nap_list.specs.BatchLaws.{points_front, lines_front, text_front, points_rest, lines_rest}
+use Rattle.nap_list.specs.BatchLaws.{points_prefix, lines_prefix, text_prefix, points_rest, lines_rest}
 use Rattle.nap_list.specs.Putting.{SinkModel, sink_model}
 use Rattle.nap_lines.specs.Lines.{line, ink_text, pen_text, move_text, colour_text, look_text, hand_text, set_text}
 use Rattle.nap_lines.specs.Listing.{LineSinkState, TakesLinesOf, lines}
@@ -179,7 +179,7 @@ points_written b points d first m n old new buffer few is less end slice text =
     ∙ ap (λ (end : List ℕ). old ++ flat_map (λ at. point_front at ++ end) (take n few)) end
     ∙ ap (λ (bytes : List ℕ). old ++ bytes) (dots_are_lines d.now (take n few))
     ∙ ap (λ (points : List Coordinates). old ++ lines (map (point_entry d.now) points)) (ap (take n) slice ∙ take-take n m (drop first points.now) less)
-    ∙ ap (λ (list : List Entry). old ++ lines list) (points_front d.now (drop first points.now) n)
+    ∙ ap (λ (list : List Entry). old ++ lines list) (points_prefix d.now (drop first points.now) n)
     ∙ ap (λ (list : List Entry). old ++ lines (take n list)) (points_rest d.now points.now first) in
     rw is bytes
 
@@ -193,7 +193,7 @@ lines_written b from points d first m n start old new buffer few is less end beg
     ∙ ap (λ (bytes : List ℕ). old ++ bytes) (lines_are_lines d.now start (take n few))
     ∙ ap (λ (points : List Coordinates). old ++ lines (polyline_entries d.now start points)) (ap (take n) slice ∙ take-take n m (drop first points.now) less)
     ∙ ap (λ (at : Coordinates). old ++ lines (polyline_entries d.now at (take n (drop first points.now)))) begins
-    ∙ ap (λ (list : List Entry). old ++ lines list) (lines_front d.now (last_point from (take first points.now)) (drop first points.now) n)
+    ∙ ap (λ (list : List Entry). old ++ lines list) (lines_prefix d.now (last_point from (take first points.now)) (drop first points.now) n)
     ∙ ap (λ (list : List Entry). old ++ lines (take n list)) (lines_rest d.now from points.now first) in
     rw is bytes
 
@@ -219,7 +219,7 @@ part_written b set bytes pen d first m n hand old new few is less in_hand slice 
     text
     ∙ ap (λ (hand : Hand). old ++ lines (take n (text_entries_in set hand few))) in_hand
     ∙ ap (λ (few : List ℕ). old ++ lines (take n (text_entries_in set (record whole { pen = pen_at pen first }) few))) slice
-    ∙ ap (λ (list : List Entry). old ++ lines (take n list)) (text_front set (record whole { pen = pen_at pen first }) (drop first bytes.now) m)
+    ∙ ap (λ (list : List Entry). old ++ lines (take n list)) (text_prefix set (record whole { pen = pen_at pen first }) (drop first bytes.now) m)
     ∙ ap (λ (list : List Entry). old ++ lines list) (take-take n m (text_entries_in set (record whole { pen = pen_at pen first }) (drop first bytes.now)) less)
     ∙ ap (λ (list : List Entry). old ++ lines (take n list)) (text_behind set whole bytes.now first) in
     rw is all
@@ -236,7 +236,7 @@ text_written set hand all others first n old mid new bytes buffer is one front e
     let written : flat_map (λ code. text_byte_front set code ++ buffer) (take n others) ≡ rest =
     ap (λ (end : List ℕ). flat_map (λ code. text_byte_front set code ++ end) (take n others)) end
     ∙ letters_are_lines set hand (take n others)
-    ∙ ap lines (text_front set further others n) in
+    ∙ ap lines (text_prefix set further others n) in
     let taken : take (n + 1) (text_entries_in set hand all) ≡ begun ∷ take n (text_entries_in set further others) = rw (is, add-one) refl in
     more
     ∙ ap (λ (bytes : List ℕ). mid ++ bytes) written

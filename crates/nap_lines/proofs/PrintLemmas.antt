@@ -9,7 +9,7 @@ use Rattle.nap_list.specs.declared.sink.SinkFault.{SinkFault}
 use Rattle.nap_list.specs.declared.sink.SinkFault.TheVariants as faults
 use Rattle.nap_list.specs.declared.state.State.{State}
 use Rattle.nap_list.specs.Putting.{SinkModel, Put, BreaksAfter, HaltsAfter, PutSome, FaultMatchesDevice, TakesAll, sink_model}
-use Rattle.nap_list.specs.PuttingLaws.{stops_behind, wanting_put}
+use Rattle.nap_list.specs.PuttingLaws.{stops_after, wanting_put}
 use Rattle.nap_list.specs.Sending.{Sending, sending, Grows}
 use Rattle.nap_list.specs.State.{walk}
 use Rattle.nap_lines.specs.Lines.{line}
@@ -130,7 +130,7 @@ module _ {O : Type 0} (o : outlet.Ghosts O) where
         (rest : List Entry) → d ≡ take n d ++ rest → BreaksAfter (Broke o) s d n u
     breaks n left less passes failed is [] parts = absurd (omega (arith, less, length-take-le n d (omega (arith, less)), ap length parts, ap length (append-nil (take n d))))
     breaks n left less passes failed is (x ∷ rest) parts = record {
-      front = take n d;
+      prefix = take n d;
       next = x;
       rest = rest;
       parts = parts;
@@ -145,7 +145,7 @@ module _ {O : Type 0} (o : outlet.Ghosts O) where
 
     -- so many, and then memory ran out or a write failed
     stopped : (n : ℕ) (fault : SinkFault) → StopsAt o s d n t fault → n < length d → v ≡ walk s.state (take n d) → HaltsAfter printer_shows d s u n fault × FaultMatchesDevice printer_shows s u n fault
-    stopped n faults.Memory (passes, clear) less is = stops_behind printer_shows s u d n less works clear (took_front n passes clear is) (λ x. tt)
+    stopped n faults.Memory (passes, clear) less is = stops_after printer_shows s u d n less works clear (took_front n passes clear is) (λ x. tt)
     stopped n faults.Write ((left, passes), failed) less is = (
       inr (breaks n left less passes failed is (drop n d) (sym (take-append-drop n d))),
       record { write = λ _. failed; memory = λ e. (let bad : ⊥ = cc in absurd bad); none = λ set. not_failed set },
@@ -199,7 +199,7 @@ module _ {O : Type 0} (o : outlet.Ghosts O) where
   pub shape_broken : (s u : Printing O) (e : Entry) → o.failed s.outlet ≡ false → Broke o s [] e u → PutSome {A = Unit {0}} printer_shows (e ∷ []) s u (Err faults.Write)
   shape_broken s u e works broke = (
     0,
-    inr (record { front = []; next = e; rest = []; parts = refl; count = refl; broken = broke }),
+    inr (record { prefix = []; next = e; rest = []; parts = refl; count = refl; broken = broke }),
     record { write = λ _. broke.failed; memory = λ is. (let bad : ⊥ = cc in absurd bad); none = λ set. (let bad : ⊥ = cc in absurd bad) },
   )
 

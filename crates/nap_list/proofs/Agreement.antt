@@ -24,7 +24,7 @@ use Rattle.nap_list.specs.declared.known.MapColour.{MapColour}
 use Rattle.nap_list.specs.Agreement.{BaseAgrees, ColourAgrees, ModeZeroIsBase, Agrees, DefinitionsAgree, StatesAgree, EqualCurrent, AgreeingFits, AreCurrent}
 use Rattle.nap_list.specs.Laws.{StartAgrees, CurrentAttributesChangeNothing}
 
--- a value fits where it stands
+-- an attribute fits a state in which it is current
 
 pen_itself : (pen : Pen) → PenFits pen (Some pen)
 pen_itself pens.Start = refl
@@ -39,13 +39,13 @@ mask_itself : (word : ℕ) (mask : Option Displacement) → MaskFits (record { w
 mask_itself word None = refl
 mask_itself word (Some m) = tt
 
--- held values fit
+-- attributes equal to those of an agreeing state fit
 
 pen_fits : (w : Option Pen) (pen shown : Pen) → IfSome w (λ p. p ≡ pen) → PenFits shown (Some pen) → PenFits shown w
 pen_fits None pen shown is h = tt
 pen_fits (Some p) pen shown is h = subst (λ (x : Pen). PenFits shown (Some x)) (sym is) h
 
--- where the colour is this one
+-- this colour fits if it is in use in an agreeing state
 colour_at : (d shown : Drawing) (colour : Colour) → BaseAgrees d.base shown.base → ColourAgrees colour shown.colour → ModeZeroIsBase d.base colour → ColourFits shown (Some colour)
 colour_at d shown (colours.Own origin) base c mode = subst (λ (b : Base). BaseAgrees b shown.base) mode base
 colour_at d shown (colours.ByReset preset) base c mode = c
@@ -59,14 +59,14 @@ texture_fits : (w : Option Texture) (t shown : Texture) → IfSome w (λ u. u �
 texture_fits None t shown is h = tt
 texture_fits (Some u) t shown is h = subst (λ (x : Texture). TextureFits shown (Some x)) (sym is) h
 
-held_fits : (h : Attributes) (d shown : Drawing) → EqualCurrent h d → Agrees d shown → AttributesFit shown h
-held_fits h d shown holds agrees = record {
+equal_current_fits : (h : Attributes) (d shown : Drawing) → EqualCurrent h d → Agrees d shown → AttributesFit shown h
+equal_current_fits h d shown holds agrees = record {
   pen = pen_fits h.pen d.pen shown.pen holds.pen agrees.pen;
   colour = colour_fits h.colour d shown holds.colour agrees;
   texture = texture_fits h.texture d.texture shown.texture holds.texture agrees.texture;
 }
 
--- states that agree take the same values and agree
+-- states that agree still agree after they take the same attributes
 
 pen_taken : (w : Option Pen) (pen shown : Pen) → PenFits shown (Some pen) → PenFits (unwrap_or w shown) (Some (unwrap_or w pen))
 pen_taken None pen shown h = h
@@ -99,7 +99,7 @@ taken_agree h d shown holds agrees = record {
   texture = texture_taken h.texture d.texture shown.texture agrees.texture;
 }
 
--- and agree after the effect of an entry
+-- states that agree still agree after the effect of an entry
 
 pen_set : (pen : Pen) (d shown : Drawing) → Agrees d shown → Agrees (with_pen pen d) (with_pen pen shown)
 pen_set pen d shown h = record { pen = pen_itself pen; base = h.base; colour = h.colour; mode = h.mode; texture = h.texture }
@@ -108,8 +108,8 @@ pen_set_at : (p : Option Coordinates) (d shown : Drawing) → Agrees d shown →
 pen_set_at None d shown h = h
 pen_set_at (Some p) d shown h = pen_set (pens.At p) d shown h
 
-front_set : (a : ℕ) (d shown : Drawing) → Agrees d shown → Agrees (record d { colour = colours.Front a }) (record shown { colour = colours.Front a })
-front_set a d shown h = record { pen = h.pen; base = h.base; colour = tt; mode = tt; texture = h.texture }
+foreground_set : (a : ℕ) (d shown : Drawing) → Agrees d shown → Agrees (record d { colour = colours.Front a }) (record shown { colour = colours.Front a })
+foreground_set a d shown h = record { pen = h.pen; base = h.base; colour = tt; mode = tt; texture = h.texture }
 
 cond_agree : {A : Type 0} (P : A → A → Type 0) (b : Bool) (x y u v : A) → P x u → P y v → P (cond b x y) (cond b u v)
 cond_agree P true x y u v p q = p
@@ -158,7 +158,7 @@ drawn_agree o p d shown (entries.ToEol hand) defs h = pen_set pens.After d shown
 drawn_agree o p d shown (entries.Field area pen) defs h = pen_set pens.After d shown h
 drawn_agree o p d shown (entries.Clear pen) defs h = pen_set pens.After d shown h
 drawn_agree o p d shown (entries.Reset first second pen) defs h = reset_agree first second d shown h
-drawn_agree o p d shown (entries.Map addr grb) defs h = front_set addr d shown h
+drawn_agree o p d shown (entries.Map addr grb) defs h = foreground_set addr d shown h
 drawn_agree o p d shown (entries.GlyphStart code) defs h = pen_set pens.Start d shown h
 drawn_agree o p d shown (entries.MaskStart mask) defs h = pen_set pens.Start d shown h
 drawn_agree o p d shown entries.DefEnd defs h = saved_agree o p d shown defs h
@@ -200,7 +200,7 @@ agreeing_fits s shown e agree holds made comes =
     let d' = with_attributes shown.drawing (attributes e) in
     let taken = taken_agree (attributes e) s.drawing shown.drawing holds agree.drawing in (
       record {
-        values = held_fits (attributes e) s.drawing shown.drawing holds agree.drawing;
+        values = equal_current_fits (attributes e) s.drawing shown.drawing holds agree.drawing;
         made = made;
         comes = comes_too s shown e agree comes;
       },
@@ -213,7 +213,7 @@ agreeing_fits s shown e agree holds made comes =
       },
     )
 
--- the start agrees with itself
+-- the state at the start agrees with itself
 pub start_agrees : StartAgrees
 start_agrees = record {
   drawing = record { pen = refl; base = refl; colour = tt; mode = refl; texture = refl };
@@ -231,17 +231,17 @@ base_stays : (w : Option Colour) (d : Drawing) → IfSome w (λ c. c ≡ d.colou
 base_stays (Some (colours.Direct grb)) d is h = sym (subst (ModeZeroIsBase d.base) (sym is) h)
 base_stays _ d is h = refl
 
--- where all held values stand already, taking them changes nothing
+-- taking attributes that are all current changes nothing
 
-pub taking_stands : (h : Attributes) (d : Drawing) → AreCurrent h d → with_attributes d h ≡ d
-taking_stands h d stands =
-    let p = is_unwrapped h.pen d.pen stands.holds.pen in
-    let q = is_unwrapped h.pel d.pel stands.holds.pel in
-    let b = stands.base in
-    let c = is_unwrapped h.colour d.colour stands.holds.colour in
-    let t = is_unwrapped h.texture d.texture stands.holds.texture in
-    let x = is_unwrapped h.text d.text stands.holds.text in
+pub current_changes_nothing : (h : Attributes) (d : Drawing) → AreCurrent h d → with_attributes d h ≡ d
+current_changes_nothing h d current =
+    let p = is_unwrapped h.pen d.pen current.holds.pen in
+    let q = is_unwrapped h.pel d.pel current.holds.pel in
+    let b = current.base in
+    let c = is_unwrapped h.colour d.colour current.holds.colour in
+    let t = is_unwrapped h.texture d.texture current.holds.texture in
+    let x = is_unwrapped h.text d.text current.holds.text in
     rw (p, q, b, c, t, x) refl
 
 pub taking_nothing : CurrentAttributesChangeNothing
-taking_nothing h d holds mode = taking_stands h d (record { holds = holds; base = base_stays h.colour d holds.colour mode })
+taking_nothing h d holds mode = current_changes_nothing h d (record { holds = holds; base = base_stays h.colour d holds.colour mode })

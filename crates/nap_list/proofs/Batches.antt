@@ -29,20 +29,22 @@ use Rattle.nap_list.specs.Laws.{BatchIsCurrent, TextLeaves, TextEntriesAreWellMa
 use Rattle.nap_list.specs.State.{after, start_drawing, walk, with_attributes, last_after, hand_of, with_pen, base_after}
 use Rattle.nap_list.specs.Batches.{EachIsCurrent, with_pen_and_last, point_entry, line_entry, text_entry_on, polyline_entries, text_entries_in, text_entry, text_entry_as, last_char_of_text, batch_entries, last_point}
 use Rattle.nap_list.specs.BatchLaws.{points_rest, lines_rest}
-use Rattle.nap_list.proofs.Agreement.{taking_stands}
+use Rattle.nap_list.proofs.Agreement.{current_changes_nothing}
 
--- The entries of a batch: behind the first, each holds what stands, and leaves another pen and another last character.
+-- The entries of a batch: after the first, each holds the current attributes, and leaves another pen and another last
+-- character.
 
--- a direct colour that was held stands
+-- a direct colour that an entry held is current afterwards
 colour_stays : (base : Base) (colour : Colour) → base_after (base_after base (Some colour)) (Some colour) ≡ base_after base (Some colour)
 colour_stays base (colours.Direct grb) = refl
 colour_stays base _ = refl
 
--- what an entry holds stands behind another
+-- after the first entry, the attributes of the second are current
 abbrev Next : Entry → Entry → Type 0
 Next e x = (s : State) → AreCurrent (attributes x) (after s e).drawing
 
--- entries of one kind: the first is one of these, and each further one comes next to the one before
+-- entries of one kind: the first is one of these, and the attributes of each further one are current after the one
+-- before
 Chain : (Entry → Type 0) → List Entry → Type 0
 Chain First [] = ⊤
 Chain First (e ∷ es) = First e × ((s : State) → after s e ≡ with_pen_and_last s e (with_attributes s.drawing (attributes e))) × Chain (Next e) es
@@ -61,7 +63,7 @@ lines_chain First d from first (p ∷ ps) =
     let next : (q : Coordinates) → Next (line_entry d from p) (line_entry d p q) = λ q s. record { holds = record { pen = tt; pel = refl; colour = refl; texture = refl; text = tt }; base = colour_stays s.drawing.base d.colour } in
     (first p, λ s. refl, lines_chain (Next (line_entry d from p)) d p next ps)
 
--- a character or a move behind another
+-- a character or a move after another
 next_typed : (set : CharSet) (hand : Hand) (a b : ℕ) → Next (text_entry set hand a) (text_entry set (record hand { pen = After }) b)
 next_typed set hand a b s = by (format_effector a) (format_effector b)
   where
@@ -71,7 +73,7 @@ next_typed set hand a b s = by (format_effector a) (format_effector b)
     by None (Some move) = record { holds = record { pen = refl; pel = tt; colour = refl; texture = tt; text = refl }; base = colour_stays s.drawing.base hand.colour }
     by None None = record { holds = record { pen = refl; pel = tt; colour = refl; texture = tt; text = refl }; base = colour_stays s.drawing.base hand.colour }
 
--- what one leaves
+-- the state after one entry of a text
 typed_marks : (set : CharSet) (hand : Hand) (code : ℕ) (s : State) → after s (text_entry set hand code) ≡ with_pen_and_last s (text_entry set hand code) (with_attributes s.drawing (attributes (text_entry set hand code)))
 typed_marks set hand code s = by (format_effector code)
   where
@@ -79,7 +81,7 @@ typed_marks set hand code s = by (format_effector code)
     by (Some step) = refl
     by None = refl
 
--- it leaves the pen as text does, and the last character where it is one
+-- an entry of a text leaves the pen unknown, and the last character if it is one
 pub typed_mark : (set : CharSet) (hand : Hand) (code : ℕ) (s : State) → record s { drawing = with_pen After s.drawing; last = last_char_of_text set code } ≡ with_pen_and_last s (text_entry set hand code) s.drawing
 typed_mark set hand code s = by (format_effector code)
   where
@@ -87,17 +89,17 @@ typed_mark set hand code s = by (format_effector code)
     by (Some step) = refl
     by None = refl
 
--- what a byte draws is well made: a move of one byte has no bytes of its own
+-- the entry of a byte of a text is well made: a move of one byte has no bytes of its own
 step_made : (step : TextStep) → IsInRange (codes.Step step) → StepMade step
 step_made (steps.Aps a b) range = ((range.0.0, omega (arith, range.0.1)), (range.1.0, omega (arith, range.1.1)))
 step_made _ range = tt
 
 pub typed_made : TextEntriesAreWellMade
-typed_made set hand code text_entry = by (format_effector code) refl
+typed_made set hand code byte = by (format_effector code) refl
   where
     by : (step : Option TextStep) → format_effector code ≡ step → WellMade (text_entry_as step set hand code)
     by (Some step) is = step_made step (code_ranges start_sets (code ∷ []) (codes.Step step) 1 start_sets ((format_effector_front code step is).1 start_sets))
-    by None is = text_entry is
+    by None is = byte is
 
 text_chain : (First : Entry → Type 0) (set : CharSet) (hand : Hand) → ((code : ℕ) → First (text_entry set hand code)) → (codes : List ℕ) → Chain First (text_entries_in set hand codes)
 unfolding Chain text_entries_in
@@ -109,43 +111,44 @@ batch_chain (batches.Points points d) = points_chain (λ e. ⊤) d.now (λ p. tt
 batch_chain (batches.Lines from points d) = lines_chain (λ e. ⊤) d.now from (λ p. tt) points.now
 batch_chain (batches.Text set codes pen d) = text_chain (λ e. ⊤) set (record (hand_of d.now) { pen = pen }) (λ c. tt) codes.now
 
--- the values of each stand, where those of the first do
-chain_stands : (s : State) (First : Entry → Type 0) (es : List Entry) → ((e : Entry) → First e → AreCurrent (attributes e) s.drawing) → Chain First es → EachIsCurrent s es
+-- the attributes of each entry are current when it comes, if those of the first are
+chain_is_current : (s : State) (First : Entry → Type 0) (es : List Entry) → ((e : Entry) → First e → AreCurrent (attributes e) s.drawing) → Chain First es → EachIsCurrent s es
 unfolding Chain EachIsCurrent
-chain_stands s First [] first chain = tt
-chain_stands s First (e ∷ es) first chain = (first e chain.0, chain_stands (after s e) (Next e) es (λ x next. next s) chain.2)
+chain_is_current s First [] first chain = tt
+chain_is_current s First (e ∷ es) first chain = (first e chain.0, chain_is_current (after s e) (Next e) es (λ x next. next s) chain.2)
 
-pub batch_stands : BatchIsCurrent
+pub batch_is_current : BatchIsCurrent
 unfolding Chain
-batch_stands b s e es is = chain_stands (after s e) (Next e) es (λ x next. next s) (subst (Chain (λ e. ⊤)) is (batch_chain b)).2
+batch_is_current b s e es is = chain_is_current (after s e) (Next e) es (λ x next. next s) (subst (Chain (λ e. ⊤)) is (batch_chain b)).2
 
--- where the values of each stand, so many of them leave the mark of the last, and nothing else
+-- if the attributes of each entry are current, a number of entries leaves the pen and the last character of the last
+-- one, and changes nothing else
 chain_passes : (s : State) (First : Entry → Type 0) (es : List Entry) (m n : ℕ) (x : Entry) (xs : List Entry) → Chain First es → EachIsCurrent s (drop m es) → drop n (drop m es) ≡ x ∷ xs →
     walk s (take (suc n) (drop m es)) ≡ with_pen_and_last s x s.drawing
 unfolding Chain EachIsCurrent walk
-chain_passes s First [] m n x xs chain stand is = let bad : ⊥ = cc (ap (drop n) (drop-nil {A = Entry} m), drop-nil {A = Entry} n) in absurd bad
-chain_passes s First (e ∷ es) (suc m) n x xs chain stand is = chain_passes s (Next e) es m n x xs chain.2 stand is
-chain_passes s First (e ∷ es) zero zero x xs chain stand is =
+chain_passes s First [] m n x xs chain all_current is = let bad : ⊥ = cc (ap (drop n) (drop-nil {A = Entry} m), drop-nil {A = Entry} n) in absurd bad
+chain_passes s First (e ∷ es) (suc m) n x xs chain all_current is = chain_passes s (Next e) es m n x xs chain.2 all_current is
+chain_passes s First (e ∷ es) zero zero x xs chain all_current is =
     let same : e ≡ x = cc in
-    rw (← same) (chain.1 s ∙ ap (with_pen_and_last s e) (taking_stands (attributes e) s.drawing stand.0))
-chain_passes s First (e ∷ es) zero (suc n) x xs chain stand is =
-    chain_passes (after s e) (Next e) es zero n x xs chain.2 stand.1 is ∙ ap (λ (t : State). with_pen_and_last t x t.drawing) (chain.1 s ∙ ap (with_pen_and_last s e) (taking_stands (attributes e) s.drawing stand.0))
+    rw (← same) (chain.1 s ∙ ap (with_pen_and_last s e) (current_changes_nothing (attributes e) s.drawing all_current.0))
+chain_passes s First (e ∷ es) zero (suc n) x xs chain all_current is =
+    chain_passes (after s e) (Next e) es zero n x xs chain.2 all_current.1 is ∙ ap (λ (t : State). with_pen_and_last t x t.drawing) (chain.1 s ∙ ap (with_pen_and_last s e) (current_changes_nothing (attributes e) s.drawing all_current.0))
 
 pub batch_passes : (s t : State) (b : Batch) (m n count : ℕ) → m + n < length (batch_entries b) → EachIsCurrent s (drop m (batch_entries b)) → (1 ≤ count) × (n ≡ count - 1) →
     ((x : Entry) (xs : List Entry) → drop (m + n) (batch_entries b) ≡ x ∷ xs → t ≡ with_pen_and_last s x s.drawing) → t ≡ walk s (take count (drop m (batch_entries b)))
-batch_passes s t b m n count less stand further leaves = by (drop (m + n) (batch_entries b)) refl
+batch_passes s t b m n count less all_current further leaves = by (drop (m + n) (batch_entries b)) refl
   where
     by : (rest : List Entry) → drop (m + n) (batch_entries b) ≡ rest → t ≡ walk s (take count (drop m (batch_entries b)))
     by [] is = absurd (omega (arith, less, ap length is, length-drop (m + n) (batch_entries b)))
     by (x ∷ xs) is =
         let size : suc n ≡ count = omega arith in
-        leaves x xs is ∙ rw (← size) (sym (chain_passes s (λ e. ⊤) (batch_entries b) m n x xs (batch_chain b) stand (drop-drop n m (batch_entries b) ∙ is)))
+        leaves x xs is ∙ rw (← size) (sym (chain_passes s (λ e. ⊤) (batch_entries b) m n x xs (batch_chain b) all_current (drop-drop n m (batch_entries b) ∙ is)))
 
--- the first entries leave the values of the first, and the mark of the last
-pub front_passes : (s t : State) (b : Batch) (n count : ℕ) (e : Entry) (es : List Entry) → n < length (batch_entries b) → (1 ≤ count) × (n ≡ count - 1) → batch_entries b ≡ e ∷ es →
+-- the first entries leave the attributes of the first, and the pen and the last character of the last
+pub prefix_passes : (s t : State) (b : Batch) (n count : ℕ) (e : Entry) (es : List Entry) → n < length (batch_entries b) → (1 ≤ count) × (n ≡ count - 1) → batch_entries b ≡ e ∷ es →
     ((x : Entry) (xs : List Entry) → drop n (batch_entries b) ≡ x ∷ xs → t ≡ with_pen_and_last s x (with_attributes s.drawing (attributes e))) → t ≡ walk s (take count (batch_entries b))
 unfolding Chain walk
-front_passes s t b n count e es less further all leaves =
+prefix_passes s t b n count e es less further all leaves =
     let size : suc n ≡ count = omega arith in
     rw (← size, all) (by n (subst (λ (list : List Entry). n < length list) all less) (λ x xs is. leaves x xs (ap (drop n) all ∙ is)))
   where
@@ -154,15 +157,15 @@ front_passes s t b n count e es less further all leaves =
 
     by : (n : ℕ) → n < length (e ∷ es) → ((x : Entry) (xs : List Entry) → drop n (e ∷ es) ≡ x ∷ xs → t ≡ with_pen_and_last s x (with_attributes s.drawing (attributes e))) → t ≡ walk s (take (suc n) (e ∷ es))
     by zero less leaves = leaves e es refl ∙ sym (chain.1 s)
-    by (suc n) less leaves = behind (drop n es) refl
+    by (suc n) less leaves = follows (drop n es) refl
       where
-        behind : (rest : List Entry) → drop n es ≡ rest → t ≡ walk (after s e) (take (suc n) es)
-        behind [] is = absurd (omega (arith, less, ap length is, length-drop n es))
-        behind (x ∷ xs) is =
+        follows : (rest : List Entry) → drop n es ≡ rest → t ≡ walk (after s e) (take (suc n) es)
+        follows [] is = absurd (omega (arith, less, ap length is, length-drop n es))
+        follows (x ∷ xs) is =
             leaves x xs is
-            ∙ sym (chain_passes (after s e) (Next e) es zero n x xs chain.2 (batch_stands b s e es all) is ∙ ap (λ (t : State). with_pen_and_last t x t.drawing) (chain.1 s))
+            ∙ sym (chain_passes (after s e) (Next e) es zero n x xs chain.2 (batch_is_current b s e es all) is ∙ ap (λ (t : State). with_pen_and_last t x t.drawing) (chain.1 s))
 
--- the last is drawn behind another as in the first hand
+-- the last entry of a text leaves the same state after another entry as with the first attributes
 abbrev Again : CharSet → ℕ → State → Hand → ℕ → Option TextStep → Option TextStep → Type 0
 Again set last s hand c first second =
     AreCurrent (attributes (text_entry_as second set (record hand { pen = After }) last)) (after s (text_entry_as first set hand c)).drawing →
@@ -173,39 +176,39 @@ unfolding walk text_entries_in
 text_leaves s set hand codes front last is = ap (λ (cs : List ℕ). walk s (text_entries_in set hand cs)) is ∙ along s hand front
   where
     again : (s : State) (hand : Hand) (c : ℕ) (first second : Option TextStep) → Again set last s hand c first second
-    again s hand c (Some step) (Some move) stands = ap (with_pen_and_last (after s (entries.TextMove step hand)) (entries.TextMove move (record hand { pen = After }))) (taking_stands _ _ stands)
-    again s hand c (Some step) None stands = ap (with_pen_and_last (after s (entries.TextMove step hand)) (entries.Char set last (record hand { pen = After }))) (taking_stands _ _ stands)
-    again s hand c None (Some move) stands = ap (with_pen_and_last (after s (entries.Char set c hand)) (entries.TextMove move (record hand { pen = After }))) (taking_stands _ _ stands)
-    again s hand c None None stands = ap (with_pen_and_last (after s (entries.Char set c hand)) (entries.Char set last (record hand { pen = After }))) (taking_stands _ _ stands)
+    again s hand c (Some step) (Some move) current = ap (with_pen_and_last (after s (entries.TextMove step hand)) (entries.TextMove move (record hand { pen = After }))) (current_changes_nothing _ _ current)
+    again s hand c (Some step) None current = ap (with_pen_and_last (after s (entries.TextMove step hand)) (entries.Char set last (record hand { pen = After }))) (current_changes_nothing _ _ current)
+    again s hand c None (Some move) current = ap (with_pen_and_last (after s (entries.Char set c hand)) (entries.TextMove move (record hand { pen = After }))) (current_changes_nothing _ _ current)
+    again s hand c None None current = ap (with_pen_and_last (after s (entries.Char set c hand)) (entries.Char set last (record hand { pen = After }))) (current_changes_nothing _ _ current)
 
     along : (s : State) (hand : Hand) (front : List ℕ) → walk s (text_entries_in set hand (front ++ last ∷ [])) ≡ after s (text_entry set hand last)
     along s hand [] = refl
     along s hand (c ∷ cs) =
         along (after s (text_entry set hand c)) (record hand { pen = After }) cs ∙ again s hand c (format_effector c) (format_effector last) (next_typed set hand c last s)
 
--- the one at an index, with those behind it
+-- the entry at an index, and those after it
 
-behind : {A : Type 0} (list : List A) (n : ℕ) (x : A) (xs : List A) → drop n list ≡ x ∷ xs → drop n list ≡ x ∷ drop (n + 1) list
-behind {A = A} list n x xs is = is ∙ ap (λ (l : List A). x ∷ l) (sym (ap (drop 1) is) ∙ drop-drop 1 n list)
+follows : {A : Type 0} (list : List A) (n : ℕ) (x : A) (xs : List A) → drop n list ≡ x ∷ xs → drop n list ≡ x ∷ drop (n + 1) list
+follows {A = A} list n x xs is = is ∙ ap (λ (l : List A). x ∷ l) (sym (ap (drop 1) is) ∙ drop-drop 1 n list)
 
 pub points_at : (b : Batch) (points : _) (d : _) (n : ℕ) (p : Coordinates) (ps : List Coordinates) → b ≡ batches.Points points d → drop n points.now ≡ p ∷ ps →
     drop n (batch_entries b) ≡ point_entry d.now p ∷ drop (n + 1) (batch_entries b)
 points_at b points d n p ps is cut =
-    behind (batch_entries b) n (point_entry d.now p) (map (point_entry d.now) ps) (rw is (sym (points_rest d.now points.now n) ∙ ap (map (point_entry d.now)) cut))
+    follows (batch_entries b) n (point_entry d.now p) (map (point_entry d.now) ps) (rw is (sym (points_rest d.now points.now n) ∙ ap (map (point_entry d.now)) cut))
 
 pub lines_at : (b : Batch) (from : _) (points : _) (d : _) (n : ℕ) (p : Coordinates) (ps : List Coordinates) → b ≡ batches.Lines from points d → drop n points.now ≡ p ∷ ps →
     drop n (batch_entries b) ≡ line_entry d.now (last_point from (take n points.now)) p ∷ drop (n + 1) (batch_entries b)
 unfolding polyline_entries
 lines_at b from points d n p ps is cut =
     let start = last_point from (take n points.now) in
-    behind (batch_entries b) n (line_entry d.now start p) (polyline_entries d.now p ps) (rw is (sym (lines_rest d.now from points.now n) ∙ ap (polyline_entries d.now start) cut))
+    follows (batch_entries b) n (line_entry d.now start p) (polyline_entries d.now p ps) (rw is (sym (lines_rest d.now from points.now n) ∙ ap (polyline_entries d.now start) cut))
 
 pub text_at : (b : Batch) (set : _) (codes : _) (first : Pen) (d : _) (n : ℕ) (pen : Pen) (c : ℕ) (cs : List ℕ) → b ≡ batches.Text set codes first d →
     (n ≡ 0 → pen ≡ first) → (0 < n → pen ≡ After) → drop n codes.now ≡ c ∷ cs → drop n (batch_entries b) ≡ text_entry_on d.now pen set c ∷ drop (n + 1) (batch_entries b)
 unfolding text_entries_in
 text_at b set codes first d n pen c cs is front later cut =
     let hand : Hand = hand_of d.now in
-    behind (batch_entries b) n (text_entry_on d.now pen set c) (text_entries_in set (record hand { pen = After }) cs) (rw is (at (record hand { pen = first }) codes.now n front later cut))
+    follows (batch_entries b) n (text_entry_on d.now pen set c) (text_entries_in set (record hand { pen = After }) cs) (rw is (at (record hand { pen = first }) codes.now n front later cut))
   where
     at : (hand : Hand) (codes : List ℕ) (n : ℕ) → (n ≡ 0 → pen ≡ hand.pen) → (0 < n → pen ≡ After) → drop n codes ≡ c ∷ cs →
         drop n (text_entries_in set hand codes) ≡ text_entry set (record hand { pen = pen }) c ∷ text_entries_in set (record hand { pen = After }) cs
@@ -213,7 +216,7 @@ text_at b set codes first d n pen c cs is front later cut =
     at hand [] (suc n) front later cut = let bad : ⊥ = cc in absurd bad
     at hand (a ∷ rest) (suc n) front later cut = let on = later (omega arith) in at (record hand { pen = After }) rest n (λ _. on) (λ _. on) cut
 
--- the mark of the entry that is at the front of a list
+-- the pen and the last character that the first entry of a list leaves
 pub same_mark : (s : State) (list : List Entry) (x e : Entry) (xs es : List Entry) → list ≡ x ∷ xs → list ≡ e ∷ es → with_pen_and_last s x s.drawing ≡ with_pen_and_last s e s.drawing
 same_mark s list x e xs es first second =
     let same : x ≡ e = cc in
@@ -221,8 +224,8 @@ same_mark s list x e xs es first second =
 
 -- where a line begins
 
-pub last_of_front : (p : Coordinates) (points : List Coordinates) (i n : ℕ) (z : Coordinates) → i ≡ suc n → n < length points → last_point p (take i points) ≡ get_or points n z
+pub last_of_prefix : (p : Coordinates) (points : List Coordinates) (i n : ℕ) (z : Coordinates) → i ≡ suc n → n < length points → last_point p (take i points) ≡ get_or points n z
 unfolding last_point
-last_of_front p [] i n z is less = absurd (omega arith)
-last_of_front p (q ∷ qs) i zero z is less = rw is refl
-last_of_front p (q ∷ qs) i (suc n) z is less = rw is (last_of_front q qs (suc n) n z refl (omega arith))
+last_of_prefix p [] i n z is less = absurd (omega arith)
+last_of_prefix p (q ∷ qs) i zero z is less = rw is refl
+last_of_prefix p (q ∷ qs) i (suc n) z is less = rw is (last_of_prefix q qs (suc n) n z refl (omega arith))

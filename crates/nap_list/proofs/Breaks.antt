@@ -8,17 +8,17 @@ use Rattle.nap_list.specs.declared.state.State.{State}
 use Rattle.nap_list.specs.State.{start, after, walk, AllFit, Fits, Legal, IsIllegalAt}
 use Rattle.nap_list.specs.Laws.{LegalIsNowhereIllegal}
 
--- A list goes wrong at one index at most, and a legal list at none: by the place along a walk, entry after entry.
+-- A list is illegal at one index at most, and a legal list at none: by the place along a walk, entry after entry.
 
 unfoldable Breaks : State → List Entry → ℕ → Type 0
 Breaks s [] i = (i ≡ 0) × IsSome s.definition
 Breaks s (e ∷ es) zero = Fits s e → ⊥
 Breaks s (e ∷ es) (suc i) = Fits s e × Breaks (after s e) es i
 
-at_misfit : (s : State) (front : List Entry) (e : Entry) (rest : List Entry) → AllFit s front → (Fits (walk s front) e → ⊥) → Breaks s (front ++ e ∷ rest) (length front)
+at_misfit : (s : State) (prefix : List Entry) (e : Entry) (rest : List Entry) → AllFit s prefix → (Fits (walk s prefix) e → ⊥) → Breaks s (prefix ++ e ∷ rest) (length prefix)
 unfolding Breaks walk AllFit
 at_misfit s [] e rest fit misfit = misfit
-at_misfit s (x ∷ front) e rest fit misfit = (fit.0, at_misfit (after s x) front e rest fit.1 misfit)
+at_misfit s (x ∷ prefix) e rest fit misfit = (fit.0, at_misfit (after s x) prefix e rest fit.1 misfit)
 
 at_end : (s : State) (es : List Entry) → AllFit s es → IsSome (walk s es).definition → Breaks s es (length es)
 unfolding Breaks walk AllFit
@@ -28,8 +28,8 @@ at_end s (e ∷ es) fit opened = (fit.0, at_end (after s e) es fit.1 opened)
 along : (es : List Entry) (i : ℕ) → IsIllegalAt i es → Breaks start es i
 along es i (inl misfit) =
     subst (λ (list : List Entry). Breaks start list i) (sym misfit.parts)
-    (subst (λ (n : ℕ). Breaks start (misfit.front ++ misfit.entry ∷ misfit.rest) n) misfit.place
-    (at_misfit start misfit.front misfit.entry misfit.rest misfit.before misfit.misfit))
+    (subst (λ (n : ℕ). Breaks start (misfit.prefix ++ misfit.entry ∷ misfit.rest) n) misfit.place
+    (at_misfit start misfit.prefix misfit.entry misfit.rest misfit.before misfit.misfit))
 along es i (inr opened) = subst (λ (n : ℕ). Breaks start es n) opened.place (at_end start es opened.fit opened.opened)
 
 once : (s : State) (es : List Entry) (i j : ℕ) → Breaks s es i → Breaks s es j → i ≡ j
@@ -57,11 +57,11 @@ cut_at es i e lt is = sym (take-append-drop i es) ∙ ap (λ (xs : List Entry). 
 pub one_more : (es : List Entry) (i : ℕ) (e : Entry) → i < length es → e ≡ get_or es i e → take (i + 1) es ≡ take i es ++ e ∷ []
 one_more es i e lt is = take_more es i e lt ∙ ap (λ (x : Entry). take i es ++ x ∷ []) (sym is)
 
--- the entry at an index doesn't fit the state behind those before it, which fit
+-- the entry at an index doesn't fit the state that the entries before it leave, and these fit
 pub misfit_at : (es : List Entry) (i : ℕ) (e : Entry) (s : State) → i < length es → e ≡ get_or es i e →
     s ≡ walk start (take i es) → AllFit start (take i es) → (Fits s e → ⊥) → IsIllegalAt i es
 misfit_at es i e s lt is state before misfit = inl (record {
-  front = take i es;
+  prefix = take i es;
   entry = e;
   rest = drop (suc i) es;
   parts = cut_at es i e lt is;
@@ -76,7 +76,7 @@ breaks_once es i j a b = once start es i j (along es i a) (along es j b)
 pub legal_never_breaks : LegalIsNowhereIllegal
 legal_never_breaks es i legal breaks = never start es i legal.fit legal.ended (along es i breaks)
 
--- the answers, from where the walk stopped
+-- the answers, by where the walk stopped
 
 pub only_break : (es : List Entry) (i : ℕ) → IsIllegalAt i es → (j : ℕ) → IsErrOf {T = Unit {0}} {E = ℕ} (Err i) j ↔ IsIllegalAt j es
 only_break es i breaks j = (λ is. let same : i ≡ j = cc in subst (λ (n : ℕ). IsIllegalAt n es) same breaks, λ other. let same : i ≡ j = breaks_once es i j breaks other in cc)

@@ -29,9 +29,9 @@ the_seventeenth_goes : with_known_colour 17 red (reds (16 ∷ 15 ∷ 14 ∷ 13 �
     reds (17 ∷ 16 ∷ 15 ∷ 14 ∷ 13 ∷ 12 ∷ 11 ∷ 10 ∷ 9 ∷ 8 ∷ 7 ∷ 6 ∷ 5 ∷ 4 ∷ 3 ∷ 2 ∷ [])
 the_seventeenth_goes = refl
 
-an_older_one_makes_room : with_known_colour 1 blue (reds (16 ∷ 15 ∷ 14 ∷ 13 ∷ 12 ∷ 11 ∷ 10 ∷ 9 ∷ 8 ∷ 7 ∷ 6 ∷ 5 ∷ 4 ∷ 3 ∷ 2 ∷ 1 ∷ [])) ≡
+an_older_one_makes_space : with_known_colour 1 blue (reds (16 ∷ 15 ∷ 14 ∷ 13 ∷ 12 ∷ 11 ∷ 10 ∷ 9 ∷ 8 ∷ 7 ∷ 6 ∷ 5 ∷ 4 ∷ 3 ∷ 2 ∷ 1 ∷ [])) ≡
     pair 1 blue ∷ reds (16 ∷ 15 ∷ 14 ∷ 13 ∷ 12 ∷ 11 ∷ 10 ∷ 9 ∷ 8 ∷ 7 ∷ 6 ∷ 5 ∷ 4 ∷ 3 ∷ 2 ∷ [])
-an_older_one_makes_room = refl
+an_older_one_makes_space = refl
 
 a_colour_is_known : is_known 1 red (reds (2 ∷ 1 ∷ [])) ≡ true
 a_colour_is_known = refl

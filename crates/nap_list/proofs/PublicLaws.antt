@@ -25,8 +25,8 @@ taking_nothing = agreement.taking_nothing
 pub legal_never_breaks : LegalIsNowhereIllegal
 legal_never_breaks = breaks.legal_never_breaks
 
-pub batch_stands : BatchIsCurrent
-batch_stands = batches.batch_stands
+pub batch_is_current : BatchIsCurrent
+batch_is_current = batches.batch_is_current
 
 pub text_leaves : TextLeaves
 text_leaves = batches.text_leaves

@@ -34,22 +34,22 @@ sized_lines b from points d is = rw is (lines_count d.now from points.now)
 pub sized_text : (b : Batch) (set : _) (codes : _) (pen : _) (d : _) → b ≡ batches.Text set codes pen d → length (batch_entries b) ≡ length codes.now
 sized_text b set codes pen d is = rw is (text_count set (record (hand_of d.now) { pen = pen }) codes.now)
 
-pub points_front : (d : Drawing) (points : List Coordinates) (n : ℕ) → map (point_entry d) (take n points) ≡ take n (map (point_entry d) points)
-points_front d points zero = refl
-points_front d [] (suc n) = refl
-points_front d (p ∷ ps) (suc n) = ap (λ list. point_entry d p ∷ list) (points_front d ps n)
+pub points_prefix : (d : Drawing) (points : List Coordinates) (n : ℕ) → map (point_entry d) (take n points) ≡ take n (map (point_entry d) points)
+points_prefix d points zero = refl
+points_prefix d [] (suc n) = refl
+points_prefix d (p ∷ ps) (suc n) = ap (λ list. point_entry d p ∷ list) (points_prefix d ps n)
 
-pub lines_front : (d : Drawing) (from : Coordinates) (points : List Coordinates) (n : ℕ) → polyline_entries d from (take n points) ≡ take n (polyline_entries d from points)
+pub lines_prefix : (d : Drawing) (from : Coordinates) (points : List Coordinates) (n : ℕ) → polyline_entries d from (take n points) ≡ take n (polyline_entries d from points)
 unfolding polyline_entries
-lines_front d from points zero = refl
-lines_front d from [] (suc n) = refl
-lines_front d from (p ∷ ps) (suc n) = ap (λ list. line_entry d from p ∷ list) (lines_front d p ps n)
+lines_prefix d from points zero = refl
+lines_prefix d from [] (suc n) = refl
+lines_prefix d from (p ∷ ps) (suc n) = ap (λ list. line_entry d from p ∷ list) (lines_prefix d p ps n)
 
-pub text_front : (set : CharSet) (hand : Hand) (codes : List ℕ) (n : ℕ) → text_entries_in set hand (take n codes) ≡ take n (text_entries_in set hand codes)
+pub text_prefix : (set : CharSet) (hand : Hand) (codes : List ℕ) (n : ℕ) → text_entries_in set hand (take n codes) ≡ take n (text_entries_in set hand codes)
 unfolding text_entries_in
-text_front set hand codes zero = refl
-text_front set hand [] (suc n) = refl
-text_front set hand (c ∷ cs) (suc n) = ap (λ list. text_entry set hand c ∷ list) (text_front set (record hand { pen = After }) cs n)
+text_prefix set hand codes zero = refl
+text_prefix set hand [] (suc n) = refl
+text_prefix set hand (c ∷ cs) (suc n) = ap (λ list. text_entry set hand c ∷ list) (text_prefix set (record hand { pen = After }) cs n)
 
 pub points_rest : (d : Drawing) (points : List Coordinates) (n : ℕ) → map (point_entry d) (drop n points) ≡ drop n (map (point_entry d) points)
 points_rest d points n = sym (drop-map (point_entry d) n points)

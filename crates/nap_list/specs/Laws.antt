@@ -37,7 +37,7 @@ BatchIsCurrent = (batch : Batch) (s : State) (e : Entry) (es : List Entry) → b
 
 -- a text leaves the state that its last byte leaves, with the attributes of its first
 abbrev pub TextLeaves : Type 0
-TextLeaves = (s : State) (set : CharSet) (hand : Hand) (codes front : List ℕ) (last : ℕ) → codes ≡ front ++ last ∷ [] →
+TextLeaves = (s : State) (set : CharSet) (hand : Hand) (codes prefix : List ℕ) (last : ℕ) → codes ≡ prefix ++ last ∷ [] →
     walk s (text_entries_in set hand codes) ≡ after s (text_entry set hand last)
 
 -- each byte of a text gives a well-made entry

@@ -21,11 +21,11 @@ sink_model state wants failed took broke = record { state = state; wants = wants
 
 -- the sink took a prefix of the list, and not the next entry
 abbrev pub Stops : {S : Type 0} → (S → List Entry → S → Type 0) → S → List Entry → S → Type 0
-Stops took s list t = (front : List Entry) × (next : Entry) × (rest : List Entry) × (list ≡ front ++ next ∷ rest) × took s front t
+Stops took s list t = (prefix : List Entry) × (next : Entry) × (rest : List Entry) × (list ≡ prefix ++ next ∷ rest) × took s prefix t
 
 -- the sink took a prefix of the list, and its device failed during the next entry
 abbrev pub Breaks : {S : Type 0} → (S → List Entry → Entry → S → Type 0) → S → List Entry → S → Type 0
-Breaks broke s list t = (front : List Entry) × (next : Entry) × (rest : List Entry) × (list ≡ front ++ next ∷ rest) × broke s front next t
+Breaks broke s list t = (prefix : List Entry) × (next : Entry) × (rest : List Entry) × (list ≡ prefix ++ next ∷ rest) × broke s prefix next t
 
 -- the progress of putting a list: the sink took these entries, and the rest is left
 pub record Putting {S : Type 0} (h : SinkModel S) (s t : S) (whole rest : List Entry) : Type 0 where
@@ -36,24 +36,24 @@ pub record Putting {S : Type 0} (h : SinkModel S) (s t : S) (whole rest : List E
   pub same : h.failed t ≡ true → t ≡ s
   pub none : h.failed s ≡ true → (done ≡ []) × (t ≡ s)
 
--- the sink took this many entries of the list, and memory ran out for the next one
+-- the sink took n entries of the list, and memory ran out for the next one
 pub record StopsAfter {S : Type 0} (h : SinkModel S) (s : S) (list : List Entry) (n : ℕ) (t : S) : Type 0 where
-  pub front : List Entry
+  pub prefix : List Entry
   pub next : Entry
   pub rest : List Entry
-  pub parts : list ≡ front ++ next ∷ rest
-  pub count : length front ≡ n
-  pub taken : h.took s front t
-  pub wants : h.wants s (front ++ next ∷ [])
+  pub parts : list ≡ prefix ++ next ∷ rest
+  pub count : length prefix ≡ n
+  pub taken : h.took s prefix t
+  pub wants : h.wants s (prefix ++ next ∷ [])
 
--- the sink took this many entries of the list, and its device failed during the next one
+-- the sink took n entries of the list, and its device failed during the next one
 pub record BreaksAfter {S : Type 0} (broke : S → List Entry → Entry → S → Type 0) (s : S) (list : List Entry) (n : ℕ) (t : S) : Type 0 where
-  pub front : List Entry
+  pub prefix : List Entry
   pub next : Entry
   pub rest : List Entry
-  pub parts : list ≡ front ++ next ∷ rest
-  pub count : length front ≡ n
-  pub broken : broke s front next t
+  pub parts : list ≡ prefix ++ next ∷ rest
+  pub count : length prefix ≡ n
+  pub broken : broke s prefix next t
 
 -- where the putting of a list halts; a sink whose device had failed takes nothing
 abbrev pub HaltsAfter : {S : Type 0} → SinkModel S → List Entry → S → S → ℕ → SinkFault → Type 0
@@ -79,7 +79,7 @@ abbrev pub Put : {S : Type 0} → SinkModel S → List Entry → S → S → Res
 Put h list s t (Ok _) = TakesAll h list s t
 Put h list s t (Err stop) = HaltsAfter h list s t stop.taken stop.fault × FaultMatchesDevice h s t stop.taken stop.fault
 
--- the result for a sink that took this many entries of a list of that length: lack of memory unless it took all
+-- the result for a sink that took a number of the entries of a list of that length: lack of memory unless it took all
 abbrev pub UnlessAll : ℕ → ℕ → Result (Unit {0}) BatchFault → Type 0
 UnlessAll taken count (Ok _) = count ≤ taken
 UnlessAll taken count (Err stop) = (stop ≡ record { taken = taken; fault = faults.Memory }) × (taken < count)

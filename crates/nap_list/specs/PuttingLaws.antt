@@ -21,8 +21,8 @@ module _ {S : Type 0} (g : SinkModel S) where
 
   module _ (s t : S) (whole list : List Entry) (putting : Putting g s t whole list) where
     -- the list is its two parts joined
-    parts_are : (front rest : List Entry) → list ≡ front ++ rest → whole ≡ putting.done ++ (front ++ rest)
-    parts_are front rest is = putting.parts ∙ ap (λ (list : List Entry). putting.done ++ list) is
+    parts_are : (prefix rest : List Entry) → list ≡ prefix ++ rest → whole ≡ putting.done ++ (prefix ++ rest)
+    parts_are prefix rest is = putting.parts ∙ ap (λ (list : List Entry). putting.done ++ list) is
 
     -- the rest of the list fits
     pub rest_fits : AllFit (g.state s) whole → AllFit (g.state t) list
@@ -42,36 +42,36 @@ module _ {S : Type 0} (g : SinkModel S) where
         (before, none.0, none.1)
 
     -- a prefix of the rest was taken
-    pub put_goes : TookMore g → (u : S) (front rest : List Entry) → list ≡ front ++ rest → TakesAll g front t u → Putting g s u whole rest
-    put_goes law u front rest is takes = record {
-      done = putting.done ++ front;
-      parts = parts_are front rest is ∙ sym (append_assoc putting.done front rest);
-      taken = law s t u putting.done front putting.taken takes.took;
-      state = takes.state ∙ ap (λ (t : State). walk t front) putting.state ∙ sym (walks_join (g.state s) putting.done front);
+    pub put_goes : TookMore g → (u : S) (prefix rest : List Entry) → list ≡ prefix ++ rest → TakesAll g prefix t u → Putting g s u whole rest
+    put_goes law u prefix rest is takes = record {
+      done = putting.done ++ prefix;
+      parts = parts_are prefix rest is ∙ sym (append_assoc putting.done prefix rest);
+      taken = law s t u putting.done prefix putting.taken takes.took;
+      state = takes.state ∙ ap (λ (t : State). walk t prefix) putting.state ∙ sym (walks_join (g.state s) putting.done prefix);
       same = λ set. let h = true_from_ne_false (g.failed t) (λ clear. cc (takes.works clear)) in (takes.none h).1 ∙ putting.same h;
-      none = λ set. let none = putting.none set in let now = takes.none (still_failed set) in (ap (λ (d : List Entry). d ++ front) none.0 ∙ now.0, now.1 ∙ none.1);
+      none = λ set. let none = putting.none set in let now = takes.none (still_failed set) in (ap (λ (d : List Entry). d ++ prefix) none.0 ∙ now.0, now.1 ∙ none.1);
     }
 
     module _ (more : TookMore g) (law : TookBroke g) (wants : WantsMore g) (u : S) where
       halts : (n : ℕ) (fault : SinkFault) → HaltsAfter g list t u n fault → HaltsAfter g whole s u (length putting.done + n) fault
       halts n Memory stops = record {
-        front = putting.done ++ stops.front;
+        prefix = putting.done ++ stops.prefix;
         next = stops.next;
         rest = stops.rest;
-        parts = parts_are stops.front (stops.next ∷ stops.rest) stops.parts ∙ sym (append_assoc putting.done stops.front (stops.next ∷ stops.rest));
-        count = length-append putting.done stops.front ∙ ap (λ (n : ℕ). length putting.done + n) stops.count;
-        taken = more s t u putting.done stops.front putting.taken stops.taken;
-        wants = subst (g.wants s) (ap (λ (d : List Entry). putting.done ++ d) (append-nil (stops.front ++ stops.next ∷ [])) ∙ sym (append_assoc putting.done stops.front (stops.next ∷ [])))
-            (wants s t putting.done (stops.front ++ stops.next ∷ []) [] putting.taken stops.wants);
+        parts = parts_are stops.prefix (stops.next ∷ stops.rest) stops.parts ∙ sym (append_assoc putting.done stops.prefix (stops.next ∷ stops.rest));
+        count = length-append putting.done stops.prefix ∙ ap (λ (n : ℕ). length putting.done + n) stops.count;
+        taken = more s t u putting.done stops.prefix putting.taken stops.taken;
+        wants = subst (g.wants s) (ap (λ (d : List Entry). putting.done ++ d) (append-nil (stops.prefix ++ stops.next ∷ [])) ∙ sym (append_assoc putting.done stops.prefix (stops.next ∷ [])))
+            (wants s t putting.done (stops.prefix ++ stops.next ∷ []) [] putting.taken stops.wants);
       }
       halts n Write (inl still) = let none = none_done still.0 in inl (none.0, still.1 ∙ none.2, omega (arith, still.2, ap length none.1))
       halts n Write (inr breaks) = inr (record {
-        front = putting.done ++ breaks.front;
+        prefix = putting.done ++ breaks.prefix;
         next = breaks.next;
         rest = breaks.rest;
-        parts = parts_are breaks.front (breaks.next ∷ breaks.rest) breaks.parts ∙ sym (append_assoc putting.done breaks.front (breaks.next ∷ breaks.rest));
-        count = length-append putting.done breaks.front ∙ ap (λ (n : ℕ). length putting.done + n) breaks.count;
-        broken = law s t u putting.done breaks.front breaks.next putting.taken breaks.broken;
+        parts = parts_are breaks.prefix (breaks.next ∷ breaks.rest) breaks.parts ∙ sym (append_assoc putting.done breaks.prefix (breaks.next ∷ breaks.rest));
+        count = length-append putting.done breaks.prefix ∙ ap (λ (n : ℕ). length putting.done + n) breaks.count;
+        broken = law s t u putting.done breaks.prefix breaks.next putting.taken breaks.broken;
       })
 
       -- the putting of the rest halted
@@ -114,7 +114,7 @@ module _ {S : Type 0} (g : SinkModel S) where
   -- the first entry of a list wasn't taken
   pub stops_at_first : (t u : S) (x : Entry) (rest : List Entry) (e : SinkFault) → g.took t [] t → NotTaken g t u x e → Put g (x ∷ rest) t u (Err (record { taken = 0; fault = e }))
   stops_at_first t u x rest Memory none put = (
-    record { front = []; next = x; rest = rest; parts = refl; count = refl; taken = subst (g.took t []) (sym (put.memory refl)) none; wants = put.wants refl },
+    record { prefix = []; next = x; rest = rest; parts = refl; count = refl; taken = subst (g.took t []) (sym (put.memory refl)) none; wants = put.wants refl },
     record {
       write = λ e. (let bad : ⊥ = cc in absurd bad);
       memory = λ _. false_from_ne_true (g.failed u) (λ h. cc (put.only_write h));
@@ -124,7 +124,7 @@ module _ {S : Type 0} (g : SinkModel S) where
   stops_at_first t u x rest Write none put = (
     elim (cases_Bool (g.failed t)) [
       | inl h ↦ inl (h, put.still refl h, refl)
-      | inr h ↦ inr (record { front = []; next = x; rest = rest; parts = refl; count = refl; broken = put.broke refl h })
+      | inr h ↦ inr (record { prefix = []; next = x; rest = rest; parts = refl; count = refl; broken = put.broke refl h })
     ],
     record { write = λ _. put.write refl; memory = λ e. (let bad : ⊥ = cc in absurd bad); none = λ set. (refl, put.still refl set, refl) },
   )
@@ -134,9 +134,9 @@ module _ {S : Type 0} (g : SinkModel S) where
   some_put A s t list n fault put = (n, put.0, put.1)
 
   -- memory ran out after the first entries of a list, with a sink whose device hasn't failed
-  pub stops_behind : (s t : S) (list : List Entry) (n : ℕ) → n < length list → g.failed s ≡ false → g.failed t ≡ false → g.took s (take n list) t →
+  pub stops_after : (s t : S) (list : List Entry) (n : ℕ) → n < length list → g.failed s ≡ false → g.failed t ≡ false → g.took s (take n list) t →
       ((x : Entry) → g.wants s (take n list ++ x ∷ [])) → Put g list s t (Err (record { taken = n; fault = Memory }))
-  stops_behind s t list n less clear works took wants = (
+  stops_after s t list n less clear works took wants = (
     by (drop n list) (sym (take-append-drop n list)),
     record { write = λ e. (let bad : ⊥ = cc in absurd bad); memory = λ _. works; none = λ set. (let bad : ⊥ = cc in absurd bad) },
   )
@@ -146,7 +146,7 @@ module _ {S : Type 0} (g : SinkModel S) where
 
       by : (rest : List Entry) → list ≡ take n list ++ rest → StopsAfter g s list n t
       by [] is = absurd (omega (arith, size, ap length is, length-append (take n list) []))
-      by (x ∷ rest) is = record { front = take n list; next = x; rest = rest; parts = is; count = size; taken = took; wants = wants x }
+      by (x ∷ rest) is = record { prefix = take n list; next = x; rest = rest; parts = is; count = size; taken = took; wants = wants x }
 
   -- the first entries of a list were taken, by a sink whose device hasn't failed
   pub some_taken : (s t : S) (list : List Entry) (n : ℕ) (r : Result (Unit {0}) BatchFault) → UnlessAll n (length list) r → g.failed s ≡ false → g.failed t ≡ false →
@@ -160,7 +160,7 @@ module _ {S : Type 0} (g : SinkModel S) where
         none = λ set. (let bad : ⊥ = cc in absurd bad);
       }
   some_taken s t list n (Err stop) ends clear works took state wants =
-      subst (λ (stop : BatchFault). Put g list s t (Err stop)) (sym ends.0) (stops_behind s t list n ends.1 clear works took (wants ends.1))
+      subst (λ (stop : BatchFault). Put g list s t (Err stop)) (sym ends.0) (stops_after s t list n ends.1 clear works took (wants ends.1))
 
   -- after the first entries of a list, the next one wasn't taken
   pub next_stops : (s t : S) (whole : List Entry) (n : ℕ) → n < length whole → Putting g s t whole (drop n whole) → g.took t [] t → TookMore g → TookBroke g → WantsMore g →
@@ -190,19 +190,19 @@ module _ {S : Type 0} (g : SinkModel S) where
   -- an error without the number of entries taken
 
   pub some_stops : (A : Type 0) (s t : S) (list : List Entry) → PutSome {A = A} g list s t (Err Memory) → Stops g.took s list t
-  some_stops A s t list put = let stops = put.1 in (stops.front, stops.next, stops.rest, stops.parts, stops.taken)
+  some_stops A s t list put = let stops = put.1 in (stops.prefix, stops.next, stops.rest, stops.parts, stops.taken)
 
   pub some_wants : (A : Type 0) (s t : S) (list : List Entry) → g.took s [] s → WantsMore g → PutSome {A = A} g list s t (Err Memory) → g.wants s list
   some_wants A s t list none wants put =
       let stops = put.1 in
-      subst (g.wants s) (append_assoc stops.front (stops.next ∷ []) stops.rest ∙ sym stops.parts) (wants s s [] (stops.front ++ stops.next ∷ []) stops.rest none stops.wants)
+      subst (g.wants s) (append_assoc stops.prefix (stops.next ∷ []) stops.rest ∙ sym stops.parts) (wants s s [] (stops.prefix ++ stops.next ∷ []) stops.rest none stops.wants)
 
   pub some_breaks : (A : Type 0) (s t : S) (list : List Entry) → PutSome {A = A} g list s t (Err Write) → ((g.failed s ≡ true) × (t ≡ s)) ⊎ Breaks g.broke s list t
   some_breaks A s t list put = by put.1
     where
       by : HaltsAfter g list s t put.0 Write → ((g.failed s ≡ true) × (t ≡ s)) ⊎ Breaks g.broke s list t
       by (inl still) = inl (still.0, still.1)
-      by (inr breaks) = inr (breaks.front, breaks.next, breaks.rest, breaks.parts, breaks.broken)
+      by (inr breaks) = inr (breaks.prefix, breaks.next, breaks.rest, breaks.parts, breaks.broken)
 
   -- the next entry fits
   pub one_fits : (s t : S) (whole list rest : List Entry) (x : Entry) → Putting g s t whole list → list ≡ x ∷ rest → AllFit (g.state s) whole → Fits (g.state t) x

@@ -3,7 +3,7 @@ use Rattle.std.specs.Io.KnownBytes.{IsAtEnd}
 use Rattle.nap_list.specs.declared.device.inlet.Inlet as inlet
 use Rattle.nap_list.specs.Limits.{reads_limit}
 
--- What an input shows about a series of reads: the bytes left, whether it had failed before and has failed now, and the
+-- A series of reads, as contracts see it: the bytes left, whether a read had failed before and has failed now, and the
 -- number of reads.
 pub record Reading : Type 0 where
   pub left : Option (List ℕ)

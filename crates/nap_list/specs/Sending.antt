@@ -4,8 +4,8 @@ use Rattle.std.specs.Io.KnownBytes.{Appends, Keeps}
 use Rattle.std.proofs.KnownBytes.{Appends-kept, Appends-nil, Appends-trans}
 use Rattle.nap_list.specs.declared.device.outlet.Outlet as outlet
 
--- An outlet that is written, as it shows: the bytes that it took, where it tells them; whether it failed, and whether a
--- write did; how often it was flushed; and how many bytes it was seen to take.
+-- An outlet that is written, as contracts see it: the bytes that it took, if it tells them; whether it has failed, and
+-- whether a write has; the number of flushes; and the number of bytes that it was seen to take.
 pub record Sending : Type 0 where
   pub taken : Option (List ℕ)
   pub failed : Bool
@@ -16,21 +16,21 @@ pub record Sending : Type 0 where
 abbrev pub sending : {O : Type 0} → outlet.Ghosts O → O → ℕ → Sending
 sending o to count = record { taken = o.taken to; failed = o.failed to; write_failed = o.write_failed to; flushes = o.flushes to; count = count }
 
--- The outlet was written alone: it has failed since exactly if a write did, and it was not flushed.
+-- The outlet was only written: it failed meanwhile exactly if a write did, and it wasn't flushed.
 pub record Writes (s t : Sending) : Type 0 where
   pub fails : Bool
   pub failed : t.failed ≡ (s.failed || fails)
   pub write_failed : t.write_failed ≡ (s.write_failed || fails)
   pub flushes : t.flushes ≡ s.flushes
 
--- The outlet took these bytes behind the others, and was written alone. The count grows by as many, and stays at the
--- greatest of 64 bits.
+-- The outlet took these bytes after the earlier ones, and was only written. The count grows by their number, saturating
+-- at 2^64 - 1.
 pub record Grows (s : Sending) (bytes : List ℕ) (t : Sending) : Type 0 where
   pub taken : Appends s.taken t.taken bytes
   pub count : t.count ≡ s.count + min (length bytes) (2 ^ 64 - 1 - s.count)
   pub writes : Writes s t
 
--- Nothing was sent, and more was sent after other bytes.
+-- Laws of sending: no bytes, and bytes after others.
 
 counted_more : (m a b s t u : ℕ) → t ≡ s + min a (m - s) → u ≡ t + min b (m - t) → u ≡ s + min (a + b) (m - s)
 counted_more m a b s t u first second = omega arith

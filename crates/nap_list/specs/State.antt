@@ -215,13 +215,13 @@ pub record Legal (es : List Entry) : Type 0 where
 
 -- the entry at this index is the first that doesn't fit
 pub record Misfit (index : ℕ) (es : List Entry) : Type 0 where
-  pub front : List Entry
+  pub prefix : List Entry
   pub entry : Entry
   pub rest : List Entry
-  pub parts : es ≡ front ++ entry ∷ rest
-  pub place : length front ≡ index
-  pub before : AllFit start front
-  pub misfit : Fits (walk start front) entry → ⊥
+  pub parts : es ≡ prefix ++ entry ∷ rest
+  pub place : length prefix ≡ index
+  pub before : AllFit start prefix
+  pub misfit : Fits (walk start prefix) entry → ⊥
 
 -- each entry fits, and a definition is left open at the end
 pub record LeftOpen (index : ℕ) (es : List Entry) : Type 0 where

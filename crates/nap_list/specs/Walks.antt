@@ -23,10 +23,10 @@ unfolding walk AllFit
 fit-append s [] ys fit more = more
 fit-append s (x ∷ xs) ys fit more = (fit.0, fit-append (after s x) xs ys fit.1 more)
 
-pub fit_front : (s : State) (xs ys : List Entry) → AllFit s (xs ++ ys) → AllFit s xs
+pub fit_prefix : (s : State) (xs ys : List Entry) → AllFit s (xs ++ ys) → AllFit s xs
 unfolding AllFit
-fit_front s [] ys fit = tt
-fit_front s (x ∷ xs) ys fit = (fit.0, fit_front (after s x) xs ys fit.1)
+fit_prefix s [] ys fit = tt
+fit_prefix s (x ∷ xs) ys fit = (fit.0, fit_prefix (after s x) xs ys fit.1)
 
 pub fit_rest : (s : State) (xs ys : List Entry) → AllFit s (xs ++ ys) → AllFit (walk s xs) ys
 unfolding walk AllFit
@@ -41,4 +41,4 @@ pub walks_join : WalksJoin
 walks_join = walk-append
 
 pub fits_join : FitsJoin
-fits_join s xs ys = (λ fit. (fit_front s xs ys fit, fit_rest s xs ys fit), λ both. fit-append s xs ys both.0 both.1)
+fits_join s xs ys = (λ fit. (fit_prefix s xs ys fit, fit_rest s xs ys fit), λ both. fit-append s xs ys both.0 both.1)

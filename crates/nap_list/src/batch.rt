@@ -154,7 +154,7 @@ fn item_at<X: Copy>(items: &[X], index: usize) -> X
 
 /// Returns the start of the line at an index, for lines from `from` to the first point and from each point to the next.
 #[inline(always)]
-#[tactic(auto, using(crate::proofs::Batches::last_of_front), unfolding(crate::specs::Batches::last_point))]
+#[tactic(auto, using(crate::proofs::Batches::last_of_prefix), unfolding(crate::specs::Batches::last_point))]
 pub fn line_start(from: Point, points: &[Point], index: usize) -> Point
     requires { index ≤ length points.now }
     ensures { result ≡ last_point from (take index points.now) }
@@ -202,7 +202,7 @@ impl State {
     pub fn step_from(&mut self, batch: &Batch, first: usize, count: usize)
         requires some { first ≤ length (batch_entries batch.now) }
         requires few { count + first ≤ length (batch_entries batch.now) }
-        requires stand { EachIsCurrent self.old (drop first (batch_entries batch.now)) }
+        requires current { EachIsCurrent self.old (drop first (batch_entries batch.now)) }
         ensures { self.new ≡ walk self.old (take count (drop first (batch_entries batch.now))) }
     {
         if let Some(further) = count.checked_sub(1) {

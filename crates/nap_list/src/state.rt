@@ -34,7 +34,7 @@ pub struct Drawing {
 pub enum Definition {
     /// The glyph of this code.
     Glyph(u8),
-    /// This mask.
+    /// A texture mask.
     Mask(Mask),
 }
 

@@ -1,4 +1,4 @@
--- What an output took of the page that lines make.
+-- The bytes that an output took of the page which lines make.
 
 use Rattle.std.proofs.Common.{ℕ, ◌≡◌, ◌≢◌, ◌∙◌, inl, inr, Bool, true, false, List, [], ◌∷◌, ◌++◌, Result, Ok, Err, take, drop, refl, ap, sym, subst, append-nil, append_assoc, arith}
 use Rattle.std.proofs.lemmas.List.{take-append-drop}
@@ -12,7 +12,7 @@ use Rattle.nap_list.specs.Reading.{Reading, IsReadWhole}
 use Rattle.nap_list.specs.State.{start, AllFit}
 use Rattle.nap_list.specs.Sending.{sending, Writes, Grows}
 use Rattle.nap_canon.specs.declared.form.Form.TheVariants.{Two}
-use Rattle.nap_canon.specs.Converting.{IsFrontOf, count_of}
+use Rattle.nap_canon.specs.Converting.{IsPrefixOf, count_of}
 use Rattle.nap_canon.specs.Sinking.{StartsText, Broke, Canonical, Sends, Took, sending_of}
 use Rattle.nap_canon.specs.Text.{text_end_after_header, header, pieces, text, pieces_bytes}
 use Rattle.nap_canon.proofs.PublicLaws.{sink_writes_text}
@@ -25,7 +25,7 @@ use Rattle.nap_line_reader.specs.Lists.{ComeFirst, LinesSoFar, MakesNone, ShowsN
 use Rattle.nap_line_reader.specs.Making.{SinkTook, Makes, MakesList, MakesNoList, StopsBy}
 use Rattle.nap_maker.specs.declared.page.PageFault.{PageFault}
 use Rattle.nap_maker.specs.declared.page.PageFault.TheVariants as faults
-use Rattle.nap_maker.proofs.TextLemmas.{broken_sink_writes_front}
+use Rattle.nap_maker.proofs.TextLemmas.{broken_sink_writes_prefix}
 use Rattle.nap_maker.specs.Pages.{Concludes, MakesPage, RefusesBy, RefusesLines, StopsWriting, page_answer}
 
 -- no lines yet
@@ -33,7 +33,7 @@ no_lines : LinesSoFar [] [] []
 unfolding AllFit
 no_lines = record { proper = All-nil IsProper; fit = tt; parts = refl }
 
--- lines that show what is wrong with them have it
+-- lines that show a fault have it
 shown_here : (p : List ℕ) (es : List Entry) (f : MakeFault) → ShowsNone p es f → MakesNone p es f
 shown_here p es f shows = subst (λ (q : List ℕ). MakesNone q es f) (append-nil p) (shows [])
 
@@ -41,18 +41,18 @@ module _ {O : Type 0} (o : outlet.Ghosts O) (w : O) (s : Canonical O) (begins : 
     (took_is : (t : Canonical O) (d : List Entry) → g.took s d t → Took o s d t)
     (broke_is : (t : Canonical O) (d : List Entry) (e : Entry) → g.broke s d e t → Broke o s d e t)
     (failed_is : (t : Canonical O) → g.failed t ≡ o.failed t.outlet) (p : List ℕ) (seen : Reading) where
-  -- What went out is a front of the text of the lines.
+  -- The bytes written are a prefix of the text of the lines.
   record WentOut (t : Canonical O) (made : Result (Unit {0}) ListFault) (q : List ℕ) : Type 0 where
     pub grows : Grows (sending o w 0) q (sending_of o t)
-    pub front : StopsWriting p q
+    pub prefix : StopsWriting p q
     pub right : t.written ≡ count_of q → o.failed t.outlet ≡ false → MakesPage p seen q false (page_answer t.written made)
 
   -- the text of the entries that a sink kept
   kept_text : (t : Canonical O) (es : List Entry) → SinkTook g s es t → Grows (sending o w 0) (text es) (sending_of o t)
   kept_text t es kept = (sink_writes_text o w s t es begins works (took_is t es kept.took)).grows
 
-  whole_front : (es : List Entry) → ComeFirst p es → StopsWriting p (text es)
-  whole_front es first = record { entries = es; rest = first.0; so_far = first.1; front = ([], sym (append-nil (text es))) }
+  whole_prefix : (es : List Entry) → ComeFirst p es → StopsWriting p (text es)
+  whole_prefix es first = record { entries = es; rest = first.0; so_far = first.1; prefix = ([], sym (append-nil (text es))) }
 
   refused : (t : Canonical O) (f : MakeFault) (es : List Entry) → f ≢ make_faults.Write → RefusesLines p seen (text es) f → RefusesBy p seen (text es) f
   refused t (make_faults.Line number column) es own h = h
@@ -67,18 +67,18 @@ module _ {O : Type 0} (o : outlet.Ghosts O) (w : O) (s : Canonical O) (begins : 
     text h.entries,
     record {
       grows = kept_text t h.entries h.kept;
-      front = whole_front h.entries ([], h.so_far);
+      prefix = whole_prefix h.entries ([], h.so_far);
       right = λ count still. (count, record { read = read; made = record { entries = h.entries; are = h.are; text_is = refl } });
     },
   )
 
-  -- the lines make none, and all were read
+  -- the lines make no page, and all were read
   wrong_at_end : (t : Canonical O) (f : MakeFault) → IsReadWhole seen p → MakesNoList g s p t f → (q : List ℕ) × WentOut t (Err (list_faults.Lines f)) q
   wrong_at_end t f read h = (
     text h.entries,
     record {
       grows = kept_text t h.entries h.kept;
-      front = whole_front h.entries h.first;
+      prefix = whole_prefix h.entries h.first;
       right = λ count still. (
         count,
         refused t f h.entries h.own (record { none_failed = read.none_failed; before = h.entries; why = h.why; text_is = refl; left = inl read }),
@@ -86,14 +86,14 @@ module _ {O : Type 0} (o : outlet.Ghosts O) (w : O) (s : Canonical O) (begins : 
     },
   )
 
-  -- the lines show that they make none
+  -- the lines that were read show that they make none
   shows_wrong : (t : Canonical O) (f : MakeFault) (es : List Entry) → f ≢ make_faults.Write → seen.failed ≡ seen.failed_before → ComeFirst p es → ShowsNone p es f → SinkTook g s es t →
       (q : List ℕ) × WentOut t (Err (list_faults.Lines f)) q
   shows_wrong t f es own none_failed first shows kept = (
     text es,
     record {
       grows = kept_text t es kept;
-      front = whole_front es first;
+      prefix = whole_prefix es first;
       right = λ count still. (
         count,
         refused t f es own (record { none_failed = none_failed; before = es; why = shown_here p es f shows; text_is = refl; left = inr shows }),
@@ -107,12 +107,12 @@ module _ {O : Type 0} (o : outlet.Ghosts O) (w : O) (s : Canonical O) (begins : 
   stopped t (make_faults.Open number opening) es none_failed first h = shows_wrong t (make_faults.Open number opening) es (λ is. let bad : ⊥ = cc in bad) none_failed first h.0 h.1
   stopped t make_faults.Memory es none_failed first h = shows_wrong t make_faults.Memory es (λ is. let bad : ⊥ = cc in bad) none_failed first h.0 h.1
   stopped t make_faults.Write es none_failed first h =
-      let wrote = broken_sink_writes_front o w s begins works t es h.0 (broke_is t es h.0 h.2.broke) in
+      let wrote = broken_sink_writes_prefix o w s begins works t es h.0 (broke_is t es h.0 h.2.broke) in
       let here = subst (λ (q : List ℕ). ComeFirst q (es ++ h.0 ∷ [])) (append-nil p) (h.1 []) in (
         wrote.0,
         record {
           grows = wrote.1;
-          front = record { entries = es ++ h.0 ∷ []; rest = here.0; so_far = here.1; front = wrote.2 };
+          prefix = record { entries = es ++ h.0 ∷ []; rest = here.0; so_far = here.1; prefix = wrote.2 };
           right = λ count still. let bad = sym still ∙ sym (failed_is t) ∙ h.2.failed in cc;
         },
       )
@@ -125,7 +125,7 @@ module _ {O : Type 0} (o : outlet.Ghosts O) (w : O) (s : Canonical O) (begins : 
     text h.entries,
     record {
       grows = kept_text t h.entries h.kept;
-      front = whole_front h.entries (h.rest, h.so_far);
+      prefix = whole_prefix h.entries (h.rest, h.so_far);
       right = λ count still. (count, record { cut_off = h.cut_off; entries = h.entries; rest = h.rest; so_far = h.so_far; none = h.none; text_is = refl });
     },
   )
@@ -146,7 +146,7 @@ module _ {O : Type 0} (o : outlet.Ghosts O) (w : O) (s : Canonical O) (begins : 
 
       at : (q : List ℕ) → WentOut t made q → (failed : Bool) → o.failed u ≡ failed → Concludes t.written made failed answer → MakesPage p seen q failed answer
       at q out false is h = rw h (out.right (counts q out.grows) (works_on (o.failed t.outlet) refl is))
-      at q out true is h = rw h (counts q out.grows, out.front)
+      at q out true is h = rw h (counts q out.grows, out.prefix)
 
 -- the header was not written
 pub header_fails : {O : Type 0} (o : outlet.Ghosts O) (w : O) (s : Canonical O) → StartsText o w s → o.failed s.outlet ≡ true → (seen : Reading) (u : O) (answer : Result ℕ PageFault) →
@@ -155,13 +155,13 @@ pub header_fails : {O : Type 0} (o : outlet.Ghosts O) (w : O) (s : Canonical O) 
 header_fails o w s begins fails seen u answer keeps failed ends =
     let sent : Sends (sending o w 0) header true (sending_of o s) = subst (λ (broke : Bool). Sends (sending o w 0) header broke (sending_of o s)) fails begins.begins in
     let q = take sent.part header in
-    let front : IsFrontOf q (text []) = (
+    let prefix : IsPrefixOf q (text []) = (
       drop sent.part header ++ pieces_bytes text_end_after_header (pieces Two start []),
       ap (λ (bytes : List ℕ). bytes ++ pieces_bytes text_end_after_header (pieces Two start [])) (sym (take-append-drop sent.part header)) ∙ append_assoc q (drop sent.part header) (pieces_bytes text_end_after_header (pieces Two start [])),
     ) in
     let is : answer ≡ Err (faults.Write s.written) = subst (λ (b : Bool). Concludes s.written (Ok tt) b answer) failed ends in (
       q,
       Appends-kept (o.taken w) (o.taken s.outlet) (o.taken u) q sent.grows.taken keeps,
-      rw (failed, is) (omega (arith, sent.grows.count), record { entries = []; rest = []; so_far = no_lines; front = front }),
+      rw (failed, is) (omega (arith, sent.grows.count), record { entries = []; rest = []; so_far = no_lines; prefix = prefix }),
       sent.grows.writes,
     )

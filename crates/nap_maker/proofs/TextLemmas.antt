@@ -1,4 +1,4 @@
--- What a sink of canonical text wrote that failed amid an entry, and how often its output was flushed.
+-- The bytes of a canonical sink that failed during an entry, and how often its output was flushed.
 
 use Rattle.std.proofs.Common.{ℕ, ◌≡◌, ◌||◌, ◌∙◌, Bool, true, false, List, [], ◌∷◌, ◌++◌, Option, Some, take, drop, refl, ap, sym, subst, append-nil, append_assoc, take-append-drop}
 use Rattle.std.proofs.lemmas.Bool.{false≢true}
@@ -12,7 +12,7 @@ use Rattle.nap_list.specs.Sending.{sending, Writes, Grows, grows_more}
 use Rattle.nap_canon.specs.declared.form.Form.{Form}
 use Rattle.nap_canon.specs.declared.form.Form.TheVariants.{Two}
 use Rattle.nap_canon.specs.declared.text_end.TextEnd.{TextEnd}
-use Rattle.nap_canon.specs.Converting.{IsFrontOf}
+use Rattle.nap_canon.specs.Converting.{IsPrefixOf}
 use Rattle.nap_canon.specs.Sinking.{StartsText, Broke, Canonical, Took, entry_bytes_after, entry_bytes, sending_of}
 use Rattle.nap_canon.specs.SinkLaws.{took_none}
 use Rattle.nap_canon.specs.Spelling.{Piece}
@@ -26,16 +26,16 @@ module _ {O : Type 0} (o : outlet.Ghosts O) (w : O) (s : Canonical O) (begins : 
   unfolding pieces_bytes pieces
   header_went = subst (λ (bytes : List ℕ). Grows (sending o w 0) bytes (sending_of o s)) (append-nil header) (sink_writes_text o w s s [] begins works (took_none o s)).grows
 
-  -- the bytes of entries are those of a text behind its header
-  behind_header : (d : List Entry) → entry_bytes s d ≡ pieces_bytes text_end_after_header (pieces Two start d)
-  behind_header d =
+  -- the bytes of entries are those of a text after its header
+  bytes_with_header : (d : List Entry) → entry_bytes s d ≡ pieces_bytes text_end_after_header (pieces Two start d)
+  bytes_with_header d =
       ap (λ (f : Form). pieces_bytes s.text_end (pieces f s.state d)) begins.form_is
       ∙ ap (λ (t : TextEnd). pieces_bytes t (pieces Two s.state d)) begins.text_end
       ∙ ap (λ (u : State). pieces_bytes text_end_after_header (pieces Two u d)) begins.state
 
   -- the bytes of one more entry
-  behind_entries : (d : List Entry) (e : Entry) → entry_bytes_after s d e ≡ pieces_bytes (text_end_after text_end_after_header (pieces Two start d)) (entry_pieces Two (walk start d) e)
-  behind_entries d e =
+  next_entry_bytes : (d : List Entry) (e : Entry) → entry_bytes_after s d e ≡ pieces_bytes (text_end_after text_end_after_header (pieces Two start d)) (entry_pieces Two (walk start d) e)
+  next_entry_bytes d e =
       ap (λ (f : Form). pieces_bytes (text_end_after s.text_end (pieces f s.state d)) (entry_pieces f (walk s.state d) e)) begins.form_is
       ∙ ap (λ (t : TextEnd). pieces_bytes (text_end_after t (pieces Two s.state d)) (entry_pieces Two (walk s.state d) e)) begins.text_end
       ∙ ap (λ (u : State). pieces_bytes (text_end_after text_end_after_header (pieces Two u d)) (entry_pieces Two (walk u d) e)) begins.state
@@ -48,21 +48,21 @@ module _ {O : Type 0} (o : outlet.Ghosts O) (w : O) (s : Canonical O) (begins : 
   text_more : (d : List Entry) (e : Entry) → text (d ++ e ∷ []) ≡ text d ++ entry_bytes_after s d e
   text_more d e =
       let u = walk start d in
-      let tail = text_end_after text_end_after_header (pieces Two start d) in
-      let front = pieces_bytes text_end_after_header (pieces Two start d) in
+      let text_end = text_end_after text_end_after_header (pieces Two start d) in
+      let prefix = pieces_bytes text_end_after_header (pieces Two start d) in
       ap (λ (ps : List Piece). header ++ pieces_bytes text_end_after_header ps) (pieces-append Two start d (e ∷ []))
       ∙ ap (λ (bytes : List ℕ). header ++ bytes) (pieces_bytes-append text_end_after_header (pieces Two start d) (pieces Two u (e ∷ [])))
-      ∙ ap (λ (ps : List Piece). header ++ (front ++ pieces_bytes tail ps)) (one_piece u e)
-      ∙ ap (λ (bytes : List ℕ). header ++ (front ++ bytes)) (sym (behind_entries d e))
-      ∙ sym (append_assoc header front (entry_bytes_after s d e))
+      ∙ ap (λ (ps : List Piece). header ++ (prefix ++ pieces_bytes text_end ps)) (one_piece u e)
+      ∙ ap (λ (bytes : List ℕ). header ++ (prefix ++ bytes)) (sym (next_entry_bytes d e))
+      ∙ sym (append_assoc header prefix (entry_bytes_after s d e))
 
-  -- What went out of a sink that failed amid an entry is a front of the text up to there.
-  pub broken_sink_writes_front : (t : Canonical O) (d : List Entry) (e : Entry) → Broke o s d e t → (q : List ℕ) × Grows (sending o w 0) q (sending_of o t) × IsFrontOf q (text (d ++ e ∷ []))
-  broken_sink_writes_front t d e broke =
+  -- The bytes of a sink that failed during an entry are a prefix of the text of the entries before it and the entry.
+  pub broken_sink_writes_prefix : (t : Canonical O) (d : List Entry) (e : Entry) → Broke o s d e t → (q : List ℕ) × Grows (sending o w 0) q (sending_of o t) × IsPrefixOf q (text (d ++ e ∷ []))
+  broken_sink_writes_prefix t d e broke =
       let bytes = entry_bytes_after s d e in
       let part = take broke.part bytes in
       let all : header ++ (entry_bytes s d ++ part) ≡ text d ++ part =
-      ap (λ (bs : List ℕ). header ++ (bs ++ part)) (behind_header d) ∙ sym (append_assoc header (pieces_bytes text_end_after_header (pieces Two start d)) part) in (
+      ap (λ (bs : List ℕ). header ++ (bs ++ part)) (bytes_with_header d) ∙ sym (append_assoc header (pieces_bytes text_end_after_header (pieces Two start d)) part) in (
         text d ++ part,
         subst (λ (bs : List ℕ). Grows (sending o w 0) bs (sending_of o t)) all (grows_more (sending o w 0) (sending_of o s) (sending_of o t) header (entry_bytes s d ++ part) header_went broke.grows),
         (
@@ -76,11 +76,11 @@ pub text_written : {O : Type 0} (o : outlet.Ghosts O) (w : O) (s t : Canonical O
     ((u : O) → o.taken u ≡ Some (items u)) → items w ≡ [] → (d : List Entry) → Took o s d t → items t.outlet ≡ text d
 text_written o w s t begins works items tells empty d took =
     let taken : Appends (o.taken w) (o.taken t.outlet) (text d) = (sink_writes_text o w s t d begins works took).grows.taken in
-    let told : Appends (Some (items w)) (Some (items t.outlet)) (text d) =
+    let text_is : Appends (Some (items w)) (Some (items t.outlet)) (text d) =
     subst (λ (a : Option (List ℕ)). Appends a (Some (items t.outlet)) (text d)) (tells w) (subst (λ (b : Option (List ℕ)). Appends (o.taken w) b (text d)) (tells t.outlet) taken) in
-    told ∙ ap (λ (bytes : List ℕ). bytes ++ text d) empty
+    text_is ∙ ap (λ (bytes : List ℕ). bytes ++ text d) empty
 
--- An output that was written to the end is flushed once, where no write failed.
+-- An output that was written to the end is flushed once if no write failed.
 module _ {O : Type 0} (o : outlet.Ghosts O) (law : (x : O) → o.write_failed x ≡ true → o.failed x ≡ true) (w : O) (works : o.failed w ≡ false) where
   unfailed : o.write_failed w ≡ false
   unfailed = by (o.write_failed w) refl

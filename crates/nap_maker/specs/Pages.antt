@@ -1,7 +1,7 @@
 use Rattle.std.specs.Prelude.{ℕ, ◌≡◌, ◌≢◌, ◌⊎◌, Bool, true, false, List, Result, Ok, Err, All}
 use Rattle.nap_list.specs.declared.entry.Entry.{Entry}
 use Rattle.nap_list.specs.Reading.{Reading, NoneFailed, IsCutOff, IsReadWhole}
-use Rattle.nap_canon.specs.Converting.{IsFrontOf, count_of}
+use Rattle.nap_canon.specs.Converting.{IsPrefixOf, count_of}
 use Rattle.nap_canon.specs.Text.{text}
 use Rattle.nap_line_reader.specs.declared.fault.MakeFault.{MakeFault}
 use Rattle.nap_line_reader.specs.declared.fault.MakeFault.TheVariants as make_faults
@@ -47,7 +47,7 @@ pub record StopsWriting (p q : List ℕ) : Type 0 where
   pub entries : List Entry
   pub rest : List ℕ
   pub so_far : LinesSoFar p entries rest
-  pub front : IsFrontOf q (text entries)
+  pub prefix : IsPrefixOf q (text entries)
 
 -- what is answered, by whether the output has failed
 abbrev pub MakesPage : List ℕ → Reading → List ℕ → Bool → Result ℕ PageFault → Type 0

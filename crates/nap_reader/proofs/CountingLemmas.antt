@@ -18,19 +18,19 @@ taken_of all (Err stop) = stop.taken
 
 -- if a single entry wasn't taken, none was
 module _ {S : Type 0} (h : SinkModel S) (x : Entry) (s t : S) where
-  only_one : (front rest : List Entry) (next : Entry) (n : ℕ) → x ∷ [] ≡ front ++ next ∷ rest → length front ≡ n → n ≡ 0
-  only_one front rest next n parts count = omega (arith, count, ap length parts, length-append front (next ∷ rest))
+  only_one : (prefix rest : List Entry) (next : Entry) (n : ℕ) → x ∷ [] ≡ prefix ++ next ∷ rest → length prefix ≡ n → n ≡ 0
+  only_one prefix rest next n parts count = omega (arith, count, ap length parts, length-append prefix (next ∷ rest))
 
   none_first : (n : ℕ) (f : SinkFault) → HaltsAfter h (x ∷ []) s t n f → n ≡ 0
-  none_first n faults.Memory stops = only_one stops.front stops.rest stops.next n stops.parts stops.count
+  none_first n faults.Memory stops = only_one stops.prefix stops.rest stops.next n stops.parts stops.count
   none_first n faults.Write (inl (set, same, zero)) = zero
-  none_first n faults.Write (inr breaks) = only_one breaks.front breaks.rest breaks.next n breaks.parts breaks.count
+  none_first n faults.Write (inr breaks) = only_one breaks.prefix breaks.rest breaks.next n breaks.parts breaks.count
 
 -- The entries that another sink took are counted.
 module _ {S : Type 0} (g : Ghosts S) (list : List Entry) (s t : CountedSink S) where
   halts : (n : ℕ) (f : SinkFault) → GrowsBy n s.count t.count → (n ≡ 0 → t.count ≡ s.count) → HaltsAfter (sink_model_of g) list s.sink t.sink n f → HaltsAfter (counting_sink_model g) list s t n f
   halts n faults.Memory grows still h = record {
-    front = h.front;
+    prefix = h.prefix;
     next = h.next;
     rest = h.rest;
     parts = h.parts;
@@ -39,7 +39,7 @@ module _ {S : Type 0} (g : Ghosts S) (list : List Entry) (s t : CountedSink S) w
     wants = h.wants;
   }
   halts n faults.Write grows still (inl (set, sink, zero)) = inl (set, same s t sink (still zero), zero)
-  halts n faults.Write grows still (inr h) = inr (record { front = h.front; next = h.next; rest = h.rest; parts = h.parts; count = h.count; broken = h.broken })
+  halts n faults.Write grows still (inr h) = inr (record { prefix = h.prefix; next = h.next; rest = h.rest; parts = h.parts; count = h.count; broken = h.broken })
 
   tells : (n : ℕ) (f : SinkFault) → (n ≡ 0 → t.count ≡ s.count) → FaultMatchesDevice (sink_model_of g) s.sink t.sink n f → FaultMatchesDevice (counting_sink_model g) s t n f
   tells n f still h = record { write = h.write; memory = h.memory; none = λ set. let k = h.none set in (k.0, same s t k.1 (still k.2), k.2) }

@@ -93,11 +93,11 @@ pub record HaltsIn {S : Type 0} (g : Ghosts S) (s : State) (set : CharSet) (q : 
 pub halts_in : {S : Type 0} (g : Ghosts S) (s : State) (set : CharSet) (q : List ℕ) (i : ℕ) (t u : S) (fault : SinkFault) → 0 < length q →
     HaltsAfter (sink_model_of g) (text s set q) t u i fault → HaltsIn g s set q i t u fault
 unfolding text
-halts_in g s set q i t u sink_faults.Memory some h = record { es = h.front; next = h.next; rest = h.rest; parts = h.parts; count = sym h.count; halted = (h.taken, h.wants) }
+halts_in g s set q i t u sink_faults.Memory some h = record { es = h.prefix; next = h.next; rest = h.rest; parts = h.parts; count = sym h.count; halted = (h.taken, h.wants) }
 halts_in g s set [] i t u sink_faults.Write some (inl h) = absurd (omega arith)
 halts_in g s set (b ∷ q) i t u sink_faults.Write some (inl h) =
     record { es = []; next = typed_in s set b; rest = text (after s (typed_in s set b)) set q; parts = refl; count = h.2; halted = inl (h.0, h.1, refl) }
-halts_in g s set q i t u sink_faults.Write some (inr h) = record { es = h.front; next = h.next; rest = h.rest; parts = h.parts; count = sym h.count; halted = inr h.broken }
+halts_in g s set q i t u sink_faults.Write some (inr h) = record { es = h.prefix; next = h.next; rest = h.rest; parts = h.parts; count = sym h.count; halted = inr h.broken }
 
 -- the first entries of a text are the text of its first bytes, and the next one is the entry of the byte after them
 pub record IsTextOf (s : State) (set : CharSet) (q : List ℕ) (es : List Entry) (e : Entry) : Type 0 where

@@ -1,4 +1,4 @@
--- What a conversion answers, by what its reader shows.
+-- The answer of a conversion, by the state of its reader.
 
 use Rattle.std.proofs.Common.{ℕ, ◌≡◌, ◌≢◌, ◌||◌, Bool, true, false, List, [], ◌++◌, Some, None, Result, Ok, Err, length, take, drop, refl, ap, sym, subst, ◌∙◌, inl, inr, append_assoc, arith}
 use Rattle.std.proofs.lemmas.Bool.{false≢true}
@@ -28,13 +28,13 @@ use Rattle.nap_reader.proofs.PublicLaws.{begun_comes_first, end_breaks_among, fe
 use Rattle.nap_canon.specs.declared.conversion.ConvertFault.{ConvertFault}
 use Rattle.nap_canon.specs.declared.conversion.ConvertFault.TheVariants as fault
 use Rattle.nap_canon.specs.Concluding.{Concludes}
-use Rattle.nap_canon.specs.Converting.{StopsAtOnce, IsFrontOf, Converts}
+use Rattle.nap_canon.specs.Converting.{StopsAtOnce, IsPrefixOf, Converts}
 use Rattle.nap_canon.specs.Sinking.{Canonical, sending_of, Sends, StartsText, Took, Broke}
 use Rattle.nap_canon.specs.Streams.{list_of}
 use Rattle.nap_canon.specs.Text.{header, text_end_after_header, pieces_bytes, pieces, text}
-use Rattle.nap_canon.proofs.conversions.WentOutLemmas.{front_refl, Leaves, concluded, leaves_whole, leaves_refused, leaves_cut, leaves_broken}
+use Rattle.nap_canon.proofs.conversions.WentOutLemmas.{prefix_refl, Leaves, concluded, leaves_whole, leaves_refused, leaves_cut, leaves_broken}
 
--- An output that was written to the end is flushed once, where no write failed.
+-- An output that was written to the end is flushed once if no write failed.
 
 module _ {O : Type 0} (o : outlet.Ghosts O) (law : (x : O) → o.write_failed x ≡ true → o.failed x ≡ true) (w : O) (works : o.failed w ≡ false) where
   unfailed : o.write_failed w ≡ false
@@ -53,7 +53,7 @@ module _ {O : Type 0} (o : outlet.Ghosts O) (law : (x : O) → o.write_failed x 
       ∙ ap (λ (b : Bool). flush_count b (o.flushes t.outlet)) (failed ∙ sym (kept ∙ write_failed))
       ∙ ap (flush_count (o.write_failed u)) wrote.flushes
 
--- what a conversion ensures of what it read and wrote
+-- what a conversion ensures of the bytes that it read and wrote
 abbrev pub Converted : {I O : Type 0} → inlet.Ghosts I → outlet.Ghosts O → ℕ → I → I → O → O → Result ℕ ConvertFault → Type 0
 Converted i o budget initial final w u answer =
     (p : List ℕ) × (q : List ℕ) × Consumes (i.left initial) (i.left final) p × Appends (o.taken w) (o.taken u) q
@@ -61,7 +61,7 @@ Converted i o budget initial final w u answer =
     × StopsAtOnce i budget p initial final q
     × FlushedOnce o w u
 
--- What a reader shows.
+-- The state of a reader.
 
 module _ {S : Type 0} {g : Ghosts S} (reader : Reader S g) (s : S) (p : List ℕ) (h : HasRead reader s p) where
   unrefused : (budget : ℕ) → budget_of reader ≡ budget → refusal_of reader ≡ None → IsKnown g s (begun budget p) (sink_of reader) (left_of reader) None
@@ -75,7 +75,7 @@ module _ {S : Type 0} {g : Ghosts S} (reader : Reader S g) (s : S) (p : List ℕ
       subst (λ (b : ℕ). AnswersBy g s b p (sink_of reader) (left_of reader) r (cause_of r.fault)) same
       (subst (Answers g s (budget_of reader) p (sink_of reader) (left_of reader)) some h.answers)
 
--- a stream that is refused so far is refused so as a whole
+-- a refusal of the stream so far is the refusal of the whole stream
 means_refused : (budget : ℕ) (p : List ℕ) (r : Refusal) → (begun budget p).refusal ≡ Some r → means budget p ≡ begun budget p
 means_refused budget p r is = ap (ended_by (begun budget p) (length p)) is
 
@@ -91,7 +91,7 @@ module _ {O : Type 0} (o : outlet.Ghosts O) (w : O) (s : Canonical O) (begins : 
   header_fails i input reader h none fails u answer keeps failed ends =
       let sent : Sends (sending o w 0) header true (sending_of o s) = subst (λ (broke : Bool). Sends (sending o w 0) header broke (sending_of o s)) fails begins.begins in
       let q = take sent.part header in
-      let front : (d : List Entry) → IsFrontOf q (text d) = λ d. (
+      let prefix : (d : List Entry) → IsPrefixOf q (text d) = λ d. (
         drop sent.part header ++ pieces_bytes text_end_after_header (pieces Two start d),
         ap (λ (bytes : List ℕ). bytes ++ pieces_bytes text_end_after_header (pieces Two start d)) (sym (take-append-drop sent.part header)) ∙ append_assoc q (drop sent.part header) (pieces_bytes text_end_after_header (pieces Two start d)),
       ) in
@@ -101,8 +101,8 @@ module _ {O : Type 0} (o : outlet.Ghosts O) (w : O) (s : Canonical O) (begins : 
         rw (failed, is) (
           omega (arith, sent.grows.count),
           record {
-            front = front (list_of (budget_of reader) []);
-            left = inr (front (begun (budget_of reader) []).entries);
+            prefix = prefix (list_of (budget_of reader) []);
+            left = inr (prefix (begun (budget_of reader) []).entries);
           },
         ),
         record {
@@ -123,10 +123,10 @@ module _ {O : Type 0} (o : outlet.Ghosts O) (w : O) (s : Canonical O) (begins : 
       )
 
   module _ (works : o.failed s.outlet ≡ false) {I : Type 0} (i : inlet.Ghosts I) (initial final : I) (old new : Reader (Canonical O) g) (p : List ℕ) (same : budget_of new ≡ budget_of old) where
-    -- what was known before the last read comes first
-    pub first_of : (last : LastRead i (budget_of old) p initial final) → IsFrontOf (begun (budget_of old) last.before).entries (begun (budget_of old) p).entries
+    -- the entries known before the last read are a prefix of all
+    pub first_of : (last : LastRead i (budget_of old) p initial final) → IsPrefixOf (begun (budget_of old) last.before).entries (begun (budget_of old) p).entries
     first_of last =
-        subst (λ (bytes : List ℕ). IsFrontOf (begun (budget_of old) last.before).entries (begun (budget_of old) bytes).entries) (sym last.parts)
+        subst (λ (bytes : List ℕ). IsPrefixOf (begun (budget_of old) last.before).entries (begun (budget_of old) bytes).entries) (sym last.parts)
         (more_bytes_keep_entries (budget_of old) last.before last.last)
 
     abbrev pub Ends : LastRead i (budget_of old) p initial final → Canonical O → Result (Unit {0}) FeedFault → Type 0
@@ -147,8 +147,8 @@ module _ {O : Type 0} (o : outlet.Ghosts O) (w : O) (s : Canonical O) (begins : 
             let among = fed_breaks_among g s budget h.last.before h.last.last n (sink_of new) (left_of new) r within broke stops in
             let here = subst (λ (bytes : List ℕ). BreaksAmong g s budget bytes (begun budget h.last.before).entries (begun budget bytes) (sink_of new) r) (sym h.last.parts) among in
             leaves_broken o w s begins works budget p (reading i initial final) h.last.before (first_of h.last) g took_is broke_is failed_is wants_none (sink_of new) r
-            (begun budget h.last.before).entries (begun budget p) here h.ends.0 (front_refl (begun budget h.last.before).entries) (begun_comes_first budget p)
-            (λ q front. inr front) broke
+            (begun budget h.last.before).entries (begun budget p) here h.ends.0 (prefix_refl (begun budget h.last.before).entries) (begun_comes_first budget p)
+            (λ q prefix. inr prefix) broke
 
         at : (cause : Cause) → cause_of r.fault ≡ cause → AnswersBy g s (budget_of old) p (sink_of new) (left_of new) r cause → Ends h.last (sink_of new) (Err (feed_fault.Refused r))
         at stream own known =
@@ -156,7 +156,7 @@ module _ {O : Type 0} (o : outlet.Ghosts O) (w : O) (s : Canonical O) (begins : 
             let whole = means_refused budget p r known.refusal in
             let list = ap (λ (out : Outcome). out.entries) whole in
             leaves_refused o w s begins works budget p (reading i initial final) h.last.before (first_of h.last) (sink_of new) r h.ends.0 (inr known.refusal)
-            (inr (subst (λ (d : List Entry). IsFrontOf (text (list_of budget p)) (text d)) list (front_refl (text (list_of budget p))))) own
+            (inr (subst (λ (d : List Entry). IsPrefixOf (text (list_of budget p)) (text d)) list (prefix_refl (text (list_of budget p))))) own
             (ap (λ (out : Outcome). out.refusal) whole ∙ known.refusal)
             (subst (λ (d : List Entry). Took o s d (sink_of new)) (sym list) (took_is (sink_of new) (begun budget p).entries known.taken))
         at memory is known = broken (λ own. let bad = sym is ∙ own in cc)
@@ -181,7 +181,7 @@ module _ {O : Type 0} (o : outlet.Ghosts O) (w : O) (s : Canonical O) (begins : 
               let budget = budget_of old in
               let among = end_breaks_among g s budget p t r known.refusal (subst (λ (b : ℕ). BreaksInRun g s b p t r) same (broke other)) in
               leaves_broken o w s begins works budget p (reading i initial final) h.last.before (first_of h.last) g took_is broke_is failed_is wants_none t r (begun budget p).entries
-              (means budget p) among h.ends.0.none_failed (first_of h.last) (front_refl (list_of budget p)) (λ q front. inl h.ends.0) other
+              (means budget p) among h.ends.0.none_failed (first_of h.last) (prefix_refl (list_of budget p)) (λ q prefix. inl h.ends.0) other
 
           at : (cause : Cause) → cause_of r.fault ≡ cause → Ends h.last t (Err (feed_fault.Refused r))
           at stream is =
@@ -191,19 +191,19 @@ module _ {O : Type 0} (o : outlet.Ghosts O) (w : O) (s : Canonical O) (begins : 
           at memory is = broken (λ own. let bad = sym is ∙ own in cc)
           at device is = broken (λ own. let bad = sym is ∙ own in cc)
 
-  -- a conversion that was fed something, and the output as it is given back
+  -- a conversion that was fed bytes, and the output as it is given back
   module _ (works : o.failed s.outlet ≡ false) {I : Type 0} (i : inlet.Ghosts I) (initial final : I) (old new : Reader (Canonical O) g) (stands : HasRead old s []) (same : budget_of new ≡ budget_of old) (budget : ℕ)
       (is : budget_of old ≡ budget) (law : (x : O) → o.write_failed x ≡ true → o.failed x ≡ true) (unfailed : o.failed w ≡ false) (u : O) (answer : Result ℕ ConvertFault) where
     abbrev Fed : Result (Unit {0}) FeedFault → Type 0
     Fed r = (p : List ℕ) × Consumes (i.left initial) (i.left final) p × ((s : Canonical O) → HasRead old s [] → Feeds i old new s p initial final r)
 
-    -- what is known of it, where it is of the sink as it was left
+    -- the promise of a conversion, from the sink as feeding left it
     abbrev Closes : Canonical O → Result (Unit {0}) FeedFault → Type 0
     Closes t fed =
         Keeps (o.taken t.outlet) (o.taken u) × (o.failed t.outlet ≡ true → o.failed u ≡ true) × Concludes t.written fed (o.failed u) answer
         × (o.flushes u ≡ flush_count (o.failed t.outlet) (o.flushes t.outlet)) × (o.write_failed u ≡ o.write_failed t.outlet)
 
-    -- with its last read
+    -- the same with its last read
     closes : (p : List ℕ) → Consumes (i.left initial) (i.left final) p → (last : LastRead i (budget_of old) p initial final) (t : Canonical O) (fed : Result (Unit {0}) FeedFault) →
         Ends works i initial final old new p same last t fed → Closes t fed → Converted i o budget initial final w u answer
     closes p read last t fed leaves (keeps, fails, ends, flushes, kept) =

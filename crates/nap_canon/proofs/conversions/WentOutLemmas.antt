@@ -1,4 +1,4 @@
--- What went out of a conversion is a front of the text, whole where all was read.
+-- The bytes that a conversion wrote are a prefix of the text, and all of it if all was read.
 
 use Rattle.std.proofs.Common.{ℕ, ◌≡◌, ◌≢◌, ◌⊎◌, Bool, true, false, List, [], ◌∷◌, ◌++◌, Some, None, Result, Ok, Err, take, drop, refl, ap, sym, subst, ◌∙◌, inl, inr, append-nil, append_assoc, arith}
 use Rattle.std.proofs.lemmas.List.{take-append-drop}
@@ -24,7 +24,7 @@ use Rattle.nap_reader.specs.Stream.{Outcome, begun, means}
 use Rattle.nap_reader.proofs.PublicLaws.{begun_comes_first}
 use Rattle.nap_canon.specs.declared.conversion.ConvertFault.{ConvertFault}
 use Rattle.nap_canon.specs.Concluding.{Concludes, answer_of}
-use Rattle.nap_canon.specs.Converting.{count_of, IsFrontOf, RefusesBy, Converts}
+use Rattle.nap_canon.specs.Converting.{count_of, IsPrefixOf, RefusesBy, Converts}
 use Rattle.nap_canon.specs.Sinking.{Canonical, sending_of, entry_bytes, entry_bytes_after, StartsText, Took, Broke}
 use Rattle.nap_canon.specs.Streams.{list_of}
 use Rattle.nap_canon.specs.Text.{header, text_end_after_header, pieces_bytes, text_end_after, pieces, entry_pieces, text}
@@ -32,24 +32,24 @@ use Rattle.nap_canon.specs.TextParts.{pieces_bytes-append}
 use Rattle.nap_canon.proofs.sinks.SinkingLemmas.{first_of_text, header_sent, sink_writes_text}
 use Rattle.nap_canon.proofs.texts.TextLemmas.{text_of_entries}
 
--- fronts
+-- prefixes
 
-pub front_refl : {A : Type 0} (xs : List A) → IsFrontOf xs xs
-front_refl xs = ([], sym (append-nil xs))
+pub prefix_refl : {A : Type 0} (xs : List A) → IsPrefixOf xs xs
+prefix_refl xs = ([], sym (append-nil xs))
 
-front_trans : {A : Type 0} (xs ys zs : List A) → IsFrontOf xs ys → IsFrontOf ys zs → IsFrontOf xs zs
-front_trans {A} xs ys zs h k = (h.0 ++ k.0, k.1 ∙ ap (λ (front : List A). front ++ k.0) h.1 ∙ append_assoc xs h.0 k.0)
+prefix_trans : {A : Type 0} (xs ys zs : List A) → IsPrefixOf xs ys → IsPrefixOf ys zs → IsPrefixOf xs zs
+prefix_trans {A} xs ys zs h k = (h.0 ++ k.0, k.1 ∙ ap (λ (prefix : List A). prefix ++ k.0) h.1 ∙ append_assoc xs h.0 k.0)
 
--- the text of the first entries stands first in that of all
-text_front : (d e : List Entry) → IsFrontOf d e → IsFrontOf (text d) (text e)
-text_front d e h = (pieces_bytes (text_end_after text_end_after_header (pieces Two start d)) (pieces Two (walk start d) h.0), ap text h.1 ∙ text_of_entries Two d h.0)
+-- the text of the first entries is a prefix of the text of all
+text_prefix : (d e : List Entry) → IsPrefixOf d e → IsPrefixOf (text d) (text e)
+text_prefix d e h = (pieces_bytes (text_end_after text_end_after_header (pieces Two start d)) (pieces Two (walk start d) h.0), ap text h.1 ∙ text_of_entries Two d h.0)
 
 module _ {O : Type 0} (o : outlet.Ghosts O) (w : O) (s : Canonical O) (begins : StartsText o w s) (works : o.failed s.outlet ≡ false) where
-  -- the text of what a sink took went out
+  -- the text of the entries that a sink took was written
   took_text : (t : Canonical O) (d : List Entry) → Took o s d t → Grows (sending o w 0) (text d) (sending_of o t)
   took_text t d h = (sink_writes_text o w s t d begins works h).grows
 
-  -- What a sink wrote that failed amid an entry: the text of those before, and a part of its bytes.
+  -- The bytes of a sink that failed during an entry: the text of the entries before, and a part of its bytes.
   abbrev broke_bytes : (t : Canonical O) (d : List Entry) (e : Entry) → Broke o s d e t → List ℕ
   broke_bytes t d e h = text d ++ take h.part (entry_bytes_after s d e)
 
@@ -63,20 +63,20 @@ module _ {O : Type 0} (o : outlet.Ghosts O) (w : O) (s : Canonical O) (begins : 
       subst (λ (bs : List ℕ). Grows (sending o w 0) bs (sending_of o t)) all
       (grows_more (sending o w 0) (sending_of o s) (sending_of o t) header (entry_bytes s d ++ part) none.grows h.grows)
 
-  -- that is a front of the text of any list that goes on so
-  broke_front : (t : Canonical O) (d : List Entry) (e : Entry) (rest : List Entry) (h : Broke o s d e t) → IsFrontOf (broke_bytes t d e h) (text (d ++ e ∷ rest))
+  -- those bytes are a prefix of the text of any list that continues so
+  broke_prefix : (t : Canonical O) (d : List Entry) (e : Entry) (rest : List Entry) (h : Broke o s d e t) → IsPrefixOf (broke_bytes t d e h) (text (d ++ e ∷ rest))
   unfolding pieces
-  broke_front t d e rest h =
+  broke_prefix t d e rest h =
       let u = walk start d in
       let text_end = text_end_after text_end_after_header (pieces Two start d) in
       let one = entry_pieces Two u e in
-      let behind : entry_bytes_after s d e ≡ pieces_bytes text_end one =
+      let next_bytes : entry_bytes_after s d e ≡ pieces_bytes text_end one =
       ap (λ (f : Form). pieces_bytes (text_end_after s.text_end (pieces f s.state d)) (entry_pieces f (walk s.state d) e)) begins.form_is
       ∙ ap (λ (t : TextEnd). pieces_bytes (text_end_after t (pieces Two s.state d)) (entry_pieces Two (walk s.state d) e)) begins.text_end
       ∙ ap (λ (v : State). pieces_bytes (text_end_after text_end_after_header (pieces Two v d)) (entry_pieces Two (walk v d) e)) begins.state in
       let later = pieces_bytes (text_end_after text_end one) (pieces Two (after u e) rest) in
       let more : pieces_bytes text_end (pieces Two u (e ∷ rest)) ≡ entry_bytes_after s d e ++ later =
-      pieces_bytes-append text_end one (pieces Two (after u e) rest) ∙ ap (λ (bs : List ℕ). bs ++ later) (sym behind) in
+      pieces_bytes-append text_end one (pieces Two (after u e) rest) ∙ ap (λ (bs : List ℕ). bs ++ later) (sym next_bytes) in
       let parts : entry_bytes_after s d e ≡ take h.part (entry_bytes_after s d e) ++ drop h.part (entry_bytes_after s d e) = sym (take-append-drop h.part (entry_bytes_after s d e)) in (
         drop h.part (entry_bytes_after s d e) ++ later,
         text_of_entries Two d (e ∷ rest)
@@ -84,16 +84,16 @@ module _ {O : Type 0} (o : outlet.Ghosts O) (w : O) (s : Canonical O) (begins : 
             ∙ sym (append_assoc (text d) (take h.part (entry_bytes_after s d e)) (drop h.part (entry_bytes_after s d e) ++ later)),
       )
 
-  -- A conversion that read the bytes p so.
-  module _ (budget : ℕ) (p : List ℕ) (seen : Reading) (before : List ℕ) (known_first : IsFrontOf (begun budget before).entries (begun budget p).entries) where
-    -- What went out is a front of the text, behind that of what was known before the last read.
+  -- A conversion that read the bytes p.
+  module _ (budget : ℕ) (p : List ℕ) (seen : Reading) (before : List ℕ) (known_first : IsPrefixOf (begun budget before).entries (begun budget p).entries) where
+    -- The bytes written are a prefix of the text, and come after the text of the entries known before the last read.
     pub record WentOut (t : Canonical O) (q : List ℕ) : Type 0 where
       pub grows : Grows (sending o w 0) q (sending_of o t)
-      pub front : IsFrontOf q (text (list_of budget p))
-      pub left : IsReadWhole seen p ⊎ IsFrontOf q (text (begun budget p).entries)
-      pub written : IsFrontOf (text (begun budget before).entries) q
+      pub prefix : IsPrefixOf q (text (list_of budget p))
+      pub left : IsReadWhole seen p ⊎ IsPrefixOf q (text (begun budget p).entries)
+      pub written : IsPrefixOf (text (begun budget before).entries) q
 
-    -- how a conversion ends that left the sink so
+    -- the answer and the bytes of a conversion that left this sink
     abbrev pub Leaves : Canonical O → Result (Unit {0}) FeedFault → Type 0
     Leaves t fed = (q : List ℕ) × WentOut t q × (o.failed t.outlet ≡ false → Converts budget p seen q false (answer_of t.written fed))
 
@@ -103,7 +103,7 @@ module _ {O : Type 0} (o : outlet.Ghosts O) (w : O) (s : Canonical O) (begins : 
     -- the output as it is given back
     pub concluded : (t : Canonical O) (fed : Result (Unit {0}) FeedFault) (u : O) (answer : Result ℕ ConvertFault) → Leaves t fed → Keeps (o.taken t.outlet) (o.taken u) →
         (o.failed t.outlet ≡ true → o.failed u ≡ true) → Concludes t.written fed (o.failed u) answer →
-        (q : List ℕ) × Appends (o.taken w) (o.taken u) q × Converts budget p seen q (o.failed u) answer × IsFrontOf (text (begun budget before).entries) q
+        (q : List ℕ) × Appends (o.taken w) (o.taken u) q × Converts budget p seen q (o.failed u) answer × IsPrefixOf (text (begun budget before).entries) q
         × Writes (sending o w 0) (sending_of o t)
     concluded t fed u answer (q, out, right) keeps fails ends = (q, Appends-kept _ _ _ q out.grows.taken keeps, at (o.failed u) refl ends, out.written, out.grows.writes)
       where
@@ -113,34 +113,34 @@ module _ {O : Type 0} (o : outlet.Ghosts O) (w : O) (s : Canonical O) (begins : 
 
         at : (failed : Bool) → o.failed u ≡ failed → Concludes t.written fed failed answer → Converts budget p seen q failed answer
         at false is h = rw h (right (works_on (o.failed t.outlet) refl is))
-        at true is h = rw h (counts t q out.grows, record { front = out.front; left = out.left })
+        at true is h = rw h (counts t q out.grows, record { prefix = out.prefix; left = out.left })
 
-    -- the sink took a list, which is all that was read
-    took_all : (t : Canonical O) (fed : Result (Unit {0}) FeedFault) (d : List Entry) → Took o s d t → IsFrontOf d (list_of budget p) →
-        IsReadWhole seen p ⊎ IsFrontOf (text d) (text (begun budget p).entries) → IsFrontOf (begun budget before).entries d →
+    -- the sink took this list, which is all that was read
+    took_all : (t : Canonical O) (fed : Result (Unit {0}) FeedFault) (d : List Entry) → Took o s d t → IsPrefixOf d (list_of budget p) →
+        IsReadWhole seen p ⊎ IsPrefixOf (text d) (text (begun budget p).entries) → IsPrefixOf (begun budget before).entries d →
         (t.written ≡ count_of (text d) → Converts budget p seen (text d) false (answer_of t.written fed)) → Leaves t fed
     took_all t fed d took all left known right =
         let grows = took_text t d took in (
           text d,
-          record { grows = grows; front = text_front d (list_of budget p) all; left = left; written = text_front (begun budget before).entries d known },
+          record { grows = grows; prefix = text_prefix d (list_of budget p) all; left = left; written = text_prefix (begun budget before).entries d known },
           λ _. right (counts t (text d) grows),
         )
 
-    known_in_whole : IsFrontOf (begun budget before).entries (list_of budget p)
-    known_in_whole = front_trans (begun budget before).entries (begun budget p).entries (list_of budget p) known_first (begun_comes_first budget p)
+    known_in_whole : IsPrefixOf (begun budget before).entries (list_of budget p)
+    known_in_whole = prefix_trans (begun budget before).entries (begun budget p).entries (list_of budget p) known_first (begun_comes_first budget p)
 
     -- all was read and accepted
     pub leaves_whole : (t : Canonical O) → IsReadWhole seen p → (means budget p).refusal ≡ None → Took o s (list_of budget p) t → Leaves t (Ok tt)
     leaves_whole t whole accepted took =
-        took_all t (Ok tt) (list_of budget p) took (front_refl (list_of budget p)) (inl whole) known_in_whole
+        took_all t (Ok tt) (list_of budget p) took (prefix_refl (list_of budget p)) (inl whole) known_in_whole
         (λ count. (count, record { read = whole; canonical = record { accepted = accepted; text_is = refl } }))
 
     -- the stream is refused
     pub leaves_refused : (t : Canonical O) (r : Refusal) → NoneFailed seen → IsReadWhole seen p ⊎ ((begun budget p).refusal ≡ Some r) →
-        IsReadWhole seen p ⊎ IsFrontOf (text (list_of budget p)) (text (begun budget p).entries) → cause_of r.fault ≡ stream →
+        IsReadWhole seen p ⊎ IsPrefixOf (text (list_of budget p)) (text (begun budget p).entries) → cause_of r.fault ≡ stream →
         (means budget p).refusal ≡ Some r → Took o s (list_of budget p) t → Leaves t (Err (feed_fault.Refused r))
     leaves_refused t r none_failed left out own refused took =
-        took_all t (Err (feed_fault.Refused r)) (list_of budget p) took (front_refl (list_of budget p)) out known_in_whole (λ count. (
+        took_all t (Err (feed_fault.Refused r)) (list_of budget p) took (prefix_refl (list_of budget p)) out known_in_whole (λ count. (
           count,
           subst (RefusesBy budget p seen (text (list_of budget p)) r) (sym own)
               (record { none_failed = none_failed; refused = refused; text = refl; left = left }),
@@ -150,16 +150,16 @@ module _ {O : Type 0} (o : outlet.Ghosts O) (w : O) (s : Canonical O) (begins : 
     pub leaves_cut : (t : Canonical O) → IsCutOff seen p → (begun budget p).refusal ≡ None → Took o s (begun budget p).entries t → Leaves t (Err feed_fault.Read)
     leaves_cut t cut going took =
         let d = (begun budget p).entries in
-        took_all t (Err feed_fault.Read) d took (begun_comes_first budget p) (inr (front_refl (text d))) known_first
+        took_all t (Err feed_fault.Read) d took (begun_comes_first budget p) (inr (prefix_refl (text d))) known_first
         (λ count. (count, record { cut_off = cut; going = going; text = refl }))
 
-    -- Reading broke: memory was wanting, or a write failed.
+    -- Reading ended without a refusal: memory ran out, or a write failed.
     module _ (g : Ghosts (Canonical O)) (took_is : (t : Canonical O) (d : List Entry) → g.took s d t → Took o s d t)
         (broke_is : (t : Canonical O) (d : List Entry) (e : Entry) → g.broke s d e t → Broke o s d e t) (failed_is : g.failed s ≡ o.failed s.outlet)
         (wants_none : (d : List Entry) → g.wants s d → ⊥) (t : Canonical O) (r : Refusal) (known : List Entry) (end : Outcome) (among : BreaksAmong g s budget p known end t r) (none_failed : NoneFailed seen)
-        (first : IsFrontOf (begun budget before).entries known) (in_whole : IsFrontOf end.entries (list_of budget p))
-        (left : (q : List ℕ) → IsFrontOf q (text end.entries) → IsReadWhole seen p ⊎ IsFrontOf q (text (begun budget p).entries)) where
-      -- the sink wants no memory
+        (first : IsPrefixOf (begun budget before).entries known) (in_whole : IsPrefixOf end.entries (list_of budget p))
+        (left : (q : List ℕ) → IsPrefixOf q (text end.entries) → IsReadWhole seen p ⊎ IsPrefixOf q (text (begun budget p).entries)) where
+      -- the sink itself takes no memory
       own : LacksWithin budget p r.place ⊎ WantsSome g s end.entries → LacksWithin budget p r.place
       own (inl reader) = reader
       own (inr (some, rest, parts, wants)) = absurd (wants_none some wants)
@@ -167,13 +167,13 @@ module _ {O : Type 0} (o : outlet.Ghosts O) (w : O) (s : Canonical O) (begins : 
       lacks : cause_of r.fault ≡ memory → TookFront g s known among.from.more t memory → Leaves t (Err (feed_fault.Refused r))
       lacks is (taken, rest, parts, took) =
           let d = known ++ taken in
-          let d_first : IsFrontOf d end.entries = (rest, among.from.adds ∙ ap (λ (es : List Entry). known ++ es) parts ∙ sym (append_assoc known taken rest)) in
-          let d_whole = front_trans d end.entries (list_of budget p) d_first in_whole in
-          took_all t (Err (feed_fault.Refused r)) d (took_is t d took) d_whole (left (text d) (text_front d end.entries d_first))
-          (front_trans (begun budget before).entries known d first (taken, refl)) (λ count. (
+          let d_first : IsPrefixOf d end.entries = (rest, among.from.adds ∙ ap (λ (es : List Entry). known ++ es) parts ∙ sym (append_assoc known taken rest)) in
+          let d_whole = prefix_trans d end.entries (list_of budget p) d_first in_whole in
+          took_all t (Err (feed_fault.Refused r)) d (took_is t d took) d_whole (left (text d) (text_prefix d end.entries d_first))
+          (prefix_trans (begun budget before).entries known d first (taken, refl)) (λ count. (
             count,
             subst (RefusesBy budget p seen (text d) r) (sym is)
-                (record { none_failed = none_failed; place = own (among.wants is); taken = d; front = d_whole; text = refl }),
+                (record { none_failed = none_failed; place = own (among.wants is); taken = d; prefix = d_whole; text = refl }),
           ))
 
       breaks : TookFront g s known among.from.more t device → Leaves t (Err (feed_fault.Refused r))
@@ -183,14 +183,14 @@ module _ {O : Type 0} (o : outlet.Ghosts O) (w : O) (s : Canonical O) (begins : 
           let h = broke_is t d next broke in
           let q = broke_bytes t d next h in
           let all : end.entries ≡ d ++ next ∷ rest = among.from.adds ∙ ap (λ (es : List Entry). known ++ es) parts ∙ sym (append_assoc known taken (next ∷ rest)) in
-          let q_first : IsFrontOf q (text end.entries) = subst (λ (es : List Entry). IsFrontOf q (text es)) (sym all) (broke_front t d next rest h) in (
+          let q_first : IsPrefixOf q (text end.entries) = subst (λ (es : List Entry). IsPrefixOf q (text es)) (sym all) (broke_prefix t d next rest h) in (
             q,
             record {
               grows = broke_text t d next h;
-              front = front_trans q (text end.entries) (text (list_of budget p)) q_first (text_front end.entries (list_of budget p) in_whole);
+              prefix = prefix_trans q (text end.entries) (text (list_of budget p)) q_first (text_prefix end.entries (list_of budget p) in_whole);
               left = left q q_first;
-              written = front_trans (text (begun budget before).entries) (text d) q
-                  (text_front (begun budget before).entries d (front_trans (begun budget before).entries known d first (taken, refl)))
+              written = prefix_trans (text (begun budget before).entries) (text d) q
+                  (text_prefix (begun budget before).entries d (prefix_trans (begun budget before).entries known d first (taken, refl)))
                   (take h.part (entry_bytes_after s d next), refl);
             },
             λ whole. let bad = sym h.failed ∙ whole in cc,

@@ -1,4 +1,4 @@
--- The opcodes of a plain stream act under operands of eight words and of four.
+-- The opcodes of a plain stream act under operands of eight words and four words.
 
 use Rattle.std.proofs.Common.{ℕ, zero, suc, ◌+◌, ◌-◌, ◌≡◌, ◌<◌, List, [], ◌∷◌, ◌++◌, length, map, take, drop, get_or, All, Bool, true, false, cond, Option, Some, None, Result, Ok, Err, refl, ap, sym, subst, ◌∙◌, arith, length-drop, nat_lt}
 use Rattle.std.specs.Prelude.{replicate}
@@ -29,15 +29,15 @@ use Rattle.nap_canon.specs.Laws.{PlainOperandLengths}
 use Rattle.nap_canon.specs.Plain.{IsPlainCode, AllMayFollow}
 use Rattle.nap_canon.proofs.operand_lengths.FrontCodes.{no_front, lexed_front, pdi_in_gl, operands_of, run_codes}
 use Rattle.nap_canon.proofs.reading.PlacedLemmas.{bytes_of-placed}
-use Rattle.nap_canon.proofs.operand_lengths.StageLemmas.{Stage, before, lengths_stand, opcode_stage, IsQuiet, quiet_stage, IsActing, code_stage}
+use Rattle.nap_canon.proofs.operand_lengths.StageLemmas.{Stage, before, lengths_are_current, opcode_stage, IsQuiet, quiet_stage, IsActing, code_stage}
 
--- what is asked of the codes to come
+-- the rules of plain streams for the codes to come
 record Asks (work : Work) (list : List Code) : Type 0 where
   stage : Stage work list
   each : All IsPlainCode list
-  behind : AllMayFollow list
+  follow : AllMayFollow list
 
--- what is known of the opcodes of these codes
+-- the acting opcodes of these codes, each under operands of eight words and four words
 record Known (acts : List Acting) (list : List Code) : Type 0 where
   all : map (λ a. a.op) acts ≡ opcodes_of list
   each : All ActsUnderEightAndFour acts
@@ -45,76 +45,76 @@ record Known (acts : List Acting) (list : List Code) : Type 0 where
 known_nothing : Known [] []
 known_nothing = record { all = refl; each = All-nil ActsUnderEightAndFour }
 
--- the machine stands between two codes, and no macro is bound
-record IsStanding (m : Machine) : Type 0 where
+-- the machine is between two codes, and no macro is bound
+record IsBetween (m : Machine) : Type 0 where
   mode : m.mode ≡ between
   names : m.names ≡ no_names
 
-drawing_stands : (m : Machine) (d : RuleResult) → IsStanding m → IsStanding (after_drawing m d)
-drawing_stands m d standing = record { mode = standing.mode; names = by d.clears }
+between_after_drawing : (m : Machine) (d : RuleResult) → IsBetween m → IsBetween (after_drawing m d)
+between_after_drawing m d is_between = record { mode = is_between.mode; names = by d.clears }
   where
     by : (clears : Bool) → cond clears no_names m.names ≡ no_names
     by true = refl
-    by false = standing.names
+    by false = is_between.names
 
-sets_stand : (m : Machine) (sets : CodeSets) → IsStanding m → IsStanding (record m { sets = sets })
-sets_stand m sets standing = record { mode = standing.mode; names = standing.names }
+between_with_sets : (m : Machine) (sets : CodeSets) → IsBetween m → IsBetween (record m { sets = sets })
+between_with_sets m sets is_between = record { mode = is_between.mode; names = is_between.names }
 
 -- nothing is refused, so a front gives no refusal
 abbrev Going : Machine → List Placed → Front → Type 0
 Going m xs f = (outcome_by_front outcome_from m xs f).refusal ≡ None
 
--- what is to be shown of a list
+-- the statement for a list
 abbrev Goes : ℕ → Machine → List Placed → Type 0
-Goes fuel m xs = IsStanding m → (outcome_from m xs).refusal ≡ None → Asks m.work (lex_result m.sets (bytes_of xs)).codes →
+Goes fuel m xs = IsBetween m → (outcome_from m xs).refusal ≡ None → Asks m.work (lex_result m.sets (bytes_of xs)).codes →
     Known (acting_within fuel m xs) (lex_result m.sets (bytes_of xs)).codes
 
--- behind a code
+-- after a code
 
 next_plain : (work w : Work) (c : Code) (rest : List Code) → (Stage work (c ∷ rest) → Stage w rest) → Asks work (c ∷ rest) → Asks w rest
 unfolding AllMayFollow
 next_plain work w c rest turn asks = record {
   stage = turn asks.stage;
   each = All-tail IsPlainCode c rest asks.each;
-  behind = asks.behind.1;
+  follow = asks.follow.1;
 }
 
 nothing_lexed : (sets : CodeSets) → (lex_result sets []).codes ≡ []
 nothing_lexed sets = ap (λ (l : LexResult). l.codes) (lexed_front sets [] ∙ ap (lex_result_by lex_result sets []) (no_front sets))
 
--- behind a run of operands
+-- after a run of operands
 
-each_behind : (words : List ℕ) (rest : List Code) → All IsPlainCode (operands_of words ++ rest) → All IsPlainCode rest
-each_behind [] rest each = each
-each_behind (word ∷ words) rest each = each_behind words rest (All-tail IsPlainCode (code.Operand word) (operands_of words ++ rest) each)
+each_after : (words : List ℕ) (rest : List Code) → All IsPlainCode (operands_of words ++ rest) → All IsPlainCode rest
+each_after [] rest each = each
+each_after (word ∷ words) rest each = each_after words rest (All-tail IsPlainCode (code.Operand word) (operands_of words ++ rest) each)
 
-come_behind : (words : List ℕ) (rest : List Code) → AllMayFollow (operands_of words ++ rest) → AllMayFollow rest
+follow_after : (words : List ℕ) (rest : List Code) → AllMayFollow (operands_of words ++ rest) → AllMayFollow rest
 unfolding AllMayFollow
-come_behind [] rest behind = behind
-come_behind (word ∷ words) rest behind = come_behind words rest behind.1
+follow_after [] rest follow = follow
+follow_after (word ∷ words) rest follow = follow_after words rest follow.1
 
-opcodes_behind : (words : List ℕ) (rest : List Code) → opcodes_of (operands_of words ++ rest) ≡ opcodes_of rest
-opcodes_behind [] rest = refl
-opcodes_behind (word ∷ words) rest = opcodes_behind words rest
+opcodes_after : (words : List ℕ) (rest : List Code) → opcodes_of (operands_of words ++ rest) ≡ opcodes_of rest
+opcodes_after [] rest = refl
+opcodes_after (word ∷ words) rest = opcodes_after words rest
 
 -- an opcode
 
--- it acts, and these act behind it
+-- an opcode acts, and these act after it
 known_opcode : (work : Work) (op : Opcode) (words : List ℕ) (rest : List Code) (acts : List Acting) → Stage work (code.Op op ∷ operands_of words ++ rest) → Known acts rest →
     Known (record { op = op; lengths = work.domain } ∷ acts) (code.Op op ∷ operands_of words ++ rest)
 known_opcode work op words rest acts stage known = record {
-  all = ap (λ (ops : List Opcode). op ∷ ops) (known.all ∙ sym (opcodes_behind words rest));
+  all = ap (λ (ops : List Opcode). op ∷ ops) (known.all ∙ sym (opcodes_after words rest));
   each = All-cons ActsUnderEightAndFour (record { op = op; lengths = work.domain }) acts
-      (λ no_domain no_reset. lengths_stand work op (operands_of words ++ rest) stage no_domain) known.each;
+      (λ no_domain no_reset. lengths_are_current work op (operands_of words ++ rest) stage no_domain) known.each;
 }
 
--- what is to be shown of an opcode with these words behind it, and of its front
+-- the statement for an opcode with these words after it, and for its front
 abbrev OpcodeGoes : ℕ → Machine → Opcode → List Placed → List ℕ → List Placed → Front → Type 0
 OpcodeGoes fuel m op xs words rest f =
     let list : List Code = code.Op op ∷ operands_of words ++ (lex_result m.sets (bytes_of rest)).codes in
     Going m xs f → Asks m.work list → Known (record { op = op; lengths = m.work.domain } ∷ acting_after (acting_within fuel) f) list
 
-module _ (fuel : ℕ) (m : Machine) (op : Opcode) (place : ℕ) (xs : List Placed) (standing : IsStanding m) where
+module _ (fuel : ℕ) (m : Machine) (op : Opcode) (place : ℕ) (xs : List Placed) (is_between : IsBetween m) where
   drawn_goes : (words : List ℕ) (rest : List Placed) (by : Result RuleResult DrawFault) → rule m.work op words ≡ by → ((w : Machine) → Goes fuel w rest) →
       OpcodeGoes fuel m op xs words rest (drawn_front m place rest by)
   unfolding AllMayFollow
@@ -122,11 +122,11 @@ module _ (fuel : ℕ) (m : Machine) (op : Opcode) (place : ℕ) (xs : List Place
   drawn_goes words rest (Ok d) e ih going asks =
       let list : List Code = (lex_result m.sets (bytes_of rest)).codes in
       let asked : Asks d.work list = record {
-        stage = opcode_stage m.work op words list d e asks.stage asks.behind.0;
-        each = each_behind words list (All-tail IsPlainCode (code.Op op) (operands_of words ++ list) asks.each);
-        behind = come_behind words list asks.behind.1;
+        stage = opcode_stage m.work op words list d e asks.stage asks.follow.0;
+        each = each_after words list (All-tail IsPlainCode (code.Op op) (operands_of words ++ list) asks.each);
+        follow = follow_after words list asks.follow.1;
       } in
-      known_opcode m.work op words list (acting_within fuel (after_drawing m d) rest) asks.stage (ih (after_drawing m d) (drawing_stands m d standing) going asked)
+      known_opcode m.work op words list (acting_within fuel (after_drawing m d) rest) asks.stage (ih (after_drawing m d) (between_after_drawing m d is_between) going asked)
 
   closed_goes : (run rest : List Placed) → ((w : Machine) → Goes fuel w rest) → OpcodeGoes fuel m op xs (words_of run) rest (closed_front m op place run rest)
   closed_goes run [] ih going asks =
@@ -143,25 +143,25 @@ module _ (fuel : ℕ) (m : Machine) (op : Opcode) (place : ℕ) (xs : List Place
       at true going asks = let bad : ⊥ = cc in absurd bad
       at false going asks = closed_goes run rest ih going asks
 
-opcode_goes : (fuel : ℕ) (m : Machine) (op : Opcode) (xs : List Placed) → IsStanding m → ((w : Machine) (ys : List Placed) → length ys < length xs → Goes fuel w ys) →
+opcode_goes : (fuel : ℕ) (m : Machine) (op : Opcode) (xs : List Placed) → IsBetween m → ((w : Machine) (ys : List Placed) → length ys < length xs → Goes fuel w ys) →
     codes.front m.sets (bytes_of xs) ≡ codes.whole (code.Op op) 1 m.sets →
     Going m xs (front_by m xs (codes.whole (code.Op op) 1 m.sets)) → Asks m.work (code.Op op ∷ (lex_result m.sets (bytes_of (drop 1 xs))).codes) →
     Known (record { op = op; lengths = m.work.domain } ∷ acting_after (acting_within fuel) (front_by m xs (codes.whole (code.Op op) 1 m.sets)))
     (code.Op op ∷ (lex_result m.sets (bytes_of (drop 1 xs))).codes)
-opcode_goes fuel m op [] standing ih e going asks = absurd (omega (arith, (whole_length m.sets [] (code.Op op) 1 m.sets e).1))
-opcode_goes fuel m op (x ∷ ys) standing ih e going asks =
+opcode_goes fuel m op [] is_between ih e going asks = absurd (omega (arith, (whole_length m.sets [] (code.Op op) 1 m.sets e).1))
+opcode_goes fuel m op (x ∷ ys) is_between ih e going asks =
     let names = whole_taken m.sets (bytes_of (x ∷ ys)) (code.Op op) 1 m.sets e in
     let k : ℕ = run_length ys in
     let cut = run_codes m.sets ys (pdi_in_gl m.sets x.byte op names) in
     let few : length (drop k ys) < length (x ∷ ys) = simp length-drop (omega arith) in
     subst (λ (list : List Code). Known (record { op = op; lengths = m.work.domain } ∷ acting_after (acting_within fuel) (opcode_front m op x.place ys)) (code.Op op ∷ list)) (sym cut)
-    (run_goes fuel m op x.place (x ∷ ys) standing (take k ys) (drop k ys) (λ w. ih w (drop k ys) few) going
+    (run_goes fuel m op x.place (x ∷ ys) is_between (take k ys) (drop k ys) (λ w. ih w (drop k ys) few) going
     (subst (λ (list : List Code). Asks m.work (code.Op op ∷ list)) cut asks))
 
 -- a code that is no opcode
 
-module _ (fuel : ℕ) (m : Machine) (xs : List Placed) (after : CodeSets) (ys : List Placed) (standing : IsStanding m) (ih : (w : Machine) → Goes fuel w ys) where
-  -- the codes behind it
+module _ (fuel : ℕ) (m : Machine) (xs : List Placed) (after : CodeSets) (ys : List Placed) (is_between : IsBetween m) (ih : (w : Machine) → Goes fuel w ys) where
+  -- the codes after it
   abbrev later : List Code
   later = (lex_result after (bytes_of ys)).codes
 
@@ -173,14 +173,14 @@ module _ (fuel : ℕ) (m : Machine) (xs : List Placed) (after : CodeSets) (ys : 
 
   idle_goes : (c : Code) → IsQuiet c → opcodes_of (c ∷ later) ≡ opcodes_of later → CodeGoes c (course.act [] shifted ys)
   idle_goes c quiet same going asks =
-      let known = ih shifted (sets_stand m after standing) going (next_plain m.work m.work c later (quiet_stage m.work m.work c later quiet refl refl refl) asks) in
+      let known = ih shifted (between_with_sets m after is_between) going (next_plain m.work m.work c later (quiet_stage m.work m.work c later quiet refl refl refl) asks) in
       record { all = known.all ∙ sym same; each = known.each }
 
   acting_goes : (c : Code) (place : ℕ) (by : Result RuleResult DrawFault) → code_rule m.work c ≡ by → IsActing c → opcodes_of (c ∷ later) ≡ opcodes_of later →
       CodeGoes c (drawn_front shifted place ys by)
   acting_goes c place (Err fault) e acting same going asks = let bad : ⊥ = cc in absurd bad
   acting_goes c place (Ok d) e acting same going asks =
-      let known = ih (after_drawing shifted d) (drawing_stands shifted d (sets_stand m after standing)) going (next_plain m.work d.work c later (code_stage m.work c later d e acting) asks) in
+      let known = ih (after_drawing shifted d) (between_after_drawing shifted d (between_with_sets m after is_between)) going (next_plain m.work d.work c later (code_stage m.work c later d e acting) asks) in
       record { all = known.all ∙ sym same; each = known.each }
 
   -- the call of a macro that isn't bound
@@ -195,7 +195,7 @@ module _ (fuel : ℕ) (m : Machine) (xs : List Placed) (after : CodeSets) (ys : 
           Known (acting_after (acting_within fuel) (cond less (course.refuse (refusal faults.Budget place)) (course.act [] next ys))) (code.Call name ∷ later)
       at true going = let bad : ⊥ = cc in absurd bad
       at false going =
-          let known = ih next (record { mode = standing.mode; names = standing.names }) going
+          let known = ih next (record { mode = is_between.mode; names = is_between.names }) going
           (next_plain m.work m.work (code.Call name) later (quiet_stage m.work m.work (code.Call name) later tt refl refl refl) asks) in
           record { all = known.all; each = known.each }
 
@@ -206,15 +206,15 @@ empty_bodies zero i = refl
 empty_bodies (suc n) zero = refl
 empty_bodies (suc n) (suc i) = empty_bodies n i
 
-nothing_bound : (m : Machine) (name : ℕ) → IsStanding m → body_of m.names name ≡ []
-nothing_bound m name standing = ap (λ (names : List (List ℕ)). body_of names name) standing.names ∙ empty_bodies 96 (name - 0x20)
+nothing_bound : (m : Machine) (name : ℕ) → IsBetween m → body_of m.names name ≡ []
+nothing_bound m name is_between = ap (λ (names : List (List ℕ)). body_of names name) is_between.names ∙ empty_bodies 96 (name - 0x20)
 
 bytes_of-drop : (n : ℕ) (xs : List Placed) → drop n (bytes_of xs) ≡ bytes_of (drop n xs)
 bytes_of-drop zero xs = refl
 bytes_of-drop (suc n) [] = refl
 bytes_of-drop (suc n) (x ∷ xs) = bytes_of-drop n xs
 
-module _ (fuel : ℕ) (m : Machine) (xs : List Placed) (standing : IsStanding m) (ih : (w : Machine) (ys : List Placed) → length ys < length xs → Goes fuel w ys) where
+module _ (fuel : ℕ) (m : Machine) (xs : List Placed) (is_between : IsBetween m) (ih : (w : Machine) (ys : List Placed) → length ys < length xs → Goes fuel w ys) where
   abbrev ByCode : Code → ℕ → CodeSets → Type 0
   ByCode c n after =
       Going m xs (front_by m xs (codes.whole c n after)) → Asks m.work (c ∷ (lex_result after (bytes_of (drop n xs))).codes) →
@@ -226,17 +226,17 @@ module _ (fuel : ℕ) (m : Machine) (xs : List Placed) (standing : IsStanding m)
       let one = one_byte_opcode m.sets (bytes_of xs) op n after e in
       let there : codes.front m.sets (bytes_of xs) ≡ codes.whole (code.Op op) 1 m.sets = e ∙ rw (one.0, one.1) refl in
       subst (λ (k : ℕ). ByCode (code.Op op) k after) (sym one.0)
-      (subst (ByCode (code.Op op) 1) (sym one.1) (opcode_goes fuel m op xs standing ih there)) going asks
+      (subst (ByCode (code.Op op) 1) (sym one.1) (opcode_goes fuel m op xs is_between ih there)) going asks
   by_code (code.Operand word) n after e less going asks = let bad : ⊥ = cc in absurd bad
   by_code (code.DefMacro name show) n after e less going asks = absurd (All-head IsPlainCode (code.DefMacro name show) _ asks.each)
-  by_code code.Fill n after e less going asks = idle_goes fuel m xs after (drop n xs) standing (λ w. ih w (drop n xs) less) code.Fill tt refl going asks
-  by_code code.Shifted n after e less going asks = idle_goes fuel m xs after (drop n xs) standing (λ w. ih w (drop n xs) less) code.Shifted tt refl going asks
+  by_code code.Fill n after e less going asks = idle_goes fuel m xs after (drop n xs) is_between (λ w. ih w (drop n xs) less) code.Fill tt refl going asks
+  by_code code.Shifted n after e less going asks = idle_goes fuel m xs after (drop n xs) is_between (λ w. ih w (drop n xs) less) code.Shifted tt refl going asks
   by_code (code.Designated number set) n after e less going asks =
-      idle_goes fuel m xs after (drop n xs) standing (λ w. ih w (drop n xs) less) (code.Designated number set) tt refl going asks
+      idle_goes fuel m xs after (drop n xs) is_between (λ w. ih w (drop n xs) less) (code.Designated number set) tt refl going asks
   by_code (code.Call name) n after e less going asks =
-      call_goes fuel m xs after (drop n xs) standing (λ w. ih w (drop n xs) less) name (place_at xs (n - 1)) (body_of m.names name) (nothing_bound m name standing) going asks
+      call_goes fuel m xs after (drop n xs) is_between (λ w. ih w (drop n xs) less) name (place_at xs (n - 1)) (body_of m.names name) (nothing_bound m name is_between) going asks
   by_code c n after e less going asks =
-      acting_goes fuel m xs after (drop n xs) standing (λ w. ih w (drop n xs) less) c (place_at xs (n - 1)) (code_rule m.work c) refl tt refl going asks
+      acting_goes fuel m xs after (drop n xs) is_between (λ w. ih w (drop n xs) less) c (place_at xs (n - 1)) (code_rule m.work c) refl tt refl going asks
 
   by_front : (f : codes.Front) → codes.front m.sets (bytes_of xs) ≡ f → Going m xs (front_by m xs f) → Asks m.work (lex_result_by lex_result m.sets (bytes_of xs) f).codes →
       Known (acting_at m f ++ acting_after (acting_within fuel) (front_by m xs f)) (lex_result_by lex_result m.sets (bytes_of xs) f).codes
@@ -250,7 +250,7 @@ module _ (fuel : ℕ) (m : Machine) (xs : List Placed) (standing : IsStanding m)
       subst (Known (acting_at m (codes.whole c n after) ++ acting_after (acting_within fuel) (front_by m xs (codes.whole c n after)))) (sym cut)
       (by_code c n after e less going (subst (Asks m.work) cut asks))
 
-  -- what is to be shown of the front, in this mode
+  -- the statement for the front, in this mode
   abbrev ByMode : Mode → Type 0
   ByMode mode = Going m xs (front_in mode m xs) →
       Known (acting_in mode m xs ++ acting_after (acting_within fuel) (front_in mode m xs)) (lex_result m.sets (bytes_of xs)).codes
@@ -264,11 +264,11 @@ module _ (fuel : ℕ) (m : Machine) (xs : List Placed) (standing : IsStanding m)
       let between_codes : ByMode between = λ going.
       subst (Known (acting_at m front_is ++ acting_after (acting_within fuel) (front_by m xs front_is))) (sym codes_are)
       (by_front front_is refl going (subst (Asks m.work) codes_are asks)) in
-      subst ByMode (sym standing.mode) between_codes (ap (λ (o : Outcome). o.refusal) (sym (front_after_front m xs)) ∙ going)
+      subst ByMode (sym is_between.mode) between_codes (ap (λ (o : Outcome). o.refusal) (sym (front_after_front m xs)) ∙ going)
 
 goes : (fuel : ℕ) (m : Machine) (xs : List Placed) → length xs < fuel → Goes fuel m xs
-goes zero m xs few standing = absurd (omega (arith, few))
-goes (suc fuel) m xs few standing = step fuel m xs standing (λ w ys less. goes fuel w ys (omega (arith, few, less)))
+goes zero m xs few is_between = absurd (omega (arith, few))
+goes (suc fuel) m xs few is_between = step fuel m xs is_between (λ w ys less. goes fuel w ys (omega (arith, few, less)))
 
 -- a stream
 
@@ -281,7 +281,7 @@ plain_operand_lengths budget p plain accepted =
     let m : Machine = start_machine budget in
     let xs : List Placed = placed_from 0 p in
     let same = ap (λ (bs : List ℕ). (lex_result start_sets bs).codes) (bytes_of-placed 0 p) in
-    let asks : Asks m.work (lex_result start_sets p).codes = record { stage = before refl plain.plain.first; each = plain.plain.each; behind = plain.plain.behind } in
+    let asks : Asks m.work (lex_result start_sets p).codes = record { stage = before refl plain.plain.first; each = plain.plain.each; follow = plain.plain.follow } in
     let going = not_refused (length p) (begun budget p) (begun budget p).refusal refl accepted in
     let known = goes (suc (length xs + left_of m)) m xs (omega arith) (record { mode = refl; names = refl }) going (subst (Asks m.work) (sym same) asks) in
     record { all = known.all ∙ ap opcodes_of same; each = known.each }

@@ -1,4 +1,4 @@
--- The codes of a list, by what stands at its front.
+-- The codes of a list, by its front.
 
 use Rattle.std.proofs.Common.{ℕ, zero, suc, ◌-◌, ◌≡◌, ◌<◌, ◌≤◌, List, [], ◌∷◌, ◌++◌, length, take, drop, map, Bool, true, false, cond, Option, Some, None, refl, ap, sym, ◌∙◌, subst, arith, length-drop}
 use Rattle.std.specs.Prelude.{◌==◌, ◌&&◌}
@@ -24,7 +24,7 @@ pub no_front : (sets : CodeSets) → front sets [] ≡ unfinished
 unfolding front
 no_front sets = refl
 
--- a code in front of what is read later
+-- a code before what is read later
 abbrev pub with_code : Code → LexResult → LexResult
 with_code code rest = record rest { codes = code ∷ rest.codes }
 
@@ -59,7 +59,7 @@ lexed_front sets bytes = at (front sets bytes) refl
         let less : length (drop n bytes) < length bytes = simp length-drop (omega arith) in
         ap (with_code code) (lex_result_within-spare (length bytes) (suc (length (drop n bytes))) after (drop n bytes) less (omega arith))
 
--- where an opcode is whole, the PDI set is in GL
+-- the PDI set is in GL when an opcode is complete
 
 is_no_opcode : Row → Bool
 is_no_opcode (rows.Whole (codes.Op op)) = false
@@ -140,7 +140,7 @@ operand_front sets b bytes pdi is =
 abbrev pub operands_of : List ℕ → List Code
 operands_of words = map codes.Operand words
 
--- the first so many bytes are operands
+-- the first n bytes are operands
 abbrev pub Cut : CodeSets → List Placed → ℕ → Type 0
 Cut sets xs n = (lex_result sets (bytes_of xs)).codes ≡ operands_of (words_of (take n xs)) ++ (lex_result sets (bytes_of (drop n xs))).codes
 

@@ -1,5 +1,5 @@
--- What opcodes, characters and controls leave as it was: the lengths of operands, those that are saved, and the
--- definition that is open. DOMAIN and RESET, and the starts and the end of a definition, are none of them.
+-- The operand lengths, the saved ones and the open definition stay as they were after opcodes, characters and controls,
+-- except DOMAIN, RESET, and the starts and the end of a definition.
 
 use Rattle.std.proofs.Common.{ℕ, zero, suc, ◌≡◌, ◌≢◌, List, [], ◌∷◌, map, Bool, true, false, Option, Some, None, Result, Ok, Err, refl, ◌∙◌}
 use Rattle.std.specs.Prelude.{⊤}
@@ -37,7 +37,7 @@ abbrev pub KeepsBy : Work → Result RuleResult DrawFault → Type 0
 KeepsBy work (Ok d) = Keeps work d
 KeepsBy work (Err fault) = ⊤
 
--- entries that are no part of a definition
+-- entries that belong to no definition
 
 abbrev IsInside : Entry → Type 0
 IsInside (entries.GlyphStart code) = ⊥
@@ -62,7 +62,7 @@ unfolding walk repeated_chars
 copies_keep s last zero = refl
 copies_keep s last (suc n) = copies_keep (after s (char_on s.drawing last)) last n ∙ after_keeps s (char_on s.drawing last) tt
 
--- what the parts of the rules give
+-- the results of the parts of rules
 
 by_keeps : {A : Type 0} (work : Work) (r : Result A DrawFault) (next : A → Result RuleResult DrawFault) → ((x : A) → KeepsBy work (next x)) →
     KeepsBy work (and_then r next)

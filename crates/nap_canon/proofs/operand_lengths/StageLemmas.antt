@@ -1,4 +1,4 @@
--- How far a plain stream has come, and under which lengths of operands its opcodes act.
+-- The stage of a plain stream, and the operand lengths under which its opcodes act.
 
 use Rattle.std.proofs.Common.{ℕ, ◌≡◌, ◌≢◌, ◌⊎◌, inl, inr, ◌%◌, List, [], ◌∷◌, ◌++◌, All, Bool, true, false, cond, Option, Some, None, Result, Ok, Err, refl, sym, subst, ◌∙◌, arith}
 use Rattle.std.specs.Prelude.{⊤, ◌==◌}
@@ -25,19 +25,19 @@ use Rattle.nap_canon.proofs.operand_lengths.KeepingLemmas.{KeepsBy, rule_keeps, 
 abbrev pub eight_and_four : OperandLengths
 eight_and_four = record { multi = 8; single = 4 }
 
--- the lengths stand, or DOMAIN comes next
-abbrev Stands : Work → List Code → Type 0
-Stands work list = (work.domain ≡ eight_and_four) ⊎ DomainNext list
+-- the operand lengths are eight words and four, or DOMAIN comes next
+abbrev LengthsAreCurrent : Work → List Code → Type 0
+LengthsAreCurrent work list = (work.domain ≡ eight_and_four) ⊎ DomainNext list
 
--- the end of a definition brings the lengths back, or none is open
+-- the end of a definition restores eight words and four, or none is open
 abbrev ComesBack : Work → Type 0
 ComesBack work = (work.saved ≡ eight_and_four) ⊎ (work.state.definition ≡ None)
 
--- these codes are to come: before the first opcode, or where none comes any more, or behind the first DOMAIN
+-- the codes to come: before the first opcode, or where no opcode comes, or after the first DOMAIN
 pub data Stage (work : Work) (list : List Code) : Type 0 where
   before : work.state.definition ≡ None → DomainFirst list → Stage work list
   defining : All IsNoOpcode list → Stage work list
-  behind : Stands work list → ComesBack work → Stage work list
+  after_domain : LengthsAreCurrent work list → ComesBack work → Stage work list
 
 -- an opcode that acts
 
@@ -46,12 +46,12 @@ unfolding DomainNext
 domain_alone opcodes.Domain list next = refl
 domain_alone _ list next = absurd next
 
-pub lengths_stand : (work : Work) (op : Opcode) (list : List Code) → Stage work (codes.Op op ∷ list) → op ≢ opcodes.Domain → work.domain ≡ eight_and_four
+pub lengths_are_current : (work : Work) (op : Opcode) (list : List Code) → Stage work (codes.Op op ∷ list) → op ≢ opcodes.Domain → work.domain ≡ eight_and_four
 unfolding DomainFirst
-lengths_stand work op list (before closed first) no_domain = absurd (no_domain first)
-lengths_stand work op list (defining none) no_domain = absurd (All-head IsNoOpcode (codes.Op op) list none)
-lengths_stand work op list (behind (inl is) back) no_domain = is
-lengths_stand work op list (behind (inr next) back) no_domain = absurd (no_domain (domain_alone op list next))
+lengths_are_current work op list (before closed first) no_domain = absurd (no_domain first)
+lengths_are_current work op list (defining none) no_domain = absurd (All-head IsNoOpcode (codes.Op op) list none)
+lengths_are_current work op list (after_domain (inl is) back) no_domain = is
+lengths_are_current work op list (after_domain (inr next) back) no_domain = absurd (no_domain (domain_alone op list next))
 
 comes_back : (work w : Work) → w.saved ≡ work.saved → w.state.definition ≡ work.state.definition → ComesBack work → ComesBack w
 comes_back work w saved definition (inl is) = inl (saved ∙ is)
@@ -71,29 +71,29 @@ unfolding walk
 domain_stage work [] rest d by next back = let bad : ⊥ = cc in absurd bad
 domain_stage work (word ∷ words) rest d by next back =
     let is : rule_result (with_domain work eight_and_four words) [] ≡ d = domain_drawn work word words d next by in
-    subst (λ (x : RuleResult). Stage x.work rest) is (behind (inl refl) (comes_back work (rule_result (with_domain work eight_and_four words) []).work refl refl back))
+    subst (λ (x : RuleResult). Stage x.work rest) is (after_domain (inl refl) (comes_back work (rule_result (with_domain work eight_and_four words) []).work refl refl back))
 
 before_domain : (work : Work) (op : Opcode) (list : List Code) → Stage work (codes.Op op ∷ list) → ComesBack work
 before_domain work op list (before closed first) = inr closed
 before_domain work op list (defining none) = absurd (All-head IsNoOpcode (codes.Op op) list none)
-before_domain work op list (behind stands back) = back
+before_domain work op list (after_domain lengths back) = back
 
 -- RESET
 
-behind_operands : (run : List ℕ) (rest : List Code) → DomainNext (operands_of run ++ rest) → DomainNext rest
+next_after_operands : (run : List ℕ) (rest : List Code) → DomainNext (operands_of run ++ rest) → DomainNext rest
 unfolding DomainNext
-behind_operands [] rest next = next
-behind_operands (word ∷ words) rest next = behind_operands words rest next
+next_after_operands [] rest next = next
+next_after_operands (word ∷ words) rest next = next_after_operands words rest next
 
 reset_lengths : (domain : OperandLengths) (word : ℕ) (words : List ℕ) (rest : List Code) → domain ≡ eight_and_four → ResetNext (operands_of (word ∷ words) ++ rest) →
     (cond (word % 2 == 1) start_domain domain ≡ eight_and_four) ⊎ DomainNext rest
-reset_lengths domain word words rest stand next = at (word % 2 == 1) refl
+reset_lengths domain word words rest domain_set next = at (word % 2 == 1) refl
   where
     at : (back : Bool) → (word % 2 == 1) ≡ back → (cond back start_domain domain ≡ eight_and_four) ⊎ DomainNext rest
-    at true e = let odd : word % 2 ≡ 1 = grind (arith, nat_tests) in inr (behind_operands words rest (next odd))
-    at false e = inl stand
+    at true e = let odd : word % 2 ≡ 1 = grind (arith, nat_tests) in inr (next_after_operands words rest (next odd))
+    at false e = inl domain_set
 
--- where the rule gives something, that is the stage behind it
+-- the stage after the result of a rule, if it has one
 abbrev StageBy : Result RuleResult DrawFault → List Code → Type 0
 StageBy (Ok d) rest = Stage d.work rest
 StageBy (Err fault) rest = ⊤
@@ -101,9 +101,9 @@ StageBy (Err fault) rest = ⊤
 reset_stage : (work : Work) (run : List ℕ) (rest : List Code) → work.domain ≡ eight_and_four → ResetNext (operands_of run ++ rest) → ComesBack work →
     StageBy (rule work opcodes.Reset run) rest
 unfolding walk
-reset_stage work [] rest stand next back = behind (inl stand) back
-reset_stage work (word ∷ words) rest stand next back =
-    behind (reset_lengths work.domain word words rest stand next) back
+reset_stage work [] rest domain_set next back = after_domain (inl domain_set) back
+reset_stage work (word ∷ words) rest domain_set next back =
+    after_domain (reset_lengths work.domain word words rest domain_set next) back
 
 -- any opcode
 
@@ -118,8 +118,8 @@ opcode_kind opcodes.Reset = is_reset refl
 opcode_kind _ = is_other (λ e. let bad : ⊥ = cc in bad) (λ e. let bad : ⊥ = cc in bad)
 
 kept_stage : (work : Work) (by : Result RuleResult DrawFault) (rest : List Code) → KeepsBy work by → work.domain ≡ eight_and_four → ComesBack work → StageBy by rest
-kept_stage work (Ok d) rest keeps stand back = behind (inl (keeps.domain ∙ stand)) (comes_back work d.work keeps.saved keeps.definition back)
-kept_stage work (Err fault) rest keeps stand back = tt
+kept_stage work (Ok d) rest keeps domain_set back = after_domain (inl (keeps.domain ∙ domain_set)) (comes_back work d.work keeps.saved keeps.definition back)
+kept_stage work (Err fault) rest keeps domain_set back = tt
 
 domain_by : (work : Work) (run : List ℕ) (by : Result RuleResult DrawFault) (rest : List Code) → domain_rule work run ≡ by → LengthsNext (operands_of run ++ rest) →
     ComesBack work → StageBy by rest
@@ -134,12 +134,12 @@ opcode_by work op run rest stage comes (is_domain is) =
     subst (λ (o : Opcode). StageBy (rule work o run) rest) (sym is) (domain_by work run (domain_rule work run) rest refl next back)
 opcode_by work op run rest stage comes (is_reset is) =
     let back = before_domain work op (operands_of run ++ rest) stage in
-    let stand = lengths_stand work op (operands_of run ++ rest) stage (λ e. let bad : ⊥ = cc in bad) in
+    let domain_set = lengths_are_current work op (operands_of run ++ rest) stage (λ e. let bad : ⊥ = cc in bad) in
     let next : ResetNext (operands_of run ++ rest) = subst (λ (o : Opcode). MayFollowCode (codes.Op o) (operands_of run ++ rest)) is comes in
-    subst (λ (o : Opcode). StageBy (rule work o run) rest) (sym is) (reset_stage work run rest stand next back)
+    subst (λ (o : Opcode). StageBy (rule work o run) rest) (sym is) (reset_stage work run rest domain_set next back)
 opcode_by work op run rest stage comes (is_other no_domain no_reset) =
     kept_stage work (rule work op run) rest (rule_keeps work op run no_domain no_reset)
-    (lengths_stand work op (operands_of run ++ rest) stage no_domain) (before_domain work op (operands_of run ++ rest) stage)
+    (lengths_are_current work op (operands_of run ++ rest) stage no_domain) (before_domain work op (operands_of run ++ rest) stage)
 
 pub opcode_stage : (work : Work) (op : Opcode) (run : List ℕ) (rest : List Code) (d : RuleResult) → rule work op run ≡ Ok d →
     Stage work (codes.Op op ∷ operands_of run ++ rest) → MayFollowCode (codes.Op op) (operands_of run ++ rest) → Stage d.work rest
@@ -148,7 +148,7 @@ opcode_stage work op run rest d by stage comes =
 
 -- a code that is no opcode
 
--- it opens and ends no definition, and is no operand
+-- the code opens and ends no definition, and is no operand
 abbrev pub IsQuiet : Code → Type 0
 IsQuiet (codes.Op op) = ⊥
 IsQuiet (codes.Operand word) = ⊥
@@ -158,15 +158,15 @@ IsQuiet (codes.DefMask mask) = ⊥
 IsQuiet codes.End = ⊥
 IsQuiet _ = ⊤
 
-first_behind : (c : Code) (rest : List Code) → IsQuiet c → DomainFirst (c ∷ rest) → DomainFirst rest
+first_after : (c : Code) (rest : List Code) → IsQuiet c → DomainFirst (c ∷ rest) → DomainFirst rest
 unfolding DomainFirst
-first_behind (codes.Op op) rest quiet first = absurd quiet
-first_behind (codes.Operand word) rest quiet first = absurd quiet
-first_behind (codes.DefMacro name show) rest quiet first = absurd quiet
-first_behind (codes.DefGlyph byte) rest quiet first = absurd quiet
-first_behind (codes.DefMask mask) rest quiet first = absurd quiet
-first_behind codes.End rest quiet first = absurd quiet
-first_behind _ rest quiet first = first
+first_after (codes.Op op) rest quiet first = absurd quiet
+first_after (codes.Operand word) rest quiet first = absurd quiet
+first_after (codes.DefMacro name show) rest quiet first = absurd quiet
+first_after (codes.DefGlyph byte) rest quiet first = absurd quiet
+first_after (codes.DefMask mask) rest quiet first = absurd quiet
+first_after codes.End rest quiet first = absurd quiet
+first_after _ rest quiet first = first
 
 no_domain_next : (c : Code) (rest : List Code) → IsQuiet c → DomainNext (c ∷ rest) → ⊥
 unfolding DomainNext
@@ -176,18 +176,18 @@ no_domain_next _ rest quiet next = next
 
 pub quiet_stage : (work w : Work) (c : Code) (rest : List Code) → IsQuiet c → w.domain ≡ work.domain → w.saved ≡ work.saved →
     w.state.definition ≡ work.state.definition → Stage work (c ∷ rest) → Stage w rest
-quiet_stage work w c rest quiet domain saved definition (before closed first) = before (definition ∙ closed) (first_behind c rest quiet first)
+quiet_stage work w c rest quiet domain saved definition (before closed first) = before (definition ∙ closed) (first_after c rest quiet first)
 quiet_stage work w c rest quiet domain saved definition (defining none) = defining (All-tail IsNoOpcode c rest none)
-quiet_stage work w c rest quiet domain saved definition (behind (inl is) back) = behind (inl (domain ∙ is)) (comes_back work w saved definition back)
-quiet_stage work w c rest quiet domain saved definition (behind (inr next) back) = absurd (no_domain_next c rest quiet next)
+quiet_stage work w c rest quiet domain saved definition (after_domain (inl is) back) = after_domain (inl (domain ∙ is)) (comes_back work w saved definition back)
+quiet_stage work w c rest quiet domain saved definition (after_domain (inr next) back) = absurd (no_domain_next c rest quiet next)
 
 -- the end of a definition, and the start of one
 
 ended_lengths : (work : Work) (opened : Option OpenDefinition) → work.state.definition ≡ opened → work.domain ≡ eight_and_four → ComesBack work →
     (definition_ended_by work opened).work.domain ≡ eight_and_four
-ended_lengths work None e stand back = stand
-ended_lengths work (Some opened) e stand (inl is) = is
-ended_lengths work (Some opened) e stand (inr closed) = let bad : ⊥ = cc in absurd bad
+ended_lengths work None e domain_set back = domain_set
+ended_lengths work (Some opened) e domain_set (inl is) = is
+ended_lengths work (Some opened) e domain_set (inr closed) = let bad : ⊥ = cc in absurd bad
 
 ended_back : (work : Work) (opened : Option OpenDefinition) → work.state.definition ≡ opened → ComesBack work → ComesBack (definition_ended_by work opened).work
 unfolding walk
@@ -204,18 +204,18 @@ pub opens_stage : (work : Work) (c : Code) (rest : List Code) (e : Entry) → (D
     Stage work (c ∷ rest) → Stage (definition_opened (definition_ended work) e).work rest
 opens_stage work c rest e first_none next_none (before closed first) = defining (first_none first)
 opens_stage work c rest e first_none next_none (defining none) = defining (All-tail IsNoOpcode c rest none)
-opens_stage work c rest e first_none next_none (behind (inl is) back) =
-    let stand = ended_lengths work work.state.definition refl is back in
-    behind (inl stand) (inl stand)
-opens_stage work c rest e first_none next_none (behind (inr next) back) = absurd (next_none next)
+opens_stage work c rest e first_none next_none (after_domain (inl is) back) =
+    let domain_set = ended_lengths work work.state.definition refl is back in
+    after_domain (inl domain_set) (inl domain_set)
+opens_stage work c rest e first_none next_none (after_domain (inr next) back) = absurd (next_none next)
 
 pub end_stage : (work : Work) (rest : List Code) → Stage work (codes.End ∷ rest) → Stage (definition_ended work).work rest
 unfolding DomainFirst DomainNext
 end_stage work rest (before closed first) = before (ended_closed work work.state.definition refl) first
 end_stage work rest (defining none) = defining (All-tail IsNoOpcode codes.End rest none)
-end_stage work rest (behind (inl is) back) =
-    behind (inl (ended_lengths work work.state.definition refl is back)) (ended_back work work.state.definition refl back)
-end_stage work rest (behind (inr next) back) = absurd next
+end_stage work rest (after_domain (inl is) back) =
+    after_domain (inl (ended_lengths work work.state.definition refl is back)) (ended_back work work.state.definition refl back)
+end_stage work rest (after_domain (inr next) back) = absurd next
 
 quiet_by : (work : Work) (c : Code) (rest : List Code) (by : Result RuleResult DrawFault) → IsQuiet c → KeepsBy work by → Stage work (c ∷ rest) → StageBy by rest
 quiet_by work c rest (Ok d) quiet keeps stage = quiet_stage work d.work c rest quiet keeps.domain keeps.saved keeps.definition stage

@@ -1,4 +1,4 @@
--- What a check still asks of the codes to come.
+-- The rules of plain streams that a check still has for the codes to come.
 
 use Rattle.std.proofs.Common.{ℕ, ◌≡◌, ◌↔◌, List, [], ◌∷◌, All, Bool, true, false, cond, Option, Some, None, refl, arith}
 use Rattle.std.specs.Prelude.{⊤, ◌==◌, ◌%◌}
@@ -16,47 +16,48 @@ use Rattle.nap_canon.specs.declared.plain.PlainCheck.{PlainCheck}
 use Rattle.nap_canon.specs.Checking.{is_plain_code, seen_after, expected_after_any, lengths_word, reset_word, expected_after, check_of_parts, check_after, may_end_at, may_end}
 use Rattle.nap_canon.specs.Plain.{IsPlainCode, IsNoOpcode, DomainFirst, LengthsNext, DomainNext, ResetNext, MayFollowCode, AllMayFollow, ArePlain}
 
--- of the first opcode
+-- the rule of the first opcode
 abbrev AsksFirst : CodesSeen → List Code → Type 0
 AsksFirst begun.Nothing rest = DomainFirst rest
 AsksFirst begun.Definition rest = All IsNoOpcode rest
 AsksFirst begun.Drawing rest = ⊤
 
--- of the next code
+-- the rule of the next code
 abbrev AsksNext : Expected → List Code → Type 0
 AsksNext next.Any rest = ⊤
 AsksNext next.Lengths rest = LengthsNext rest
 AsksNext next.ResetWord rest = ResetNext rest
 AsksNext next.Domain rest = DomainNext rest
 
-abbrev AsksBehind : Expected → List Code → Type 0
-AsksBehind n rest = AsksNext n rest × AllMayFollow rest
+abbrev AsksFollowing : Expected → List Code → Type 0
+AsksFollowing n rest = AsksNext n rest × AllMayFollow rest
 
 pub record Asks (check : PlainCheck) (rest : List Code) : Type 0 where
   pub each : All IsPlainCode rest
   pub first : AsksFirst check.begun rest
   pub next : AsksNext check.next rest
-  pub behind : AllMayFollow rest
+  pub follow : AllMayFollow rest
 
--- What is asked of a code and of those behind it is asked of those behind it from here on; or it can't be met.
+-- The rule for a code and those after it holds exactly if the rule for those after it does from here on; or it can't
+-- hold.
 abbrev pub Turns : {S : Type 0} → (S → List Code → Type 0) → S → Code → Option S → Type 0
 Turns asks old code (Some new) = (rest : List Code) → asks old (code ∷ rest) ↔ asks new rest
 Turns asks old code None = (rest : List Code) → asks old (code ∷ rest) → ⊥
 
 -- each code by itself
 
-abbrev IsTold : Code → Bool → Type 0
-IsTold code true = IsPlainCode code
-IsTold code false = IsPlainCode code → ⊥
+abbrev IsDecided : Code → Bool → Type 0
+IsDecided code true = IsPlainCode code
+IsDecided code false = IsPlainCode code → ⊥
 
-plain_told : (code : Code) → IsTold code (is_plain_code code)
-plain_told (codes.DefMacro name show) = λ h. h
-plain_told (codes.Designated number code_sets.Macros) = λ h. h
-plain_told (codes.Op opcodes.PointSetRel) = λ h. h
-plain_told (codes.Op opcodes.PointRel) = λ h. h
-plain_told (codes.Op opcodes.LineRel) = λ h. h
-plain_told (codes.Op opcodes.SetLineRel) = λ h. h
-plain_told _ = tt
+plain_decided : (code : Code) → IsDecided code (is_plain_code code)
+plain_decided (codes.DefMacro name show) = λ h. h
+plain_decided (codes.Designated number code_sets.Macros) = λ h. h
+plain_decided (codes.Op opcodes.PointSetRel) = λ h. h
+plain_decided (codes.Op opcodes.PointRel) = λ h. h
+plain_decided (codes.Op opcodes.LineRel) = λ h. h
+plain_decided (codes.Op opcodes.SetLineRel) = λ h. h
+plain_decided _ = tt
 
 -- the first opcode
 
@@ -71,34 +72,34 @@ first_turns begun.Definition (codes.Op op) = λ rest h. All-head IsNoOpcode (cod
 first_turns begun.Definition code = λ rest. (λ h. All-tail IsNoOpcode code rest h, λ h. All-cons IsNoOpcode code rest tt h)
 first_turns begun.Drawing code = λ rest. (λ h. tt, λ h. tt)
 
--- what comes next
+-- the next code
 
 comes : (code : Code) (rest : List Code) → MayFollowCode code rest ↔ AsksNext (expected_after_any code) rest
 comes (codes.Op opcodes.Domain) rest = (λ h. h, λ h. h)
 comes (codes.Op opcodes.Reset) rest = (λ h. h, λ h. h)
 comes _ rest = (λ h. tt, λ h. tt)
 
-any_turns : (code : Code) (rest : List Code) → AllMayFollow (code ∷ rest) ↔ AsksBehind (expected_after_any code) rest
+any_turns : (code : Code) (rest : List Code) → AllMayFollow (code ∷ rest) ↔ AsksFollowing (expected_after_any code) rest
 unfolding AllMayFollow
 any_turns code rest = (λ h. ((comes code rest).0 h.0, h.1), λ h. ((comes code rest).1 h.0, h.1))
 
-lengths_turn : (word : ℕ) → Turns AsksBehind next.Lengths (codes.Operand word) (lengths_word word)
+lengths_turn : (word : ℕ) → Turns AsksFollowing next.Lengths (codes.Operand word) (lengths_word word)
 unfolding AllMayFollow
 lengths_turn word = at (word == 31) refl
   where
-    at : (same : Bool) → (word == 31) ≡ same → Turns AsksBehind next.Lengths (codes.Operand word) (cond same (Some next.Any) None)
+    at : (same : Bool) → (word == 31) ≡ same → Turns AsksFollowing next.Lengths (codes.Operand word) (cond same (Some next.Any) None)
     at true e = λ rest. (λ h. (tt, h.1.1), λ h. (grind (arith, nat_tests), (tt, h.1)))
     at false e = λ rest h. let is : word ≡ 31 = h.0 in let bad : ⊥ = grind (arith, nat_tests) in bad
 
-reset_turns : (word : ℕ) → Turns AsksBehind next.ResetWord (codes.Operand word) (Some (reset_word word))
+reset_turns : (word : ℕ) → Turns AsksFollowing next.ResetWord (codes.Operand word) (Some (reset_word word))
 unfolding AllMayFollow
 reset_turns word = at (word % 2 == 1) refl
   where
-    at : (odd : Bool) → (word % 2 == 1) ≡ odd → Turns AsksBehind next.ResetWord (codes.Operand word) (Some (cond odd next.Domain next.Any))
+    at : (odd : Bool) → (word % 2 == 1) ≡ odd → Turns AsksFollowing next.ResetWord (codes.Operand word) (Some (cond odd next.Domain next.Any))
     at true e = λ rest. (λ h. (h.0 (grind (arith, nat_tests)), h.1.1), λ h. (λ is. h.0, (tt, h.1)))
     at false e = λ rest. (λ h. (tt, h.1.1), λ h. (λ is. let bad : ⊥ = grind (arith, nat_tests) in absurd bad, (tt, h.1)))
 
-next_turns : (n : Expected) (code : Code) → Turns AsksBehind n code (expected_after n code)
+next_turns : (n : Expected) (code : Code) → Turns AsksFollowing n code (expected_after n code)
 unfolding AllMayFollow DomainNext
 next_turns next.Any code = λ rest. (λ h. (any_turns code rest).0 h.1, λ h. (tt, (any_turns code rest).1 h))
 next_turns next.Lengths (codes.Operand word) = lengths_turn word
@@ -109,33 +110,33 @@ next_turns next.Domain (codes.Operand word) = λ rest. (λ h. (h.0, h.1.1), λ h
 next_turns next.Domain (codes.Op opcodes.Domain) = λ rest. (λ h. h.1, λ h. (tt, h))
 next_turns next.Domain _ = λ rest h. h.0
 
--- all of it
+-- all rules together
 
-joined : (check : PlainCheck) (code : Code) (plain : Bool) (b : Option CodesSeen) (n : Option Expected) → IsTold code plain → Turns AsksFirst check.begun code b →
-    Turns AsksBehind check.next code n → Turns Asks check code (check_of_parts plain b n)
-joined check code true (Some b) (Some n) told first behind = λ rest. (
+joined : (check : PlainCheck) (code : Code) (plain : Bool) (b : Option CodesSeen) (n : Option Expected) → IsDecided code plain → Turns AsksFirst check.begun code b →
+    Turns AsksFollowing check.next code n → Turns Asks check code (check_of_parts plain b n)
+joined check code true (Some b) (Some n) decided first follow = λ rest. (
   λ asks. record {
     each = All-tail IsPlainCode code rest asks.each;
     first = (first rest).0 asks.first;
-    next = ((behind rest).0 (asks.next, asks.behind)).0;
-    behind = ((behind rest).0 (asks.next, asks.behind)).1;
+    next = ((follow rest).0 (asks.next, asks.follow)).0;
+    follow = ((follow rest).0 (asks.next, asks.follow)).1;
   },
   λ asks. record {
-    each = All-cons IsPlainCode code rest told asks.each;
+    each = All-cons IsPlainCode code rest decided asks.each;
     first = (first rest).1 asks.first;
-    next = ((behind rest).1 (asks.next, asks.behind)).0;
-    behind = ((behind rest).1 (asks.next, asks.behind)).1;
+    next = ((follow rest).1 (asks.next, asks.follow)).0;
+    follow = ((follow rest).1 (asks.next, asks.follow)).1;
   },
 )
-joined check code true (Some b) None told first behind = λ rest asks. behind rest (asks.next, asks.behind)
-joined check code true None (Some n) told first behind = λ rest asks. first rest asks.first
-joined check code true None None told first behind = λ rest asks. first rest asks.first
-joined check code false b n told first behind = λ rest asks. told (All-head IsPlainCode code rest asks.each)
+joined check code true (Some b) None decided first follow = λ rest asks. follow rest (asks.next, asks.follow)
+joined check code true None (Some n) decided first follow = λ rest asks. first rest asks.first
+joined check code true None None decided first follow = λ rest asks. first rest asks.first
+joined check code false b n decided first follow = λ rest asks. decided (All-head IsPlainCode code rest asks.each)
 
 pub check_turns : (check : PlainCheck) (code : Code) → Turns Asks check code (check_after check code)
 check_turns check code =
     joined check code (is_plain_code code) (seen_after check.begun code) (expected_after check.next code)
-    (plain_told code) (first_turns check.begun code) (next_turns check.next code)
+    (plain_decided code) (first_turns check.begun code) (next_turns check.next code)
 
 -- at the start
 
@@ -144,8 +145,8 @@ start_check = record { begun = begun.Nothing; next = next.Any }
 
 pub all_asked : (list : List Code) → ArePlain list ↔ Asks start_check list
 all_asked list = (
-  λ plain. record { each = plain.each; first = plain.first; next = tt; behind = plain.behind },
-  λ asks. record { each = asks.each; first = asks.first; behind = asks.behind },
+  λ plain. record { each = plain.each; first = plain.first; next = tt; follow = plain.follow },
+  λ asks. record { each = asks.each; first = asks.first; follow = asks.follow },
 )
 
 -- at the end
@@ -169,7 +170,7 @@ next_met next.Domain = λ h. h
 
 end_met : (check : PlainCheck) (met : Bool) → IsMet check.next met → (met ≡ true) ↔ Asks check []
 unfolding AllMayFollow
-end_met check true is = (λ e. record { each = All-nil IsPlainCode; first = first_met check.begun; next = is; behind = tt }, λ asks. refl)
+end_met check true is = (λ e. record { each = All-nil IsPlainCode; first = first_met check.begun; next = is; follow = tt }, λ asks. refl)
 end_met check false is = (λ e. let bad : ⊥ = cc in absurd bad, λ asks. absurd (is asks.next))
 
 pub nothing_asked : (check : PlainCheck) → (may_end check ≡ true) ↔ Asks check []

@@ -22,7 +22,7 @@ use Rattle.nap_canon.specs.Plain.{IsPlain, ArePlain}
 use Rattle.nap_canon.proofs.operand_lengths.FrontCodes.{no_front}
 use Rattle.nap_canon.proofs.plain_codes.CheckLemmas.{Asks, Turns, check_turns, start_check, all_asked, nothing_asked}
 
--- what is half read is unfinished
+-- the incomplete code that was read is unfinished
 abbrev pub IsHalf : LexerState → Type 0
 IsHalf state = front state.sets state.half ≡ codes.unfinished
 
@@ -34,7 +34,7 @@ record Run (state : LexerState) (bytes : List ℕ) : Type 0 where
   end : LexerState
   steps : StepsThrough state bytes codes fault end
 
--- what the first n bytes decide was decided by what is half read, unless they are all
+-- what the first n bytes decide needs the last byte, since the bytes before it are unfinished
 all_decide : (state : LexerState) (b : ℕ) (f : Front) (n : ℕ) → IsHalf state → front state.sets (take n (state.half ++ b ∷ [])) ≡ f →
     (front state.sets (take n state.half) ≡ f → front state.sets (take n state.half ++ drop n state.half) ≡ f) → (codes.unfinished ≡ f → ⊥) → n ≤ length (state.half ++ b ∷ []) →
     n ≡ length (state.half ++ b ∷ [])
@@ -53,10 +53,10 @@ all_decide state b f n half early stays decided few = at (nat_le n (length state
         let more : length state.half < n = grind (arith, nat_tests) in
         omega (arith, more, few, length-append state.half (b ∷ []))
 
--- the code has all the bytes
-whole_size : (state : LexerState) (b : ℕ) (code : Code) (n : ℕ) (after : CodeSets) → IsHalf state →
+-- a complete code has all the bytes
+complete_size : (state : LexerState) (b : ℕ) (code : Code) (n : ℕ) (after : CodeSets) → IsHalf state →
     front state.sets (state.half ++ b ∷ []) ≡ codes.whole code n after → n ≡ length (state.half ++ b ∷ [])
-whole_size state b code n after half is =
+complete_size state b code n after half is =
     let xs : List ℕ = state.half ++ b ∷ [] in
     all_decide state b (codes.whole code n after) n half (whole_taken state.sets xs code n after is)
     (whole_stays state.sets (take n state.half) (drop n state.half) code n after) (λ bad. cc) (whole_length state.sets xs code n after is).1
@@ -88,7 +88,7 @@ run_by bytes b state half go (codes.whole code n after) e =
       codes = code ∷ rest.codes;
       fault = rest.fault;
       end = rest.end;
-      steps = at_code (subst (λ (f : Front). StepsBy f state b (steps.Code code) next) (sym e) (refl, whole_size state b code n after half e, refl)) rest.steps;
+      steps = at_code (subst (λ (f : Front). StepsBy f state b (steps.Code code) next) (sym e) (refl, complete_size state b code n after half e, refl)) rest.steps;
     }
 run_by bytes b state half go (codes.refused fault i) e = record {
   codes = [];
@@ -137,16 +137,16 @@ pub checked_code : (bytes : List ℕ) (i : ℕ) (lexer next : LexerState) (check
     Steps lexer (get_or bytes i 0) (steps.Code code) next → IsHalf next → check_after check code ≡ Some after → Checked bytes (i + 1) next after
 checked_code bytes i lexer next check after code checked within step half turned =
     let turns : Turns Asks check code (Some after) = subst (Turns Asks check code) turned (check_turns check code) in
-    let behind : (more : List Code) → (checked.codes ++ code ∷ []) ++ more ≡ checked.codes ++ code ∷ more = λ more. append_assoc checked.codes (code ∷ []) more in
+    let follow : (more : List Code) → (checked.codes ++ code ∷ []) ++ more ≡ checked.codes ++ code ∷ more = λ more. append_assoc checked.codes (code ∷ []) more in
     record {
       codes = checked.codes ++ code ∷ [];
       goes = λ more fault end run.
-          subst (λ (list : List Code). StepsThrough (record { sets = start_sets; half = [] }) bytes list fault end) (sym (behind more))
+          subst (λ (list : List Code). StepsThrough (record { sets = start_sets; half = [] }) bytes list fault end) (sym (follow more))
           (checked.goes (code ∷ more) fault end
           (subst (λ (bs : List ℕ). StepsThrough lexer bs (code ∷ more) fault end) (sym (next_byte bytes i within)) (at_code step run)));
       asks = λ rest. (
-        λ plain. (turns rest).0 ((checked.asks (code ∷ rest)).0 (subst ArePlain (behind rest) plain)),
-        λ asked. subst ArePlain (sym (behind rest)) ((checked.asks (code ∷ rest)).1 ((turns rest).1 asked)),
+        λ plain. (turns rest).0 ((checked.asks (code ∷ rest)).0 (subst ArePlain (follow rest) plain)),
+        λ asked. subst ArePlain (sym (follow rest)) ((checked.asks (code ∷ rest)).1 ((turns rest).1 asked)),
       );
       half = half;
     }

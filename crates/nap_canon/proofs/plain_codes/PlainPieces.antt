@@ -24,9 +24,9 @@ use Rattle.nap_canon.specs.Spelling.{Piece, opcode, group, primary, control, cha
 use Rattle.nap_canon.specs.Text.{gl_of, joins_open_run, shift_to_opcodes, shift_to_primary, piece_bytes, pieces_bytes, text_end_after}
 use Rattle.nap_canon.specs.TextParts.{pieces_bytes-append, text_end_after-append}
 use Rattle.nap_canon.proofs.reading.PieceLemmas.{sets_with}
-use Rattle.nap_canon.proofs.plain_codes.SpellingLemmas.{AllSpelled, no_code, one_code, spelled_alone, spelled_behind}
+use Rattle.nap_canon.proofs.plain_codes.SpellingLemmas.{AllSpelled, no_code, one_code, spelled_alone, spelled_after}
 
--- where the one set is in GL, these bytes spell plain codes, and leave the other set there
+-- if the first set is in GL, these bytes spell plain codes, and leave the other set there
 pub record PlainBytes (gl : GSet) (bytes : List ℕ) (end : GSet) : Type 0 where
   pub list : List Code
   pub by : AllSpelled (sets_with gl) bytes list (sets_with end)
@@ -52,7 +52,7 @@ code_bytes gl end bytes c by plain comes = record {
 both_bytes : (gl mid end : GSet) (xs ys : List ℕ) → PlainBytes gl xs mid → PlainBytes mid ys end → PlainBytes gl (xs ++ ys) end
 both_bytes gl mid end xs ys first second = record {
   list = first.list ++ second.list;
-  by = spelled_behind first.by second.by;
+  by = spelled_after first.by second.by;
   each = All-append IsPlainCode first.list second.list first.each second.each;
   joins = λ rest h. subst AllMayFollow (sym (append_assoc first.list second.list rest)) (first.joins (second.list ++ rest) (second.joins rest h));
 }
@@ -66,8 +66,8 @@ pub nothing_plain : (t : TextEnd) → PlainlySpelled t []
 unfolding pieces_bytes text_end_after
 nothing_plain t = no_bytes (gl_of t)
 
-pub behind_plain : (t : TextEnd) (ps qs : List Piece) → PlainlySpelled t ps → PlainlySpelled (text_end_after t ps) qs → PlainlySpelled t (ps ++ qs)
-behind_plain t ps qs first second =
+pub codes_after_plain : (t : TextEnd) (ps qs : List Piece) → PlainlySpelled t ps → PlainlySpelled (text_end_after t ps) qs → PlainlySpelled t (ps ++ qs)
+codes_after_plain t ps qs first second =
     let mid : TextEnd = text_end_after t ps in
     subst (λ (bs : List ℕ). PlainBytes (gl_of t) bs (gl_of (text_end_after t (ps ++ qs)))) (sym (pieces_bytes-append t ps qs))
     (subst (λ (u : TextEnd). PlainBytes (gl_of t) (pieces_bytes t ps ++ pieces_bytes mid qs) (gl_of u)) (sym (text_end_after-append t ps qs))
@@ -130,7 +130,7 @@ unfolding text_end_after
 opcode_plain t byte op bytes is all comes =
     piece_plain t (opcode byte bytes) (both_bytes (gl_of t) G1 G1 (shift_to_opcodes (gl_of t)) (byte ∷ bytes) (shifts_out (gl_of t)) (run_plain byte op bytes is all comes))
 
--- a group of operands: behind its opcode, or in a run
+-- a group of operands: after its opcode, or in a run
 pub group_plain : (t : TextEnd) (byte : ℕ) (op : Opcode) (bytes : List ℕ) → IsOpcode byte op → All IsOperandByte bytes →
     ((rest : List Code) → MayFollowCode (codes.Op op) (operand_codes bytes ++ rest)) → PlainlySpelled t (group byte bytes ∷ [])
 unfolding pieces_bytes text_end_after
@@ -141,7 +141,7 @@ group_plain (InRun run) byte op bytes is all comes = at (joins_open_run (InRun r
     at true e = piece_plain (InRun run) (group byte bytes) (rw e (operands_plain bytes all))
     at false e = piece_plain (InRun run) (group byte bytes) (rw e (run_plain byte op bytes is all comes))
 
--- RESET, with DOMAIN behind it
+-- RESET, with DOMAIN after it
 pub reset_plain : (t : TextEnd) (first second : ℕ) → IsWord first → IsWord second → PlainlySpelled t (opcode 0x20 (word_byte first ∷ word_byte second ∷ []) ∷ domain [] ∷ [])
 unfolding pieces_bytes text_end_after row_of opcode_rows left_out_opcode DomainNext AllMayFollow
 reset_plain t first second one two =
@@ -175,7 +175,7 @@ primary_plain t code graphic =
     piece_plain t (primary code) (both_bytes (gl_of t) G0 G0 (shift_to_primary (gl_of t)) (code ∷ []) (shifts_in (gl_of t))
     (code_bytes G0 G0 (code ∷ []) (codes.Char chars.Primary code) (spells.in_gl graphic refl) tt (λ rest. tt)))
 
--- a character of the DRCS, which is G3 for that time alone
+-- a character of the DRCS, which is in G3 only for that time
 pub drcs_plain : (t : TextEnd) (code : ℕ) → IsGraphic code → PlainlySpelled t (char_piece chars.Drcs code ∷ [])
 unfolding text_end_after AllMayFollow non_pdi_code with_set row_of number_rows set_rows
 drcs_plain t code graphic =

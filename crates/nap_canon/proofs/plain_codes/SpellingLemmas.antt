@@ -11,7 +11,7 @@ use Rattle.nap_codes.specs.Spelling.{Spells}
 use Rattle.nap_codes.proofs.PublicLaws.{whole_is_spelled}
 use Rattle.nap_canon.proofs.operand_lengths.FrontCodes.{no_front, with_code, lexed_front}
 
--- under these code sets, these bytes spell these codes, one behind another
+-- under these code sets, these bytes spell these codes, one after another
 pub data AllSpelled : CodeSets → List ℕ → List Code → CodeSets → Type 0 where
   no_code : {sets : CodeSets} → AllSpelled sets [] [] sets
   one_code : {sets after end : CodeSets} {bytes rest : List ℕ} {code : Code} {more : List Code} →
@@ -21,17 +21,17 @@ pub spelled_alone : {sets after : CodeSets} {bytes : List ℕ} {code : Code} →
 spelled_alone {sets} {after} {bytes} {code} by =
     subst (λ (bs : List ℕ). AllSpelled sets bs (code ∷ []) after) (append-nil bytes) (one_code by no_code)
 
-pub spelled_behind : {sets between end : CodeSets} {xs ys : List ℕ} {first second : List Code} →
+pub spelled_after : {sets between end : CodeSets} {xs ys : List ℕ} {first second : List Code} →
     AllSpelled sets xs first between → AllSpelled between ys second end → AllSpelled sets (xs ++ ys) (first ++ second) end
-spelled_behind no_code after = after
-spelled_behind {sets = sets} {end = end} {ys = ys} {second = second} (one_code {bytes = bytes} {rest = rest} {code = code} {more = more} by others) after =
-    subst (λ (bs : List ℕ). AllSpelled sets bs (code ∷ more ++ second) end) (sym (append_assoc bytes rest ys)) (one_code by (spelled_behind others after))
+spelled_after no_code after = after
+spelled_after {sets = sets} {end = end} {ys = ys} {second = second} (one_code {bytes = bytes} {rest = rest} {code = code} {more = more} by others) after =
+    subst (λ (bs : List ℕ). AllSpelled sets bs (code ∷ more ++ second) end) (sym (append_assoc bytes rest ys)) (one_code by (spelled_after others after))
 
--- lexing gives what is spelled
+-- lexing gives the codes that are spelled
 
-whole_code : (sets : CodeSets) (bytes rest : List ℕ) (code : Code) (after : CodeSets) → Spells sets bytes code after →
+complete_code : (sets : CodeSets) (bytes rest : List ℕ) (code : Code) (after : CodeSets) → Spells sets bytes code after →
     front sets (bytes ++ rest) ≡ fronts.whole code (length bytes) after
-whole_code sets bytes rest code after by =
+complete_code sets bytes rest code after by =
     let few : length bytes ≤ length (bytes ++ rest) = omega (arith, length-append bytes rest) in
     (whole_is_spelled sets (bytes ++ rest) code (length bytes) after).1 (few, subst (λ (bs : List ℕ). Spells sets bs code after) (sym (take-append_seam bytes rest)) by)
 
@@ -40,6 +40,6 @@ pub lexed_spelled : (sets : CodeSets) (bytes : List ℕ) (list : List Code) (end
 lexed_spelled sets bytes list end no_code = lexed_front sets [] ∙ ap (lex_result_by lex_result sets []) (no_front sets)
 lexed_spelled sets bytes list end (one_code {after = after} {bytes = xs} {rest = rest} {code = code} {more = more} by others) =
     lexed_front sets (xs ++ rest)
-    ∙ ap (lex_result_by lex_result sets (xs ++ rest)) (whole_code sets xs rest code after by)
+    ∙ ap (lex_result_by lex_result sets (xs ++ rest)) (complete_code sets xs rest code after by)
     ∙ ap (λ (bs : List ℕ). with_code code (lex_result after bs)) (drop-append_seam xs rest)
     ∙ ap (with_code code) (lexed_spelled after rest more end others)

@@ -1,4 +1,4 @@
--- What passes a test of equality is the same.
+-- Values that pass a test of equality are equal.
 
 use Rattle.std.proofs.Common.{◌≡◌, true, arith, Bool}
 use Rattle.std.proofs.lemmas.Bool.Decides.{nat_tests, Decides-int_eq}

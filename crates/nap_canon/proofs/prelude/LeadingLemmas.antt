@@ -1,4 +1,4 @@
--- Commands that lead from some values to others.
+-- Commands that lead from some attributes to others.
 
 use Rattle.std.proofs.Common.{◌≡◌, List, [], ◌∷◌, ◌++◌, All, Bool, true, false, refl, sym, ap, subst, ◌∙◌}
 use Rattle.std.specs.Prelude.{⊤}
@@ -33,17 +33,17 @@ IsModeZero (colours.Own origin) = ⊤
 IsModeZero (colours.Direct grb) = ⊤
 IsModeZero _ = ⊥
 
--- The command does what it is to do where these values stand.
+-- The command has its effect on these attributes.
 abbrev pub Takes : Command → Drawing → Type 0
 Takes (commands.SetColor grb) d = IsModeZero d.colour
 Takes _ d = ⊤
 
--- each command of a list, where those before it have left the values
+-- each command of a list has its effect, after those before it
 abbrev pub AllTake : List Command → Drawing → Type 0
 AllTake [] d = ⊤
 AllTake (c ∷ cs) d = Takes c d × AllTake cs (effect c d)
 
--- The commands lead from the values d to the values e. Where R holds their operands are in range.
+-- The commands lead from the attributes d to the attributes e. If R holds, their operands are in range.
 pub record Leads (R : Type 0) (cs : List Command) (d e : Drawing) : Type 0 where
   pub there : effects cs d ≡ e
   pub takes : AllTake cs d
@@ -53,9 +53,9 @@ effects-append : (xs ys : List Command) (d : Drawing) → effects (xs ++ ys) d �
 effects-append [] ys d = refl
 effects-append (x ∷ xs) ys d = effects-append xs ys (effect x d)
 
-take_behind : (xs ys : List Command) (d : Drawing) → AllTake xs d → AllTake ys (effects xs d) → AllTake (xs ++ ys) d
-take_behind [] ys d first second = second
-take_behind (x ∷ xs) ys d first second = (first.0, take_behind xs ys (effect x d) first.1 second)
+take_after : (xs ys : List Command) (d : Drawing) → AllTake xs d → AllTake ys (effects xs d) → AllTake (xs ++ ys) d
+take_after [] ys d first second = second
+take_after (x ∷ xs) ys d first second = (first.0, take_after xs ys (effect x d) first.1 second)
 
 module _ (R : Type 0) where
   pub none_leads : (d e : Drawing) → d ≡ e → Leads R [] d e
@@ -64,10 +64,10 @@ module _ (R : Type 0) where
   pub one_leads : (c : Command) (d e : Drawing) → effect c d ≡ e → Takes c d → (R → CommandInRange c) → Leads R (c ∷ []) d e
   one_leads c d e is takes inside = record { there = is; takes = (takes, tt); inside = λ r. All-cons CommandInRange c [] (inside r) (All-nil CommandInRange) }
 
-  pub both_lead : (xs ys : List Command) (d e f : Drawing) → Leads R xs d e → Leads R ys e f → Leads R (xs ++ ys) d f
-  both_lead xs ys d e f first second = record {
+  pub both_leads : (xs ys : List Command) (d e f : Drawing) → Leads R xs d e → Leads R ys e f → Leads R (xs ++ ys) d f
+  both_leads xs ys d e f first second = record {
     there = effects-append xs ys d ∙ ap (effects ys) first.there ∙ second.there;
-    takes = take_behind xs ys d first.takes (subst (AllTake ys) (sym first.there) second.takes);
+    takes = take_after xs ys d first.takes (subst (AllTake ys) (sym first.there) second.takes);
     inside = λ r. All-append CommandInRange xs ys (first.inside r) (second.inside r);
   }
 

@@ -1,4 +1,4 @@
--- A colour of mode 0 is the base, so it is of every walk of entries that fit.
+-- The base is the colour of mode 0, after every walk of entries that fit.
 
 use Rattle.std.proofs.Common.{List, [], ◌∷◌, Bool, true, false, Option, Some, None, refl, cond}
 use Rattle.std.specs.Prelude.{unwrap_or, ◌==◌, slice_get, length, ◌-◌, ⊤}
@@ -19,13 +19,13 @@ use Rattle.nap_list.specs.Known.{colour_code}
 use Rattle.nap_list.specs.State.{ColourFits, Fits, base_after, with_attributes, with_pen_at, restored_drawing, effect_on_drawing, definition_after, after, start, walk, AllFit}
 use Rattle.nap_list.specs.Agreement.{ModeZeroIsBase}
 use Rattle.nap_canon.specs.Laws.{PreludeLeads}
-use Rattle.nap_canon.proofs.prelude.BringLemmas as brings
+use Rattle.nap_canon.proofs.prelude.PreludeLemmas as preludes
 
 abbrev SavedInMode : Option OpenDefinition → Type 0
 SavedInMode None = ⊤
 SavedInMode (Some opened) = ModeZeroIsBase opened.saved.base opened.saved.colour
 
--- so it is of the values that stand, and of those that a definition saved
+-- of the current attributes, and of those that a definition saved
 pub record IsInMode (s : State) : Type 0 where
   pub drawing : ModeZeroIsBase s.drawing.base s.drawing.colour
   pub definition : SavedInMode s.definition
@@ -84,5 +84,5 @@ in_mode_along s (e ∷ es) h all = in_mode_along (after s e) es (in_mode_after s
 pub start_in_mode : IsInMode start
 start_in_mode = record { drawing = refl; definition = tt }
 
-pub bring_leads : PreludeLeads
-bring_leads es e all fits = (brings.bring_leads (walk start es).drawing (attributes e) (in_mode_along start es start_in_mode all).drawing fits.values).there
+pub prelude_leads : PreludeLeads
+prelude_leads es e all fits = (preludes.prelude_leads (walk start es).drawing (attributes e) (in_mode_along start es start_in_mode all).drawing fits.values).there

@@ -1,4 +1,4 @@
--- What a reader does with the bytes that spell a code which is no opcode.
+-- What a reader does with the bytes of a code that isn't an opcode.
 
 use Rattle.std.proofs.Common.{ℕ, ◌+◌, ◌≡◌, List, [], ◌∷◌, ◌++◌, length, take, Ok, refl, ap, sym, subst, ◌∙◌, append_assoc, arith, length-append}
 use Rattle.std.proofs.lemmas.List.{take_all}
@@ -15,7 +15,7 @@ use Rattle.nap_reader.specs.Laws.{IsAlone}
 use Rattle.nap_reader.specs.Stream.{Placed, Machine, bytes_of, after_drawing, drawn_front, front, placed_from}
 use Rattle.nap_reader.proofs.PublicLaws.{code_acts}
 use Rattle.nap_canon.proofs.reading.PlacedLemmas.{bytes_of-placed, length-placed, placed_from-append}
-use Rattle.nap_canon.proofs.reading.ReadLemmas.{standing, stands_after, Reads, reads_act}
+use Rattle.nap_canon.proofs.reading.ReadLemmas.{machine_between, between_after, Reads, reads_act}
 
 spelled_front : (sets : CodeSets) (before : List ℕ) (last : ℕ) (c : Code) (after : CodeSets) → Spells sets (before ++ last ∷ []) c after →
     codes.front sets (before ++ last ∷ []) ≡ codes.whole c (length before + 1) after
@@ -25,14 +25,14 @@ spelled_front sets before last c after spells =
     let all : bytes ≡ take (length before + 1) bytes = sym (take_all (length before + 1) bytes (omega (arith, size))) in
     (whole_is_spelled sets bytes c (length before + 1) after).1 (omega (arith, size), subst (λ (bs : List ℕ). Spells sets bs c after) all spells)
 
--- a code, and what is behind it
+-- a code, and what comes after it
 pub code_reads : (budget : ℕ) (sets : CodeSets) (work : Work) (n : ℕ) (before : List ℕ) (last : ℕ) (c : Code) (after : CodeSets) (d : RuleResult) (xs : List Placed) (more : List Entry) (end : Machine) →
     IsAlone c → Spells sets (before ++ last ∷ []) c after → code_rule work c ≡ Ok d →
-    Reads (standing budget after d.work) xs more end → Reads (standing budget sets work) (placed_from n (before ++ last ∷ []) ++ xs) (d.entries ++ more) end
+    Reads (machine_between budget after d.work) xs more end → Reads (machine_between budget sets work) (placed_from n (before ++ last ∷ []) ++ xs) (d.entries ++ more) end
 unfolding placed_from
-code_reads budget sets work n before last c after d xs more end alone spells by behind =
-    let m : Machine = standing budget sets work in
-    let next : Machine = standing budget after work in
+code_reads budget sets work n before last c after d xs more end alone spells by more_reads =
+    let m : Machine = machine_between budget sets work in
+    let next : Machine = machine_between budget after work in
     let first : List Placed = placed_from n before in
     let x : Placed = record { byte = last; place = n + length before } in
     let parts : placed_from n (before ++ last ∷ []) ++ xs ≡ first ++ x ∷ xs =
@@ -43,4 +43,4 @@ code_reads budget sets work n before last c after d xs more end alone spells by 
     (ap (front m) parts
     ∙ code_acts m c first x after xs (record { mode = refl; alone = alone; names = names })
     ∙ ap (drawn_front next x.place xs) by)
-    (subst (λ (k : Machine). Reads k xs more end) (sym (stands_after budget after work d)) behind)
+    (subst (λ (k : Machine). Reads k xs more end) (sym (between_after budget after work d)) more_reads)

@@ -1,4 +1,4 @@
--- What pieces that join no run convey to a reader: entries, and the work that they leave.
+-- The entries that pieces which join no run convey to a reader, and the work that they leave.
 
 use Rattle.std.proofs.Common.{ℕ, ◌≡◌, ◌≤◌, ◌<◌, List, [], ◌∷◌, ◌++◌, Ok, refl, subst, append-nil, arith}
 use Rattle.nap_values.specs.Laws.{IsWord}
@@ -30,18 +30,18 @@ use Rattle.nap_canon.specs.Spelling.{Piece, opcode, primary, control, char_piece
 use Rattle.nap_canon.specs.Text.{gl_of, text_end_after}
 use Rattle.nap_canon.proofs.reading.AloneLemmas.{alone_acts, primary_acts, drcs_acts}
 use Rattle.nap_canon.proofs.spelling.OperandLemmas.{AreOperands, no_bytes, no_moves, word_bytes}
-use Rattle.nap_canon.proofs.reading.PieceLemmas.{Acts, Begins, Names, sets_with, gl_after, acts_nothing, acts_behind, opcode_acts}
-use Rattle.nap_canon.proofs.plain_codes.PlainPieces.{IsOpcode, PlainlySpelled, operand_codes, nothing_plain, behind_plain, opcode_plain, reset_plain, control_plain, primary_plain, drcs_plain}
+use Rattle.nap_canon.proofs.reading.PieceLemmas.{Acts, Begins, Names, sets_with, gl_after, acts_nothing, acts_after, opcode_acts}
+use Rattle.nap_canon.proofs.plain_codes.PlainPieces.{IsOpcode, PlainlySpelled, operand_codes, nothing_plain, codes_after_plain, opcode_plain, reset_plain, control_plain, primary_plain, drcs_plain}
 
 pub names : (byte : ℕ) (op : Opcode) → IsOpcode byte op → Names byte op
 names byte op is = (whole_is_spelled (sets_with G1) (byte ∷ []) (code.Op op) 1 (sets_with G1)).1 (omega arith, spells.opcode refl is.0 is.1)
 
 -- one piece
 pub data Conveys (work : Work) : Piece → List Entry → Work → Type 0 where
-  -- an opcode with so many bytes of operands
+  -- an opcode with size bytes of operands
   by_opcode : (byte : ℕ) (op : Opcode) (bytes : List ℕ) (size : ℕ) (d : RuleResult) → IsOpcode byte op → AreOperands bytes size → size ≤ run_limit →
       ((rest : List Code) → MayFollowCode (code.Op op) (operand_codes bytes ++ rest)) → rule work op (words_of bytes) ≡ Ok d → Conveys work (opcode byte bytes) d.entries d.work
-  -- a control, which is the same whatever is in GL
+  -- a control, which means the same whatever is in GL
   by_control : (byte : ℕ) (bytes : List ℕ) (c : Code) (d : RuleResult) → byte < 32 → IsAlone c → IsPlainCode c →
       ((gl : GSet) → Spells (sets_with gl) (byte ∷ bytes) c (sets_with gl)) → code_rule work c ≡ Ok d → Conveys work (control (byte ∷ bytes)) d.entries d.work
   by_primary : (byte : ℕ) (d : RuleResult) → IsGraphic byte → code_rule work (code.Char chars.Primary byte) ≡ Ok d → Conveys work (primary byte) d.entries d.work
@@ -70,7 +70,7 @@ piece_begins t work p ps es left (by_control byte bytes c d below alone plain sp
 piece_begins t work p ps es left (by_primary byte d graphic by) = tt
 piece_begins t work p ps es left (by_drcs byte d graphic by) = omega arith
 
--- pieces, one after another; or RESET with DOMAIN behind it
+-- pieces, one after another; or RESET with DOMAIN after it
 pub data ConveyAll : Work → List Piece → List Entry → Work → Type 0 where
   nothing : {work : Work} → ConveyAll work [] [] work
   next : {work between left : Work} {p : Piece} {ps : List Piece} {es fs : List Entry} → Conveys work p es between → ConveyAll between ps fs left → ConveyAll work (p ∷ ps) (es ++ fs) left
@@ -88,7 +88,7 @@ lengths_convey work =
     by_opcode 0x21 opcodes.Domain (0x5F ∷ []) 1 (rule_result (record work { domain = text_lengths }) []) (refl, refl, tt, omega arith)
     (word_bytes 31 [] 0 (omega arith) no_bytes) (omega arith) (λ rest. refl) (rw no_moves refl)
 
--- They begin so behind any tail, unless there are none, which convey nothing.
+-- Pieces begin so after any end of the text; no pieces convey nothing.
 
 pub nothing_conveyed : (work : Work) (ps : List Piece) (es : List Entry) (left : Work) → ConveyAll work ps es left → ps ≡ [] → es ≡ []
 nothing_conveyed work ps es left nothing none = refl
@@ -101,7 +101,7 @@ convey_begin t rest work ps es left nothing begins = begins refl
 convey_begin t rest work ps es left (next {between = between} {p = p} {ps = qs} {es = ds} c more) begins = piece_begins t work p (qs ++ rest) ds between c
 convey_begin t rest work ps es left (resets first second d one two by) begins = is_reset.3
 
--- they leave no run
+-- pieces leave no run
 pub convey_end : (gl : GSet) (work : Work) (ps : List Piece) (es : List Entry) (left : Work) → ConveyAll work ps es left → text_end_after (NoRun gl) ps ≡ NoRun (gl_after gl ps)
 unfolding text_end_after
 convey_end gl work ps es left nothing = refl
@@ -116,17 +116,17 @@ unfolding text_end_after
 convey_act budget gl work ps es left nothing = acts_nothing budget gl work
 convey_act budget gl work ps es left (next {between = between} {p = p} {ps = qs} {es = ds} {fs = fs} c more) =
     let t : TextEnd = text_end_after (NoRun gl) (p ∷ []) in
-    acts_behind budget gl (p ∷ []) qs work between left ds fs (subst (Begins t) (append-nil qs) (convey_begin t [] between qs fs left more (λ none. tt)))
+    acts_after budget gl (p ∷ []) qs work between left ds fs (subst (Begins t) (append-nil qs) (convey_begin t [] between qs fs left more (λ none. tt)))
     (piece_acts budget gl work p ds between c) (convey_act budget (gl_after gl (p ∷ [])) between qs fs left more)
 convey_act budget gl work ps es left (resets first second d one two by) =
     let bytes : List ℕ = word_byte first ∷ word_byte second ∷ [] in
     let are : AreOperands bytes 2 = word_bytes first (word_byte second ∷ []) 1 one (word_bytes second [] 0 two no_bytes) in
-    acts_behind budget gl (opcode 0x20 bytes ∷ []) (domain [] ∷ []) work d.work left d.entries [] (omega arith)
+    acts_after budget gl (opcode 0x20 bytes ∷ []) (domain [] ∷ []) work d.work left d.entries [] (omega arith)
     (opcode_acts budget gl work 0x20 bytes opcodes.Reset d (names 0x20 opcodes.Reset is_reset) are.carriers (omega (arith, are.size_is)) by)
     (piece_acts budget G1 d.work (domain []) [] left (lengths_convey d.work))
 
 pub convey_plain : (t : TextEnd) (work : Work) (ps : List Piece) (es : List Entry) (left : Work) → ConveyAll work ps es left → PlainlySpelled t ps
 convey_plain t work ps es left nothing = nothing_plain t
 convey_plain t work ps es left (next {between = between} {p = p} {ps = qs} {es = ds} {fs = fs} c more) =
-    behind_plain t (p ∷ []) qs (piece_plain t work p ds between c) (convey_plain (text_end_after t (p ∷ [])) between qs fs left more)
+    codes_after_plain t (p ∷ []) qs (piece_plain t work p ds between c) (convey_plain (text_end_after t (p ∷ [])) between qs fs left more)
 convey_plain t work ps es left (resets first second d one two by) = reset_plain t first second one two

@@ -26,7 +26,7 @@ use Rattle.nap_canon.specs.Text.{gl_of, joins_open_run, piece_bytes, pieces_byte
 use Rattle.nap_canon.specs.TextParts.{pieces_bytes-append, text_end_after-append}
 use Rattle.nap_canon.proofs.reading.PlacedLemmas.{words_of-placed, placed_from-append, spelled_run}
 use Rattle.nap_canon.proofs.reading.CodeLemmas.{code_reads}
-use Rattle.nap_canon.proofs.reading.ReadLemmas.{standing, Reads, BeginsAnew, reads_run}
+use Rattle.nap_canon.proofs.reading.ReadLemmas.{machine_between, Reads, BeginsAnew, reads_run}
 
 -- the code sets of the start, with this one in GL
 abbrev pub sets_with : GSet → CodeSets
@@ -34,19 +34,20 @@ sets_with gl = record start_sets { gl = gl }
 
 -- the machine with this set in GL, and this work
 abbrev pub at : ℕ → GSet → Work → Machine
-at budget gl work = standing budget (sets_with gl) work
+at budget gl work = machine_between budget (sets_with gl) work
 
--- the set in GL behind pieces that stand behind no run, where this one was in GL
+-- the set in GL after pieces that follow no run, with this set in GL before
 abbrev pub gl_after : GSet → List Piece → GSet
 gl_after gl ps = gl_of (text_end_after (NoRun gl) ps)
 
--- Pieces that stand behind no run are read as these entries, and leave this work. Where G1 is in GL behind them, no operand byte may come first there.
+-- Pieces that follow no run are read as these entries, and leave this work. If G1 is in GL after them, no operand byte
+-- may come next.
 abbrev pub Acts : ℕ → GSet → Work → List Piece → List Entry → Work → Type 0
 Acts budget gl work ps es left = (n : ℕ) (xs : List Placed) (more : List Entry) (end : Machine) →
     (gl_after gl ps ≡ G1 → BeginsAnew xs) → Reads (at budget (gl_after gl ps) left) xs more end →
     Reads (at budget gl work) (placed_from n (pieces_bytes (NoRun gl) ps) ++ xs) (es ++ more) end
 
--- behind this tail the pieces join no run, and no operand byte comes first in their bytes where G1 is in GL
+-- after this end of the text the pieces join no run, and their bytes don't begin with an operand byte if G1 is in GL
 abbrev pub Begins : TextEnd → List Piece → Type 0
 Begins t [] = ⊤
 Begins t (opcode byte operands ∷ ps) = byte < 64
@@ -61,14 +62,14 @@ no_operand byte below = grind (arith, nat_tests)
 begins_anew : (n : ℕ) (t : TextEnd) (ps : List Piece) (xs : List Placed) → Begins t ps → (gl_after G1 ps ≡ G1 → BeginsAnew xs) →
     BeginsAnew (placed_from n (pieces_bytes (NoRun G1) ps) ++ xs)
 unfolding pieces_bytes text_end_after placed_from
-begins_anew n t [] xs begins behind = behind refl
-begins_anew n t (opcode byte operands ∷ ps) xs begins behind = no_operand byte begins
-begins_anew n t (group byte operands ∷ ps) xs begins behind = no_operand byte begins.1
-begins_anew n t (primary code ∷ ps) xs begins behind = refl
-begins_anew n t (control [] ∷ ps) xs begins behind = absurd begins
-begins_anew n t (control (byte ∷ bytes) ∷ ps) xs begins behind = no_operand byte (omega (arith, begins))
+begins_anew n t [] xs begins more_reads = more_reads refl
+begins_anew n t (opcode byte operands ∷ ps) xs begins more_reads = no_operand byte begins
+begins_anew n t (group byte operands ∷ ps) xs begins more_reads = no_operand byte begins.1
+begins_anew n t (primary code ∷ ps) xs begins more_reads = refl
+begins_anew n t (control [] ∷ ps) xs begins more_reads = absurd begins
+begins_anew n t (control (byte ∷ bytes) ∷ ps) xs begins more_reads = no_operand byte (omega (arith, begins))
 
--- Pieces that join no run are written as they are behind none.
+-- Pieces that join no run are written as they are after none.
 
 pub written_apart : (t : TextEnd) (ps : List Piece) → Begins t ps → pieces_bytes t ps ≡ pieces_bytes (NoRun (gl_of t)) ps
 unfolding pieces_bytes
@@ -89,12 +90,12 @@ gl_apart t (control bytes ∷ ps) begins = refl
 -- no pieces
 pub acts_nothing : (budget : ℕ) (gl : GSet) (work : Work) → Acts budget gl work [] [] work
 unfolding pieces_bytes text_end_after placed_from
-acts_nothing budget gl work n xs more end anew behind = behind
+acts_nothing budget gl work n xs more end anew more_reads = more_reads
 
--- pieces behind others
-pub acts_behind : (budget : ℕ) (gl : GSet) (ps qs : List Piece) (work between left : Work) (es fs : List Entry) → Begins (text_end_after (NoRun gl) ps) qs →
+-- pieces after others
+pub acts_after : (budget : ℕ) (gl : GSet) (ps qs : List Piece) (work between left : Work) (es fs : List Entry) → Begins (text_end_after (NoRun gl) ps) qs →
     Acts budget gl work ps es between → Acts budget (gl_after gl ps) between qs fs left → Acts budget gl work (ps ++ qs) (es ++ fs) left
-acts_behind budget gl ps qs work between left es fs begins first second n xs more end anew behind =
+acts_after budget gl ps qs work between left es fs begins first second n xs more end anew more_reads =
     let t : TextEnd = text_end_after (NoRun gl) ps in
     let mid : GSet = gl_after gl ps in
     let next : ℕ = n + length (pieces_bytes (NoRun gl) ps) in
@@ -103,7 +104,7 @@ acts_behind budget gl ps qs work between left es fs begins first second n xs mor
     let sets : whole ≡ gl_after mid qs = ap gl_of (text_end_after-append (NoRun gl) ps qs) ∙ gl_apart t qs begins in
     let last : gl_after mid qs ≡ G1 → BeginsAnew xs = λ is. anew (sets ∙ is) in
     let text_end : Reads (at budget mid between) rest (fs ++ more) end =
-    second next xs more end last (subst (λ (s : GSet). Reads (at budget s left) xs more end) sets behind) in
+    second next xs more end last (subst (λ (s : GSet). Reads (at budget s left) xs more end) sets more_reads) in
     let opens : mid ≡ G1 → BeginsAnew rest =
     λ is. subst (λ (s : GSet). BeginsAnew (placed_from next (pieces_bytes (NoRun s) qs) ++ xs)) (sym is)
     (begins_anew next t qs xs begins (λ e. last (ap (λ (s : GSet). gl_after s qs) is ∙ e))) in
@@ -126,19 +127,19 @@ opcode_in_gl : (budget : ℕ) (work : Work) (byte : ℕ) (operands : List ℕ) (
     (n : ℕ) (xs : List Placed) (more : List Entry) (end : Machine) → BeginsAnew xs → Reads (at budget G1 d.work) xs more end →
     Reads (at budget G1 work) (placed_from n (byte ∷ operands) ++ xs) (d.entries ++ more) end
 unfolding placed_from
-opcode_in_gl budget work byte operands op d names all few by n xs more end anew behind =
+opcode_in_gl budget work byte operands op d names all few by n xs more end anew more_reads =
     reads_run budget (sets_with G1) work (record { byte = byte; place = n }) (placed_from (suc n) operands) op d xs more end
     (spelled_run n byte operands op (at budget G1 work) refl names all few)
-    (ap (rule work op) (words_of-placed (suc n) operands) ∙ by) anew behind
+    (ap (rule work op) (words_of-placed (suc n) operands) ∙ by) anew more_reads
 
 -- SO
 shifts_out : (budget : ℕ) (gl : GSet) (work : Work) (n : ℕ) (xs : List Placed) (es : List Entry) (end : Machine) →
     Reads (at budget G1 work) xs es end → Reads (at budget gl work) (placed_from n (0x0E ∷ []) ++ xs) es end
 unfolding walk
-shifts_out budget gl work n xs es end behind =
-    code_reads budget (sets_with gl) work n [] 0x0E code.Shifted (sets_with G1) (rule_result work []) xs es end tt shift_out refl behind
+shifts_out budget gl work n xs es end more_reads =
+    code_reads budget (sets_with gl) work n [] 0x0E code.Shifted (sets_with G1) (rule_result work []) xs es end tt shift_out refl more_reads
 
--- the opcode where its set may have to be shifted in
+-- the opcode, after a shift if its set isn't in GL
 shifted_in : (budget : ℕ) (gl : GSet) (work : Work) (byte : ℕ) (operands : List ℕ) (n : ℕ) (xs : List Placed) (es : List Entry) (end : Machine) →
     ((k : ℕ) → Reads (at budget G1 work) (placed_from k (byte ∷ operands) ++ xs) es end) →
     Reads (at budget gl work) (placed_from n (piece_bytes (NoRun gl) (opcode byte operands)) ++ xs) es end
@@ -151,12 +152,12 @@ shifted_in budget G3 work byte operands n xs es end read = shifts_out budget G3 
 pub opcode_acts : (budget : ℕ) (gl : GSet) (work : Work) (byte : ℕ) (operands : List ℕ) (op : Opcode) (d : RuleResult) → Names byte op → All IsOperandByte operands →
     length operands ≤ run_limit → rule work op (spellings.words_of operands) ≡ Ok d → Acts budget gl work (opcode byte operands ∷ []) d.entries d.work
 unfolding pieces_bytes text_end_after
-opcode_acts budget gl work byte operands op d names all few by n xs more end anew behind =
+opcode_acts budget gl work byte operands op d names all few by n xs more end anew more_reads =
     subst (λ (bs : List ℕ). Reads (at budget gl work) (placed_from n bs ++ xs) (d.entries ++ more) end) (sym (append-nil (piece_bytes (NoRun gl) (opcode byte operands))))
     (shifted_in budget gl work byte operands n xs (d.entries ++ more) end
-    (λ k. opcode_in_gl budget work byte operands op d names all few by k xs more end (anew refl) behind))
+    (λ k. opcode_in_gl budget work byte operands op d names all few by k xs more end (anew refl) more_reads))
 
--- a group of operands is written behind its opcode, where it stands behind no run
+-- a group of operands after no run is written with its opcode
 pub group_acts : (budget : ℕ) (gl : GSet) (work : Work) (byte : ℕ) (operands : List ℕ) (op : Opcode) (d : RuleResult) → Names byte op → All IsOperandByte operands →
     length operands ≤ run_limit → rule work op (spellings.words_of operands) ≡ Ok d → Acts budget gl work (group byte operands ∷ []) d.entries d.work
 unfolding pieces_bytes text_end_after

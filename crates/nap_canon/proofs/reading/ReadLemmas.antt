@@ -1,4 +1,4 @@
--- The machine along canonical text.
+-- The machine in canonical text.
 
 use Rattle.std.proofs.Common.{ℕ, ◌≡◌, List, [], ◌∷◌, ◌++◌, length, false, true, Bool, cond, Option, None, Some, Result, Ok, Err, refl, ap, sym, subst, ◌∙◌, append_assoc, append-nil}
 use Rattle.std.specs.Prelude.{⊤}
@@ -16,29 +16,29 @@ use Rattle.nap_reader.specs.Stream.{Placed, Machine, Outcome, Unfinished, nothin
 use Rattle.nap_reader.proofs.PublicLaws.{front_after_front, run_acts, run_waits}
 use Rattle.nap_canon.proofs.operand_lengths.FrontCodes.{no_front}
 
--- between two codes, where no macro is bound and nothing was charged
-abbrev pub standing : ℕ → CodeSets → Work → Machine
-standing budget sets work = record (start_machine budget) { work = work; sets = sets }
+-- the machine between two codes, with no macro bound and nothing charged
+abbrev pub machine_between : ℕ → CodeSets → Work → Machine
+machine_between budget sets work = record (start_machine budget) { work = work; sets = sets }
 
--- Where no macro is bound, clearing them changes nothing.
-pub stands_after : (budget : ℕ) (sets : CodeSets) (work : Work) (d : RuleResult) → after_drawing (standing budget sets work) d ≡ standing budget sets d.work
-stands_after budget sets work d = by d.clears
+-- Clearing macros changes nothing if none is bound.
+pub between_after : (budget : ℕ) (sets : CodeSets) (work : Work) (d : RuleResult) → after_drawing (machine_between budget sets work) d ≡ machine_between budget sets d.work
+between_after budget sets work d = by d.clears
   where
-    by : (clears : Bool) → record (standing budget sets d.work) { names = cond clears no_names no_names } ≡ standing budget sets d.work
+    by : (clears : Bool) → record (machine_between budget sets d.work) { names = cond clears no_names no_names } ≡ machine_between budget sets d.work
     by true = refl
     by false = refl
 
--- What comes of a list once an open run at its end has acted.
+-- The outcome of a list once an open run at its end has acted.
 
 abbrev pub settled : List Entry → Machine → Outcome
 settled es m = record { entries = es; refusal = None; unfinished = Some nothing; machine = m; rest = [] }
 
--- these entries, and this machine
+-- the machine reads these bytes as these entries, and is this machine after them
 pub record Reads (m : Machine) (xs : List Placed) (es : List Entry) (after : Machine) : Type 0 where
   pub going : (outcome_from m xs).refusal ≡ None
   pub acts : with_run (outcome_from m xs) ≡ settled es after
 
--- an open run acts behind whatever came before it
+-- an open run acts after whatever came before it
 
 with_drawn-prepend : (es : List Entry) (o : Outcome) (place : ℕ) (by : Result RuleResult DrawFault) →
     with_drawn (prepend es o) place by ≡ prepend es (with_drawn o place by)
@@ -54,14 +54,14 @@ with_run-prepend es o = with_run_by-prepend es o o.unfinished
 
 -- no bytes
 
-nothing_read : (budget : ℕ) (sets : CodeSets) (work : Work) → outcome_from (standing budget sets work) [] ≡ settled [] (standing budget sets work)
+nothing_read : (budget : ℕ) (sets : CodeSets) (work : Work) → outcome_from (machine_between budget sets work) [] ≡ settled [] (machine_between budget sets work)
 unfolding front
 nothing_read budget sets work =
-    let m : Machine = standing budget sets work in
+    let m : Machine = machine_between budget sets work in
     let none : front m [] ≡ course.pause nothing = rw (no_front sets) refl in
     front_after_front m [] ∙ ap (outcome_by_front outcome_from m []) none
 
-pub reads_nothing : (budget : ℕ) (sets : CodeSets) (work : Work) → Reads (standing budget sets work) [] [] (standing budget sets work)
+pub reads_nothing : (budget : ℕ) (sets : CodeSets) (work : Work) → Reads (machine_between budget sets work) [] [] (machine_between budget sets work)
 reads_nothing budget sets work =
     let is = nothing_read budget sets work in
     record { going = ap (λ (o : Outcome). o.refusal) is; acts = ap with_run is }
@@ -89,35 +89,35 @@ reads_last m x operands op drawn run by =
       acts = ap with_run is ∙ ap (with_drawn waiting x.place) by;
     }
 
--- no operand byte comes first
+-- an operand byte doesn't come first
 abbrev pub BeginsAnew : List Placed → Type 0
 BeginsAnew [] = ⊤
 BeginsAnew (x ∷ xs) = is_operand x ≡ false
 
--- an opcode with its run, and what is behind it
+-- an opcode with its run, and what comes after it
 module _ (budget : ℕ) (sets : CodeSets) (work : Work) (x : Placed) (operands : List Placed) (op : Opcode) (drawn : RuleResult) where
   abbrev here : Machine
-  here = standing budget sets work
+  here = machine_between budget sets work
 
   abbrev next : Machine
-  next = standing budget sets drawn.work
+  next = machine_between budget sets drawn.work
 
   drawn_last : IsRun here op x operands → rule work op (words_of operands) ≡ Ok drawn → Reads here (x ∷ operands) drawn.entries next
-  drawn_last run by = subst (Reads here (x ∷ operands) drawn.entries) (stands_after budget sets work drawn) (reads_last here x operands op drawn run by)
+  drawn_last run by = subst (Reads here (x ∷ operands) drawn.entries) (between_after budget sets work drawn) (reads_last here x operands op drawn run by)
 
   pub reads_run : (xs : List Placed) (es : List Entry) (after : Machine) → IsRun here op x operands → rule work op (words_of operands) ≡ Ok drawn →
       BeginsAnew xs → Reads next xs es after → Reads here ((x ∷ operands) ++ xs) (drawn.entries ++ es) after
-  reads_run [] es after run by anew behind =
+  reads_run [] es after run by anew more_reads =
       let none = reads_nothing budget sets drawn.work in
-      let same : settled [] next ≡ settled es after = sym none.acts ∙ behind.acts in
+      let same : settled [] next ≡ settled es after = sym none.acts ∙ more_reads.acts in
       subst (λ (ys : List Placed). Reads here ys (drawn.entries ++ es) after) (sym (append-nil (x ∷ operands)))
       (subst (λ (ds : List Entry). Reads here (x ∷ operands) (drawn.entries ++ ds) after) (ap (λ (o : Outcome). o.entries) same)
       (subst (λ (n : Machine). Reads here (x ∷ operands) (drawn.entries ++ []) n) (ap (λ (o : Outcome). o.machine) same)
       (subst (λ (ds : List Entry). Reads here (x ∷ operands) ds next) (sym (append-nil drawn.entries)) (drawn_last run by))))
-  reads_run (y ∷ ys) es after run by anew behind =
+  reads_run (y ∷ ys) es after run by anew more_reads =
       reads_act here ((x ∷ operands) ++ y ∷ ys) drawn.entries (after_drawing here drawn) (y ∷ ys) es after
       (run_acts here op x operands y ys run anew ∙ ap (drawn_front here x.place (y ∷ ys)) by)
-      (subst (λ (n : Machine). Reads n (y ∷ ys) es after) (sym (stands_after budget sets work drawn)) behind)
+      (subst (λ (n : Machine). Reads n (y ∷ ys) es after) (sym (between_after budget sets work drawn)) more_reads)
 
 -- the end of a stream
 ends_settled : (n : ℕ) (o : Outcome) (es : List Entry) (m : Machine) → o.refusal ≡ None → with_run o ≡ settled es m →

@@ -24,17 +24,17 @@ use Rattle.nap_canon.specs.Spelling.{Piece, group}
 use Rattle.nap_canon.specs.Text.{gl_of, shift_to_opcodes, joins_open_run, run_after, pieces_bytes, text_end_after}
 use Rattle.nap_canon.proofs.spelling.CommandLemmas.{work_at}
 use Rattle.nap_canon.proofs.reading.ConveyLemmas.{names}
-use Rattle.nap_canon.proofs.spelling.HoldingLemmas.{holding, held_work}
+use Rattle.nap_canon.proofs.spelling.HoldingLemmas.{holding, work_with_attributes}
 use Rattle.nap_canon.proofs.reading.PieceLemmas.{Acts, Names, gl_after, at, group_acts}
 use Rattle.nap_canon.proofs.reading.ReadLemmas.{Reads}
 use Rattle.nap_canon.proofs.spelling.SavedLemmas.{saved_after}
 use Rattle.nap_canon.proofs.spelling.StrokeLemmas.{Strokes}
 
--- Two groups of which the second joins the first are written as one.
+-- Two groups, the second of which joins the first, are written as one.
 
 module _ (gl : GSet) (byte : ℕ) (a b : List ℕ) (ps : List Piece) (joins : joins_open_run (InRun (run_after (NoRun gl) byte (length a))) byte (length b) ≡ true) where
-  tails_agree : InRun (run_after (InRun (run_after (NoRun gl) byte (length a))) byte (length b)) ≡ InRun (run_after (NoRun gl) byte (length (a ++ b)))
-  tails_agree =
+  text_ends_agree : InRun (run_after (InRun (run_after (NoRun gl) byte (length a))) byte (length b)) ≡ InRun (run_after (NoRun gl) byte (length (a ++ b)))
+  text_ends_agree =
       let to : ℕ → TextEnd = λ n. InRun (record { opcode = byte; length = n }) in
       rw joins (ap to (sym (length-append a b)))
 
@@ -44,29 +44,29 @@ module _ (gl : GSet) (byte : ℕ) (a b : List ℕ) (ps : List Piece) (joins : jo
       let first : List ℕ = shift_to_opcodes gl ++ byte ∷ a in
       let t : TextEnd = InRun (run_after (InRun (run_after (NoRun gl) byte (length a))) byte (length b)) in
       let second : pieces_bytes (InRun (run_after (NoRun gl) byte (length a))) (group byte b ∷ ps) ≡ b ++ pieces_bytes t ps = rw joins refl in
-      ap (λ (bs : List ℕ). first ++ bs) (second ∙ ap (λ (u : TextEnd). b ++ pieces_bytes u ps) tails_agree)
+      ap (λ (bs : List ℕ). first ++ bs) (second ∙ ap (λ (u : TextEnd). b ++ pieces_bytes u ps) text_ends_agree)
       ∙ sym (append_assoc first b (pieces_bytes (InRun (run_after (NoRun gl) byte (length (a ++ b)))) ps))
       ∙ ap (λ (bs : List ℕ). bs ++ pieces_bytes (InRun (run_after (NoRun gl) byte (length (a ++ b)))) ps) (append_assoc (shift_to_opcodes gl) (byte ∷ a) b)
 
   pub joined_gl : gl_after gl (group byte a ∷ group byte b ∷ ps) ≡ gl_after gl (group byte (a ++ b) ∷ ps)
   unfolding text_end_after
-  joined_gl = ap (λ (u : TextEnd). gl_of (text_end_after u ps)) tails_agree
+  joined_gl = ap (λ (u : TextEnd). gl_of (text_end_after u ps)) text_ends_agree
 
   pub joined_acts : (budget : ℕ) (work left : Work) (es : List Entry) → Acts budget gl work (group byte (a ++ b) ∷ ps) es left →
       Acts budget gl work (group byte a ∷ group byte b ∷ ps) es left
-  joined_acts budget work left es acts n xs more end anew behind =
+  joined_acts budget work left es acts n xs more end anew more_reads =
       subst (λ (bs : List ℕ). Reads (at budget gl work) (placed_from n bs ++ xs) (es ++ more) end) (sym joined_bytes)
-      (acts n xs more end (λ is. anew (joined_gl ∙ is)) (subst (λ (g : GSet). Reads (at budget g left) xs more end) joined_gl behind))
+      (acts n xs more end (λ is. anew (joined_gl ∙ is)) (subst (λ (g : GSet). Reads (at budget g left) xs more end) joined_gl more_reads))
 
--- what joins a run is of its opcode, and has room in it
+-- operands that join a run have its opcode, and there is space for them
 
 pub same_opcode : (byte other n m : ℕ) → joins_open_run (InRun (record { opcode = byte; length = n })) other m ≡ true → other ≡ byte
 same_opcode byte other n m joins = grind (arith, nat_tests)
 
-pub room_for : (byte n m : ℕ) → joins_open_run (InRun (record { opcode = byte; length = n })) byte m ≡ true → n + m ≤ run_limit
-room_for byte n m joins = grind (arith, nat_tests)
+pub space_for : (byte n m : ℕ) → joins_open_run (InRun (record { opcode = byte; length = n })) byte m ≡ true → n + m ≤ run_limit
+space_for byte n m joins = grind (arith, nat_tests)
 
--- A run stands open, whose opcode has drawn these entries and leaves this work.
+-- An open run, whose opcode has drawn these entries and leaves this work.
 pub record Open (left : Work) : Type 0 where
   pub before : Work
   pub byte : ℕ
@@ -82,12 +82,12 @@ pub record Open (left : Work) : Type 0 where
   pub whole : length operands ≡ groups * 8
   pub draws : rule before op (words_of operands) ≡ Ok (record { entries = entries; work = left; clears = false })
 
--- an opcode with its operands, behind which the run stands open
+-- an opcode with its operands, after which the run is open
 pub open_acts : (budget : ℕ) (gl : GSet) (left : Work) (o : Open left) → Acts budget gl o.before (group o.byte o.operands ∷ []) o.entries left
 open_acts budget gl left o =
     group_acts budget gl o.before o.byte o.operands o.op (record { entries = o.entries; work = left; clears = false }) o.named o.carriers o.few o.draws
 
--- a byte names one opcode
+-- a byte is the byte of one opcode
 named_once : (byte : ℕ) (op other : Opcode) → Names byte op → Names byte other → other ≡ op
 named_once byte op other first second = let both = sym second ∙ first in cc
 
@@ -99,7 +99,7 @@ is_whole work operands groups lengths whole =
 abbrev pub opened : (saved : OperandLengths) (s : State) (e : Entry) (byte : ℕ) (operands : List ℕ) → Strokes saved s e byte operands →
     Open (work_at (saved_after saved e) (after s e))
 opened saved s e byte operands k = record {
-  before = held_work saved s e;
+  before = work_with_attributes saved s e;
   byte = byte;
   operands = operands;
   entries = e ∷ [];
@@ -114,20 +114,20 @@ opened saved s e byte operands k = record {
   draws = k.draws;
 }
 
-module _ (saved : OperandLengths) (s : State) (e : Entry) (o : Open (work_at saved s)) (more : List ℕ) (k : Strokes saved s e o.byte more) (stands : holding s e ≡ s) where
+module _ (saved : OperandLengths) (s : State) (e : Entry) (o : Open (work_at saved s)) (more : List ℕ) (k : Strokes saved s e o.byte more) (same_state : holding s e ≡ s) where
   pub more_draws : rule o.before o.op (words_of (o.operands ++ more))
       ≡ Ok (record { entries = o.entries ++ e ∷ []; work = work_at (saved_after saved e) (after s e); clears = false })
   more_draws =
       let first : RuleResult = record { entries = o.entries; work = work_at saved s; clears = false } in
       let second : RuleResult = record { entries = e ∷ []; work = work_at (saved_after saved e) (after s e); clears = false } in
       let next : rule (work_at saved s) o.op (words_of more) ≡ Ok second =
-      ap (λ (t : State). rule (work_at saved t) o.op (words_of more)) (sym stands)
-      ∙ ap (λ (op : Opcode). rule (held_work saved s e) op (words_of more)) (sym (named_once o.byte o.op k.op o.named (names o.byte k.op k.is)))
+      ap (λ (t : State). rule (work_at saved t) o.op (words_of more)) (sym same_state)
+      ∙ ap (λ (op : Opcode). rule (work_with_attributes saved s e) op (words_of more)) (sym (named_once o.byte o.op k.op o.named (names o.byte k.op k.is)))
       ∙ k.draws in
       ap (rule o.before o.op) (map-append (λ (b : ℕ). b - 64) o.operands more)
       ∙ runs_join o.before o.op (words_of o.operands) (words_of more) first second o.joins (is_whole o.before o.operands o.groups o.lengths o.whole) o.draws next
 
-  -- the run with one group more, which draws an entry that holds the standing values
+  -- the run with one more group, which draws an entry that holds current attributes
   abbrev pub opened_more : length o.operands + length more ≤ run_limit → Open (work_at (saved_after saved e) (after s e))
   opened_more few = record {
     before = o.before;

@@ -1,4 +1,4 @@
--- The laws of canonical streams: their text is read as the list, so they are equal exactly where the lists are.
+-- The laws of canonical streams: their text is read as the list, so they are equal exactly if the lists are.
 
 use Rattle.std.proofs.Common.{ℕ, ◌≡◌, ◌↔◌, List, Option, Some, None, ap, sym, ◌∙◌, subst}
 use Rattle.std.specs.Prelude.{IsSome}

@@ -1,4 +1,4 @@
--- The text of a list is no longer than its text in the first form.
+-- The text of a list is no longer than its text in form 1.
 
 use Rattle.std.proofs.Common.{ℕ, ◌≡◌, ◌≤◌, ◌+◌, List, [], ◌∷◌, ◌++◌, length, map, Bool, true, false, Some, refl, ap, sym, ◌∙◌, append-nil, length-append, arith}
 use Rattle.std.specs.Prelude.{⊤, ◌%◌, ◌==◌, if◌then◌else◌}
@@ -28,7 +28,7 @@ use Rattle.nap_canon.specs.Text.{gl_of, shift_to_opcodes, joins_open_run, text_e
 use Rattle.nap_canon.specs.TextParts.{pieces_bytes-append, text_end_after-append}
 use Rattle.nap_canon.proofs.reading_back.CanonicalLaws.{text_is_read}
 
--- written where the same set is in GL, the first pieces have no more bytes than the others, and leave the same set
+-- after the same set in GL, the first pieces have no more bytes than the others, and leave the same set
 abbrev NoLonger : List Piece → List Piece → Type 0
 NoLonger ps qs = (t u : TextEnd) → gl_of t ≡ gl_of u → (length (pieces_bytes t ps) ≤ length (pieces_bytes u qs)) × (gl_of (text_end_after t ps) ≡ gl_of (text_end_after u qs))
 
@@ -36,8 +36,8 @@ nothing_no_longer : NoLonger [] []
 unfolding pieces_bytes text_end_after
 nothing_no_longer t u same = (omega arith, same)
 
-behind_no_longer : (ps qs more others : List Piece) → NoLonger ps qs → NoLonger more others → NoLonger (ps ++ more) (qs ++ others)
-behind_no_longer ps qs more others first second t u same =
+both_no_longer : (ps qs more others : List Piece) → NoLonger ps qs → NoLonger more others → NoLonger (ps ++ more) (qs ++ others)
+both_no_longer ps qs more others first second t u same =
     let one = first t u same in
     let two = second (text_end_after t ps) (text_end_after u qs) one.1 in
     let few : length (pieces_bytes t (ps ++ more)) ≡ length (pieces_bytes t ps) + length (pieces_bytes (text_end_after t ps) more) =
@@ -52,14 +52,14 @@ NoGroup [] = ⊤
 NoGroup (group byte operands ∷ ps) = ⊥
 NoGroup (p ∷ ps) = NoGroup ps
 
-no_group_behind : (ps qs : List Piece) → NoGroup ps → NoGroup qs → NoGroup (ps ++ qs)
-no_group_behind [] qs first second = second
-no_group_behind (opcode byte operands ∷ ps) qs first second = no_group_behind ps qs first second
-no_group_behind (group byte operands ∷ ps) qs first second = first
-no_group_behind (primary code ∷ ps) qs first second = no_group_behind ps qs first second
-no_group_behind (control bytes ∷ ps) qs first second = no_group_behind ps qs first second
+no_group_after : (ps qs : List Piece) → NoGroup ps → NoGroup qs → NoGroup (ps ++ qs)
+no_group_after [] qs first second = second
+no_group_after (opcode byte operands ∷ ps) qs first second = no_group_after ps qs first second
+no_group_after (group byte operands ∷ ps) qs first second = first
+no_group_after (primary code ∷ ps) qs first second = no_group_after ps qs first second
+no_group_after (control bytes ∷ ps) qs first second = no_group_after ps qs first second
 
--- where the same set is in GL they are written alike
+-- after the same set in GL they are written alike
 same_bytes : (ps : List Piece) → NoGroup ps → (t u : TextEnd) → gl_of t ≡ gl_of u → (pieces_bytes t ps ≡ pieces_bytes u ps) × (gl_of (text_end_after t ps) ≡ gl_of (text_end_after u ps))
 unfolding pieces_bytes text_end_after
 same_bytes [] none t u same = (refl, same)
@@ -99,12 +99,12 @@ again_no_group : (back : Bool) → NoGroup (if back then domain [] ∷ [] else [
 again_no_group true = tt
 again_no_group false = tt
 
--- the first form has no groups
+-- form 1 has no groups
 spelled_no_group : (d : Drawing) (e : Entry) → NoGroup (spelling_pieces One d e)
 spelled_no_group d (entries.Char set code hand) = char_no_group set code
 spelled_no_group d (entries.Map a grb) =
     let cs : List Command = colour_prelude d.base d.colour (Some (colours.Front a)) in
-    no_group_behind (map command_piece cs) (opcode 0x3C (grb_bytes grb) ∷ []) (commands_no_group cs) tt
+    no_group_after (map command_piece cs) (opcode 0x3C (grb_bytes grb) ∷ []) (commands_no_group cs) tt
 spelled_no_group d (entries.Reset first second pen) = again_no_group (first % 2 == 1)
 spelled_no_group d _ = tt
 
@@ -139,15 +139,15 @@ spelled_no_longer d e = same_no_longer (spelling_pieces One d e) (spelled_no_gro
 
 entry_no_longer : (s : State) (e : Entry) → NoLonger (entry_pieces Two s e) (entry_pieces One s e)
 entry_no_longer s e =
-    let told : List Piece = map command_piece (prelude s.drawing (attributes e)) in
+    let prelude_pieces : List Piece = map command_piece (prelude s.drawing (attributes e)) in
     let d : Drawing = with_attributes s.drawing (attributes e) in
-    behind_no_longer told told (spelling_pieces Two d e) (spelling_pieces One d e) (same_no_longer told (commands_no_group (prelude s.drawing (attributes e)))) (spelled_no_longer d e)
+    both_no_longer prelude_pieces prelude_pieces (spelling_pieces Two d e) (spelling_pieces One d e) (same_no_longer prelude_pieces (commands_no_group (prelude s.drawing (attributes e)))) (spelled_no_longer d e)
 
 list_no_longer : (s : State) (es : List Entry) → NoLonger (pieces Two s es) (pieces One s es)
 unfolding pieces
 list_no_longer s [] = nothing_no_longer
 list_no_longer s (e ∷ es) =
-    behind_no_longer (entry_pieces Two s e) (entry_pieces One s e) (pieces Two (after s e) es) (pieces One (after s e) es) (entry_no_longer s e) (list_no_longer (after s e) es)
+    both_no_longer (entry_pieces Two s e) (entry_pieces One s e) (pieces Two (after s e) es) (pieces One (after s e) es) (entry_no_longer s e) (list_no_longer (after s e) es)
 
 pub forms_agree : FormsAgree
 forms_agree budget es legal inside =

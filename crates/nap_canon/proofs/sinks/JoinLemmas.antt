@@ -1,4 +1,4 @@
--- Entries that join what stands last: each is written as so many bytes, one behind another.
+-- Entries that join the end of the text: all are written as equally many bytes, but for the opening before the first.
 
 use Rattle.std.proofs.Common.{ℕ, inl, inr, zero, suc, ◌≡◌, ◌+◌, ◌*◌, ◌/◌, ◌-◌, ◌<◌, ◌≤◌, Bool, true, false, Option, Some, None, Result, Ok, Err, List, [], ◌∷◌, ◌++◌, length, map, take, drop, refl, ap, sym, subst, ◌∙◌, append-nil, append_assoc, length-append, length-drop, arith}
 use Rattle.std.specs.Prelude.{⊤}
@@ -26,7 +26,7 @@ use Rattle.nap_list.specs.declared.state.Drawing.{Drawing}
 use Rattle.nap_list.specs.declared.state.State.{State}
 use Rattle.nap_list.specs.Agreement.{AreCurrent}
 use Rattle.nap_list.specs.Batches.{EachIsCurrent, batch_entries, point_entry, line_entry, polyline_entries, text_entries_in, text_entry, text_entry_as, last_point}
-use Rattle.nap_list.specs.BatchLaws.{points_front, lines_front, text_front, points_rest, lines_rest, lines_count, text_count}
+use Rattle.nap_list.specs.BatchLaws.{points_prefix, lines_prefix, text_prefix, points_rest, lines_rest, lines_count, text_count}
 use Rattle.nap_list.specs.Entry.{attributes}
 use Rattle.nap_list.specs.State.{with_attributes, after, walk, ink_of, hand_of}
 use Rattle.nap_draw.specs.Limits.{run_limit}
@@ -40,39 +40,39 @@ use Rattle.nap_canon.specs.Equality.{same_pen}
 use Rattle.nap_canon.specs.Spelling.{Piece, command_piece, group, joinable_piece, line_piece, step_bytes, text_byte_piece, text_byte_piece_as, spelling_pieces}
 use Rattle.nap_canon.specs.Text.{gl_of, shift_to_opcodes, shift_to_primary, joins_open_run, run_after, piece_bytes, text_end_after_piece, pieces_bytes, text_end_after, entry_pieces, pieces}
 use Rattle.nap_canon.specs.TextParts.{pieces_bytes-append, text_end_after-append}
-use Rattle.nap_canon.proofs.texts.GatheredLemmas.{point_size, points_size}
-use Rattle.nap_canon.proofs.reading.RunLemmas.{same_opcode, room_for}
-use Rattle.nap_canon.proofs.prelude.StandingLemmas.{nothing_to_bring}
+use Rattle.nap_canon.proofs.texts.PointsLemmas.{point_size, points_size}
+use Rattle.nap_canon.proofs.reading.RunLemmas.{same_opcode, space_for}
+use Rattle.nap_canon.proofs.prelude.CurrentLemmas.{nothing_to_set}
 
--- an entry whose values stand is written by its spelling alone
+-- an entry whose attributes are current is written by its spelling alone
 pub alone : (form : Form) (s : State) (e : Entry) → AreCurrent (attributes e) s.drawing → entry_pieces form s e ≡ spelling_pieces form (with_attributes s.drawing (attributes e)) e
-alone form s e is = ap (λ (commands : List Command). map command_piece commands ++ spelling_pieces form (with_attributes s.drawing (attributes e)) e) (nothing_to_bring (attributes e) s.drawing is)
+alone form s e is = ap (λ (commands : List Command). map command_piece commands ++ spelling_pieces form (with_attributes s.drawing (attributes e)) e) (nothing_to_set (attributes e) s.drawing is)
 
--- the bytes of an entry that is one piece, and the tail behind it
+-- the bytes of an entry that is one piece, and the end of the text after it
 
 one_written : (form : Form) (text_end : TextEnd) (s : State) (e : Entry) (piece : Piece) → entry_pieces form s e ≡ piece ∷ [] → pieces_bytes text_end (entry_pieces form s e) ≡ piece_bytes text_end piece
 unfolding pieces_bytes
 one_written form text_end s e piece is = ap (pieces_bytes text_end) is ∙ append-nil (piece_bytes text_end piece)
 
-one_behind : (form : Form) (text_end : TextEnd) (s : State) (e : Entry) (piece : Piece) → entry_pieces form s e ≡ piece ∷ [] → text_end_after text_end (entry_pieces form s e) ≡ text_end_after_piece text_end piece
+one_after : (form : Form) (text_end : TextEnd) (s : State) (e : Entry) (piece : Piece) → entry_pieces form s e ≡ piece ∷ [] → text_end_after text_end (entry_pieces form s e) ≡ text_end_after_piece text_end piece
 unfolding text_end_after
-one_behind form text_end s e piece is = ap (text_end_after text_end) is
+one_after form text_end s e piece is = ap (text_end_after text_end) is
 
--- the piece of the entry at an index of a batch, whose values stand
+-- the piece of the entry at an index of a batch, whose attributes are current
 
 heads : (x y : Entry) (xs ys : List Entry) → x ∷ xs ≡ y ∷ ys → x ≡ y
 heads x y xs ys is = cc
 
-first_stand : (s : State) (list : List Entry) (e : Entry) (es : List Entry) → EachIsCurrent s list → list ≡ e ∷ es → AreCurrent (attributes e) s.drawing
+first_of_current : (s : State) (list : List Entry) (e : Entry) (es : List Entry) → EachIsCurrent s list → list ≡ e ∷ es → AreCurrent (attributes e) s.drawing
 unfolding EachIsCurrent
-first_stand s list e es stand is = (subst (EachIsCurrent s) is stand).0
+first_of_current s list e es all_current is = (subst (EachIsCurrent s) is all_current).0
 
--- that is the spelling of the entry that is there
+-- the piece of the entry at an index is its spelling
 next_entry : (form : Form) (s : State) (list : List Entry) (x : Entry) (xs : List Entry) → x ∷ xs ≡ list → EachIsCurrent s list → (e : Entry) (es : List Entry) → list ≡ e ∷ es →
     entry_pieces form s e ≡ spelling_pieces form (with_attributes s.drawing (attributes x)) x
-next_entry form s list x xs there stand e es is =
+next_entry form s list x xs there all_current e es is =
     subst (λ (e : Entry). AreCurrent (attributes e) s.drawing → entry_pieces form s e ≡ spelling_pieces form (with_attributes s.drawing (attributes x)) x) (heads x e xs es (there ∙ is)) (alone form s x)
-    (first_stand s list e es stand is)
+    (first_of_current s list e es all_current is)
 
 pub next_point : (form : Form) (s : State) (batch : Batch) (points : _) (drawing : _) (index : ℕ) (p : Coordinates) (rest : List Coordinates) → batch ≡ batches.Points points drawing →
     drop index points.now ≡ p ∷ rest → EachIsCurrent s (drop index (batch_entries batch)) → (e : Entry) (es : List Entry) → drop index (batch_entries batch) ≡ e ∷ es →
@@ -86,21 +86,21 @@ pub next_line : (form : Form) (s : State) (batch : Batch) (from start : Coordina
     batch ≡ batches.Lines from points drawing → drop index points.now ≡ p ∷ rest → start ≡ last_point from (take index points.now) → EachIsCurrent s (drop index (batch_entries batch)) →
     (e : Entry) (es : List Entry) → drop index (batch_entries batch) ≡ e ∷ es → entry_pieces form s e ≡ line_piece form s.drawing.pen start p ∷ []
 unfolding polyline_entries
-next_line form s batch from start points drawing index p rest is at begins stand e es list =
+next_line form s batch from start points drawing index p rest is at begins all_current e es list =
     let d = drawing.now in
     let q = last_point from (take index points.now) in
     next_entry form s (drop index (batch_entries batch)) (line_entry d q p) (polyline_entries d p rest)
-    (ap (polyline_entries d q) (sym at) ∙ lines_rest d from points.now index ∙ ap (λ (b : Batch). drop index (batch_entries b)) (sym is)) stand e es list
+    (ap (polyline_entries d q) (sym at) ∙ lines_rest d from points.now index ∙ ap (λ (b : Batch). drop index (batch_entries b)) (sym is)) all_current e es list
     ∙ ap (λ (start : Coordinates). line_piece form s.drawing.pen start p ∷ []) (sym begins)
 
--- characters of a text from one on, in the hand that they have
-text_behind : (set : CharSet) (hand : Hand) (codes : List ℕ) (n : ℕ) → (h : Hand) × (drop n (text_entries_in set hand codes) ≡ text_entries_in set h (drop n codes))
+-- the characters of a text from an index on, with the attributes that they have
+text_after : (set : CharSet) (hand : Hand) (codes : List ℕ) (n : ℕ) → (h : Hand) × (drop n (text_entries_in set hand codes) ≡ text_entries_in set h (drop n codes))
 unfolding text_entries_in
-text_behind set hand codes zero = (hand, refl)
-text_behind set hand [] (suc n) = (hand, refl)
-text_behind set hand (c ∷ cs) (suc n) = text_behind set (record hand { pen = After }) cs n
+text_after set hand codes zero = (hand, refl)
+text_after set hand [] (suc n) = (hand, refl)
+text_after set hand (c ∷ cs) (suc n) = text_after set (record hand { pen = After }) cs n
 
--- how a byte of a text is spelled
+-- the spelling of a byte of a text
 typed_spelled : (form : Form) (d : Drawing) (set : CharSet) (hand : Hand) (code : ℕ) → spelling_pieces form d (text_entry set hand code) ≡ text_byte_piece set code ∷ []
 typed_spelled form d set hand code = by (format_effector code)
   where
@@ -112,45 +112,45 @@ pub next_typed : (form : Form) (s : State) (batch : Batch) (set : CharSet) (code
     batch ≡ batches.Text set codes pen drawing → drop index codes.now ≡ code ∷ rest → EachIsCurrent s (drop index (batch_entries batch)) →
     (e : Entry) (es : List Entry) → drop index (batch_entries batch) ≡ e ∷ es → entry_pieces form s e ≡ text_byte_piece set code ∷ []
 unfolding text_entries_in
-next_typed form s batch set codes pen drawing index code rest is at stand e es list =
-    let behind = text_behind set (record (hand_of drawing.now) { pen = pen }) codes.now index in
-    let x = text_entry set behind.0 code in
-    next_entry form s (drop index (batch_entries batch)) x (text_entries_in set (record behind.0 { pen = After }) rest)
-    (ap (text_entries_in set behind.0) (sym at) ∙ sym behind.1 ∙ ap (λ (b : Batch). drop index (batch_entries b)) (sym is)) stand e es list
-    ∙ typed_spelled form (with_attributes s.drawing (attributes x)) set behind.0 code
+next_typed form s batch set codes pen drawing index code rest is at all_current e es list =
+    let next_end = text_after set (record (hand_of drawing.now) { pen = pen }) codes.now index in
+    let x = text_entry set next_end.0 code in
+    next_entry form s (drop index (batch_entries batch)) x (text_entries_in set (record next_end.0 { pen = After }) rest)
+    (ap (text_entries_in set next_end.0) (sym at) ∙ sym next_end.1 ∙ ap (λ (b : Batch). drop index (batch_entries b)) (sym is)) all_current e es list
+    ∙ typed_spelled form (with_attributes s.drawing (attributes x)) set next_end.0 code
 
--- what entries are written as that are one piece each
+-- the bytes of entries that are one piece each
 
--- the first entry is written as so many bytes, and each further one as so many
+-- the first entry is written as first_size bytes, and each further one as size bytes
 unfoldable pub EachWrites : ℕ → ℕ → Form → TextEnd → State → List Entry → Type 0
-EachWrites lead size form text_end s [] = ⊤
-EachWrites lead size form text_end s (e ∷ es) = (length (pieces_bytes text_end (entry_pieces form s e)) ≡ lead) × EachWrites size size form (text_end_after text_end (entry_pieces form s e)) (after s e) es
+EachWrites first_size size form text_end s [] = ⊤
+EachWrites first_size size form text_end s (e ∷ es) = (length (pieces_bytes text_end (entry_pieces form s e)) ≡ first_size) × EachWrites size size form (text_end_after text_end (entry_pieces form s e)) (after s e) es
 
-pub record Joined (lead size : ℕ) (form : Form) (text_end : TextEnd) (s : State) (list : List Entry) (bytes : List ℕ) (end : TextEnd) : Type 0 where
-  pub each : EachWrites lead size form text_end s list
+pub record Joined (first_size size : ℕ) (form : Form) (text_end : TextEnd) (s : State) (list : List Entry) (bytes : List ℕ) (end : TextEnd) : Type 0 where
+  pub each : EachWrites first_size size form text_end s list
   pub writes : pieces_bytes text_end (pieces form s list) ≡ bytes
   pub ends : text_end_after text_end (pieces form s list) ≡ end
 
-joined_none : (lead size : ℕ) (form : Form) (text_end : TextEnd) (s : State) → Joined lead size form text_end s [] [] text_end
+joined_none : (first_size size : ℕ) (form : Form) (text_end : TextEnd) (s : State) → Joined first_size size form text_end s [] [] text_end
 unfolding EachWrites pieces pieces_bytes text_end_after
-joined_none lead size form text_end s = record { each = tt; writes = refl; ends = refl }
+joined_none first_size size form text_end s = record { each = tt; writes = refl; ends = refl }
 
--- the same in other words
-joined_as : (lead lead' size : ℕ) (form : Form) (text_end : TextEnd) (s : State) (list : List Entry) (bytes bytes' : List ℕ) (end end' : TextEnd) → lead ≡ lead' → bytes ≡ bytes' → end ≡ end' →
-    Joined lead size form text_end s list bytes end → Joined lead' size form text_end s list bytes' end'
-joined_as lead lead' size form text_end s list bytes bytes' end end' same spelling_pieces ends joined = record {
+-- other forms of the same
+joined_as : (first_size first_size' size : ℕ) (form : Form) (text_end : TextEnd) (s : State) (list : List Entry) (bytes bytes' : List ℕ) (end end' : TextEnd) → first_size ≡ first_size' → bytes ≡ bytes' → end ≡ end' →
+    Joined first_size size form text_end s list bytes end → Joined first_size' size form text_end s list bytes' end'
+joined_as first_size first_size' size form text_end s list bytes bytes' end end' same spelled ends joined = record {
   each = subst (λ (n : ℕ). EachWrites n size form text_end s list) same joined.each;
-  writes = joined.writes ∙ spelling_pieces;
+  writes = joined.writes ∙ spelled;
   ends = joined.ends ∙ ends;
 }
 
-joined_more : (lead size : ℕ) (form : Form) (text_end next : TextEnd) (s : State) (e : Entry) (list : List Entry) (piece : Piece) (first rest : List ℕ) (end : TextEnd) →
-    entry_pieces form s e ≡ piece ∷ [] → piece_bytes text_end piece ≡ first → length first ≡ lead → text_end_after_piece text_end piece ≡ next →
-    Joined size size form next (after s e) list rest end → Joined lead size form text_end s (e ∷ list) (first ++ rest) end
+joined_more : (first_size size : ℕ) (form : Form) (text_end next : TextEnd) (s : State) (e : Entry) (list : List Entry) (piece : Piece) (first rest : List ℕ) (end : TextEnd) →
+    entry_pieces form s e ≡ piece ∷ [] → piece_bytes text_end piece ≡ first → length first ≡ first_size → text_end_after_piece text_end piece ≡ next →
+    Joined size size form next (after s e) list rest end → Joined first_size size form text_end s (e ∷ list) (first ++ rest) end
 unfolding EachWrites pieces pieces_bytes text_end_after
-joined_more lead size form text_end next s e list piece first rest end is bytes count behind more =
+joined_more first_size size form text_end next s e list piece first rest end is bytes count next_end more =
     let alone : pieces_bytes text_end (entry_pieces form s e) ≡ first = one_written form text_end s e piece is ∙ bytes in
-    let moved : text_end_after text_end (entry_pieces form s e) ≡ next = one_behind form text_end s e piece is ∙ behind in
+    let moved : text_end_after text_end (entry_pieces form s e) ≡ next = one_after form text_end s e piece is ∙ next_end in
     record {
       each = (ap length alone ∙ count, subst (λ (t : TextEnd). EachWrites size size form t (after s e) list) (sym moved) more.each);
       writes =
@@ -164,16 +164,16 @@ joined_more lead size form text_end next s e list piece first rest end is bytes 
           ∙ more.ends;
     }
 
--- points, behind their opcode
+-- points, after their opcode
 
--- a run of this opcode, of so many bytes
+-- a run of this opcode, of n bytes
 abbrev run_of : ℕ → ℕ → TextEnd
 run_of byte n = InRun (record { opcode = byte; length = n })
 
 joins_run : (byte n m : ℕ) → n + m ≤ run_limit → joins_open_run (run_of byte n) byte m ≡ true
-joins_run byte n m pending = grind (arith, nat_tests)
+joins_run byte n m space = grind (arith, nat_tests)
 
--- each entry is written by a point behind this opcode
+-- each entry is written by a point after this opcode
 unfoldable EachPoint : ℕ → State → List Entry → List Coordinates → Type 0
 EachPoint byte s [] [] = ⊤
 EachPoint byte s [] (p ∷ ps) = ⊥
@@ -184,42 +184,42 @@ EachPoint byte s (e ∷ es) (p ∷ ps) = (entry_pieces Two s e ≡ group byte (p
 run_joins : (byte n : ℕ) (s : State) (list : List Entry) (ps : List Coordinates) → EachPoint byte s list ps → n + 8 * length ps ≤ run_limit →
     Joined 8 8 Two (run_of byte n) s list (points_bytes ps) (run_of byte (n + 8 * length ps))
 unfolding EachPoint points_bytes
-run_joins byte n s [] [] each pending = joined_as 8 8 8 Two (run_of byte n) s [] [] [] _ _ refl refl (ap (run_of byte) (omega arith)) (joined_none 8 8 Two (run_of byte n) s)
-run_joins byte n s [] (p ∷ ps) each pending = absurd each
-run_joins byte n s (e ∷ es) [] each pending = absurd each
-run_joins byte n s (e ∷ es) (p ∷ ps) each pending =
-    let joins : joins_open_run (run_of byte n) byte (length (point_bytes p)) ≡ true = joins_run byte n (length (point_bytes p)) (omega (arith, pending, point_size p)) in
+run_joins byte n s [] [] each space = joined_as 8 8 8 Two (run_of byte n) s [] [] [] _ _ refl refl (ap (run_of byte) (omega arith)) (joined_none 8 8 Two (run_of byte n) s)
+run_joins byte n s [] (p ∷ ps) each space = absurd each
+run_joins byte n s (e ∷ es) [] each space = absurd each
+run_joins byte n s (e ∷ es) (p ∷ ps) each space =
+    let joins : joins_open_run (run_of byte n) byte (length (point_bytes p)) ≡ true = joins_run byte n (length (point_bytes p)) (omega (arith, space, point_size p)) in
     let bytes : piece_bytes (run_of byte n) (group byte (point_bytes p)) ≡ point_bytes p = rw joins refl in
-    let behind : text_end_after_piece (run_of byte n) (group byte (point_bytes p)) ≡ run_of byte (n + 8) = rw joins (ap (λ (size : ℕ). run_of byte (n + size)) (point_size p)) in
+    let next_end : text_end_after_piece (run_of byte n) (group byte (point_bytes p)) ≡ run_of byte (n + 8) = rw joins (ap (λ (size : ℕ). run_of byte (n + size)) (point_size p)) in
     joined_as 8 8 8 Two (run_of byte n) s (e ∷ es) _ _ _ _ refl refl (ap (run_of byte) (omega arith))
-    (joined_more 8 8 Two (run_of byte n) (run_of byte (n + 8)) s e es (group byte (point_bytes p)) (point_bytes p) (points_bytes ps) _ each.0 bytes (point_size p) behind
-    (run_joins byte (n + 8) (after s e) es ps each.1 (omega (arith, pending))))
+    (joined_more 8 8 Two (run_of byte n) (run_of byte (n + 8)) s e es (group byte (point_bytes p)) (point_bytes p) (points_bytes ps) _ each.0 bytes (point_size p) next_end
+    (run_joins byte (n + 8) (after s e) es ps each.1 (omega (arith, space))))
 
--- points that open a run behind this tail
+-- points that open a run after this end of the text
 run_opens : (text_end : TextEnd) (byte : ℕ) (s : State) (list : List Entry) (ps : List Coordinates) → EachPoint byte s list ps → 0 < length ps → 8 * length ps ≤ run_limit →
     joins_open_run text_end byte 8 ≡ false → joins_open_run text_end byte (8 * length ps) ≡ false →
     Joined (length (run_opening text_end byte (8 * length ps)) + 8) 8 Two text_end s list (run_opening text_end byte (8 * length ps) ++ points_bytes ps) (InRun (run_after text_end byte (8 * length ps)))
 unfolding EachPoint points_bytes
-run_opens text_end byte s [] [] each some pending first all = absurd (omega (arith, some))
-run_opens text_end byte s [] (p ∷ ps) each some pending first all = absurd each
-run_opens text_end byte s (e ∷ es) [] each some pending first all = absurd each
-run_opens text_end byte s (e ∷ es) (p ∷ ps) each some pending first all =
+run_opens text_end byte s [] [] each some space first all = absurd (omega (arith, some))
+run_opens text_end byte s [] (p ∷ ps) each some space first all = absurd each
+run_opens text_end byte s (e ∷ es) [] each some space first all = absurd each
+run_opens text_end byte s (e ∷ es) (p ∷ ps) each some space first all =
     let head : List ℕ = shift_to_opcodes (gl_of text_end) ++ byte ∷ [] in
     let apart : joins_open_run text_end byte (length (point_bytes p)) ≡ false = ap (joins_open_run text_end byte) (point_size p) ∙ first in
     let opens : run_opening text_end byte (8 * length (p ∷ ps)) ≡ head = rw all refl in
     let bytes : piece_bytes text_end (group byte (point_bytes p)) ≡ head ++ point_bytes p = rw apart (sym (append_assoc (shift_to_opcodes (gl_of text_end)) (byte ∷ []) (point_bytes p))) in
-    let behind : text_end_after_piece text_end (group byte (point_bytes p)) ≡ run_of byte 8 = rw apart (ap (run_of byte) (point_size p)) in
+    let next_end : text_end_after_piece text_end (group byte (point_bytes p)) ≡ run_of byte 8 = rw apart (ap (run_of byte) (point_size p)) in
     let ends : run_of byte (8 + 8 * length ps) ≡ InRun (run_after text_end byte (8 * length (p ∷ ps))) = rw all (ap (run_of byte) (omega arith)) in
     joined_as _ _ 8 Two text_end s (e ∷ es) _ _ _ _
     (length-append head (point_bytes p) ∙ ap (λ (n : ℕ). length head + n) (point_size p) ∙ ap (λ (bs : List ℕ). length bs + 8) (sym opens))
     (append_assoc head (point_bytes p) (points_bytes ps) ∙ ap (λ (bs : List ℕ). bs ++ points_bytes (p ∷ ps)) (sym opens)) ends
-    (joined_more (length (head ++ point_bytes p)) 8 Two text_end (run_of byte 8) s e es (group byte (point_bytes p)) (head ++ point_bytes p) (points_bytes ps) _ each.0 bytes refl behind
-    (run_joins byte 8 (after s e) es ps each.1 (omega (arith, pending))))
+    (joined_more (length (head ++ point_bytes p)) 8 Two text_end (run_of byte 8) s e es (group byte (point_bytes p)) (head ++ point_bytes p) (points_bytes ps) _ each.0 bytes refl next_end
+    (run_joins byte 8 (after s e) es ps each.1 (omega (arith, space))))
 
 points_each : (s : State) (d : Drawing) (ps : List Coordinates) → EachIsCurrent s (map (point_entry d) ps) → EachPoint 0x26 s (map (point_entry d) ps) ps
 unfolding EachPoint EachIsCurrent
-points_each s d [] stand = tt
-points_each s d (p ∷ ps) stand = let e = point_entry d p in (alone Two s e stand.0, points_each (after s e) d ps stand.1)
+points_each s d [] all_current = tt
+points_each s d (p ∷ ps) all_current = let e = point_entry d p in (alone Two s e all_current.0, points_each (after s e) d ps all_current.1)
 
 same_points : (p : Coordinates) → same_pen (At p) (At p) ≡ true
 same_points p = grind (arith, nat_tests)
@@ -232,12 +232,12 @@ line_from_pen pen from to is =
 
 lines_each : (s : State) (d : Drawing) (from : Coordinates) (ps : List Coordinates) → s.drawing.pen ≡ At from → EachIsCurrent s (polyline_entries d from ps) → EachPoint 0x28 s (polyline_entries d from ps) ps
 unfolding EachPoint EachIsCurrent polyline_entries
-lines_each s d from [] pen stand = tt
-lines_each s d from (p ∷ ps) pen stand =
+lines_each s d from [] pen all_current = tt
+lines_each s d from (p ∷ ps) pen all_current =
     let e = entries.Line from p (ink_of d) in
-    (alone Two s e stand.0 ∙ ap (λ (piece : Piece). piece ∷ []) (line_from_pen s.drawing.pen from p pen), lines_each (after s e) d p ps refl stand.1)
+    (alone Two s e all_current.0 ∙ ap (λ (piece : Piece). piece ∷ []) (line_from_pen s.drawing.pen from p pen), lines_each (after s e) d p ps refl all_current.1)
 
--- primary characters, where they are in GL, and moves among them
+-- primary characters while they are in GL, and moves among them
 
 effector_bytes : {byte : ℕ} {step : TextStep} → FormatEffector byte step → step_bytes step ≡ byte ∷ []
 effector_bytes backward = refl
@@ -247,7 +247,7 @@ effector_bytes up = refl
 effector_bytes return = refl
 effector_bytes home = refl
 
--- each is its own byte, behind which the primary characters are in GL
+-- each is its own byte, after which the primary characters are in GL
 typed_alone : (code : ℕ) → (piece_bytes (NoRun G0) (text_byte_piece Primary code) ≡ code ∷ []) × (text_end_after_piece (NoRun G0) (text_byte_piece Primary code) ≡ NoRun G0)
 typed_alone code = by (format_effector code) refl
   where
@@ -258,38 +258,38 @@ typed_alone code = by (format_effector code) refl
 
 text_joins : (form : Form) (s : State) (hand : Hand) (codes : List ℕ) → EachIsCurrent s (text_entries_in Primary hand codes) → Joined 1 1 form (NoRun G0) s (text_entries_in Primary hand codes) codes (NoRun G0)
 unfolding EachIsCurrent text_entries_in
-text_joins form s hand [] stand = joined_none 1 1 form (NoRun G0) s
-text_joins form s hand (c ∷ cs) stand =
+text_joins form s hand [] all_current = joined_none 1 1 form (NoRun G0) s
+text_joins form s hand (c ∷ cs) all_current =
     let e = text_entry Primary hand c in
     let bytes = typed_alone c in
     joined_more 1 1 form (NoRun G0) (NoRun G0) s e (text_entries_in Primary (record hand { pen = After }) cs) (text_byte_piece Primary c) (c ∷ []) cs (NoRun G0)
-    (alone form s e stand.0 ∙ typed_spelled form (with_attributes s.drawing (attributes e)) Primary hand c) bytes.0 refl bytes.1
-    (text_joins form (after s e) (record hand { pen = After }) cs stand.1)
+    (alone form s e all_current.0 ∙ typed_spelled form (with_attributes s.drawing (attributes e)) Primary hand c) bytes.0 refl bytes.1
+    (text_joins form (after s e) (record hand { pen = After }) cs all_current.1)
 
--- the first code brings them there, where it is a character
+-- the first code shifts them into GL, if it is a character
 text_opens : (form : Form) (text_end : TextEnd) (s : State) (hand : Hand) (codes : List ℕ) (count : ℕ) → 0 < count → count ≤ length codes →
     ((code : ℕ) (rest : List ℕ) → codes ≡ code ∷ rest → format_effector code ≡ None) → EachIsCurrent s (text_entries_in Primary hand (take count codes)) →
     Joined (length (shift_to_primary (gl_of text_end)) + 1) 1 form text_end s (text_entries_in Primary hand (take count codes)) (shift_to_primary (gl_of text_end) ++ take count codes) (NoRun G0)
 unfolding EachIsCurrent text_entries_in
-text_opens form text_end s hand codes zero some few character stand = absurd (omega (arith, some))
-text_opens form text_end s hand [] (suc n) some few character stand = absurd (omega (arith, few))
-text_opens form text_end s hand (c ∷ cs) (suc n) some few character stand =
+text_opens form text_end s hand codes zero some few character all_current = absurd (omega (arith, some))
+text_opens form text_end s hand [] (suc n) some few character all_current = absurd (omega (arith, few))
+text_opens form text_end s hand (c ∷ cs) (suc n) some few character all_current =
     let e = text_entry Primary hand c in
     let shift : List ℕ = shift_to_primary (gl_of text_end) in
     let is : format_effector c ≡ None = character c cs refl in
     let bytes : piece_bytes text_end (text_byte_piece Primary c) ≡ shift ++ c ∷ [] = rw is refl in
-    let behind : text_end_after_piece text_end (text_byte_piece Primary c) ≡ NoRun G0 = rw is refl in
+    let next_end : text_end_after_piece text_end (text_byte_piece Primary c) ≡ NoRun G0 = rw is refl in
     joined_as _ _ 1 form text_end s (text_entries_in Primary hand (c ∷ take n cs)) _ _ _ _ (length-append shift (c ∷ [])) (append_assoc shift (c ∷ []) (take n cs)) refl
     (joined_more (length (shift ++ c ∷ [])) 1 form text_end (NoRun G0) s e (text_entries_in Primary (record hand { pen = After }) (take n cs)) (text_byte_piece Primary c) (shift ++ c ∷ []) (take n cs) (NoRun G0)
-    (alone form s e stand.0 ∙ typed_spelled form (with_attributes s.drawing (attributes e)) Primary hand c) bytes refl behind
-    (text_joins form (after s e) (record hand { pen = After }) (take n cs) stand.1))
+    (alone form s e all_current.0 ∙ typed_spelled form (with_attributes s.drawing (attributes e)) Primary hand c) bytes refl next_end
+    (text_joins form (after s e) (record hand { pen = After }) (take n cs) all_current.1))
 
 -- the run that is joined
 
 record Run (text_end : TextEnd) (byte m : ℕ) : Type 0 where
   pub length : ℕ
   pub is : text_end ≡ run_of byte length
-  pub pending : length + m ≤ run_limit
+  pub space : length + m ≤ run_limit
 
 run_joined : (text_end : TextEnd) (byte m : ℕ) → joins_open_run text_end byte m ≡ true → Run text_end byte m
 run_joined (NoRun gl) byte m joins = absurd (false≢true joins)
@@ -298,28 +298,28 @@ run_joined (InRun run) byte m joins =
     record {
       length = run.length;
       is = ap (λ (opcode : ℕ). InRun (record { opcode = opcode; length = run.length })) (sym same);
-      pending = room_for byte run.length m (subst (λ (opcode : ℕ). joins_open_run (run_of opcode run.length) byte m ≡ true) (sym same) joins);
+      space = space_for byte run.length m (subst (λ (opcode : ℕ). joins_open_run (run_of opcode run.length) byte m ≡ true) (sym same) joins);
     }
 
 -- entries of a batch from one on
 
-stands_front : (s : State) (list : List Entry) (n : ℕ) → EachIsCurrent s list → EachIsCurrent s (take n list)
+prefix_current : (s : State) (list : List Entry) (n : ℕ) → EachIsCurrent s list → EachIsCurrent s (take n list)
 unfolding EachIsCurrent
-stands_front s list zero stand = tt
-stands_front s [] (suc n) stand = tt
-stands_front s (e ∷ es) (suc n) stand = (stand.0, stands_front (after s e) es n stand.1)
+prefix_current s list zero all_current = tt
+prefix_current s [] (suc n) all_current = tt
+prefix_current s (e ∷ es) (suc n) all_current = (all_current.0, prefix_current (after s e) es n all_current.1)
 
-pub stands_rest : (s : State) (list : List Entry) (n : ℕ) → EachIsCurrent s list → EachIsCurrent (walk s (take n list)) (drop n list)
+pub rest_current : (s : State) (list : List Entry) (n : ℕ) → EachIsCurrent s list → EachIsCurrent (walk s (take n list)) (drop n list)
 unfolding EachIsCurrent walk
-stands_rest s list zero stand = stand
-stands_rest s [] (suc n) stand = tt
-stands_rest s (e ∷ es) (suc n) stand = stands_rest (after s e) es n stand.1
+rest_current s list zero all_current = all_current
+rest_current s [] (suc n) all_current = tt
+rest_current s (e ∷ es) (suc n) all_current = rest_current (after s e) es n all_current.1
 
 -- points that join the run of this opcode, or open one
-behind_run : (form : Form) (text_end : TextEnd) (s : State) (list : List Entry) (qs : List Coordinates) (byte count : ℕ) → PointsJoin form text_end byte count → 0 < count → length qs ≡ count →
+points_after : (form : Form) (text_end : TextEnd) (s : State) (list : List Entry) (qs : List Coordinates) (byte count : ℕ) → PointsJoin form text_end byte count → 0 < count → length qs ≡ count →
     EachPoint byte s list qs →
     Joined (length (run_opening text_end byte (8 * count)) + 8) 8 form text_end s list (run_opening text_end byte (8 * count) ++ points_bytes qs) (InRun (run_after text_end byte (8 * count)))
-behind_run form text_end s list qs byte count joins some size each = by (joins_open_run text_end byte 8) refl
+points_after form text_end s list qs byte count joins some size each = by (joins_open_run text_end byte 8) refl
   where
     goal : Form → ℕ → Type 0
     goal form count = Joined (length (run_opening text_end byte (8 * count)) + 8) 8 form text_end s list (run_opening text_end byte (8 * count) ++ points_bytes qs) (InRun (run_after text_end byte (8 * count)))
@@ -330,12 +330,12 @@ behind_run form text_end s list qs byte count joins some size each = by (joins_o
         let run = run_joined text_end byte (8 * count) all in
         let n = run.length in
         let ends : run_of byte (n + 8 * length qs) ≡ InRun (run_after text_end byte (8 * count)) =
-        ap (λ (m : ℕ). run_of byte (n + 8 * m)) size ∙ (let here : run_of byte (n + 8 * count) ≡ InRun (run_after (run_of byte n) byte (8 * count)) = rw (joins_run byte n (8 * count) run.pending) refl in here)
+        ap (λ (m : ℕ). run_of byte (n + 8 * m)) size ∙ (let here : run_of byte (n + 8 * count) ≡ InRun (run_after (run_of byte n) byte (8 * count)) = rw (joins_run byte n (8 * count) run.space) refl in here)
         ∙ ap (λ (t : TextEnd). InRun (run_after t byte (8 * count))) (sym run.is) in
         let opens : [] ≡ run_opening text_end byte (8 * count) = rw all refl in
         let here : Joined 8 8 Two text_end s list (points_bytes qs) (run_of byte (n + 8 * length qs)) =
         subst (λ (t : TextEnd). Joined 8 8 Two t s list (points_bytes qs) (run_of byte (n + 8 * length qs))) (sym run.is)
-        (run_joins byte n s list qs each (omega (arith, run.pending, size))) in
+        (run_joins byte n s list qs each (omega (arith, run.space, size))) in
         subst (λ (f : Form). goal f count) (sym joins.1)
         (joined_as 8 _ 8 Two text_end s list _ _ _ _ (ap (λ (bs : List ℕ). length bs + 8) opens) (ap (λ (bs : List ℕ). bs ++ points_bytes qs) opens) ends here)
     by false is =
@@ -343,55 +343,55 @@ behind_run form text_end s list qs byte count joins some size each = by (joins_o
         (subst (goal Two) size
         (run_opens text_end byte s list qs each (omega (arith, some, size)) (omega (arith, joins.0, size)) is (ap (λ (n : ℕ). joins_open_run text_end byte (8 * n)) size ∙ joins.2 ∙ is)))
 
--- so many entries of a batch, from this one on, that join what stands last
+-- count entries of a batch, from an index on, that join the end of the text
 pub batch_joins : (form : Form) (text_end : TextEnd) (s : State) (batch : Batch) (first count : ℕ) → 0 < count → count + first ≤ length (batch_entries batch) → EachIsCurrent s (drop first (batch_entries batch)) →
     Joins form text_end s batch first count →
     Joined (length (opening text_end batch count) + entry_size batch) (entry_size batch) form text_end s (take count (drop first (batch_entries batch))) (opening text_end batch count ++ joined_bytes batch first count)
     (text_end_after_joined text_end batch count)
-batch_joins form text_end s (batches.Points points drawing) first count some few stand joins =
+batch_joins form text_end s (batches.Points points drawing) first count some few all_current joins =
     let d = drawing.now in
     let ps = points.now in
     let qs = take count (drop first ps) in
     let size : length qs ≡ count = length-take-le count (drop first ps) (omega (arith, few, length-map ps (point_entry d), length-drop first ps)) in
-    let is : take count (drop first (map (point_entry d) ps)) ≡ map (point_entry d) qs = ap (take count) (sym (points_rest d ps first)) ∙ sym (points_front d (drop first ps) count) in
-    let stands = subst (EachIsCurrent s) is (stands_front s (drop first (map (point_entry d) ps)) count stand) in
-    behind_run form text_end s _ qs 0x26 count joins some size (subst (λ (list : List Entry). EachPoint 0x26 s list qs) (sym is) (points_each s d qs stands))
-batch_joins form text_end s (batches.Lines from points drawing) first count some few stand joins =
+    let is : take count (drop first (map (point_entry d) ps)) ≡ map (point_entry d) qs = ap (take count) (sym (points_rest d ps first)) ∙ sym (points_prefix d (drop first ps) count) in
+    let list_current = subst (EachIsCurrent s) is (prefix_current s (drop first (map (point_entry d) ps)) count all_current) in
+    points_after form text_end s _ qs 0x26 count joins some size (subst (λ (list : List Entry). EachPoint 0x26 s list qs) (sym is) (points_each s d qs list_current))
+batch_joins form text_end s (batches.Lines from points drawing) first count some few all_current joins =
     let d = drawing.now in
     let ps = points.now in
     let p = last_point from (take first ps) in
     let qs = take count (drop first ps) in
     let size : length qs ≡ count = length-take-le count (drop first ps) (omega (arith, few, lines_count d from ps, length-drop first ps)) in
-    let is : take count (drop first (polyline_entries d from ps)) ≡ polyline_entries d p qs = ap (take count) (sym (lines_rest d from ps first)) ∙ sym (lines_front d p (drop first ps) count) in
-    let stands = subst (EachIsCurrent s) is (stands_front s (drop first (polyline_entries d from ps)) count stand) in
-    behind_run form text_end s _ qs 0x28 count joins.0 some size (subst (λ (list : List Entry). EachPoint 0x28 s list qs) (sym is) (lines_each s d p qs joins.1 stands))
-batch_joins form text_end s (batches.Text set codes pen drawing) first count some few stand joins =
+    let is : take count (drop first (polyline_entries d from ps)) ≡ polyline_entries d p qs = ap (take count) (sym (lines_rest d from ps first)) ∙ sym (lines_prefix d p (drop first ps) count) in
+    let list_current = subst (EachIsCurrent s) is (prefix_current s (drop first (polyline_entries d from ps)) count all_current) in
+    points_after form text_end s _ qs 0x28 count joins.0 some size (subst (λ (list : List Entry). EachPoint 0x28 s list qs) (sym is) (lines_each s d p qs joins.1 list_current))
+batch_joins form text_end s (batches.Text set codes pen drawing) first count some few all_current joins =
     let hand = record (hand_of drawing.now) { pen = pen } in
     let cs = take count (drop first codes.now) in
-    let behind = text_behind set hand codes.now first in
-    let h = behind.0 in
+    let next_end = text_after set hand codes.now first in
+    let h = next_end.0 in
     let list = take count (drop first (text_entries_in set hand codes.now)) in
-    let is : list ≡ text_entries_in set h cs = ap (take count) behind.1 ∙ sym (text_front set h (drop first codes.now) count) in
+    let is : list ≡ text_entries_in set h cs = ap (take count) next_end.1 ∙ sym (text_prefix set h (drop first codes.now) count) in
     let all : list ≡ text_entries_in Primary h cs = is ∙ ap (λ (set : CharSet). text_entries_in set h cs) joins.0 in
-    let stands = subst (EachIsCurrent s) all (stands_front s (drop first (text_entries_in set hand codes.now)) count stand) in
+    let list_current = subst (EachIsCurrent s) all (prefix_current s (drop first (text_entries_in set hand codes.now)) count all_current) in
     subst (λ (list : List Entry). Joined (length (shift_to_primary (gl_of text_end)) + 1) 1 form text_end s list (shift_to_primary (gl_of text_end) ++ cs) (NoRun G0)) (sym all)
-    (by h stands joins.1)
+    (by h list_current joins.1)
   where
     by : (h : Hand) → EachIsCurrent s (text_entries_in Primary h (take count (drop first codes.now))) → TextJoins text_end (drop first codes.now) count →
         Joined (length (shift_to_primary (gl_of text_end)) + 1) 1 form text_end s (text_entries_in Primary h (take count (drop first codes.now))) (shift_to_primary (gl_of text_end) ++ take count (drop first codes.now)) (NoRun G0)
-    by h stands (inl is) =
+    by h list_current (inl is) =
         subst (λ (t : TextEnd). Joined (length (shift_to_primary (gl_of t)) + 1) 1 form t s (text_entries_in Primary h (take count (drop first codes.now))) (shift_to_primary (gl_of t) ++ take count (drop first codes.now)) (NoRun G0))
-        (sym is) (text_joins form s h (take count (drop first codes.now)) stands)
-    by h stands (inr opens) =
+        (sym is) (text_joins form s h (take count (drop first codes.now)) list_current)
+    by h list_current (inr opens) =
         let all = text_count set (record (hand_of drawing.now) { pen = pen }) codes.now in
-        text_opens form text_end s h (drop first codes.now) count some (omega (arith, few, all, length-drop first codes.now)) opens.1 stands
+        text_opens form text_end s h (drop first codes.now) count some (omega (arith, few, all, length-drop first codes.now)) opens.1 list_current
 
--- where a written part of them ends
+-- the entries that a cut of their bytes leaves
 
--- so many bytes are so many whole entries, the first of this size, and less than one more
-pub record Whole (lead size n k : ℕ) : Type 0 where
-  pub from : 0 < k → lead + size * k ≤ n + size
-  pub to : n < lead + size * k
+-- n bytes are k complete entries, the first of first_size bytes, and less than one more
+pub record Whole (first_size size n k : ℕ) : Type 0 where
+  pub from : 0 < k → first_size + size * k ≤ n + size
+  pub to : n < first_size + size * k
 
 -- a part of the first entry
 pub parted_first : (form : Form) (text_end : TextEnd) (s : State) (e : Entry) (es : List Entry) (n : ℕ) → n < length (pieces_bytes text_end (entry_pieces form s e)) → Parted form text_end s (e ∷ es) 0 n
@@ -407,44 +407,44 @@ parted_first form text_end s e es n few = record {
       ∙ take-append-le n (pieces_bytes text_end (entry_pieces form s e)) _ (omega (arith, few));
 }
 
--- the first entry, and so many bytes of those behind it
-pub parted_behind : (form : Form) (text_end : TextEnd) (s : State) (e : Entry) (es : List Entry) (k n m : ℕ) → n ≡ length (pieces_bytes text_end (entry_pieces form s e)) + m →
+-- the first entry, and n bytes of those after it
+pub parted_after : (form : Form) (text_end : TextEnd) (s : State) (e : Entry) (es : List Entry) (k n m : ℕ) → n ≡ length (pieces_bytes text_end (entry_pieces form s e)) + m →
     Parted form (text_end_after text_end (entry_pieces form s e)) (after s e) es k m → Parted form text_end s (e ∷ es) (suc k) n
 unfolding pieces pieces_bytes text_end_after walk
-parted_behind form text_end s e es k n m is more =
+parted_after form text_end s e es k n m is more =
     let first = entry_pieces form s e in
     let t = text_end_after text_end first in
-    let front = pieces form (after s e) (take k es) in
+    let prefix = pieces form (after s e) (take k es) in
     let next = entry_pieces form (walk (after s e) (take k es)) more.next in
-    let behind : text_end_after text_end (first ++ front) ≡ text_end_after t front = text_end_after-append text_end first front in
+    let next_end : text_end_after text_end (first ++ prefix) ≡ text_end_after t prefix = text_end_after-append text_end first prefix in
     record {
       next = more.next;
       rest = more.rest;
       parts = ap (λ (list : List Entry). e ∷ list) more.parts;
       part = more.part;
-      less = subst (λ (u : TextEnd). more.part < length (pieces_bytes u next)) (sym behind) more.less;
+      less = subst (λ (u : TextEnd). more.part < length (pieces_bytes u next)) (sym next_end) more.less;
       cut =
           ap (take n) (pieces_bytes-append text_end first (pieces form (after s e) es))
           ∙ ap (λ (n : ℕ). take n (pieces_bytes text_end first ++ pieces_bytes t (pieces form (after s e) es))) is
           ∙ take-append-add (pieces_bytes text_end first) (pieces_bytes t (pieces form (after s e) es)) m
           ∙ ap (λ (bs : List ℕ). pieces_bytes text_end first ++ bs) more.cut
-          ∙ sym (append_assoc (pieces_bytes text_end first) (pieces_bytes t front) (take more.part (pieces_bytes (text_end_after t front) next)))
-          ∙ ap (λ (bs : List ℕ). bs ++ take more.part (pieces_bytes (text_end_after t front) next)) (sym (pieces_bytes-append text_end first front))
-          ∙ ap (λ (u : TextEnd). pieces_bytes text_end (first ++ front) ++ take more.part (pieces_bytes u next)) (sym behind);
+          ∙ sym (append_assoc (pieces_bytes text_end first) (pieces_bytes t prefix) (take more.part (pieces_bytes (text_end_after t prefix) next)))
+          ∙ ap (λ (bs : List ℕ). bs ++ take more.part (pieces_bytes (text_end_after t prefix) next)) (sym (pieces_bytes-append text_end first prefix))
+          ∙ ap (λ (u : TextEnd). pieces_bytes text_end (first ++ prefix) ++ take more.part (pieces_bytes u next)) (sym next_end);
     }
 
-pub each_front : (lead size : ℕ) (form : Form) (text_end : TextEnd) (s : State) (list : List Entry) (k n : ℕ) → EachWrites lead size form text_end s list → k < length list → Whole lead size n k →
+pub each_prefix : (first_size size : ℕ) (form : Form) (text_end : TextEnd) (s : State) (list : List Entry) (k n : ℕ) → EachWrites first_size size form text_end s list → k < length list → Whole first_size size n k →
     Parted form text_end s list k n
 unfolding EachWrites
-each_front lead size form text_end s [] k n each less whole = absurd (omega (arith, less))
-each_front lead size form text_end s (e ∷ es) zero n each less whole = parted_first form text_end s e es n (omega (arith, whole.to, each.0))
-each_front lead size form text_end s (e ∷ es) (suc k) n each less whole =
-    let low : lead + size * suc k ≤ n + size = whole.from (omega arith) in
-    parted_behind form text_end s e es k n (n - lead) (omega (arith, each.0, low))
-    (each_front size size form (text_end_after text_end (entry_pieces form s e)) (after s e) es k (n - lead) each.1 (omega (arith, less))
+each_prefix first_size size form text_end s [] k n each less whole = absurd (omega (arith, less))
+each_prefix first_size size form text_end s (e ∷ es) zero n each less whole = parted_first form text_end s e es n (omega (arith, whole.to, each.0))
+each_prefix first_size size form text_end s (e ∷ es) (suc k) n each less whole =
+    let low : first_size + size * suc k ≤ n + size = whole.from (omega arith) in
+    parted_after form text_end s e es k n (n - first_size) (omega (arith, each.0, low))
+    (each_prefix size size form (text_end_after text_end (entry_pieces form s e)) (after s e) es k (n - first_size) each.1 (omega (arith, less))
     (record { from = λ some. omega (arith, low); to = omega (arith, low, whole.to) }))
 
--- the bytes of so many, and how many of them were written whole
+-- the number of bytes of entries, and how many of them were written completely
 
 pub joined_length : (batch : Batch) (first count : ℕ) → count + first ≤ length (batch_entries batch) → length (joined_bytes batch first count) ≡ entry_size batch * count
 joined_length (batches.Points points drawing) first count few =
@@ -478,12 +478,12 @@ module _ (begin : List ℕ) (batch : Batch) (first count n : ℕ) (few : count +
       by (batches.Lines from points drawing) = record { from = λ some. omega (arith, some); to = omega arith }
       by (batches.Text set codes pen drawing) = record { from = λ some. omega (arith, some); to = omega arith }
 
--- bytes are entries of one byte, behind no opening
+-- bytes are entries of one byte, after no opening
 pub whole_bytes : {S : Type 0} (sent : S → List ℕ → Bool → S → Type 0) (s t : S) (bytes : List ℕ) (r : Result (Unit {0}) ℕ) → SentUpTo sent s bytes t r → SentWhole sent s [] 1 bytes t r
 whole_bytes sent s t bytes (Ok x) put = put
 whole_bytes sent s t bytes (Err n) put = (n, omega arith, put)
 
--- fewer of them were written whole
+-- fewer of them were written completely
 pub whole_few : {S : Type 0} (sent : S → List ℕ → Bool → S → Type 0) (a b : S) (begin : List ℕ) (batch : Batch) (first count k : ℕ) → 0 < count →
     count + first ≤ length (batch_entries batch) → SentWhole sent a begin (entry_size batch) (joined_bytes batch first count) b (Err k) → k + first ≤ length (batch_entries batch)
 whole_few sent a b begin batch first count k some few put =

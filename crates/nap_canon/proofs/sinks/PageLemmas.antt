@@ -15,16 +15,16 @@ use Rattle.nap_canon.specs.Streams.{LacksMemoryAt}
 use Rattle.nap_canon.specs.Text.{text}
 use Rattle.nap_canon.proofs.sinks.SinkingLemmas.{sink_writes_text}
 
--- the text that a sink wrote, over an outlet that tells its bytes and had none
+-- the text that a sink wrote to an outlet that tells its bytes and had none
 pub text_written : {O : Type 0} (o : outlet.Ghosts O) (w : O) (s t : Canonical O) (begins : StartsText o w s) (works : o.failed s.outlet ≡ false) (items : O → List ℕ) →
     ((u : O) → o.taken u ≡ Some (items u)) → items w ≡ [] → (d : List Entry) → Took o s d t → items t.outlet ≡ text d
 text_written o w s t begins works items tells empty d took =
     let taken : Appends (o.taken w) (o.taken t.outlet) (text d) = (sink_writes_text o w s t d begins works took).grows.taken in
-    let told : Appends (Some (items w)) (Some (items t.outlet)) (text d) =
+    let text_is : Appends (Some (items w)) (Some (items t.outlet)) (text d) =
     subst (λ (a : Option (List ℕ)). Appends a (Some (items t.outlet)) (text d)) (tells w) (subst (λ (b : Option (List ℕ)). Appends (o.taken w) b (text d)) (tells t.outlet) taken) in
-    told ∙ ap (λ (bytes : List ℕ). bytes ++ text d) empty
+    text_is ∙ ap (λ (bytes : List ℕ). bytes ++ text d) empty
 
--- a page was refused whose text went into a sink that fails where memory is wanting
+-- a page was refused whose text went into a sink that fails if memory runs out
 pub refuses_page : {S : Type 0} (g : Ghosts S) (s : S) (budget : ℕ) (p : List ℕ) (f : Fault) (place : ℕ) → IsCounted g s budget p (Err (record { fault = f; place = place })) →
     RefusesPage budget p (refusal_of_text (record { fault = f; place = place }))
 refuses_page g s budget p fault.Memory place h = record { refused = λ no. absurd (no refl); memory = λ _. h.counts.0 }

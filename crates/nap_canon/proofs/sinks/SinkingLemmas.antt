@@ -50,7 +50,7 @@ pub broke_one : {O : Type 0} (o : outlet.Ghosts O) (s t : Canonical O) (e : Entr
 unfolding pieces_bytes text_end_after pieces walk
 broke_one o s t e bytes state = record { part = bytes.part; less = bytes.less; grows = bytes.grows; failed = bytes.failed; state = state }
 
--- what a writer answers of an entry
+-- what a writer answers for an entry
 
 pub took_answered : {O T E : Type 0} (o : outlet.Ghosts O) (s t : Canonical O) (e : Entry) (r : Result T E) → is_err r ≡ false →
     Sends (sending_of o s) (pieces_bytes s.text_end (entry_pieces s.form s.state e)) (is_err r) (sending_of o t) → t.form ≡ s.form →
@@ -64,7 +64,7 @@ broke_answered o s t e (Ok _) failed bytes state = absurd (false≢true failed)
 broke_answered o s t e (Err _) failed bytes state = broke_one o s t e bytes state
 
 module _ {O : Type 0} (form : Form) (o : outlet.Ghosts O) (w : O) (s : Canonical O) (begun : StartsTextIn form o w s) (works : o.failed s.outlet ≡ false) where
-  -- what stands first in the text, and then the bytes of entries
+  -- the header, and then the bytes of entries, are the text
   pub first_of_text : (d : List Entry) → entry_bytes s d ≡ pieces_bytes text_end_after_header (pieces form start d)
   first_of_text d =
       ap (λ (f : Form). pieces_bytes s.text_end (pieces f s.state d)) begun.form_is

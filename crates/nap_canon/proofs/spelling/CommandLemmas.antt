@@ -123,10 +123,10 @@ command_conveys saved s (commands.Named size) inside takes =
     by_control 0x1B (size_byte size ∷ []) (code.Named size) (performed saved s (commands.Named size)) (omega arith) tt tt (λ gl. spells.control1 (size_row size)) refl
 command_conveys saved s (commands.Flag flag on) inside takes = flag_conveys saved s flag on
 
--- commands, and what comes behind them
-pub commands_behind : (saved : OperandLengths) (s : State) (cs : List Command) (qs : List Piece) (es : List Entry) (left : Work) → All CommandInRange cs → AllTake cs s.drawing →
+-- commands, and what comes after them
+pub commands_after : (saved : OperandLengths) (s : State) (cs : List Command) (qs : List Piece) (es : List Entry) (left : Work) → All CommandInRange cs → AllTake cs s.drawing →
     ConveyAll (work_at saved (record s { drawing = effects cs s.drawing })) qs es left → ConveyAll (work_at saved s) (map command_piece cs ++ qs) es left
-commands_behind saved s [] qs es left inside all behind = behind
-commands_behind saved s (c ∷ cs) qs es left inside all behind =
+commands_after saved s [] qs es left inside all conveyed = conveyed
+commands_after saved s (c ∷ cs) qs es left inside all conveyed =
     next (command_conveys saved s c (All-head CommandInRange c cs inside) all.0)
-    (commands_behind saved (record s { drawing = effect c s.drawing }) cs qs es left (All-tail CommandInRange c cs inside) all.1 behind)
+    (commands_after saved (record s { drawing = effect c s.drawing }) cs qs es left (All-tail CommandInRange c cs inside) all.1 conveyed)

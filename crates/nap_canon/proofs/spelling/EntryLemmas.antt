@@ -1,4 +1,4 @@
--- The pieces of an entry: its bring, and its own spelling.
+-- The pieces of an entry: its prelude, and its own spelling.
 
 use Rattle.std.proofs.Common.{ℕ, ◌≡◌, List, [], ◌∷◌, ◌++◌, length, map, false, refl, ap, sym, subst, ◌∙◌, append_assoc, append-nil, inl, inr}
 use Rattle.std.specs.Prelude.{⊤}
@@ -23,17 +23,17 @@ use Rattle.nap_canon.specs.Preludes.{prelude}
 use Rattle.nap_canon.specs.Range.{AttributesInRange}
 use Rattle.nap_canon.specs.Spelling.{Piece, group, command_piece, spelling_pieces}
 use Rattle.nap_canon.specs.Text.{joins_open_run, entry_pieces}
-use Rattle.nap_canon.proofs.prelude.BringLemmas.{bring_leads}
-use Rattle.nap_canon.proofs.spelling.CommandLemmas.{work_at, commands_behind}
+use Rattle.nap_canon.proofs.prelude.PreludeLemmas.{prelude_leads}
+use Rattle.nap_canon.proofs.spelling.CommandLemmas.{work_at, commands_after}
 use Rattle.nap_canon.proofs.reading.ConveyLemmas.{ConveyAll, nothing, nothing_conveyed, convey_begin}
-use Rattle.nap_canon.proofs.spelling.HoldingLemmas.{held_work}
+use Rattle.nap_canon.proofs.spelling.HoldingLemmas.{work_with_attributes}
 use Rattle.nap_canon.proofs.spelling.KindLemmas.{Kind, kind}
 use Rattle.nap_canon.proofs.prelude.LeadingLemmas.{Leads}
 use Rattle.nap_canon.proofs.prelude.ModeLemmas.{IsInMode, in_mode_after}
 use Rattle.nap_canon.proofs.reading.PieceLemmas.{Begins}
 use Rattle.nap_canon.proofs.spelling.SavedLemmas.{SavesLengths, saved_after, saves_after}
 
--- the values that an entry holds are in range
+-- the attributes of an entry are in range
 
 ink_in_range : (ink : Ink) → InkInRange ink → AttributesInRange (ink_attributes ink)
 ink_in_range ink inside = record { pen = tt; pel = inside.pel; colour = inside.colour; texture = inside.texture; text = tt }
@@ -47,24 +47,24 @@ colour_in_range colour inside = record { pen = tt; pel = tt; colour = inside; te
 pen_in_range : (pen : Pen) → PenInRange pen → AttributesInRange (pen_only pen)
 pen_in_range pen inside = record { pen = inside; pel = tt; colour = tt; texture = tt; text = tt }
 
-held_in_range : (e : Entry) → InRange e → AttributesInRange (attributes e)
-held_in_range (entries.Point at pel colour) inside = record { pen = tt; pel = inside.1; colour = inside.2; texture = tt; text = tt }
-held_in_range (entries.Line from to ink) inside = ink_in_range ink inside.2
-held_in_range (entries.Arc filled points ink) inside = ink_in_range ink inside.1
-held_in_range (entries.Rect filled from to ink) inside = ink_in_range ink inside.2
-held_in_range (entries.Poly filled points ink) inside = ink_in_range ink inside.1
-held_in_range (entries.Char set code hand) inside = hand_in_range hand inside.1
-held_in_range (entries.TextMove step hand) inside = hand_in_range hand inside.1
-held_in_range (entries.ToEol hand) inside = hand_in_range hand inside
-held_in_range (entries.Blink a on off delay colour) inside = colour_in_range colour inside.4
-held_in_range (entries.BlinkEnd colour) inside = colour_in_range colour inside
-held_in_range (entries.BlinkMark on colour) inside = colour_in_range colour inside
-held_in_range (entries.Field area pen) inside = pen_in_range pen inside.1
-held_in_range (entries.Reset first second pen) inside = pen_in_range pen inside.2
-held_in_range (entries.Clear pen) inside = pen_in_range pen inside
-held_in_range _ inside = record { pen = tt; pel = tt; colour = tt; texture = tt; text = tt }
+attributes_are_in_range : (e : Entry) → InRange e → AttributesInRange (attributes e)
+attributes_are_in_range (entries.Point at pel colour) inside = record { pen = tt; pel = inside.1; colour = inside.2; texture = tt; text = tt }
+attributes_are_in_range (entries.Line from to ink) inside = ink_in_range ink inside.2
+attributes_are_in_range (entries.Arc filled points ink) inside = ink_in_range ink inside.1
+attributes_are_in_range (entries.Rect filled from to ink) inside = ink_in_range ink inside.2
+attributes_are_in_range (entries.Poly filled points ink) inside = ink_in_range ink inside.1
+attributes_are_in_range (entries.Char set code hand) inside = hand_in_range hand inside.1
+attributes_are_in_range (entries.TextMove step hand) inside = hand_in_range hand inside.1
+attributes_are_in_range (entries.ToEol hand) inside = hand_in_range hand inside
+attributes_are_in_range (entries.Blink a on off delay colour) inside = colour_in_range colour inside.4
+attributes_are_in_range (entries.BlinkEnd colour) inside = colour_in_range colour inside
+attributes_are_in_range (entries.BlinkMark on colour) inside = colour_in_range colour inside
+attributes_are_in_range (entries.Field area pen) inside = pen_in_range pen inside.1
+attributes_are_in_range (entries.Reset first second pen) inside = pen_in_range pen inside.2
+attributes_are_in_range (entries.Clear pen) inside = pen_in_range pen inside
+attributes_are_in_range _ inside = record { pen = tt; pel = tt; colour = tt; texture = tt; text = tt }
 
--- that the list may come from a state on
+-- the list may come from a state on
 pub record MayCome (saved : OperandLengths) (s : State) (es : List Entry) : Type 0 where
   pub inside : AllInRange es
   pub fits : AllFit s es
@@ -88,37 +88,37 @@ module _ (saved : OperandLengths) (s : State) (e : Entry) (es : List Entry) (may
   pub first_kind : (form : Form) → Kind form saved s e
   first_kind form = kind form saved s e (All-head InRange e es may.inside) first_fits may.mode.drawing may.saves
 
-  abbrev option_commands : List Command
-  option_commands = prelude s.drawing (attributes e)
+  abbrev own_commands : List Command
+  own_commands = prelude s.drawing (attributes e)
 
-  pub led : Leads (AttributesInRange (attributes e)) option_commands s.drawing (with_attributes s.drawing (attributes e))
-  led = bring_leads s.drawing (attributes e) may.mode.drawing first_fits.values
+  pub led : Leads (AttributesInRange (attributes e)) own_commands s.drawing (with_attributes s.drawing (attributes e))
+  led = prelude_leads s.drawing (attributes e) may.mode.drawing first_fits.values
 
-  -- the bring, and what comes behind it
-  pub bring_behind : (qs : List Piece) (ds : List Entry) (left : Work) → ConveyAll (held_work saved s e) qs ds left → ConveyAll (work_at saved s) (map command_piece option_commands ++ qs) ds left
-  bring_behind qs ds left behind =
-      commands_behind saved s option_commands qs ds left (led.inside (held_in_range e (All-head InRange e es may.inside))) led.takes
-      (subst (λ (d : Drawing). ConveyAll (work_at saved (record s { drawing = d })) qs ds left) (sym led.there) behind)
+  -- the prelude, and what comes after it
+  pub prelude_after : (qs : List Piece) (ds : List Entry) (left : Work) → ConveyAll (work_with_attributes saved s e) qs ds left → ConveyAll (work_at saved s) (map command_piece own_commands ++ qs) ds left
+  prelude_after qs ds left conveyed =
+      commands_after saved s own_commands qs ds left (led.inside (attributes_are_in_range e (All-head InRange e es may.inside))) led.takes
+      (subst (λ (d : Drawing). ConveyAll (work_at saved (record s { drawing = d })) qs ds left) (sym led.there) conveyed)
 
-  pub bring_conveys : ConveyAll (work_at saved s) (map command_piece option_commands) [] (held_work saved s e)
-  bring_conveys =
-      subst (λ (ps : List Piece). ConveyAll (work_at saved s) ps [] (held_work saved s e)) (append-nil (map command_piece option_commands))
-      (bring_behind [] [] (held_work saved s e) nothing)
+  pub prelude_conveys : ConveyAll (work_at saved s) (map command_piece own_commands) [] (work_with_attributes saved s e)
+  prelude_conveys =
+      subst (λ (ps : List Piece). ConveyAll (work_at saved s) ps [] (work_with_attributes saved s e)) (append-nil (map command_piece own_commands))
+      (prelude_after [] [] (work_with_attributes saved s e) nothing)
 
-  -- a group behind the bring
+  -- a group after the prelude
   pub group_parts : (form : Form) (byte : ℕ) (operands : List ℕ) (rest : List Piece) → spelling_pieces form (with_attributes s.drawing (attributes e)) e ≡ group byte operands ∷ [] →
-      map command_piece option_commands ++ (group byte operands ∷ rest) ≡ entry_pieces form s e ++ rest
+      map command_piece own_commands ++ (group byte operands ∷ rest) ≡ entry_pieces form s e ++ rest
   group_parts form byte operands rest is =
-      sym (append_assoc (map command_piece option_commands) (group byte operands ∷ []) rest) ∙ ap (λ (qs : List Piece). (map command_piece option_commands ++ qs) ++ rest) (sym is)
+      sym (append_assoc (map command_piece own_commands) (group byte operands ∷ []) rest) ∙ ap (λ (qs : List Piece). (map command_piece own_commands ++ qs) ++ rest) (sym is)
 
-  -- what comes first in the bytes of the entry, with anything behind it
+  -- the first of the bytes of an entry, whatever comes after it
 
   module _ (form : Form) (t : TextEnd) (rest : List Piece) where
-    pub entry_begins : (option_commands ≡ [] → Begins t (spelling_pieces form (with_attributes s.drawing (attributes e)) e ++ rest)) → Begins t (entry_pieces form s e ++ rest)
+    pub entry_begins : (own_commands ≡ [] → Begins t (spelling_pieces form (with_attributes s.drawing (attributes e)) e ++ rest)) → Begins t (entry_pieces form s e ++ rest)
     entry_begins begins =
         let qs : List Piece = spelling_pieces form (with_attributes s.drawing (attributes e)) e in
-        subst (Begins t) (sym (append_assoc (map command_piece option_commands) qs rest))
-        (convey_begin t (qs ++ rest) (work_at saved s) (map command_piece option_commands) [] (held_work saved s e) bring_conveys (λ none. begins (unmapped option_commands none)))
+        subst (Begins t) (sym (append_assoc (map command_piece own_commands) qs rest))
+        (convey_begin t (qs ++ rest) (work_at saved s) (map command_piece own_commands) [] (work_with_attributes saved s e) prelude_conveys (λ none. begins (unmapped own_commands none)))
       where
         unmapped : (cs : List Command) → map command_piece cs ≡ [] → cs ≡ []
         unmapped [] none = refl
@@ -133,8 +133,8 @@ module _ (saved : OperandLengths) (s : State) (e : Entry) (es : List Entry) (may
     spelled_begins (inl by) none = subst (λ (qs : List Piece). Begins t (qs ++ rest)) (sym by.spelled_as) (none, by.strokes.is.3)
     spelled_begins (inr draws) none =
         let qs : List Piece = spelling_pieces form (with_attributes s.drawing (attributes e)) e in
-        convey_begin t rest (held_work saved s e) qs (e ∷ []) (work_at (saved_after saved e) (after s e)) draws
-        (λ empty. let bad : ⊥ = by_none (nothing_conveyed (held_work saved s e) qs (e ∷ []) (work_at (saved_after saved e) (after s e)) draws empty) in absurd bad)
+        convey_begin t rest (work_with_attributes saved s e) qs (e ∷ []) (work_at (saved_after saved e) (after s e)) draws
+        (λ empty. let bad : ⊥ = by_none (nothing_conveyed (work_with_attributes saved s e) qs (e ∷ []) (work_at (saved_after saved e) (after s e)) draws empty) in absurd bad)
       where
         by_none : e ∷ [] ≡ [] → ⊥
         by_none is = cc

@@ -49,12 +49,12 @@ shape_read : (p : Coordinates) (qs : List Coordinates) → IsInSquare p → All 
 shape_read p qs inside all =
     point_first p (displacement_bytes p qs) inside ∙ ap (λ (ms : List Displacement). from_origin p ∷ ms) (steps_read p qs inside all)
 
-steps_lead : (p : Coordinates) (qs : List Coordinates) → IsInSquare p → All IsInSquare qs → points_reached p (steps_from p qs) ≡ Some qs
+steps_reach : (p : Coordinates) (qs : List Coordinates) → IsInSquare p → All IsInSquare qs → points_reached p (steps_from p qs) ≡ Some qs
 unfolding points_reached steps_from
-steps_lead p [] inside all = refl
-steps_lead p (q ∷ qs) inside all =
+steps_reach p [] inside all = refl
+steps_reach p (q ∷ qs) inside all =
     let next : IsInSquare q = All-head IsInSquare q qs all in
-    rw ((displacements_lead_there p q inside next).1, steps_lead q qs next (All-tail IsInSquare q qs all)) refl
+    rw ((displacements_lead_there p q inside next).1, steps_reach q qs next (All-tail IsInSquare q qs all)) refl
 
 length-steps : (p : Coordinates) (qs : List Coordinates) → length (steps_from p qs) ≡ length qs
 unfolding steps_from
@@ -70,10 +70,10 @@ pub shape_rule : (saved : OperandLengths) (s : State) (entry : Drawing → List 
     ((ms : List Displacement) → points_reached p ms ≡ Some (q ∷ qs) → points p ms ≡ Some (p ∷ q ∷ qs)) →
     shape_from_point (work_at saved s) (words_of (shape_bytes (p ∷ q ∷ qs))) entry points ≡ Ok (rule_result (work_at saved s) (entry s.drawing (p ∷ q ∷ qs) ∷ []))
 unfolding steps_from
-shape_rule saved s entry points p q qs inside all few lead =
+shape_rule saved s entry points p q qs inside all few reaches =
     let ms : List Displacement = steps_from p (q ∷ qs) in
     let some : nat_lt steps_limit (length ms) ≡ false = few_steps (length ms) (omega (arith, few, length-steps p (q ∷ qs))) in
-    let there : points p ms ≡ Some (p ∷ q ∷ qs) = lead ms (steps_lead p (q ∷ qs) inside all) in
+    let there : points p ms ≡ Some (p ∷ q ∷ qs) = reaches ms (steps_reach p (q ∷ qs) inside all) in
     rw (shape_read p (q ∷ qs) inside all, some, point_there p inside, there) refl
 
 pub arc_leads : (p q r : Coordinates) (rs : List Coordinates) (ms : List Displacement) → points_reached p ms ≡ Some (q ∷ r ∷ rs) → arc_points p ms ≡ Some (p ∷ q ∷ r ∷ rs)

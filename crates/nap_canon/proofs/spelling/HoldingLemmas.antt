@@ -1,4 +1,4 @@
--- The state in which the values that an entry holds stand, and how the entry is drawn in it.
+-- The state in which the attributes of an entry are current, and how the entry is drawn in it.
 
 use Rattle.std.proofs.Common.{◌≡◌, List, [], ◌∷◌, Option, Some, None, refl, ap, subst}
 use Rattle.std.specs.Prelude.{unwrap_or}
@@ -20,7 +20,7 @@ use Rattle.nap_canon.proofs.spelling.CommandLemmas.{work_at}
 use Rattle.nap_canon.proofs.reading.ConveyLemmas.{Conveys, ConveyAll, nothing, next}
 use Rattle.nap_canon.proofs.spelling.SavedLemmas.{saved_after}
 
--- taking held values twice is taking them once
+-- taking the same attributes twice is taking them once
 
 unwrap_twice : {A : Type 0} (w : Option A) (a : A) → unwrap_or w (unwrap_or w a) ≡ unwrap_or w a
 unwrap_twice None a = refl
@@ -38,7 +38,7 @@ taking_twice : (d : Drawing) (h : Attributes) → with_attributes (with_attribut
 taking_twice d h =
     rw (unwrap_twice h.pen d.pen, unwrap_twice h.pel d.pel, base_twice d.base h.colour, unwrap_twice h.colour d.colour, unwrap_twice h.texture d.texture, unwrap_twice h.text d.text) refl
 
--- the state in which the values that an entry holds stand
+-- the state in which the attributes of an entry are current
 abbrev pub holding : State → Entry → State
 holding s e = record s { drawing = with_attributes s.drawing (attributes e) }
 
@@ -52,20 +52,20 @@ after_holding s e =
     })
     (taking_twice s.drawing (attributes e))
 
--- the work where the values that an entry holds stand
-abbrev pub held_work : OperandLengths → State → Entry → Work
-held_work saved s e = work_at saved (holding s e)
+-- the work in which the attributes of an entry are current
+abbrev pub work_with_attributes : OperandLengths → State → Entry → Work
+work_with_attributes saved s e = work_at saved (holding s e)
 
--- the entry is drawn, with the values that stand
+-- the entry is drawn with the current attributes
 abbrev pub entry_drawn : OperandLengths → State → Entry → RuleResult
-entry_drawn saved s e = rule.rule_result (held_work saved s e) (e ∷ [])
+entry_drawn saved s e = rule.rule_result (work_with_attributes saved s e) (e ∷ [])
 
 -- these pieces draw the entry
 abbrev pub Draws : OperandLengths → State → Entry → List Piece → Type 0
-Draws saved s e ps = ConveyAll (held_work saved s e) ps (e ∷ []) (work_at (saved_after saved e) (after s e))
+Draws saved s e ps = ConveyAll (work_with_attributes saved s e) ps (e ∷ []) (work_at (saved_after saved e) (after s e))
 
 -- an entry by one piece
-pub piece_draws : (saved : OperandLengths) (s : State) (e : Entry) (p : Piece) → Conveys (held_work saved s e) p (e ∷ []) (entry_drawn saved s e).work →
-    ConveyAll (held_work saved s e) (p ∷ []) (e ∷ []) (work_at saved (after s e))
+pub piece_draws : (saved : OperandLengths) (s : State) (e : Entry) (p : Piece) → Conveys (work_with_attributes saved s e) p (e ∷ []) (entry_drawn saved s e).work →
+    ConveyAll (work_with_attributes saved s e) (p ∷ []) (e ∷ []) (work_at saved (after s e))
 unfolding walk
-piece_draws saved s e p c = subst (λ (t : State). ConveyAll (held_work saved s e) (p ∷ []) (e ∷ []) (work_at saved t)) (after_holding s e) (next c nothing)
+piece_draws saved s e p c = subst (λ (t : State). ConveyAll (work_with_attributes saved s e) (p ∷ []) (e ∷ []) (work_at saved t)) (after_holding s e) (next c nothing)

@@ -1,4 +1,4 @@
--- How each kind of entry is spelled where the values that it holds stand, and that a reader draws it.
+-- The spelling of each kind of entry whose attributes are current, and that a reader draws it.
 
 use Rattle.std.proofs.Common.{ℕ, ◌≡◌, ◌≤◌, ◌<◌, ◌+◌, ◌-◌, ◌*◌, ◌⊎◌, List, [], ◌∷◌, ◌++◌, length, All, Bool, true, false, Option, Some, None, Result, Ok, inl, inr, refl, ap, sym, subst, ◌∙◌, arith}
 use Rattle.std.specs.Prelude.{IsSome, ◌/◌, ◌%◌, ◌==◌, if◌then◌else◌}
@@ -63,12 +63,12 @@ use Rattle.nap_canon.specs.Equality.{same_pen}
 use Rattle.nap_canon.specs.Laws.{text_lengths}
 use Rattle.nap_canon.specs.Plain.{IsPlainCode, MayFollowCode}
 use Rattle.nap_canon.specs.Spelling.{Piece, opcode, group, control, escape, domain, word_byte, shape_bytes, char_piece, step_bytes, mask_byte, cursor_byte, map_pieces, domain_again, joinable_piece, spelling_pieces}
-use Rattle.nap_canon.proofs.prelude.BringLemmas.{colour_leads}
-use Rattle.nap_canon.proofs.spelling.CommandLemmas.{work_at, commands_behind}
+use Rattle.nap_canon.proofs.prelude.PreludeLemmas.{colour_leads}
+use Rattle.nap_canon.proofs.spelling.CommandLemmas.{work_at, commands_after}
 use Rattle.nap_canon.proofs.reading.ConveyLemmas.{by_opcode, by_control, by_primary, by_drcs, ConveyAll, nothing, next, resets}
 use Rattle.nap_canon.proofs.spelling.EntryRules as rules
 use Rattle.nap_canon.proofs.prelude.EqualityLemmas.{pen_is}
-use Rattle.nap_canon.proofs.spelling.HoldingLemmas.{holding, after_holding, held_work, entry_drawn, Draws, piece_draws}
+use Rattle.nap_canon.proofs.spelling.HoldingLemmas.{holding, after_holding, work_with_attributes, entry_drawn, Draws, piece_draws}
 use Rattle.nap_canon.proofs.spelling.OperandLemmas.{AreOperands, no_bytes, word_bytes, word_of, both_bytes, colour_operand, address_operand, no_moves, point_there, colour_alone, colour_there}
 use Rattle.nap_canon.proofs.reading.PieceLemmas.{sets_with}
 use Rattle.nap_canon.proofs.plain_codes.PlainPieces.{IsOpcode, operand_codes}
@@ -81,17 +81,17 @@ graphic byte made = (omega (arith, made.0), omega (arith, made.1))
 
 module _ (saved : OperandLengths) (s : State) (e : Entry) where
   abbrev OnePiece : Piece → Type 0
-  OnePiece p = ConveyAll (held_work saved s e) (p ∷ []) (e ∷ []) (work_at saved (after s e))
+  OnePiece p = ConveyAll (work_with_attributes saved s e) (p ∷ []) (e ∷ []) (work_at saved (after s e))
 
   -- an opcode
   opcode_draws : (byte : ℕ) (op : Opcode) (bytes : List ℕ) (size : ℕ) → IsOpcode byte op → AreOperands bytes size → size ≤ run_limit → ((rest : List Code) → MayFollowCode (code.Op op) rest) →
-      rule (held_work saved s e) op (words_of bytes) ≡ Ok (entry_drawn saved s e) → OnePiece (opcode byte bytes)
+      rule (work_with_attributes saved s e) op (words_of bytes) ≡ Ok (entry_drawn saved s e) → OnePiece (opcode byte bytes)
   opcode_draws byte op bytes size is are few comes by =
       piece_draws saved s e (opcode byte bytes) (by_opcode byte op bytes size (entry_drawn saved s e) is are few (λ rest. comes (operand_codes bytes ++ rest)) by)
 
   -- an arc or a polygon
   shape_draws : (byte : ℕ) (op : Opcode) (entry : Drawing → List Coordinates → Entry) (points : Coordinates → List Displacement → Option (List Coordinates)) (p q : Coordinates) (qs : List Coordinates) →
-      IsOpcode byte op → ((rest : List Code) → MayFollowCode (code.Op op) rest) → ((run : List ℕ) → rule (held_work saved s e) op run ≡ shape_from_point (held_work saved s e) run entry points) →
+      IsOpcode byte op → ((rest : List Code) → MayFollowCode (code.Op op) rest) → ((run : List ℕ) → rule (work_with_attributes saved s e) op run ≡ shape_from_point (work_with_attributes saved s e) run entry points) →
       entry (holding s e).drawing (p ∷ q ∷ qs) ≡ e → All IsInSquare (p ∷ q ∷ qs) → length (p ∷ q ∷ qs) ≤ points_limit →
       ((ms : List Displacement) → points_reached p ms ≡ Some (q ∷ qs) → points p ms ≡ Some (p ∷ q ∷ qs)) → OnePiece (opcode byte (shape_bytes (p ∷ q ∷ qs)))
   shape_draws byte op entry points p q qs is comes by same all few leads =
@@ -100,11 +100,11 @@ module _ (saved : OperandLengths) (s : State) (e : Entry) where
       opcode_draws byte op (shape_bytes (p ∷ q ∷ qs)) (8 + 8 * length (q ∷ qs)) is (shape_operands p (q ∷ qs) first others) (omega (arith, few)) comes
       (by (words_of (shape_bytes (p ∷ q ∷ qs)))
       ∙ rules.shape_rule saved (holding s e) entry points p q qs first others (omega (arith, few)) leads
-      ∙ ap (λ (x : Entry). Ok (rule_result (held_work saved s e) (x ∷ []))) same)
+      ∙ ap (λ (x : Entry). Ok (rule_result (work_with_attributes saved s e) (x ∷ []))) same)
 
   -- a control
   control_draws : (byte : ℕ) (bytes : List ℕ) (c : Code) → byte < 32 → IsAlone c → IsPlainCode c → ((gl : GSet) → Spells (sets_with gl) (byte ∷ bytes) c (sets_with gl)) →
-      code_rule (held_work saved s e) c ≡ Ok (entry_drawn saved s e) → OnePiece (control (byte ∷ bytes))
+      code_rule (work_with_attributes saved s e) c ≡ Ok (entry_drawn saved s e) → OnePiece (control (byte ∷ bytes))
   control_draws byte bytes c below alone plain spells by = piece_draws saved s e (control (byte ∷ bytes)) (by_control byte bytes c (entry_drawn saved s e) below alone plain spells by)
 
 -- characters, and moves of the text
@@ -160,7 +160,7 @@ mask_row masks.B = refl
 mask_row masks.C = refl
 mask_row masks.D = refl
 
--- a colour of the map, which is brought first
+-- a colour of the colour map, after its address is selected
 map_draws : (saved : OperandLengths) (s : State) (a : ℕ) (grb : Components) → IsAddress a → HasSixteenBitParts grb → ModeZeroIsBase s.drawing.base s.drawing.colour → is_known a grb s.known ≡ false →
     Draws saved s (entries.Map a grb) (map_pieces s.drawing a grb)
 unfolding row_of opcode_rows left_out_opcode
@@ -171,11 +171,11 @@ map_draws saved s a grb address colour mode new =
     let between : Drawing = with_colour (colours.Front a) s.drawing in
     let led = colour_leads (IsAddress a) s.drawing s.drawing.base s.drawing.colour mode front tt (λ inside. inside) in
     let d : RuleResult = record { entries = e ∷ []; work = work_at saved (after s e); clears = false } in
-    commands_behind saved s cs (opcode 0x3C (grb_bytes grb) ∷ []) (e ∷ []) (work_at saved (after s e)) (led.inside address) led.takes
+    commands_after saved s cs (opcode 0x3C (grb_bytes grb) ∷ []) (e ∷ []) (work_at saved (after s e)) (led.inside address) led.takes
     (subst (λ (d : Drawing). ConveyAll (work_at saved (record s { drawing = d })) (opcode 0x3C (grb_bytes grb) ∷ []) (e ∷ []) (work_at saved (after s e))) (sym led.there)
     (next (by_opcode 0x3C opcodes.SetColor (grb_bytes grb) 8 d (refl, refl, tt, omega arith) (colour_operand grb colour) (omega arith) (λ rest. tt) (rw (colour_alone grb colour, colour_there grb colour, new) refl)) nothing))
 
--- RESET, with DOMAIN behind it where it puts the lengths of operands back
+-- RESET, with DOMAIN after it if it resets the operand lengths
 
 even_word : (first : ℕ) → (first % 2 == 1) ≡ false → (word_byte first - 64) % 2 ≡ 1 → ⊥
 even_word first even odd =
@@ -196,10 +196,10 @@ reset_draws saved s first second pen one two = at (first % 2 == 1) refl
     result : Bool → State → RuleResult
     result back t = record { entries = e ∷ []; work = record (work_at saved t) { domain = if back then start_domain else text_lengths }; clears = second / 16 % 2 == 1 }
 
-    by : rule (held_work saved s e) opcodes.Reset (words_of bytes) ≡ Ok (result (first % 2 == 1) (after s e))
+    by : rule (work_with_attributes saved s e) opcodes.Reset (words_of bytes) ≡ Ok (result (first % 2 == 1) (after s e))
     by = rw (word_of first, word_of second) (ap (λ (t : State). Ok (result (first % 2 == 1) t)) (after_holding s e))
 
-    at : (back : Bool) → (first % 2 == 1) ≡ back → ConveyAll (held_work saved s e) (opcode 0x20 bytes ∷ (if back then domain [] ∷ [] else [])) (e ∷ []) (work_at saved (after s e))
+    at : (back : Bool) → (first % 2 == 1) ≡ back → ConveyAll (work_with_attributes saved s e) (opcode 0x20 bytes ∷ (if back then domain [] ∷ [] else [])) (e ∷ []) (work_at saved (after s e))
     at true is = resets first second (result true (after s e)) one two (by ∙ ap (λ (b : Bool). Ok (result b (after s e))) is)
     at false is =
         next (by_opcode 0x20 opcodes.Reset bytes 2 (result false (after s e)) (refl, refl, tt, omega arith) (word_bytes first (word_byte second ∷ []) 1 one (word_bytes second [] 0 two no_bytes))
@@ -207,16 +207,16 @@ reset_draws saved s first second pen one two = at (first % 2 == 1) refl
 
 -- definitions
 
--- where no definition is open, the entry opens one
+-- if no definition is open, the entry opens one
 abbrev opens : OperandLengths → State → Entry → RuleResult
-opens saved s e = definition_opened (rule_result (held_work saved s e) []) e
+opens saved s e = definition_opened (rule_result (work_with_attributes saved s e) []) e
 
 end_draws : (saved : OperandLengths) (s : State) (o : Option OpenDefinition) → s.definition ≡ o → IsSome o → SavesLengths saved o → Draws saved s entries.DefEnd (escape 0x45 ∷ [])
 unfolding walk row_of control1_rows
 end_draws saved s None is never kept = let bad : ⊥ = cc in absurd bad
 end_draws saved s (Some opened) is some kept =
-    let d : RuleResult = definition_ended_by (held_work saved s entries.DefEnd) (Some opened) in
-    subst (λ (lengths : OperandLengths). ConveyAll (held_work saved s entries.DefEnd) (escape 0x45 ∷ []) (entries.DefEnd ∷ []) (record (work_at saved (after s entries.DefEnd)) { domain = lengths })) kept
+    let d : RuleResult = definition_ended_by (work_with_attributes saved s entries.DefEnd) (Some opened) in
+    subst (λ (lengths : OperandLengths). ConveyAll (work_with_attributes saved s entries.DefEnd) (escape 0x45 ∷ []) (entries.DefEnd ∷ []) (record (work_at saved (after s entries.DefEnd)) { domain = lengths })) kept
     (next (by_control 0x1B (0x45 ∷ []) code.End d (omega arith) tt tt (λ gl. spells.control1 refl) (rw is refl)) nothing)
 
 -- a group draws the entry

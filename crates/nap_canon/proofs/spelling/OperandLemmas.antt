@@ -1,4 +1,4 @@
--- What operands spelled one behind another are read as.
+-- Operands that are spelled one after another, as they are read.
 
 use Rattle.std.proofs.Common.{ℕ, suc, ◌≡◌, ◌<◌, ◌≤◌, ◌+◌, ◌-◌, List, [], ◌∷◌, ◌++◌, length, map, All, Some, refl, ap, sym, ◌∙◌, append-nil, arith, length-append}
 use Rattle.std.proofs.lemmas.List.{length-map, map-append}
@@ -83,7 +83,7 @@ pub address_pair : (a b : ℕ) → a < 16777216 → b < 16777216 → addresses 4
 address_pair a b first second =
     address_first a (addr_bytes b) first ∙ ap (λ (os : List ℕ). a ∷ os) (address_alone b second)
 
--- These are so many operand bytes.
+-- the bytes are operand bytes, size of them
 pub record AreOperands (bytes : List ℕ) (size : ℕ) : Type 0 where
   pub size_is : length bytes ≡ size
   pub carriers : All IsOperandByte bytes

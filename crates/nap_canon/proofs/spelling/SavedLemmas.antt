@@ -1,4 +1,4 @@
--- The lengths of operands that a definition saved along canonical text.
+-- The operand lengths that a definition saved, along canonical text.
 
 use Rattle.std.proofs.Common.{◌≡◌, List, [], ◌∷◌, Option, Some, None, refl}
 use Rattle.std.specs.Prelude.{⊤}
@@ -10,13 +10,13 @@ use Rattle.nap_list.specs.declared.state.State.{State}
 use Rattle.nap_list.specs.State.{after, walk}
 use Rattle.nap_canon.specs.Laws.{text_lengths}
 
--- those saved behind an entry
+-- the saved operand lengths after an entry
 abbrev pub saved_after : OperandLengths → Entry → OperandLengths
 saved_after saved (entries.GlyphStart code) = text_lengths
 saved_after saved (entries.MaskStart mask) = text_lengths
 saved_after saved _ = saved
 
--- those saved behind entries, one after another
+-- the saved operand lengths after entries, one after another
 unfoldable pub saved_along : OperandLengths → List Entry → OperandLengths
 saved_along saved [] = saved
 saved_along saved (e ∷ es) = saved_along (saved_after saved e) es

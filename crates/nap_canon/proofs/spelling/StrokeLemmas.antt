@@ -27,13 +27,14 @@ use Rattle.nap_canon.specs.Spelling.{opcode, shape_bytes}
 use Rattle.nap_canon.proofs.spelling.CommandLemmas.{work_at}
 use Rattle.nap_canon.proofs.reading.ConveyLemmas.{by_opcode, nothing, next}
 use Rattle.nap_canon.proofs.spelling.EntryRules as rules
-use Rattle.nap_canon.proofs.spelling.HoldingLemmas.{after_holding, held_work, entry_drawn, Draws}
+use Rattle.nap_canon.proofs.spelling.HoldingLemmas.{after_holding, work_with_attributes, entry_drawn, Draws}
 use Rattle.nap_canon.proofs.spelling.OperandLemmas.{AreOperands, both_bytes, point_operand, point_alone, point_there}
 use Rattle.nap_canon.proofs.plain_codes.PlainPieces.{IsOpcode, operand_codes}
 use Rattle.nap_canon.proofs.spelling.SavedLemmas.{saved_after}
 use Rattle.nap_canon.proofs.spelling.ShapeLemmas.{shape_operands}
 
--- An opcode whose runs can be joined draws an entry with this group of operands, where the values that it holds stand.
+-- An opcode whose runs can be joined draws an entry with this group of operands, if the attributes of the entry are
+-- current.
 pub record Strokes (saved : OperandLengths) (s : State) (e : Entry) (byte : ℕ) (operands : List ℕ) : Type 0 where
   pub op : Opcode
   pub joins : CanJoin op
@@ -41,11 +42,11 @@ pub record Strokes (saved : OperandLengths) (s : State) (e : Entry) (byte : ℕ)
   pub groups : ℕ
   pub few : groups ≤ 2
   pub are : AreOperands operands (groups * 8)
-  pub draws : rule (held_work saved s e) op (words_of operands) ≡ Ok (record { entries = e ∷ []; work = work_at (saved_after saved e) (after s e); clears = false })
+  pub draws : rule (work_with_attributes saved s e) op (words_of operands) ≡ Ok (record { entries = e ∷ []; work = work_at (saved_after saved e) (after s e); clears = false })
 
 -- by the rule
 strokes : (saved : OperandLengths) (s : State) (e : Entry) (byte : ℕ) (operands : List ℕ) (op : Opcode) (groups : ℕ) → saved_after saved e ≡ saved → CanJoin op → IsOpcode byte op →
-    groups ≤ 2 → AreOperands operands (groups * 8) → rule (held_work saved s e) op (words_of operands) ≡ Ok (entry_drawn saved s e) → Strokes saved s e byte operands
+    groups ≤ 2 → AreOperands operands (groups * 8) → rule (work_with_attributes saved s e) op (words_of operands) ≡ Ok (entry_drawn saved s e) → Strokes saved s e byte operands
 unfolding walk
 strokes saved s e byte operands op groups same joins is few are by =
     let to : OperandLengths → State → RuleResult = λ kept t. record { entries = e ∷ []; work = work_at kept t; clears = false } in
@@ -100,13 +101,13 @@ rect_strokes saved s filled from to ink first second = by filled
         strokes saved s e 0x33 (shape_bytes (from ∷ to ∷ [])) opcodes.SetRectFilled 2 refl tt (refl, refl, tt, omega arith) (omega arith)
         (shape_operands from (to ∷ []) first all) (rw (rules.corners_read from to first second, point_there from first, (displacements_lead_there from to first second).1) refl)
 
--- nothing has to come behind such an opcode
+-- nothing has to come after such an opcode
 pub joining_comes : (op : Opcode) → CanJoin op → (rest : List Code) → MayFollowCode (codes.Op op) rest
 joining_comes opcodes.Domain joins rest = absurd joins
 joining_comes opcodes.Reset joins rest = absurd joins
 joining_comes _ joins rest = tt
 
--- alone, as in the first form, it draws the entry
+-- alone, as in form 1, it draws the entry
 pub stroke_draws : (saved : OperandLengths) (s : State) (e : Entry) (byte : ℕ) (operands : List ℕ) → Strokes saved s e byte operands → Draws saved s e (opcode byte operands ∷ [])
 stroke_draws saved s e byte operands k =
     let d : RuleResult = record { entries = e ∷ []; work = work_at (saved_after saved e) (after s e); clears = false } in

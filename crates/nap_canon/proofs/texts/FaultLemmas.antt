@@ -1,4 +1,4 @@
--- Where `canon` finds that a list is not legal.
+-- The places where `canon` finds that a list isn't legal.
 
 use Rattle.std.proofs.Common.{ℕ, ◌≡◌, ◌↔◌, List, Result, Ok, Err, Vec, Global, IsErrOf, ap}
 use Rattle.nap_list.specs.declared.entry.Entry.{Entry}
@@ -9,7 +9,7 @@ use Rattle.nap_canon.specs.declared.fault.CanonFault.TheVariants.{Illegal}
 abbrev Answer : Type 0
 Answer = Result (Vec ℕ Global) CanonFault
 
--- the list isn't legal, as was found
+-- the list isn't legal at the place found
 
 pub illegal_there : (es : List Entry) (i : ℕ) → ((j : ℕ) → IsErrOf {T = Unit {0}} {E = ℕ} (Err i) j ↔ IsIllegalAt j es) →
     (j : ℕ) → IsErrOf {T = Vec ℕ Global} {E = CanonFault} (Err (Illegal i)) (Illegal j) ↔ IsIllegalAt j es

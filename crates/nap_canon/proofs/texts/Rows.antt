@@ -23,7 +23,7 @@ use Rattle.nap_canon.specs.Spelling.{displacement_bytes}
 use Rattle.nap_canon.specs.declared.text_end.TextEnd.TheVariants.{InRun}
 use Rattle.nap_canon.specs.Text.{header, joins_open_run, text, text1, pieces_bytes, pieces}
 
--- this many words of zero
+-- n words of zero
 unfoldable zeros : ℕ → List ℕ
 zeros zero = []
 zeros (suc n) = 0x40 ∷ zeros n
@@ -115,7 +115,7 @@ a_pair_of_colours : text (entries.Map 1048576 (record { g = 0; r = 49152; b = 0 
 unfolding pieces pieces_bytes prelude pen_prelude pel_prelude colour_prelude texture_prelude text_prelude digits_of words_of_pairs words_of_triples grb_bytes addr_bytes point_bytes zeros half
 a_pair_of_colours = refl
 
--- each line goes on from the pen, and the third joins the run of the second
+-- each line continues from the pen, and the third joins the run of the second
 three_lines : List Entry
 three_lines = entries.Line origin half ink ∷ entries.Line half quarter ink ∷ entries.Line quarter origin ink ∷ []
 
@@ -135,7 +135,7 @@ a_bell_between : text (dot half ∷ entries.Bell ∷ dot half ∷ []) ≡ header
 unfolding pieces pieces_bytes prelude pen_prelude pel_prelude colour_prelude texture_prelude text_prelude digits_of words_of_pairs point_bytes zeros half dot own
 a_bell_between = refl
 
--- a group may fill a run to the last byte, and none goes past it
+-- a group may fill a run to the last byte, and none goes beyond it
 a_full_run : joins_open_run (InRun (record { opcode = 0x26; length = 16376 })) 0x26 8 ≡ true
 a_full_run = refl
 

@@ -1,4 +1,4 @@
--- The text of a list in two parts.
+-- The text of a list, split in two.
 
 use Rattle.std.proofs.Common.{ℕ, ◌≡◌, List, ◌++◌, ap, ◌∙◌}
 use Rattle.nap_canon.specs.declared.form.Form.{Form}

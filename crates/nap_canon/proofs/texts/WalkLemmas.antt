@@ -1,4 +1,4 @@
--- The text along a list, one entry more.
+-- The text of a list, after one more entry.
 
 use Rattle.std.proofs.Common.{ℕ, suc, ◌+◌, ◌≡◌, ◌<◌, List, [], ◌∷◌, ◌++◌, length, take, drop, get_or, ap, sym, subst, ◌∙◌, append-nil}
 use Rattle.std.proofs.lemmas.List.{take_more, take-append-drop}
@@ -27,9 +27,9 @@ text_more form es i e within is =
     ∙ sym (text_of_entries form so_far (e ∷ []))
     ∙ ap (text_in form) (sym (one_more es i e within is))
 
-pub tail_more : (form : Form) (es : List Entry) (i : ℕ) (e : Entry) → i < length es → e ≡ get_or es i e →
+pub text_end_more : (form : Form) (es : List Entry) (i : ℕ) (e : Entry) → i < length es → e ≡ get_or es i e →
     text_end_after (text_end_after text_end_after_header (pieces form start (take i es))) (entry_pieces form (walk start (take i es)) e) ≡ text_end_after text_end_after_header (pieces form start (take (i + 1) es))
-tail_more form es i e within is =
+text_end_more form es i e within is =
     let so_far : List Entry = take i es in
     sym (text_end_after-append text_end_after_header (pieces form start so_far) (entry_pieces form (walk start so_far) e))
     ∙ ap (λ (ps : List Piece). text_end_after text_end_after_header (pieces form start so_far ++ ps)) (sym (one_entry form so_far e))
@@ -42,7 +42,7 @@ unfolding walk
 walk_more es i e within is =
     sym (walks_join start (take i es) (e ∷ [])) ∙ ap (walk start) (sym (one_more es i e within is))
 
--- each entry fits the walk of those before it
+-- each entry fits the state that those before it leave
 pub fits_at : (es : List Entry) (i : ℕ) (e : Entry) → i < length es → e ≡ get_or es i e → AllFit start es → Fits (walk start (take i es)) e
 unfolding AllFit
 fits_at es i e within is all =

@@ -7,22 +7,22 @@ use Rattle.nap_values.specs.Digits.{digits_of}
 use Rattle.nap_values.specs.Spellings.{move_bytes, point_bytes, words_of_pairs}
 use Rattle.nap_canon.specs.declared.text_end.TextEnd.{TextEnd}
 use Rattle.nap_list.specs.Batches.{last_point}
-use Rattle.nap_canon.specs.Spelling.{displacement_bytes, opcode, shape_bytes, spelling_pieces}
+use Rattle.nap_canon.specs.Spelling.{displacement_bytes, opcode, shape_bytes}
 use Rattle.nap_canon.specs.Text.{gl_of, shift_to_opcodes, piece_bytes}
 
 -- one displacement more of a shape
-pub onward_more : (now next piece whole : List ℕ) (from to : Coordinates) (others : List Coordinates) (i : ℕ) → i < length others → to ≡ get_or others i to →
+pub displacements_more : (now next piece whole : List ℕ) (from to : Coordinates) (others : List Coordinates) (i : ℕ) → i < length others → to ≡ get_or others i to →
     next ≡ now ++ piece → piece ≡ move_bytes (displacement_to from to) → now ++ displacement_bytes from (drop i others) ≡ whole →
     next ++ displacement_bytes to (drop (i + 1) others) ≡ whole
 unfolding displacement_bytes
-onward_more now next piece whole from to others i within is step spelling_pieces so_far =
+displacements_more now next piece whole from to others i within is step spelled so_far =
     let bytes : List ℕ = move_bytes (displacement_to from to) in
     let one : suc i ≡ i + 1 = omega arith in
     let left : drop i others ≡ to ∷ drop (i + 1) others =
     drop-cons others i to within
     ∙ ap (λ (q : Coordinates). q ∷ drop (suc i) others) (sym is)
     ∙ ap (λ (k : ℕ). to ∷ drop k others) one in
-    ap (λ (bs : List ℕ). bs ++ displacement_bytes to (drop (i + 1) others)) (step ∙ ap (λ (bs : List ℕ). now ++ bs) spelling_pieces)
+    ap (λ (bs : List ℕ). bs ++ displacement_bytes to (drop (i + 1) others)) (step ∙ ap (λ (bs : List ℕ). now ++ bs) spelled)
     ∙ append_assoc now bytes (displacement_bytes to (drop (i + 1) others))
     ∙ ap (λ (qs : List Coordinates). now ++ displacement_bytes from qs) (sym left)
     ∙ so_far
@@ -31,50 +31,50 @@ pub move_size : (m : Displacement) → length (move_bytes m) ≡ 8
 unfolding move_bytes words_of_pairs digits_of
 move_size m = refl
 
-pub onward_size : (from : Coordinates) (ps : List Coordinates) → length (displacement_bytes from ps) ≡ 8 * length ps
+pub displacements_size : (from : Coordinates) (ps : List Coordinates) → length (displacement_bytes from ps) ≡ 8 * length ps
 unfolding displacement_bytes
-onward_size from [] = refl
-onward_size from (p ∷ ps) =
+displacements_size from [] = refl
+displacements_size from (p ∷ ps) =
     let step : List ℕ = move_bytes (displacement_to from p) in
-    omega (arith, length-append step (displacement_bytes p ps), move_size (displacement_to from p), onward_size p ps)
+    omega (arith, length-append step (displacement_bytes p ps), move_size (displacement_to from p), displacements_size p ps)
 
 -- displacements in two parts
-onward_parts : (from : Coordinates) (ps qs : List Coordinates) → displacement_bytes from (ps ++ qs) ≡ displacement_bytes from ps ++ displacement_bytes (last_point from ps) qs
+displacements_parts : (from : Coordinates) (ps qs : List Coordinates) → displacement_bytes from (ps ++ qs) ≡ displacement_bytes from ps ++ displacement_bytes (last_point from ps) qs
 unfolding displacement_bytes last_point
-onward_parts from [] qs = refl
-onward_parts from (p ∷ ps) qs =
+displacements_parts from [] qs = refl
+displacements_parts from (p ∷ ps) qs =
     let step : List ℕ = move_bytes (displacement_to from p) in
-    ap (λ (bs : List ℕ). step ++ bs) (onward_parts p ps qs)
+    ap (λ (bs : List ℕ). step ++ bs) (displacements_parts p ps qs)
     ∙ sym (append_assoc step (displacement_bytes p ps) (displacement_bytes (last_point p ps) qs))
 
 -- one part more of them
-pub onward_part : (now piece whole : List ℕ) (from to : Coordinates) (left part rest : List Coordinates) → left ≡ part ++ rest → piece ≡ displacement_bytes from part → to ≡ last_point from part →
+pub displacements_part : (now piece whole : List ℕ) (from to : Coordinates) (left part rest : List Coordinates) → left ≡ part ++ rest → piece ≡ displacement_bytes from part → to ≡ last_point from part →
     now ++ displacement_bytes from left ≡ whole → (now ++ piece) ++ displacement_bytes to rest ≡ whole
-onward_part now piece whole from to left part rest parts spelling_pieces last so_far =
-    ap (λ (bs : List ℕ). (now ++ bs) ++ displacement_bytes to rest) spelling_pieces
+displacements_part now piece whole from to left part rest parts spelled last so_far =
+    ap (λ (bs : List ℕ). (now ++ bs) ++ displacement_bytes to rest) spelled
     ∙ ap (λ (p : Coordinates). (now ++ displacement_bytes from part) ++ displacement_bytes p rest) last
     ∙ append_assoc now (displacement_bytes from part) (displacement_bytes (last_point from part) rest)
-    ∙ ap (λ (bs : List ℕ). now ++ bs) (sym (onward_parts from part rest))
+    ∙ ap (λ (bs : List ℕ). now ++ bs) (sym (displacements_parts from part rest))
     ∙ ap (λ (ps : List Coordinates). now ++ displacement_bytes from ps) (sym parts)
     ∙ so_far
 
--- what was laid, then a shape: its opcode with the first point and some displacements, and those to the other points
-pub shape_joined : (front : List ℕ) (text_end : TextEnd) (code : ℕ) (first last : Coordinates) (near far others : List Coordinates) (bytes : List ℕ) →
-    bytes ≡ front ++ piece_bytes text_end (opcode code (shape_bytes (first ∷ near))) → others ≡ near ++ far → last ≡ last_point first near →
-    bytes ++ displacement_bytes last far ≡ front ++ piece_bytes text_end (opcode code (shape_bytes (first ∷ others)))
-shape_joined front text_end code first last near far others bytes begun parts ends =
+-- the pending text, then a shape: its opcode with the first point and some displacements, and those to the other points
+pub shape_joined : (prefix : List ℕ) (text_end : TextEnd) (code : ℕ) (first last : Coordinates) (near far others : List Coordinates) (bytes : List ℕ) →
+    bytes ≡ prefix ++ piece_bytes text_end (opcode code (shape_bytes (first ∷ near))) → others ≡ near ++ far → last ≡ last_point first near →
+    bytes ++ displacement_bytes last far ≡ prefix ++ piece_bytes text_end (opcode code (shape_bytes (first ∷ others)))
+shape_joined prefix text_end code first last near far others bytes begun parts ends =
     ap (λ (bs : List ℕ). bs ++ displacement_bytes last far) (begun ∙ sym (whole near))
-    ∙ onward_part (front ++ head) (displacement_bytes first near) (front ++ piece_bytes text_end (opcode code (shape_bytes (first ∷ others)))) first last others near far parts refl ends (whole others)
+    ∙ displacements_part (prefix ++ head) (displacement_bytes first near) (prefix ++ piece_bytes text_end (opcode code (shape_bytes (first ∷ others)))) first last others near far parts refl ends (whole others)
   where
     head : List ℕ
     head = shift_to_opcodes (gl_of text_end) ++ code ∷ point_bytes first
 
-    whole : (ps : List Coordinates) → (front ++ head) ++ displacement_bytes first ps ≡ front ++ piece_bytes text_end (opcode code (shape_bytes (first ∷ ps)))
+    whole : (ps : List Coordinates) → (prefix ++ head) ++ displacement_bytes first ps ≡ prefix ++ piece_bytes text_end (opcode code (shape_bytes (first ∷ ps)))
     whole ps =
-        append_assoc front head (displacement_bytes first ps)
-        ∙ ap (λ (bs : List ℕ). front ++ bs) (append_assoc (shift_to_opcodes (gl_of text_end)) (code ∷ point_bytes first) (displacement_bytes first ps))
+        append_assoc prefix head (displacement_bytes first ps)
+        ∙ ap (λ (bs : List ℕ). prefix ++ bs) (append_assoc (shift_to_opcodes (gl_of text_end)) (code ∷ point_bytes first) (displacement_bytes first ps))
 
--- what holds at any answer
+-- what holds for any answer
 pub on_ok_from : {T E P : Type 0} (r : Result T E) → P → OnOk r P
 on_ok_from (Ok _) p = p
 on_ok_from (Err _) p = tt
@@ -84,7 +84,7 @@ on_ok_from (Err _) p = tt
 module _ {T : Type 0} (sent : T → List ℕ → Bool → T → Type 0)
     (more : (s t u : T) (a b : List ℕ) (broke : Bool) → sent s a false t → sent t b broke u → sent s (a ++ b) broke u)
     (cut : (s t : T) (a b : List ℕ) → sent s a true t → sent s (a ++ b) true t) where
-  -- one part behind another
+  -- one part after another
   pub sent_both : (s t u : T) (a b whole : List ℕ) (broke : Bool) → a ++ b ≡ whole → sent s a false t → sent t b broke u → sent s whole broke u
   sent_both s t u a b whole broke is first second = subst (λ (bytes : List ℕ). sent s bytes broke u) is (more s t u a b broke first second)
 

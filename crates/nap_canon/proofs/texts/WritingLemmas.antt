@@ -1,4 +1,4 @@
--- What is laid, and what a writer sends, as their relations say.
+-- The appended text, and the bytes that a writer sends.
 
 use Rattle.std.proofs.Common.{Option, Result, Ok, Err, is_err, Bool, true, false, List, [], ◌∷◌, ◌++◌, ℕ, ◌≡◌, append-nil, append_assoc, map, ap, sym, subst, ◌∙◌}
 use Rattle.std.proofs.lemmas.List.{map-append}
@@ -26,37 +26,37 @@ use Rattle.nap_canon.specs.Writing.{AppendsPieces, AppendsPiece, AppendsCommands
 -- a piece alone
 pub one_piece : (p : Piece) (w t : Pending) → AppendsPiece p w t → AppendsPieces (p ∷ []) w t
 unfolding pieces_bytes text_end_after
-one_piece p w t piece = record { laid = piece.laid ∙ ap (λ (bs : List ℕ). w.bytes ++ bs) (sym (append-nil (piece_bytes w.text_end p))); text_end = piece.text_end }
+one_piece p w t piece = record { appended = piece.appended ∙ ap (λ (bs : List ℕ). w.bytes ++ bs) (sym (append-nil (piece_bytes w.text_end p))); text_end = piece.text_end }
 
--- pieces behind others
-pub both_laid : (front back whole : List Piece) (w m t : Pending) → front ++ back ≡ whole → AppendsPieces front w m → AppendsPieces back m t → AppendsPieces whole w t
-both_laid front back whole w m t is first second = record {
-  laid =
-      second.laid
-      ∙ ap (λ (bs : List ℕ). bs ++ pieces_bytes m.text_end back) first.laid
-      ∙ append_assoc w.bytes (pieces_bytes w.text_end front) (pieces_bytes m.text_end back)
-      ∙ ap (λ (u : TextEnd). w.bytes ++ (pieces_bytes w.text_end front ++ pieces_bytes u back)) first.text_end
-      ∙ ap (λ (bs : List ℕ). w.bytes ++ bs) (sym (pieces_bytes-append w.text_end front back) ∙ ap (pieces_bytes w.text_end) is);
-  text_end = second.text_end ∙ ap (λ (u : TextEnd). text_end_after u back) first.text_end ∙ sym (text_end_after-append w.text_end front back) ∙ ap (text_end_after w.text_end) is;
+-- pieces after others
+pub both_appended : (prefix back whole : List Piece) (w m t : Pending) → prefix ++ back ≡ whole → AppendsPieces prefix w m → AppendsPieces back m t → AppendsPieces whole w t
+both_appended prefix back whole w m t is first second = record {
+  appended =
+      second.appended
+      ∙ ap (λ (bs : List ℕ). bs ++ pieces_bytes m.text_end back) first.appended
+      ∙ append_assoc w.bytes (pieces_bytes w.text_end prefix) (pieces_bytes m.text_end back)
+      ∙ ap (λ (u : TextEnd). w.bytes ++ (pieces_bytes w.text_end prefix ++ pieces_bytes u back)) first.text_end
+      ∙ ap (λ (bs : List ℕ). w.bytes ++ bs) (sym (pieces_bytes-append w.text_end prefix back) ∙ ap (pieces_bytes w.text_end) is);
+  text_end = second.text_end ∙ ap (λ (u : TextEnd). text_end_after u back) first.text_end ∙ sym (text_end_after-append w.text_end prefix back) ∙ ap (text_end_after w.text_end) is;
 }
 
--- commands behind others
-pub both_told : (front back whole : List Command) (w m t : Pending) → front ++ back ≡ whole → AppendsCommands front w m → AppendsCommands back m t → AppendsCommands whole w t
-both_told front back whole w m t is =
-    both_laid (map command_piece front) (map command_piece back) (map command_piece whole) w m t (sym (map-append command_piece front back) ∙ ap (map command_piece) is)
+-- commands after others
+pub both_commands : (prefix back whole : List Command) (w m t : Pending) → prefix ++ back ≡ whole → AppendsCommands prefix w m → AppendsCommands back m t → AppendsCommands whole w t
+both_commands prefix back whole w m t is =
+    both_appended (map command_piece prefix) (map command_piece back) (map command_piece whole) w m t (sym (map-append command_piece prefix back) ∙ ap (map command_piece) is)
 
 -- a command, where there is one
 
-pub told_as : (command : Option Command) (whole : List Command) (w t : Pending) → option_commands command ≡ whole → AppendsCommands (option_commands command) w t → AppendsCommands whole w t
-told_as command whole w t is = subst (λ (cs : List Command). AppendsCommands cs w t) is
+pub commands_as : (command : Option Command) (whole : List Command) (w t : Pending) → option_commands command ≡ whole → AppendsCommands (option_commands command) w t → AppendsCommands whole w t
+commands_as command whole w t is = subst (λ (cs : List Command). AppendsCommands cs w t) is
 
-pub told_before : (command : Option Command) (front back : List Command) (w m t : Pending) → option_commands command ≡ front → AppendsCommands (option_commands command) w m → AppendsCommands back m t →
-    AppendsCommands (front ++ back) w t
-told_before command front back w m t is = both_told (option_commands command) back (front ++ back) w m t (ap (λ (cs : List Command). cs ++ back) is)
+pub commands_before : (command : Option Command) (prefix back : List Command) (w m t : Pending) → option_commands command ≡ prefix → AppendsCommands (option_commands command) w m → AppendsCommands back m t →
+    AppendsCommands (prefix ++ back) w t
+commands_before command prefix back w m t is = both_commands (option_commands command) back (prefix ++ back) w m t (ap (λ (cs : List Command). cs ++ back) is)
 
 -- an entry that is one piece
-pub lays_one : (form : Form) (s : State) (e : Entry) (piece : Piece) (w t : Pending) → entry_pieces form s e ≡ piece ∷ [] → AppendsPiece piece w t → AppendsPieces (entry_pieces form s e) w t
-lays_one form s e piece w t is put = subst (λ (ps : List Piece). AppendsPieces ps w t) (sym is) (one_piece piece w t put)
+pub one_appended : (form : Form) (s : State) (e : Entry) (piece : Piece) (w t : Pending) → entry_pieces form s e ≡ piece ∷ [] → AppendsPiece piece w t → AppendsPieces (entry_pieces form s e) w t
+one_appended form s e piece w t is put = subst (λ (ps : List Piece). AppendsPieces ps w t) (sym is) (one_piece piece w t put)
 
 -- a piece that is written alone
 pub one_written : {T F E : Type 0} (sent : T → List ℕ → Bool → T → Type 0) (p : Piece) (w t : Writer T F) (r : Result (Unit {0}) E) → WritesPendingAnd sent p w t r → WritesPieces sent (p ∷ []) w t r
@@ -67,7 +67,7 @@ one_written sent p w t r piece = record {
   kept = piece.kept;
 }
 
--- how a shape that is lent is spelled
+-- the spelling of a shape with borrowed points
 
 pub arc_spelled : (form : Form) (d : Drawing) (s : Shape) → s.kind ≡ kinds.Arc → spelling_pieces form d (entry_of_shape s) ≡ shape 0x2E s.filled (circle_closed (s.from ∷ s.others.now)) ∷ []
 arc_spelled form d s = ap (λ (kind : ShapeKind). spelling_pieces form d (shape_on kind s.filled s.drawing.now (outline kind (s.from ∷ s.others.now))))
@@ -75,10 +75,10 @@ arc_spelled form d s = ap (λ (kind : ShapeKind). spelling_pieces form d (shape_
 pub poly_spelled : (form : Form) (d : Drawing) (s : Shape) → s.kind ≡ kinds.Poly → spelling_pieces form d (entry_of_shape s) ≡ shape 0x36 s.filled (s.from ∷ s.others.now) ∷ []
 poly_spelled form d s = ap (λ (kind : ShapeKind). spelling_pieces form d (shape_on kind s.filled s.drawing.now (outline kind (s.from ∷ s.others.now))))
 
--- an entry behind its bring
+-- an entry after its prelude
 
 module _ {T F : Type 0} (sent : T → List ℕ → Bool → T → Type 0) (w : Writer T F) (e : Entry) (h : Attributes) (holds : h ≡ attributes e) (clear : List ℕ) (none : clear ≡ []) (r : Pending)
-    (brought : AppendsCommands (prelude w.state.drawing h) (record { text_end = w.pending.text_end; bytes = clear }) r) (u : Writer T F) where
+    (after_prelude : AppendsCommands (prelude w.state.drawing h) (record { text_end = w.pending.text_end; bytes = clear }) r) (u : Writer T F) where
   abbrev before : List Piece
   before = map command_piece (prelude w.state.drawing h)
 
@@ -90,20 +90,20 @@ module _ {T F : Type 0} (sent : T → List ℕ → Bool → T → Type 0) (w : W
 
   all : r.bytes ++ pieces_bytes r.text_end own ≡ pieces_bytes w.pending.text_end (entry_pieces w.form w.state e)
   all =
-      ap (λ (bs : List ℕ). bs ++ pieces_bytes r.text_end own) (brought.laid ∙ ap (λ (bs : List ℕ). bs ++ pieces_bytes w.pending.text_end before) none)
-      ∙ ap (λ (t : TextEnd). pieces_bytes w.pending.text_end before ++ pieces_bytes t own) brought.text_end
+      ap (λ (bs : List ℕ). bs ++ pieces_bytes r.text_end own) (after_prelude.appended ∙ ap (λ (bs : List ℕ). bs ++ pieces_bytes w.pending.text_end before) none)
+      ∙ ap (λ (t : TextEnd). pieces_bytes w.pending.text_end before ++ pieces_bytes t own) after_prelude.text_end
       ∙ sym (pieces_bytes-append w.pending.text_end before own)
       ∙ ap (pieces_bytes w.pending.text_end) parts
 
   -- the write failed
-  pub led_fails : {D E : Type 0} {y : D} (x : E) → WritesPieces sent own (record w { pending = r }) u (Err y) → Puts sent e w u (Err x)
-  led_fails x put = record { sent = subst (λ (bs : List ℕ). sent w.target bs true u.target) all put.sent; text_end = tt; form = put.kept.0; state = tt; still = put.kept.1 }
+  pub prelude_fails : {D E : Type 0} {y : D} (x : E) → WritesPieces sent own (record w { pending = r }) u (Err y) → Puts sent e w u (Err x)
+  prelude_fails x put = record { sent = subst (λ (bs : List ℕ). sent w.target bs true u.target) all put.sent; text_end = tt; form = put.kept.0; state = tt; still = put.kept.1 }
 
-  -- it didn't fail
-  pub led : {D E : Type 0} → WritesPieces {E = D} sent own (record w { pending = r }) u (Ok tt) → (next : State) → next ≡ after u.state e → Puts {E = E} sent e w (record u { state = next }) (Ok tt)
-  led put next is = record {
+  -- the write didn't fail
+  pub prelude_written : {D E : Type 0} → WritesPieces {E = D} sent own (record w { pending = r }) u (Ok tt) → (next : State) → next ≡ after u.state e → Puts {E = E} sent e w (record u { state = next }) (Ok tt)
+  prelude_written put next is = record {
     sent = subst (λ (bs : List ℕ). sent w.target bs false u.target) all put.sent;
-    text_end = put.text_end ∙ ap (λ (t : TextEnd). text_end_after t own) brought.text_end ∙ sym (text_end_after-append w.pending.text_end before own) ∙ ap (text_end_after w.pending.text_end) parts;
+    text_end = put.text_end ∙ ap (λ (t : TextEnd). text_end_after t own) after_prelude.text_end ∙ sym (text_end_after-append w.pending.text_end before own) ∙ ap (text_end_after w.pending.text_end) parts;
     form = put.kept.0;
     state = is ∙ ap (λ (s : State). after s e) put.kept.1;
     still = tt;

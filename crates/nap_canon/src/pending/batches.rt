@@ -18,7 +18,7 @@ impl Pending {
     #[inline(always)]
     pub(crate) fn append_next(&mut self, form: Form, state: &State, batch: &Batch, index: usize)
         requires some { index < length (batch_entries batch.now) }
-        requires stand { EachIsCurrent state.now (drop index (batch_entries batch.now)) }
+        requires current { EachIsCurrent state.now (drop index (batch_entries batch.now)) }
         requires space { length self.old.bytes + piece_limit ≤ buffer_limit }
         ensures { AppendsNext form state.now (drop index (batch_entries batch.now)) self.old self.new }
     {
@@ -39,19 +39,19 @@ impl Pending {
     fn append_point_run(&mut self, opcode: u8, points: &[Point])
         requires space { length self.old.bytes + 2 + 8 * length points.now ≤ buffer_limit }
         ensures bytes { self.new.bytes ≡ self.old.bytes ++ (run_opening self.old.text_end opcode (8 * length points.now) ++ points_bytes points.now) }
-        ensures tail { self.new.text_end ≡ InRun (run_after self.old.text_end opcode (8 * length points.now)) }
+        ensures text_end { self.new.text_end ≡ InRun (run_after self.old.text_end opcode (8 * length points.now)) }
     {
         self.append_opcode_unless_joined(opcode, 8 * points.len());
         self.bytes.append_points(points);
     }
 
-    /// Appends `operand_count` entries of a batch from `first`, which join the last run or text, or open one.
+    /// Appends `count` entries of a batch from `first`, which join the last run or text, or open one.
     #[inline(always)]
     pub(crate) fn append_joined(&mut self, batch: &Batch, first: usize, count: usize)
         requires few { count + first ≤ length (batch_entries batch.now) }
         requires space { 0 < count → length self.old.bytes + 2 + 8 * count ≤ buffer_limit }
         ensures bytes { self.new.bytes ≡ self.old.bytes ++ bytes_of_rest self.old.text_end batch.now first count }
-        ensures tail { self.new.text_end ≡ text_end_after_rest self.old.text_end batch.now count }
+        ensures text_end { self.new.text_end ≡ text_end_after_rest self.old.text_end batch.now count }
     {
         if count == 0 {
             return;

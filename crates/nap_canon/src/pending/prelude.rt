@@ -12,8 +12,8 @@ use crate::command::{
     Command, Flag, colour_prelude, flag_prelude, given_size_prelude, named_size_prelude,
     pel_prelude, pen_prelude, texture_prelude,
 };
+use crate::current::ink_is_current;
 use crate::pending::{LENGTHS, Pending, opcodes, word_byte};
-use crate::standing::ink_stands;
 use nap_codes::Size;
 use nap_list::{Colour, Drawing, Entry, Hand, Ink, TextLook};
 use nap_values::{Grb, Move, put_addr, put_grb, put_move, put_point};
@@ -52,7 +52,7 @@ impl Pending {
     #[inline(always)]
     pub(super) fn append_set_color(&mut self, grb: Grb)
         requires { length self.old.bytes + 10 ≤ buffer_limit }
-        ensures lays { AppendsPiece (opcode 0x3C (grb_bytes grb)) self.old self.new }
+        ensures appends { AppendsPiece (opcode 0x3C (grb_bytes grb)) self.old self.new }
         ensures most { length self.new.bytes ≤ length self.old.bytes + 10 }
     {
         self.append_opcode_and_operands(opcodes::SET_COLOR, &[], &put_grb(grb)[..8]);
@@ -62,7 +62,7 @@ impl Pending {
     #[inline(always)]
     fn append_command(&mut self, command: Command)
         requires space { length self.old.bytes + piece_limit ≤ buffer_limit }
-        ensures lays { AppendsPiece (command_piece command) self.old self.new }
+        ensures appends { AppendsPiece (command_piece command) self.old self.new }
         ensures most { length self.new.bytes ≤ length self.old.bytes + piece_limit }
     {
         match command {
@@ -120,7 +120,7 @@ impl Pending {
     #[inline(always)]
     fn append_command_if(&mut self, command: Option<Command>)
         requires space { length self.old.bytes + piece_limit ≤ buffer_limit }
-        ensures lays { AppendsCommands (option_commands command) self.old self.new }
+        ensures appends { AppendsCommands (option_commands command) self.old self.new }
         ensures most { length self.new.bytes ≤ length self.old.bytes + piece_limit }
     {
         if let Some(command) = command {
@@ -132,7 +132,7 @@ impl Pending {
     #[inline(always)]
     pub(super) fn append_colour_prelude(&mut self, old: &Drawing, colour: Colour)
         requires space { length self.old.bytes + 36 ≤ buffer_limit }
-        ensures lays { AppendsCommands (colour_prelude old.now.base old.now.colour (Some colour)) self.old self.new }
+        ensures appends { AppendsCommands (colour_prelude old.now.base old.now.colour (Some colour)) self.old self.new }
         ensures most { length self.new.bytes ≤ length self.old.bytes + 36 }
     {
         let (first, second) = colour_prelude(old.base, old.colour, colour);
@@ -144,7 +144,7 @@ impl Pending {
     #[inline(never)]
     fn append_look_prelude(&mut self, old: &TextLook, look: &TextLook)
         requires space { length self.old.bytes + 108 ≤ buffer_limit }
-        ensures lays { AppendsCommands (text_prelude old.now (Some look.now)) self.old self.new }
+        ensures appends { AppendsCommands (text_prelude old.now (Some look.now)) self.old self.new }
         ensures most { length self.new.bytes ≤ length self.old.bytes + 108 }
     {
         self.append_command_if(given_size_prelude(old, look));
@@ -159,36 +159,37 @@ impl Pending {
     #[inline(always)]
     fn append_point_prelude(&mut self, old: &Drawing, pel: Move, colour: Colour)
         requires { length self.old.bytes + 54 ≤ buffer_limit }
-        ensures lays { AppendsCommands (prelude old.now (point_attributes pel colour)) self.old self.new }
+        ensures appends { AppendsCommands (prelude old.now (point_attributes pel colour)) self.old self.new }
         ensures most { length self.new.bytes ≤ length self.old.bytes + 54 }
     {
         self.append_command_if(pel_prelude(old.pel, pel));
         self.append_colour_prelude(old, colour);
     }
 
-    /// Lays the bring of ink, of which some value doesn't stand.
+    /// Appends the prelude of attributes for lines and areas, some of which aren't current.
     #[inline(always)]
-    fn lead_other_ink(&mut self, old: &Drawing, ink: &Ink)
+    fn append_other_ink_prelude(&mut self, old: &Drawing, ink: &Ink)
         requires { length self.old.bytes + 72 ≤ buffer_limit }
-        ensures lays { AppendsCommands (prelude old.now (ink_attributes ink.now)) self.old self.new }
+        ensures appends { AppendsCommands (prelude old.now (ink_attributes ink.now)) self.old self.new }
         ensures most { length self.new.bytes ≤ length self.old.bytes + 72 }
     {
         self.append_point_prelude(old, ink.pel, ink.colour);
         self.append_command_if(texture_prelude(old.texture, ink.texture));
     }
 
-    /// Lays the bring of ink. Answers whether all of it stands, so that nothing is laid.
+    /// Appends the prelude of attributes for lines and areas. Returns whether all are current, so that nothing is
+    /// appended.
     #[inline(always)]
     pub(crate) fn append_ink_prelude(&mut self, old: &Drawing, ink: &Ink) -> bool
         requires { length self.old.bytes + 72 ≤ buffer_limit }
-        ensures lays { AppendsCommands (prelude old.now (ink_attributes ink.now)) self.old self.new }
+        ensures appends { AppendsCommands (prelude old.now (ink_attributes ink.now)) self.old self.new }
         ensures most { length self.new.bytes ≤ length self.old.bytes + 72 }
-        ensures stands { IsTrue result ↔ AreCurrent (ink_attributes ink.now) old.now }
+        ensures current { IsTrue result ↔ AreCurrent (ink_attributes ink.now) old.now }
     {
-        if ink_stands(old, ink) {
+        if ink_is_current(old, ink) {
             return true;
         }
-        self.lead_other_ink(old, ink);
+        self.append_other_ink_prelude(old, ink);
         false
     }
 
@@ -196,7 +197,7 @@ impl Pending {
     #[inline(always)]
     fn append_hand_prelude(&mut self, old: &Drawing, hand: &Hand)
         requires { length self.old.bytes + 162 ≤ buffer_limit }
-        ensures lays { AppendsCommands (prelude old.now (hand_attributes hand.now)) self.old self.new }
+        ensures appends { AppendsCommands (prelude old.now (hand_attributes hand.now)) self.old self.new }
         ensures most { length self.new.bytes ≤ length self.old.bytes + 162 }
     {
         self.append_command_if(pen_prelude(old.pen, hand.pen));
@@ -209,7 +210,7 @@ impl Pending {
     #[inline(always)]
     pub(crate) fn append_prelude(&mut self, old: &Drawing, entry: &Entry)
         requires { length self.old.bytes + 162 ≤ buffer_limit }
-        ensures lays { AppendsCommands (prelude old.now (attributes entry.now)) self.old self.new }
+        ensures appends { AppendsCommands (prelude old.now (attributes entry.now)) self.old self.new }
         ensures most { length self.new.bytes ≤ length self.old.bytes + 162 }
     {
         match entry {
@@ -217,7 +218,7 @@ impl Pending {
             Entry::Line { ink, .. }
             | Entry::Arc { ink, .. }
             | Entry::Rect { ink, .. }
-            | Entry::Poly { ink, .. } => self.lead_other_ink(old, ink),
+            | Entry::Poly { ink, .. } => self.append_other_ink_prelude(old, ink),
             Entry::Char { hand, .. } | Entry::TextMove { hand, .. } | Entry::ToEol { hand } => {
                 self.append_hand_prelude(old, hand);
             }

@@ -49,7 +49,7 @@ impl Pending {
     #[inline(always)]
     fn append_reset_words(&mut self, first: Word, second: Word)
         requires { length self.old.bytes + 4 ≤ buffer_limit }
-        ensures lays { AppendsPiece (opcode 0x20 (word_byte first ∷ word_byte second ∷ [])) self.old self.new }
+        ensures appends { AppendsPiece (opcode 0x20 (word_byte first ∷ word_byte second ∷ [])) self.old self.new }
         ensures most { length self.new.bytes ≤ length self.old.bytes + 4 }
     {
         self.append_opcode_and_operands(

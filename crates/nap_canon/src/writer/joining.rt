@@ -5,15 +5,15 @@ ghost use Rattle.nap_canon.specs.declared.text_end.TextEnd.TheVariants.{NoRun, I
 ghost use Rattle.nap_codes.specs.declared.code_set.GSet.TheVariants.{G0};
 ghost use Rattle.nap_canon.specs.Batches.{Joins, JoinsAfter, PointsJoin, TextJoins, entry_size, joined_bytes, text_end_after_joined, opening, points_bytes, run_opening};
 ghost use Rattle.nap_canon.specs.Text.{gl_of, run_after, shift_to_primary};
-ghost use Rattle.nap_canon.specs.Writing.{PutsFront, WritesWhole};
+ghost use Rattle.nap_canon.specs.Writing.{PutsPrefix, WritesWhole};
 ghost use Rattle.nap_canon.specs.Buffers.{buffer_limit};
 
 use crate::byte_buffer::BUFFER_SIZE;
 use crate::byte_sink::ByteSink;
+use crate::current::batch_begins_current;
 use crate::form::Form;
 use crate::parts::{item, part};
 use crate::pending::opcodes;
-use crate::standing::first_stands;
 use crate::text_end::TextEnd;
 use crate::writer::Writer;
 use nap_codes::{CharSet, GSet, format_effector};
@@ -32,10 +32,10 @@ impl<T: ByteSink + Drop> Writer<T> {
     pub(crate) fn first_is_current(&self, batch: &Batch) -> bool
         ensures { IsTrue result ↔ FirstIsCurrent batch.now self.now.state.drawing }
     {
-        first_stands(&self.state.drawing, batch)
+        batch_begins_current(&self.state.drawing, batch)
     }
 
-    /// Returns how many of the next `operand_count` points make one write: those that join the run of this opcode, or that open
+    /// Returns how many of the next `count` points make one write: those that join the run of this opcode, or that open
     /// one if none joins. Zero in form 1.
     #[inline]
     fn joining_point_count(&self, opcode: u8, count: usize) -> usize
@@ -128,13 +128,13 @@ impl<T: ByteSink + Drop> Writer<T> {
     #[inline(always)]
     pub(crate) fn put_next(&mut self, batch: &Batch, index: usize) -> Result<usize, usize>
         requires some { index < length (batch_entries batch.now) }
-        requires stand { EachIsCurrent self.old.state (drop index (batch_entries batch.now)) }
-        ensures { PutsFront T.sent (drop index (batch_entries batch.now)) self.old self.new result }
+        requires current { EachIsCurrent self.old.state (drop index (batch_entries batch.now)) }
+        ensures { PutsPrefix T.sent (drop index (batch_entries batch.now)) self.old self.new result }
     {
         self.pending.bytes.clear();
         self.pending
             .append_next(self.form, &self.state, batch, index);
-        let lead = self.pending.bytes.len();
+        let first_end = self.pending.bytes.len();
         // The number of entries fits a `usize`, so the next index does.
         let _count = batch.len();
         let more = self.joining_count_after(batch, index);
@@ -145,7 +145,7 @@ impl<T: ByteSink + Drop> Writer<T> {
                 Ok(more + 1)
             }
             Err(taken) => {
-                if taken < lead {
+                if taken < first_end {
                     return Err(0);
                 }
                 let size = entry_size(batch);
@@ -199,7 +199,7 @@ impl<T: ByteSink + Drop> Writer<T> {
         self.write_text_start(codes)
     }
 
-    /// Writes `operand_count` entries of a batch from `first`, which join the last run or text, or open one. The error has the
+    /// Writes `count` entries of a batch from `first`, which join the last run or text, or open one. The error has the
     /// number taken.
     #[inline(always)]
     fn write_joined(&mut self, batch: &Batch, first: usize, count: usize) -> Result<(), usize>
@@ -220,7 +220,7 @@ impl<T: ByteSink + Drop> Writer<T> {
         }
     }
 
-    /// Puts `operand_count` entries of a batch from `first`, which join the last run or text, or open one. Returns their
+    /// Puts `count` entries of a batch from `first`, which join the last run or text, or open one. Returns their
     /// number; the error has the number taken.
     #[inline(always)]
     pub(crate) fn put_joined(
@@ -231,9 +231,9 @@ impl<T: ByteSink + Drop> Writer<T> {
     ) -> Result<usize, usize>
         requires some { 0 < count }
         requires few { count + first ≤ length (batch_entries batch.now) }
-        requires stand { EachIsCurrent self.old.state (drop first (batch_entries batch.now)) }
+        requires current { EachIsCurrent self.old.state (drop first (batch_entries batch.now)) }
         requires joins { Joins self.old.form self.old.pending.text_end self.old.state batch.now first count }
-        ensures { PutsFront T.sent (drop first (batch_entries batch.now)) self.old self.new result }
+        ensures { PutsPrefix T.sent (drop first (batch_entries batch.now)) self.old self.new result }
     {
         match self.write_joined(batch, first, count) {
             Ok(()) => {

@@ -38,7 +38,7 @@ fn fill_whole_points<'a>(
     run: &'a [u8],
 ) -> Result<&'a [u8], DrawFault>
     requires { scratch.old.items ≡ [] }
-    ensures ok { IfOk result (λ rest. Filling (points_at (moves size (operand_words run.now))) (points_at (moves size (operand_words rest.now))) false (λ front. scratch.new.items ≡ front)) }
+    ensures ok { IfOk result (λ rest. Filling (points_at (moves size (operand_words run.now))) (points_at (moves size (operand_words rest.now))) false (λ prefix. scratch.new.items ≡ prefix)) }
     ensures err { IfErr result (λ fault. (fault ≡ Outside) × (points_at (moves size (operand_words run.now)) ≡ None)) }
 {
     if size != 3 || run.len() / 3 > scratch.capacity() {
@@ -50,7 +50,7 @@ fn fill_whole_points<'a>(
 fn fill_points_of_three<'a>(scratch: &mut Vec<Point>, run: &'a [u8]) -> Result<&'a [u8], DrawFault>
     requires empty { scratch.old.items ≡ [] }
     requires places { length run.now / 3 ≤ vec_capacity scratch.old }
-    ensures ok { IfOk result (λ rest. Filling (points_at (moves 3 (operand_words run.now))) (points_at (moves 3 (operand_words rest.now))) false (λ front. scratch.new.items ≡ front)) }
+    ensures ok { IfOk result (λ rest. Filling (points_at (moves 3 (operand_words run.now))) (points_at (moves 3 (operand_words rest.now))) false (λ prefix. scratch.new.items ≡ prefix)) }
     ensures err { IfErr result (λ fault. (fault ≡ Outside) × (points_at (moves 3 (operand_words run.now)) ≡ None)) }
 {
     let mut points = take_vector(scratch);

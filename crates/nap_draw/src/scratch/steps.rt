@@ -57,7 +57,7 @@ fn fill_more_steps(
     run: &[u8],
     lacks: bool,
 ) -> Result<(), DrawFault>
-    ensures { (all : Option (List Coordinates)) → Filling all (points_reached from (moves domain.multi (operand_words run.now))) lacks (λ front. scratch.old.items ≡ front) → Fills all scratch.new.items result }
+    ensures { (all : Option (List Coordinates)) → Filling all (points_reached from (moves domain.multi (operand_words run.now))) lacks (λ prefix. scratch.old.items ≡ prefix) → Fills all scratch.new.items result }
 {
     let mut at = from;
     let mut full = lacks;
@@ -71,7 +71,7 @@ fn fill_more_steps(
     memory_fault_if(full)
 }
 
-/// Decodes the points reached by complete operands of three words, if the scratch list has memory for all. Sets `set_at` to
+/// Decodes the points reached by complete operands of three words, if the scratch list has memory for all. Sets `at` to
 /// the last of them, and returns the bytes left.
 #[inline(always)]
 fn fill_whole_steps<'a>(
@@ -81,7 +81,7 @@ fn fill_whole_steps<'a>(
     run: &'a [u8],
 ) -> Result<&'a [u8], DrawFault>
     requires { scratch.old.items ≡ [] }
-    ensures ok { IfOk result (λ rest. Filling (points_reached at.old (moves size (operand_words run.now))) (points_reached at.new (moves size (operand_words rest.now))) false (λ front. scratch.new.items ≡ front)) }
+    ensures ok { IfOk result (λ rest. Filling (points_reached at.old (moves size (operand_words run.now))) (points_reached at.new (moves size (operand_words rest.now))) false (λ prefix. scratch.new.items ≡ prefix)) }
     ensures err { IfErr result (λ fault. (fault ≡ Outside) × (points_reached at.old (moves size (operand_words run.now)) ≡ None)) }
 {
     if size != 3 || run.len() / 3 > scratch.capacity() {
@@ -98,7 +98,7 @@ fn fill_steps_of_three<'a>(
 ) -> Result<&'a [u8], DrawFault>
     requires empty { scratch.old.items ≡ [] }
     requires places { length run.now / 3 ≤ vec_capacity scratch.old }
-    ensures ok { IfOk result (λ rest. Filling (points_reached at.old (moves 3 (operand_words run.now))) (points_reached at.new (moves 3 (operand_words rest.now))) false (λ front. scratch.new.items ≡ front)) }
+    ensures ok { IfOk result (λ rest. Filling (points_reached at.old (moves 3 (operand_words run.now))) (points_reached at.new (moves 3 (operand_words rest.now))) false (λ prefix. scratch.new.items ≡ prefix)) }
     ensures err { IfErr result (λ fault. (fault ≡ Outside) × (points_reached at.old (moves 3 (operand_words run.now)) ≡ None)) }
 {
     let mut points = take_vector(scratch);

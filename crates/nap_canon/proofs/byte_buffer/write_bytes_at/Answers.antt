@@ -2,15 +2,15 @@ use Rattle.std.proofs.Common.{◌≡◌, ◌+◌, ◌++◌, [], ◌∷◌, ℕ, 
 use Rattle.std.proofs.lemmas.List.{take_more, take_all, length-take-le}
 use Rattle.std.specs.Prelude.{slice_index}
 use Rattle.nap_canon.specs.Buffers.{with_bytes_at}
-use Rattle.nap_canon.proofs.texts.LaidLemmas.{laid_none, laid_behind}
+use Rattle.nap_canon.proofs.texts.AppendedLemmas.{appended_none, appended_after}
 use Rattle.nap_canon.proofs.byte_buffer.write_bytes_at.Goals as goal
 
 pub loop-i-init : goal.loop-i-init
-loop-i-init c = laid_none c.args.bytes.now c.args.at
+loop-i-init c = appended_none c.args.bytes.now c.args.at
 
 pub loop-i-preserved : goal.loop-i-preserved
 loop-i-preserved c =
-    let pending = c.args.bytes.now in
+    let buffer = c.args.bytes.now in
     let more = c.args.more.now in
     let at = c.args.at in
     let i = c.loop-i.i in
@@ -21,8 +21,8 @@ loop-i-preserved c =
     let one : take (i + 1) more ≡ now ++ byte ∷ [] = take_more more i 0 within in
     c.write_byte_at.ensures
     ∙ ap (λ (bs : List ℕ). with_bytes_at bs (at + i) (byte ∷ [])) c.loop-i.invariant
-    ∙ laid_behind pending now (byte ∷ []) at (at + i) (omega (arith, size)) (omega (arith, within, c.requires.within))
-    ∙ ap (with_bytes_at pending at) (sym one)
+    ∙ appended_after buffer now (byte ∷ []) at (at + i) (omega (arith, size)) (omega (arith, within, c.requires.within))
+    ∙ ap (with_bytes_at buffer at) (sym one)
 
 pub returns : goal.returns
 returns c = c.loop-i.invariant ∙ ap (with_bytes_at c.args.bytes.now c.args.at) (take_all c.loop-i.i c.args.more.now (omega (arith, c.loop-i-test.false)))

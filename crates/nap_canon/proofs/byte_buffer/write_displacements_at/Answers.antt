@@ -4,12 +4,12 @@ use Rattle.nap_values.specs.Coordinates.{Coordinates, displacement_to}
 use Rattle.nap_values.specs.Spellings.{move_bytes}
 use Rattle.nap_canon.specs.Buffers.{with_bytes_at}
 use Rattle.nap_canon.specs.Spelling.{displacement_bytes}
-use Rattle.nap_canon.proofs.texts.LaidLemmas.{laid_none, laid_behind}
-use Rattle.nap_canon.proofs.texts.WriterLemmas.{move_size, onward_more}
+use Rattle.nap_canon.proofs.texts.AppendedLemmas.{appended_none, appended_after}
+use Rattle.nap_canon.proofs.texts.WriterLemmas.{move_size, displacements_more}
 use Rattle.nap_canon.proofs.byte_buffer.write_displacements_at.Goals as goal
 
 pub loop-i-init : goal.loop-i-init
-loop-i-init c = ([], laid_none c.args.bytes.now c.args.at, refl, refl)
+loop-i-init c = ([], appended_none c.args.bytes.now c.args.at, refl, refl)
 
 pub write_bytes_at-requires : goal.write_bytes_at-requires
 write_bytes_at-requires c = record {
@@ -23,7 +23,7 @@ write_bytes_at-requires c = record {
 
 pub loop-i-preserved : goal.loop-i-preserved
 loop-i-preserved c =
-    let pending = c.args.bytes.now in
+    let buffer = c.args.bytes.now in
     let others = c.args.others.now in
     let i = c.loop-i.i in
     let at = c.args.at in
@@ -37,9 +37,9 @@ loop-i-preserved c =
       c.write_bytes_at.ensures
           ∙ ap (λ (bs : List ℕ). with_bytes_at c.loop-i.bytes (at + 8 * i) bs) spelled
           ∙ ap (λ (bs : List ℕ). with_bytes_at bs (at + 8 * i) step) bytes
-          ∙ laid_behind pending done step at (at + 8 * i) (omega (arith, size)) (omega (arith, c.loop-i-test.true, c.requires.within)),
+          ∙ appended_after buffer done step at (at + 8 * i) (omega (arith, size)) (omega (arith, c.loop-i-test.true, c.requires.within)),
       omega (arith, length-append done step, size, long),
-      onward_more done (done ++ step) step (displacement_bytes c.args.first others) from to others i c.loop-i-test.true c.index-others-i.is refl refl all,
+      displacements_more done (done ++ step) step (displacement_bytes c.args.first others) from to others i c.loop-i-test.true c.index-others-i.is refl refl all,
     )
 
 pub returns : goal.returns

@@ -2,13 +2,13 @@ use Rattle.std.proofs.Common.{◌≡◌, ◌+◌, ◌++◌, ℕ, List, arith, �
 use Rattle.nap_canon.specs.Batches.{points_bytes}
 use Rattle.nap_canon.specs.Buffers.{with_bytes_at}
 use Rattle.nap_values.specs.Spellings.{point_bytes}
-use Rattle.nap_canon.proofs.texts.GatheredLemmas.{point_size, points_more, points_all}
-use Rattle.nap_canon.proofs.texts.LaidLemmas.{laid_none, laid_behind}
+use Rattle.nap_canon.proofs.texts.PointsLemmas.{point_size, points_more, points_all}
+use Rattle.nap_canon.proofs.texts.AppendedLemmas.{appended_none, appended_after}
 use Rattle.nap_canon.proofs.byte_buffer.write_points_at.Goals as goal
 
 pub loop-point-init : goal.loop-point-init
 unfolding points_bytes
-loop-point-init c = record { bytes = laid_none c.args.bytes.now c.args.at; until = omega arith; size = refl }
+loop-point-init c = record { bytes = appended_none c.args.bytes.now c.args.at; until = omega arith; size = refl }
 
 pub write_bytes_at-requires : goal.write_bytes_at-requires
 write_bytes_at-requires c = record {
@@ -28,7 +28,7 @@ pub loop-point-preserved : goal.loop-point-preserved
 loop-point-preserved c =
     let p = c.point-item.result in
     let i = c.loop-point.point-index in
-    let pending = c.args.bytes.now in
+    let buffer = c.args.bytes.now in
     let inv = c.loop-point.invariant in
     let at = c.loop-point.until in
     let now : List ℕ = points_bytes (take i c.args.points.now) in
@@ -38,8 +38,8 @@ loop-point-preserved c =
           c.write_bytes_at.ensures
           ∙ ap (λ (bs : List ℕ). with_bytes_at c.loop-point.bytes at bs) (c.deref.ensures.0 ∙ c.put_point-operand.ensures.bytes)
           ∙ ap (λ (bs : List ℕ). with_bytes_at bs at (point_bytes p)) inv.bytes
-          ∙ laid_behind pending now (point_bytes p) c.args.at at (omega (arith, inv.size, inv.until)) (omega (arith, inv.until, c.loop-point-test.true, c.requires.within))
-          ∙ ap (with_bytes_at pending c.args.at) (sym more);
+          ∙ appended_after buffer now (point_bytes p) c.args.at at (omega (arith, inv.size, inv.until)) (omega (arith, inv.until, c.loop-point-test.true, c.requires.within))
+          ∙ ap (with_bytes_at buffer c.args.at) (sym more);
       until = omega (arith, inv.until);
       size = omega (arith, ap length more, length-append now (point_bytes p), point_size p, inv.size);
     }

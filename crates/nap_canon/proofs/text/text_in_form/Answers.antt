@@ -11,14 +11,14 @@ use Rattle.nap_canon.specs.Sinking.{Canonical}
 use Rattle.nap_canon.specs.Spelling.{Piece}
 use Rattle.nap_canon.specs.Text.{pieces_bytes, text_end_after, pieces, entry_pieces, header, text_in}
 use Rattle.nap_canon.proofs.sinks.SinkingLemmas.{header_sent}
-use Rattle.nap_canon.proofs.texts.WalkLemmas.{text_more, tail_more, walk_more, fits_at}
+use Rattle.nap_canon.proofs.texts.WalkLemmas.{text_more, text_end_more, walk_more, fits_at}
 use Rattle.nap_canon.proofs.text.text_in_form.Goals as goal
 
 alone : (form : Form) (s : State) (e : Entry) → pieces form s (e ∷ []) ≡ entry_pieces form s e
 unfolding pieces
 alone form s e = append-nil (entry_pieces form s e)
 
--- one entry in the terms of the text
+-- the pieces of one more entry, in terms of the text
 next_pieces : {O : Type 0} (form : Form) (u : Canonical O) (so_far : State) (e : Entry) → u.form ≡ form → u.state ≡ so_far → pieces u.form u.state (e ∷ []) ≡ entry_pieces form so_far e
 next_pieces form u so_far e same state =
     alone u.form u.state e
@@ -67,7 +67,7 @@ loop-entry-preserved c =
           took.text_end
           ∙ ap (text_end_after sink.text_end) next
           ∙ ap (λ (t : TextEnd). text_end_after t (entry_pieces form so_far e)) c.loop-entry.invariant.text_end
-          ∙ tail_more form es i e within is;
+          ∙ text_end_more form es i e within is;
       state = c.in-Ok.ensures.after ∙ ap (λ (t : State). after t e) c.loop-entry.invariant.state ∙ walk_more es i e within is;
       range = All-more InRange es i e within c.loop-entry.invariant.range (subst InRange is c.in_range.ensures);
     }

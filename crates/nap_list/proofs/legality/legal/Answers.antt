@@ -14,12 +14,12 @@ pub loop-index-preserved : goal.loop-index-preserved
 loop-index-preserved c =
     let es = c.args.entries.now in
     let e = c.index-entries-index.result in
-    let front = take c.loop-index.index es in
+    let prefix = take c.loop-index.index es in
     let before = c.loop-index.invariant in
     let fits = subst (λ (s : State). Fits s e) before.state (c.fits.ensures.0 c.if-not-fits.false) in
     rw (one_more es c.loop-index.index e c.loop-index-test.true c.index-entries-index.is) (record {
-      state = c.step.ensures ∙ (ap (λ (s : State). after s e) before.state ∙ sym (walk_more start front e));
-      fit = fit_more start front e before.fit fits;
+      state = c.step.ensures ∙ (ap (λ (s : State). after s e) before.state ∙ sym (walk_more start prefix e));
+      fit = fit_more start prefix e before.fit fits;
     })
 
 pub returns-then-not-fits-clause-ok : goal.returns-then-not-fits-clause-ok

@@ -2,7 +2,7 @@ use Rattle.std.proofs.Common.{◌≡◌, take}
 use Rattle.nap_list.specs.State.{start, walk, AllFit}
 use Rattle.nap_list.proofs.legality.legal.Given as goal
 
--- the state so far, and that the entries so far fit
+-- the state after the entries so far, which fit
 abbrev pub invariant-loop-index : goal.invariant-loop-index
 invariant-loop-index l = record {
   state : l.state ≡ walk start (take l.index l.entries);

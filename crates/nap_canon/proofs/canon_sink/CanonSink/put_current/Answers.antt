@@ -3,7 +3,7 @@ use Rattle.nap_list.specs.Batches.{batch_entries}
 use Rattle.nap_list.specs.PuttingLaws.{put_begins}
 use Rattle.nap_canon.specs.Batches.{canon_sink_model, PutsSome}
 use Rattle.nap_canon.specs.SinkLaws.{took_none}
-use Rattle.nap_canon.proofs.sinks.PutLemmas.{behind_broke, halts_within, part_put, stands_on, works_behind}
+use Rattle.nap_canon.proofs.sinks.PutLemmas.{broke_after, halts_within, part_put, current_after_part, works_after}
 use Rattle.nap_canon.proofs.canon_sink.CanonSink.put_current.Goals as goal
 
 pub loop-taken-init : goal.loop-taken-init
@@ -14,7 +14,7 @@ loop-taken-init g c =
       from = omega arith;
       few = c.requires.few;
       putting = put_begins (canon_sink_model o) s (drop c.args.first (batch_entries c.args.batch.now)) (took_none o s);
-      stand = c.requires.stand;
+      current = c.requires.current;
       works = c.requires.works;
     }
 
@@ -33,8 +33,8 @@ loop-taken-preserved g c =
       from = omega (arith, inv.from);
       few = omega (arith, some.1, inv.few, length-drop taken list);
       putting = part_put o s t u (drop c.args.first list) list taken inv.putting more (taken + more) refl some.2;
-      stand = stands_on o t u list taken more (taken + more) refl inv.stand some;
-      works = works_behind o t u (drop taken list) more some;
+      current = current_after_part o t u list taken more (taken + more) refl inv.current some;
+      works = works_after o t u (drop taken list) more some;
     }
 
 pub overflow_add-result : goal.overflow_add-result
@@ -48,4 +48,4 @@ overflow_add-result g c =
 pub returns-in-Err : goal.returns-in-Err
 returns-in-Err g c =
     let inv = c.loop-taken.invariant in
-    behind_broke g.O.Outlet c.args.self.now c.loop-taken.self c.put_one_write.new.self (batch_entries c.args.batch.now) c.args.first c.loop-taken.taken c.in-Err.more inv.from inv.few inv.putting c.in-Err.ensures
+    broke_after g.O.Outlet c.args.self.now c.loop-taken.self c.put_one_write.new.self (batch_entries c.args.batch.now) c.args.first c.loop-taken.taken c.in-Err.more inv.from inv.few inv.putting c.in-Err.ensures

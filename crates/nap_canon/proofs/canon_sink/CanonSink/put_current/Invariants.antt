@@ -10,7 +10,7 @@ invariant-loop-taken g l = record {
   from : l.first ≤ l.taken;
   few : l.taken ≤ length (batch_entries l.batch);
   putting : Putting (canon_sink_model g.O.Outlet) l.fn.self l.self (drop l.first (batch_entries l.batch)) (drop l.taken (batch_entries l.batch));
-  stand : EachIsCurrent l.self.state (drop l.taken (batch_entries l.batch));
+  current : EachIsCurrent l.self.state (drop l.taken (batch_entries l.batch));
   works : g.O.Outlet.failed l.self.outlet ≡ false;
 }
 

@@ -32,7 +32,7 @@ returns-in-Err g c s so =
     record {
       less = c.loop-taken-test.true;
       mid = at.self;
-      front = at.invariant.sent s so;
+      prefix = at.invariant.sent s so;
       next = none_taken g.O.Outlet at.self.outlet c.write.new.self at.self.written (slice_index bytes at.taken) c.in-Err.ensures.bytes
           c.in-Err.ensures.failed c.in-Err.ensures.write_failed c.in-Err.ensures.flushes;
     }

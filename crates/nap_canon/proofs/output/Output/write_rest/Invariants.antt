@@ -4,7 +4,7 @@ use Rattle.nap_canon.specs.declared.output.Output.{Output}
 use Rattle.nap_canon.specs.Sinking.{TakesAll}
 use Rattle.nap_canon.proofs.output.Output.write_rest.Given as goal
 
--- from whatever output the bytes before these were taken
+-- the bytes before these were taken, from any output
 abbrev pub invariant-loop-taken : goal.invariant-loop-taken
 invariant-loop-taken g l = record {
   within : l.taken ≤ length l.bytes;

@@ -14,6 +14,6 @@ returns-in_default g c =
     record {
       less = omega (arith, eqb-false _ 0 (sym c.is_empty.ensures ∙ c.if-is_empty.false));
       mid = s;
-      front = sends_none (sending g.O.Outlet s.outlet s.written);
+      prefix = sends_none (sending g.O.Outlet s.outlet s.written);
       next = none_taken g.O.Outlet s.outlet c.write.new.self s.written (slice_index bytes 0) failed.bytes failed.failed failed.write_failed failed.flushes;
     }

@@ -1,11 +1,11 @@
 use Rattle.std.specs.Prelude.{Some}
 use Rattle.nap_canon.specs.Preludes.{option_commands, colour_prelude}
-use Rattle.nap_canon.proofs.texts.WritingLemmas.{both_told}
+use Rattle.nap_canon.proofs.texts.WritingLemmas.{both_commands}
 use Rattle.nap_canon.proofs.pending.Pending.append_colour_prelude.Goals as goal
 
-pub returns-clause-lays : goal.returns-clause-lays
-returns-clause-lays c =
+pub returns-clause-appends : goal.returns-clause-appends
+returns-clause-appends c =
     let two = c.colour_prelude-first in
     let d = c.args.old.now in
-    both_told (option_commands two.result.0) (option_commands two.result.1) (colour_prelude d.base d.colour (Some c.args.colour)) c.args.self.now c.append_command_if.new.self c.append_command_if-2.new.self two.ensures
-    c.append_command_if.ensures.lays c.append_command_if-2.ensures.lays
+    both_commands (option_commands two.result.0) (option_commands two.result.1) (colour_prelude d.base d.colour (Some c.args.colour)) c.args.self.now c.append_command_if.new.self c.append_command_if-2.new.self two.ensures
+    c.append_command_if.ensures.appends c.append_command_if-2.ensures.appends

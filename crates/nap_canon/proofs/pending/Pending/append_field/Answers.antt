@@ -17,4 +17,4 @@ returns-in-Part c =
     ∙ ap (λ (bs : List ℕ). point_bytes from ++ bs) (c.deref-in-Part.ensures.0 ∙ c.put_move.ensures ∙ ap move_bytes c.to.ensures ∙ sym (append-nil step)) in
     let t = c.append_opcode_and_operands-in-Part.new.self in
     subst (λ (a : Area). AppendsPiece (opcode 0x38 (area_bytes a)) c.args.self.now t) (sym c.in-Part.is)
-    (subst (λ (bs : List ℕ). AppendsPiece (opcode 0x38 bs) c.args.self.now t) corners c.append_opcode_and_operands-in-Part.ensures.lays)
+    (subst (λ (bs : List ℕ). AppendsPiece (opcode 0x38 bs) c.args.self.now t) corners c.append_opcode_and_operands-in-Part.ensures.appends)

@@ -1,16 +1,16 @@
 use Rattle.std.proofs.Common.{List, ◌++◌, Some, refl}
 use Rattle.nap_canon.specs.declared.command.Command.{Command}
 use Rattle.nap_canon.specs.Preludes.{pen_prelude, pel_prelude, colour_prelude, texture_prelude, text_prelude, prelude}
-use Rattle.nap_canon.proofs.texts.WritingLemmas.{both_told, told_before}
+use Rattle.nap_canon.proofs.texts.WritingLemmas.{both_commands, commands_before}
 use Rattle.nap_canon.proofs.pending.Pending.append_hand_prelude.Goals as goal
 
-pub returns-clause-lays : goal.returns-clause-lays
+pub returns-clause-appends : goal.returns-clause-appends
 unfolding prelude pel_prelude texture_prelude
-returns-clause-lays c =
+returns-clause-appends c =
     let d = c.args.old.now in
     let hand = c.args.hand.now in
     let t = c.append_look_prelude.new.self in
     let colour : List Command = colour_prelude d.base d.colour (Some hand.colour) in
     let text : List Command = text_prelude d.text (Some hand.text) in
-    told_before c.pen_prelude.result (pen_prelude d.pen (Some hand.pen)) (colour ++ text) c.args.self.now c.append_command_if.new.self t c.pen_prelude.ensures c.append_command_if.ensures.lays
-    (both_told colour text (colour ++ text) c.append_command_if.new.self c.append_colour_prelude.new.self t refl c.append_colour_prelude.ensures.lays c.append_look_prelude.ensures.lays)
+    commands_before c.pen_prelude.result (pen_prelude d.pen (Some hand.pen)) (colour ++ text) c.args.self.now c.append_command_if.new.self t c.pen_prelude.ensures c.append_command_if.ensures.appends
+    (both_commands colour text (colour ++ text) c.append_command_if.new.self c.append_colour_prelude.new.self t refl c.append_colour_prelude.ensures.appends c.append_look_prelude.ensures.appends)

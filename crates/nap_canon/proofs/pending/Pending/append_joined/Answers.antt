@@ -6,7 +6,7 @@ use Rattle.nap_list.specs.BatchLaws.{sized_lines, sized_text}
 use Rattle.nap_canon.specs.declared.text_end.TextEnd.TheVariants.{InRun}
 use Rattle.nap_canon.specs.Batches.{opening, joined_bytes, text_end_after_joined, points_bytes, run_opening}
 use Rattle.nap_canon.specs.Text.{run_after}
-use Rattle.nap_canon.proofs.sinks.FrontLemmas.{behind_some, behind_ends}
+use Rattle.nap_canon.proofs.sinks.PrefixLemmas.{rest_some, rest_ends}
 use Rattle.nap_canon.proofs.pending.Pending.append_joined.Goals as goal
 
 pub part-requires-in-Lines : goal.part-requires-in-Lines
@@ -27,16 +27,16 @@ returns-in-Lines-clause-bytes c =
     (ap (λ (n : ℕ). run_opening w.text_end 0x28 (8 * n) ++ points_bytes c.part-in-Lines.result.now) size
     ∙ ap (λ (qs : List Coordinates). run_opening w.text_end 0x28 (8 * c.args.count) ++ points_bytes qs) c.part-in-Lines.ensures
     ∙ ap (λ (b : Batch). opening w.text_end b c.args.count ++ joined_bytes b c.args.first c.args.count) (sym c.in-Lines.is)
-    ∙ sym (behind_some w.text_end c.args.batch.now c.args.first c.args.count (omega (arith, c.if-count-eq0.false))))
+    ∙ sym (rest_some w.text_end c.args.batch.now c.args.first c.args.count (omega (arith, c.if-count-eq0.false))))
 
-pub returns-in-Lines-clause-tail : goal.returns-in-Lines-clause-tail
-returns-in-Lines-clause-tail c =
+pub returns-in-Lines-clause-text_end : goal.returns-in-Lines-clause-text_end
+returns-in-Lines-clause-text_end c =
     let w = c.args.self.now in
     let ps = c.in-Lines.points.now in
     let size : length c.part-in-Lines.result.now ≡ c.args.count =
     ap length c.part-in-Lines.ensures
     ∙ length-take-le c.args.count (drop c.args.first ps) (omega (arith, c.requires.few, sized_lines _ _ _ _ c.in-Lines.is, length-drop c.args.first ps)) in
-    c.append_point_run-in-Lines.ensures.tail
+    c.append_point_run-in-Lines.ensures.text_end
     ∙ ap (λ (n : ℕ). InRun (run_after w.text_end 0x28 (8 * n))) size
     ∙ ap (λ (b : Batch). text_end_after_joined w.text_end b c.args.count) (sym c.in-Lines.is)
-    ∙ sym (behind_ends w.text_end c.args.batch.now c.args.count (omega (arith, c.if-count-eq0.false)))
+    ∙ sym (rest_ends w.text_end c.args.batch.now c.args.count (omega (arith, c.if-count-eq0.false)))

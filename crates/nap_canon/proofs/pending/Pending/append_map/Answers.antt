@@ -3,7 +3,7 @@ use Rattle.nap_values.specs.Spellings.{grb_bytes}
 use Rattle.nap_list.specs.declared.attribute.Colour.TheVariants.{Front}
 use Rattle.nap_canon.specs.Preludes.{colour_prelude}
 use Rattle.nap_canon.specs.Spelling.{Piece, opcode, command_piece}
-use Rattle.nap_canon.proofs.texts.WritingLemmas.{both_laid, one_piece}
+use Rattle.nap_canon.proofs.texts.WritingLemmas.{both_appended, one_piece}
 use Rattle.nap_canon.proofs.pending.Pending.append_map.Goals as goal
 
 pub returns : goal.returns
@@ -13,4 +13,4 @@ returns c =
     let t = c.append_set_color.new.self in
     let ps : List Piece = map command_piece (colour_prelude d.base d.colour (Some (Front c.args.addr))) in
     let last : Piece = opcode 0x3C (grb_bytes c.args.grb) in
-    both_laid ps (last ∷ []) _ c.args.self.now m t refl c.append_colour_prelude.ensures.lays (one_piece last m t c.append_set_color.ensures.lays)
+    both_appended ps (last ∷ []) _ c.args.self.now m t refl c.append_colour_prelude.ensures.appends (one_piece last m t c.append_set_color.ensures.appends)

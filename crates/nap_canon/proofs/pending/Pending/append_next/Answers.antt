@@ -3,7 +3,7 @@ use Rattle.nap_values.specs.Spellings.{point_bytes}
 use Rattle.nap_list.specs.BatchLaws.{sized_lines, sized_text}
 use Rattle.nap_canon.specs.Spelling.{joinable_piece, line_piece, text_byte_piece}
 use Rattle.nap_canon.proofs.sinks.JoinLemmas.{next_point, next_line, next_typed}
-use Rattle.nap_canon.proofs.texts.WritingLemmas.{lays_one}
+use Rattle.nap_canon.proofs.texts.WritingLemmas.{one_appended}
 use Rattle.nap_canon.proofs.pending.Pending.append_next.Goals as goal
 
 pub line_start-requires : goal.line_start-requires
@@ -19,22 +19,22 @@ pub returns-in-Points : goal.returns-in-Points
 returns-in-Points c e es is =
     let s = c.args.state.now in
     let p = c.item.result in
-    lays_one c.args.form s e (joinable_piece c.args.form 0x26 (point_bytes p)) c.args.self.now c.append_point.new.self
-    (next_point c.args.form s c.args.batch.now c.in-Points.points c.in-Points.drawing c.args.index p _ c.in-Points.is c.item.ensures c.requires.stand e es is) c.append_point.ensures
+    one_appended c.args.form s e (joinable_piece c.args.form 0x26 (point_bytes p)) c.args.self.now c.append_point.new.self
+    (next_point c.args.form s c.args.batch.now c.in-Points.points c.in-Points.drawing c.args.index p _ c.in-Points.is c.item.ensures c.requires.current e es is) c.append_point.ensures
 
 pub returns-in-Lines : goal.returns-in-Lines
 returns-in-Lines c e es is =
     let s = c.args.state.now in
     let p = c.item-in-Lines.result in
     let start = c.line_start.result in
-    lays_one c.args.form s e (line_piece c.args.form s.drawing.pen start p) c.args.self.now c.append_line.new.self
-    (next_line c.args.form s c.args.batch.now c.in-Lines.from start c.in-Lines.points c.in-Lines.drawing c.args.index p _ c.in-Lines.is c.item-in-Lines.ensures c.line_start.ensures c.requires.stand e es is)
+    one_appended c.args.form s e (line_piece c.args.form s.drawing.pen start p) c.args.self.now c.append_line.new.self
+    (next_line c.args.form s c.args.batch.now c.in-Lines.from start c.in-Lines.points c.in-Lines.drawing c.args.index p _ c.in-Lines.is c.item-in-Lines.ensures c.line_start.ensures c.requires.current e es is)
     c.append_line.ensures
 
 pub returns-in-Text : goal.returns-in-Text
 returns-in-Text c e es is =
     let s = c.args.state.now in
     let code = c.item-in-Text.result in
-    lays_one c.args.form s e (text_byte_piece c.in-Text.set code) c.args.self.now c.append_text_byte.new.self
-    (next_typed c.args.form s c.args.batch.now c.in-Text.set c.in-Text.codes c.in-Text.pen c.in-Text.drawing c.args.index code _ c.in-Text.is c.item-in-Text.ensures c.requires.stand e es is)
+    one_appended c.args.form s e (text_byte_piece c.in-Text.set code) c.args.self.now c.append_text_byte.new.self
+    (next_typed c.args.form s c.args.batch.now c.in-Text.set c.in-Text.codes c.in-Text.pen c.in-Text.drawing c.args.index code _ c.in-Text.is c.item-in-Text.ensures c.requires.current e es is)
     c.append_text_byte.ensures

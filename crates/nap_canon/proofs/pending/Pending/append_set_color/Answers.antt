@@ -1,6 +1,6 @@
 use Rattle.std.proofs.Common.{◌≡◌, arith, ap, sym, ◌∙◌, length}
 use Rattle.std.proofs.lemmas.List.{length-take-le}
-use Rattle.nap_canon.proofs.texts.GatheredLemmas.{grb_size}
+use Rattle.nap_canon.proofs.texts.PointsLemmas.{grb_size}
 use Rattle.nap_canon.proofs.pending.Pending.append_set_color.Goals as goal
 
 pub slice_bounds-append_opcode_and_operands-end-2 : goal.slice_bounds-append_opcode_and_operands-end-2

@@ -2,7 +2,7 @@ use Rattle.std.proofs.Common.{arith, subst, sym, ◌<◌, length}
 use Rattle.nap_list.specs.declared.batch.Batch.{Batch}
 use Rattle.nap_list.specs.BatchLaws.{sized_lines, sized_text}
 use Rattle.nap_canon.specs.Batches.{JoinsAfter}
-use Rattle.nap_canon.proofs.sinks.FrontLemmas.{line_left}
+use Rattle.nap_canon.proofs.sinks.PrefixLemmas.{line_left}
 use Rattle.nap_canon.proofs.writer.Writer.joining_count_after.Goals as goal
 
 pub joining_code_count-requires : goal.joining_code_count-requires

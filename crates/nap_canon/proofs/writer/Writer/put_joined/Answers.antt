@@ -1,5 +1,5 @@
 use Rattle.nap_canon.specs.Batches.{opening}
-use Rattle.nap_canon.proofs.sinks.FrontLemmas.{joined_cut, joined_whole}
+use Rattle.nap_canon.proofs.sinks.PrefixLemmas.{joined_cut, joined_whole}
 use Rattle.nap_canon.proofs.sinks.JoinLemmas.{whole_few}
 use Rattle.nap_canon.proofs.writer.Writer.put_joined.Goals as goal
 
@@ -11,10 +11,10 @@ step_from-requires-in-Err-clause-few g c =
 
 pub returns-in-Ok : goal.returns-in-Ok
 returns-in-Ok g c =
-    joined_whole g.T.ByteSink.sent c.args.self.now c.write_joined.new.self c.args.batch.now c.args.first c.args.count c.requires.some c.requires.few c.requires.stand c.requires.joins
+    joined_whole g.T.ByteSink.sent c.args.self.now c.write_joined.new.self c.args.batch.now c.args.first c.args.count c.requires.some c.requires.few c.requires.current c.requires.joins
     c.in-Ok.ensures c.step_from.new.self c.step_from.ensures
 
 pub returns-in-Err : goal.returns-in-Err
 returns-in-Err g c =
-    joined_cut g.T.ByteSink.sent c.args.self.now c.write_joined.new.self c.args.batch.now c.args.first c.args.count c.requires.some c.requires.few c.requires.stand c.requires.joins
+    joined_cut g.T.ByteSink.sent c.args.self.now c.write_joined.new.self c.args.batch.now c.args.first c.args.count c.requires.some c.requires.few c.requires.current c.requires.joins
     c.in-Err.whole c.in-Err.ensures c.step_from-in-Err.new.self c.step_from-in-Err.ensures

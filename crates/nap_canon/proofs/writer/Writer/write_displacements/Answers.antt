@@ -5,7 +5,7 @@ use Rattle.std.proofs.lemmas.Result.{err_from_is_err_and}
 use Rattle.nap_values.specs.Coordinates.{Coordinates}
 use Rattle.nap_list.specs.Batches.{last_point}
 use Rattle.nap_canon.specs.Spelling.{displacement_bytes}
-use Rattle.nap_canon.proofs.texts.WriterLemmas.{onward_part, sent_second}
+use Rattle.nap_canon.proofs.texts.WriterLemmas.{displacements_part, sent_second}
 use Rattle.nap_canon.proofs.writer.Writer.write_displacements.Goals as goal
 
 pub loop-chunk-init : goal.loop-chunk-init
@@ -37,7 +37,7 @@ loop-chunk-preserved g c =
       sent = (
         so_far.0 ++ piece,
         g.met.T.ByteSink.sent_more c.args.self.now.target c.loop-chunk.self.target c.write_all.new.self so_far.0 piece false so_far.1 c.in_ok-write_all.ensures,
-        onward_part so_far.0 piece (displacement_bytes c.args.first c.args.others.now) c.loop-chunk.from c.line_start-from.result _ c.in-Some.chunk.now (chunks_rest c.next.new.self)
+        displacements_part so_far.0 piece (displacement_bytes c.args.first c.args.others.now) c.loop-chunk.from c.line_start-from.result _ c.in-Some.chunk.now (chunks_rest c.next.new.self)
             steps.1.0 (c.as_slice.ensures ∙ c.append_displacements.ensures.bytes ∙ ap (λ (bs : List ℕ). bs ++ displacement_bytes c.loop-chunk.from c.in-Some.chunk.now) c.clear.ensures) last so_far.2,
       );
       text_end = inv.text_end;
@@ -54,7 +54,7 @@ returns-in_err-write_all g c =
     let failure = err_from_is_err_and c.from_residual.result c.from_residual.ensures.1 in
     rw failure.1 (record {
       sent = sent_second g.T.ByteSink.sent g.met.T.ByteSink.sent_more g.met.T.ByteSink.sent_cut c.args.self.now.target c.loop-chunk.self.target c.write_all.new.self so_far.0 piece _ whole
-          (onward_part so_far.0 piece whole from (last_point from part) _ part (chunks_rest c.next.new.self) c.in-Some.ensures.steps.1.0 (c.as_slice.ensures ∙ c.append_displacements.ensures.bytes ∙ ap (λ (bs : List ℕ). bs ++ displacement_bytes c.loop-chunk.from c.in-Some.chunk.now) c.clear.ensures) refl so_far.2)
+          (displacements_part so_far.0 piece whole from (last_point from part) _ part (chunks_rest c.next.new.self) c.in-Some.ensures.steps.1.0 (c.as_slice.ensures ∙ c.append_displacements.ensures.bytes ∙ ap (λ (bs : List ℕ). bs ++ displacement_bytes c.loop-chunk.from c.in-Some.chunk.now) c.clear.ensures) refl so_far.2)
           so_far.1 c.in_err-write_all.ensures;
       text_end = c.loop-chunk.invariant.text_end;
       kept = c.loop-chunk.invariant.kept;

@@ -3,7 +3,7 @@ use Rattle.std.specs.Slice.Iter.{chunks_rest, chunks_size}
 use Rattle.nap_canon.specs.Spelling.{displacement_bytes}
 use Rattle.nap_canon.proofs.writer.Writer.write_displacements.Given as goal
 
--- what was sent so far, and the displacements left, are all of them
+-- the displacements sent so far, and those left, are all of them
 abbrev pub invariant-loop-chunk : goal.invariant-loop-chunk
 invariant-loop-chunk g l = record {
   can : (goal.iterator-loop-chunk g).can_next l.chunk-iterator;

@@ -28,7 +28,7 @@ returns-in-Lines g c =
       kept = c.write_run-in-Lines.ensures.kept;
     })
 
--- the codes are few that open a text
+-- the codes that open a text are few
 few_codes : (text_end : TextEnd) (codes part : List ℕ) (count : ℕ) → TextJoins text_end codes count → length part ≡ count → (text_end ≡ NoRun G0) ⊎ (length part ≤ 1023)
 few_codes text_end codes part count (inl is) size = inl is
 few_codes text_end codes part count (inr opens) size = inr (omega (arith, opens.0, size))

@@ -16,7 +16,7 @@ returns-in_err-write_all g c =
     let failure = err_from_is_err_and c.from_residual.result c.from_residual.ensures.1 in
     rw failure.1 (record {
       sent = sent_first g.T.ByteSink.sent g.met.T.ByteSink.sent_more g.met.T.ByteSink.sent_cut w.target c.write_all.new.self bytes (displacement_bytes (last_point first near) far) _
-          (shape_joined w.pending.bytes w.pending.text_end c.args.code first (last_point first near) near far c.args.others.now bytes (c.as_slice.ensures ∙ c.append_shape.ensures.laid)
+          (shape_joined w.pending.bytes w.pending.text_end c.args.code first (last_point first near) near far c.args.others.now bytes (c.as_slice.ensures ∙ c.append_shape.ensures.appended)
           c.split_at.ensures.by_index.0 refl)
           c.in_err-write_all.ensures;
       text_end = c.append_shape.ensures.text_end;
@@ -34,7 +34,7 @@ returns g c =
     let ends : last ≡ last_point first near = c.line_start.ensures ∙ ap (last_point first) (take_all _ near (omega arith)) in
     record {
       sent = sent_both g.T.ByteSink.sent g.met.T.ByteSink.sent_more g.met.T.ByteSink.sent_cut w.target c.write_all.new.self c.write_displacements.new.self.target bytes (displacement_bytes last far) _ (is_err c.write_displacements.result)
-          (shape_joined w.pending.bytes w.pending.text_end c.args.code first last near far c.args.others.now bytes (c.as_slice.ensures ∙ c.append_shape.ensures.laid)
+          (shape_joined w.pending.bytes w.pending.text_end c.args.code first last near far c.args.others.now bytes (c.as_slice.ensures ∙ c.append_shape.ensures.appended)
           c.split_at.ensures.by_index.0 ends)
           c.in_ok-write_all.ensures c.write_displacements.ensures.sent;
       text_end = c.write_displacements.ensures.text_end ∙ c.append_shape.ensures.text_end;

@@ -9,7 +9,7 @@ abbrev pub invariant-loop-block : goal.invariant-loop-block
 invariant-loop-block l = record {
   vacant : l.scratch.cap ≡ 0;
   places : length l.rest + 3 * l.points.len ≤ 3 * l.points.cap + 2;
-  filling : Filling (points_at (moves 3 (operand_words l.fn.run))) (points_at (moves 3 (operand_words l.rest))) false (λ front. l.points.items ≡ front);
+  filling : Filling (points_at (moves 3 (operand_words l.fn.run))) (points_at (moves 3 (operand_words l.rest))) false (λ prefix. l.points.items ≡ prefix);
 }
 
 abbrev pub decreases-loop-block : goal.decreases-loop-block
@@ -19,7 +19,7 @@ abbrev pub invariant-loop-rest : goal.invariant-loop-rest
 invariant-loop-rest l = record {
   vacant : l.scratch.cap ≡ 0;
   places : length l.rest + 3 * l.points.len ≤ 3 * l.points.cap + 2;
-  filling : Filling (points_at (moves 3 (operand_words l.fn.run))) (points_at (moves 3 (operand_words l.rest))) false (λ front. l.points.items ≡ front);
+  filling : Filling (points_at (moves 3 (operand_words l.fn.run))) (points_at (moves 3 (operand_words l.rest))) false (λ prefix. l.points.items ≡ prefix);
 }
 
 abbrev pub decreases-loop-rest : goal.decreases-loop-rest

@@ -3,7 +3,7 @@ use Rattle.nap_values.specs.Coordinates.{point_at}
 use Rattle.nap_draw.specs.Geometry.{points_at}
 use Rattle.nap_draw.proofs.ByteRuns.{moves_chunk, moves_none}
 use Rattle.nap_draw.proofs.Decoding.{filling_more, filling_none, filled, still_kept, pushed}
-use Rattle.nap_draw.proofs.Turns.{points_turn, onward_more, onward_none}
+use Rattle.nap_draw.proofs.Turns.{points_turn, cons_if_all_more, cons_if_all_none}
 use Rattle.nap_draw.proofs.scratch.points.points_into.Goals as goal
 
 pub returns-in_default : goal.returns-in_default
@@ -11,7 +11,7 @@ returns-in_default c =
     let inv = c.loop-operand.invariant in
     let steps = c.in-Some.ensures.steps in
     let cut = moves_chunk c.args.domain.multi _ _ _ _ inv.size (omega (arith, c.multi-size.ensures.value, c.multi-size.ensures.least)) steps.1.0 steps.1.1 steps.1.2 in
-    filling_none _ _ _ _ inv.filling (onward_none _ _ _ (points_turn _ _ _ cut) (sym (c.point.ensures ∙ ap point_at c.multi_bytes.ensures) ∙ c.in_default.is))
+    filling_none _ _ _ _ inv.filling (cons_if_all_none _ _ _ (points_turn _ _ _ cut) (sym (c.point.ensures ∙ ap point_at c.multi_bytes.ensures) ∙ c.in_default.is))
 
 pub loop-operand-preserved : goal.loop-operand-preserved
 loop-operand-preserved c =
@@ -23,11 +23,11 @@ loop-operand-preserved c =
       finite = tt;
       size = steps.0 ∙ inv.size;
       filling = filling_more _ _ _ c.in-Some-point.point _ _ _ _ inv.filling
-          (onward_more _ _ _ _ (points_turn _ _ _ cut) (sym (c.point.ensures ∙ ap point_at c.multi_bytes.ensures) ∙ c.in-Some-point.is))
+          (cons_if_all_more _ _ _ _ (points_turn _ _ _ cut) (sym (c.point.ensures ∙ ap point_at c.multi_bytes.ensures) ∙ c.in-Some-point.is))
           (still_kept _ _)
-          (λ front e kept. pushed _ _ _ _ _ _ c.push.ensures.items c.is_err-full.ensures.value e ∙ ap (λ l. l ++ c.in-Some-point.point ∷ []) kept);
+          (λ prefix e kept. pushed _ _ _ _ _ _ c.push.ensures.items c.is_err-full.ensures.value e ∙ ap (λ l. l ++ c.in-Some-point.point ∷ []) kept);
     }
 
 pub returns : goal.returns
 unfolding points_at
-returns c = filled _ _ _ _ _ _ c.loop-operand.invariant.filling (ap points_at (moves_none _ _ c.in-None.ensures.steps.1.0)) (λ front kept. kept) c.memory_fault_if.ensures.ok c.memory_fault_if.ensures.err
+returns c = filled _ _ _ _ _ _ c.loop-operand.invariant.filling (ap points_at (moves_none _ _ c.in-None.ensures.steps.1.0)) (λ prefix kept. kept) c.memory_fault_if.ensures.ok c.memory_fault_if.ensures.err

@@ -11,5 +11,5 @@ invariant-loop-operand l = record {
   can : (goal.iterator-loop-operand).can_next l.operand-iterator;
   finite : (goal.iterator-loop-operand).is_finite l.operand-iterator;
   size : chunks_size l.operand-iterator ≡ l.fn.domain.multi;
-  filling : Filling (points_at (moves l.fn.domain.multi (operand_words l.fn.run))) (points_at (moves l.fn.domain.multi (operand_words (chunks_rest l.operand-iterator)))) l.full (λ front. l.scratch.items ≡ front);
+  filling : Filling (points_at (moves l.fn.domain.multi (operand_words l.fn.run))) (points_at (moves l.fn.domain.multi (operand_words (chunks_rest l.operand-iterator)))) l.full (λ prefix. l.scratch.items ≡ prefix);
 }

@@ -4,7 +4,7 @@ use Rattle.nap_draw.specs.declared.spans.Span.{Span}
 use Rattle.nap_draw.specs.Geometry.{rect_chain_spans, span}
 use Rattle.nap_draw.proofs.ByteRuns.{moves_chunk, moves_none}
 use Rattle.nap_draw.proofs.Decoding.{filling_more, filling_none, filled, still_kept, pushed, crossed_more, crossed_all}
-use Rattle.nap_draw.proofs.Turns.{across_turn, onward_more, onward_none}
+use Rattle.nap_draw.proofs.Turns.{across_turn, cons_if_all_more, cons_if_all_none}
 use Rattle.nap_draw.proofs.scratch.spans.corners_into.Goals as goal
 
 pub returns-in_default : goal.returns-in_default
@@ -13,7 +13,7 @@ returns-in_default c =
     let steps = c.in-Some.ensures.steps in
     let cut = moves_chunk c.args.domain.multi _ _ _ _ inv.size (omega (arith, c.multi-size.ensures.value, c.multi-size.ensures.least)) steps.1.0 steps.1.1 steps.1.2 in
     let out = sym (c.by.ensures ∙ ap (displaced_point c.loop-operand.at) c.multi_bytes.ensures) ∙ c.in_default.is in
-    filling_none _ _ _ _ inv.filling (onward_none _ _ _ (across_turn _ _ _ _ cut) (ap (span (Some c.loop-operand.at)) out))
+    filling_none _ _ _ _ inv.filling (cons_if_all_none _ _ _ (across_turn _ _ _ _ cut) (ap (span (Some c.loop-operand.at)) out))
 
 pub loop-operand-preserved : goal.loop-operand-preserved
 loop-operand-preserved c =
@@ -28,12 +28,12 @@ loop-operand-preserved c =
       finite = tt;
       size = steps.0 ∙ inv.size;
       filling = filling_more _ _ _ here _ _ _ _ inv.filling
-          (onward_more _ _ here _ (across_turn at _ _ _ cut) (ap (span (Some at)) inside))
+          (cons_if_all_more _ _ here _ (across_turn at _ _ _ cut) (ap (span (Some at)) inside))
           (still_kept _ _)
-          (λ front e kept. crossed_more _ at _ _ _ front (pushed _ _ _ _ _ _ c.push.ensures.items c.is_err-full.ensures.value e) kept);
+          (λ prefix e kept. crossed_more _ at _ _ _ prefix (pushed _ _ _ _ _ _ c.push.ensures.items c.is_err-full.ensures.value e) kept);
     })
 
 pub returns : goal.returns
 unfolding rect_chain_spans
 returns c =
-    filled _ _ _ _ _ _ c.loop-operand.invariant.filling (ap (rect_chain_spans _) (moves_none _ _ c.in-None.ensures.steps.1.0)) (λ front kept. crossed_all _ _ _ front kept) c.memory_fault_if.ensures.ok c.memory_fault_if.ensures.err
+    filled _ _ _ _ _ _ c.loop-operand.invariant.filling (ap (rect_chain_spans _) (moves_none _ _ c.in-None.ensures.steps.1.0)) (λ prefix kept. crossed_all _ _ _ prefix kept) c.memory_fault_if.ensures.ok c.memory_fault_if.ensures.err

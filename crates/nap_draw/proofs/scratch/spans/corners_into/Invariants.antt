@@ -12,5 +12,5 @@ invariant-loop-operand l = record {
   can : (goal.iterator-loop-operand).can_next l.operand-iterator;
   finite : (goal.iterator-loop-operand).is_finite l.operand-iterator;
   size : chunks_size l.operand-iterator ≡ l.fn.domain.multi;
-  filling : Filling (rect_chain_spans l.fn.from (moves l.fn.domain.multi (operand_words l.fn.run))) (rect_chain_spans l.at (moves l.fn.domain.multi (operand_words (chunks_rest l.operand-iterator)))) l.full (λ front. (qs : List Coordinates) → rect_spans l.fn.from (l.scratch.items ++ qs) ≡ front ++ rect_spans l.at qs);
+  filling : Filling (rect_chain_spans l.fn.from (moves l.fn.domain.multi (operand_words l.fn.run))) (rect_chain_spans l.at (moves l.fn.domain.multi (operand_words (chunks_rest l.operand-iterator)))) l.full (λ prefix. (qs : List Coordinates) → rect_spans l.fn.from (l.scratch.items ++ qs) ≡ prefix ++ rect_spans l.at qs);
 }

@@ -5,7 +5,7 @@ use Rattle.nap_draw.specs.Operands.{moves}
 use Rattle.nap_draw.specs.Geometry.{span_by, relative_spans}
 use Rattle.nap_draw.proofs.ByteRuns.{moves_chunk, moves_none}
 use Rattle.nap_draw.proofs.Decoding.{filling_begins, filling_more, filling_none, filled, still_kept, pushed, flat_none, flat_kept, paired_flat}
-use Rattle.nap_draw.proofs.Turns.{away_lacks, away_turn, onward_more, onward_none}
+use Rattle.nap_draw.proofs.Turns.{away_lacks, away_turn, cons_if_all_more, cons_if_all_none}
 use Rattle.nap_draw.proofs.scratch.spans.pairs_into.Goals as goal
 
 pub returns-in_default-next : goal.returns-in_default-next
@@ -25,7 +25,7 @@ returns-in_default-span_by c =
     let some : 1 ≤ k = omega (arith, c.multi-size.ensures.value, c.multi-size.ensures.least) in
     let by : c.span_by.result ≡ span_by (point_at (multi_of (operand_words c.in-Some.first.now))) (multi_of (operand_words c.in-Some-next.second.now)) = rw (c.span_by.ensures, c.point.ensures, c.multi_bytes.ensures, c.multi_bytes-in-Some.ensures) refl in
     filling_none _ _ _ _ inv.filling
-    (onward_none _ _ _ (away_turn _ _ _ _ _ (moves_chunk k _ _ _ _ inv.size some steps.1.0 steps.1.1 steps.1.2) (moves_chunk k _ _ _ _ (steps.0 ∙ inv.size) some next.1.0 next.1.1 next.1.2)) (sym by ∙ c.in_default-span_by.is))
+    (cons_if_all_none _ _ _ (away_turn _ _ _ _ _ (moves_chunk k _ _ _ _ inv.size some steps.1.0 steps.1.1 steps.1.2) (moves_chunk k _ _ _ _ (steps.0 ∙ inv.size) some next.1.0 next.1.1 next.1.2)) (sym by ∙ c.in_default-span_by.is))
 
 pub loop-first-init : goal.loop-first-init
 loop-first-init c = record {
@@ -44,9 +44,9 @@ loop-first-preserved c =
     record {
       size = next.0 ∙ steps.0 ∙ inv.size;
       filling = filling_more _ _ _ c.in-Some-span_by.span _ _ _ _ inv.filling
-          (onward_more _ _ _ _ (away_turn _ _ _ _ _ (moves_chunk k _ _ _ _ inv.size some steps.1.0 steps.1.1 steps.1.2) (moves_chunk k _ _ _ _ (steps.0 ∙ inv.size) some next.1.0 next.1.1 next.1.2)) (sym by ∙ c.in-Some-span_by.is))
+          (cons_if_all_more _ _ _ _ (away_turn _ _ _ _ _ (moves_chunk k _ _ _ _ inv.size some steps.1.0 steps.1.1 steps.1.2) (moves_chunk k _ _ _ _ (steps.0 ∙ inv.size) some next.1.0 next.1.1 next.1.2)) (sym by ∙ c.in-Some-span_by.is))
           (λ e. still_kept _ _ (still_kept _ _ e))
-          (λ front e kept. flat_kept front c.in-Some-span_by.span _ _ _
+          (λ prefix e kept. flat_kept prefix c.in-Some-span_by.span _ _ _
           (pushed _ _ _ _ _ _ c.push.ensures.items c.is_err-full.ensures.value (still_kept _ c.is_err-full-in-Some.result e))
           (pushed _ _ _ _ _ _ c.push-in-Some.ensures.items c.is_err-full-in-Some.ensures.value e) kept);
     }

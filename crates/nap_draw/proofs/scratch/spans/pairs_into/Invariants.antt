@@ -9,7 +9,7 @@ use Rattle.nap_draw.proofs.scratch.spans.pairs_into.Given as goal
 abbrev pub invariant-loop-first : goal.invariant-loop-first
 invariant-loop-first l = record {
   size : chunks_size l.operands ≡ l.fn.domain.multi;
-  filling : Filling (relative_spans (moves l.fn.domain.multi (operand_words l.fn.run))) (relative_spans (moves l.fn.domain.multi (operand_words (chunks_rest l.operands)))) l.full (λ front. l.scratch.items ≡ span_ends front);
+  filling : Filling (relative_spans (moves l.fn.domain.multi (operand_words l.fn.run))) (relative_spans (moves l.fn.domain.multi (operand_words (chunks_rest l.operands)))) l.full (λ prefix. l.scratch.items ≡ span_ends prefix);
 }
 
 abbrev pub decreases-loop-first : goal.decreases-loop-first

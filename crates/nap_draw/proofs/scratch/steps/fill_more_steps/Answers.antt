@@ -7,7 +7,7 @@ use Rattle.nap_draw.specs.Geometry.{points_reached}
 use Rattle.nap_draw.specs.Execution.{Filling}
 use Rattle.nap_draw.proofs.ByteRuns.{moves_chunk, moves_none}
 use Rattle.nap_draw.proofs.Decoding.{filling_more, filling_none, filled, still_kept, pushed}
-use Rattle.nap_draw.proofs.Turns.{reached_turn, onward_more, onward_none}
+use Rattle.nap_draw.proofs.Turns.{reached_turn, cons_if_all_more, cons_if_all_none}
 use Rattle.nap_draw.proofs.scratch.steps.fill_more_steps.Goals as goal
 
 pub loop-operand-init : goal.loop-operand-init
@@ -17,7 +17,7 @@ loop-operand-init c =
       can = omega (arith, c.from.ensures, c.multi.ensures.value, c.multi.ensures.least, c.chunks-operand-items.ensures.size, ap chunks_size given);
       finite = tt;
       size = omega (arith, c.from.ensures, c.multi.ensures.value, c.chunks-operand-items.ensures.size, ap chunks_size given);
-      filling = λ all begins. subst (λ (run : List ℕ). Filling all (points_reached c.args.from (moves c.args.domain.multi (operand_words run))) c.args.lacks (λ front. c.args.scratch.now.items ≡ front)) (sym (ap chunks_rest given ∙ c.chunks-operand-items.ensures.rest)) begins;
+      filling = λ all begins. subst (λ (run : List ℕ). Filling all (points_reached c.args.from (moves c.args.domain.multi (operand_words run))) c.args.lacks (λ prefix. c.args.scratch.now.items ≡ prefix)) (sym (ap chunks_rest given ∙ c.chunks-operand-items.ensures.rest)) begins;
     }
 
 pub returns-in_default : goal.returns-in_default
@@ -26,7 +26,7 @@ returns-in_default c =
     let steps = c.in-Some.ensures.steps in
     let cut = moves_chunk c.args.domain.multi _ _ _ _ inv.size (omega (arith, c.multi.ensures.value, c.multi.ensures.least)) steps.1.0 steps.1.1 steps.1.2 in
     let out = sym (c.by.ensures ∙ ap (displaced_point c.loop-operand.at) c.multi_bytes.ensures) ∙ c.in_default.is in
-    λ all begins. filling_none _ _ _ _ (inv.filling all begins) (onward_none _ _ _ (reached_turn _ _ _ _ cut) out)
+    λ all begins. filling_none _ _ _ _ (inv.filling all begins) (cons_if_all_none _ _ _ (reached_turn _ _ _ _ cut) out)
 
 pub loop-operand-preserved : goal.loop-operand-preserved
 loop-operand-preserved c =
@@ -38,11 +38,11 @@ loop-operand-preserved c =
       finite = tt;
       size = steps.0 ∙ inv.size;
       filling = λ all begins. filling_more _ _ _ c.in-Some-by.point _ _ _ _ (inv.filling all begins)
-          (onward_more _ _ _ _ (reached_turn _ _ _ _ cut) (sym (c.by.ensures ∙ ap (displaced_point c.loop-operand.at) c.multi_bytes.ensures) ∙ c.in-Some-by.is))
+          (cons_if_all_more _ _ _ _ (reached_turn _ _ _ _ cut) (sym (c.by.ensures ∙ ap (displaced_point c.loop-operand.at) c.multi_bytes.ensures) ∙ c.in-Some-by.is))
           (still_kept _ _)
-          (λ front e kept. pushed _ _ _ _ _ _ c.push.ensures.items c.is_err-full.ensures.value e ∙ ap (λ l. l ++ c.in-Some-by.point ∷ []) kept);
+          (λ prefix e kept. pushed _ _ _ _ _ _ c.push.ensures.items c.is_err-full.ensures.value e ∙ ap (λ l. l ++ c.in-Some-by.point ∷ []) kept);
     }
 
 pub returns : goal.returns
 unfolding points_reached
-returns c = λ all begins. filled _ _ _ _ _ _ (c.loop-operand.invariant.filling all begins) (ap (points_reached _) (moves_none _ _ c.in-None.ensures.steps.1.0)) (λ front kept. kept) c.memory_fault_if.ensures.ok c.memory_fault_if.ensures.err
+returns c = λ all begins. filled _ _ _ _ _ _ (c.loop-operand.invariant.filling all begins) (ap (points_reached _) (moves_none _ _ c.in-None.ensures.steps.1.0)) (λ prefix kept. kept) c.memory_fault_if.ensures.ok c.memory_fault_if.ensures.err

@@ -12,6 +12,6 @@ invariant-loop-operand l = record {
   can : (goal.iterator-loop-operand).can_next l.operand-iterator;
   finite : (goal.iterator-loop-operand).is_finite l.operand-iterator;
   size : chunks_size l.operand-iterator ≡ l.fn.domain.multi;
-  filling : (all : Option (List Coordinates)) → Filling all (points_reached l.fn.from (moves l.fn.domain.multi (operand_words l.fn.run))) l.fn.lacks (λ front. l.fn.scratch.items ≡ front) →
-      Filling all (points_reached l.at (moves l.fn.domain.multi (operand_words (chunks_rest l.operand-iterator)))) l.full (λ front. l.scratch.items ≡ front);
+  filling : (all : Option (List Coordinates)) → Filling all (points_reached l.fn.from (moves l.fn.domain.multi (operand_words l.fn.run))) l.fn.lacks (λ prefix. l.fn.scratch.items ≡ prefix) →
+      Filling all (points_reached l.at (moves l.fn.domain.multi (operand_words (chunks_rest l.operand-iterator)))) l.full (λ prefix. l.scratch.items ≡ prefix);
 }

@@ -7,10 +7,10 @@ use Rattle.nap_draw.proofs.scratch.steps.fill_steps_of_three.Given as goal
 
 abbrev pub invariant-loop-block : goal.invariant-loop-block
 invariant-loop-block l = record {
-  stands : l.walk ≡ l.last;
+  current : l.walk ≡ l.last;
   vacant : l.scratch.cap ≡ 0;
   places : length l.rest + 3 * l.points.len ≤ 3 * l.points.cap + 2;
-  filling : Filling (points_reached l.fn.at (moves 3 (operand_words l.fn.run))) (points_reached l.last (moves 3 (operand_words l.rest))) false (λ front. l.points.items ≡ front);
+  filling : Filling (points_reached l.fn.at (moves 3 (operand_words l.fn.run))) (points_reached l.last (moves 3 (operand_words l.rest))) false (λ prefix. l.points.items ≡ prefix);
 }
 
 abbrev pub decreases-loop-block : goal.decreases-loop-block
@@ -18,10 +18,10 @@ decreases-loop-block l = length l.rest
 
 abbrev pub invariant-loop-rest : goal.invariant-loop-rest
 invariant-loop-rest l = record {
-  stands : l.walk ≡ l.last;
+  current : l.walk ≡ l.last;
   vacant : l.scratch.cap ≡ 0;
   places : length l.rest + 3 * l.points.len ≤ 3 * l.points.cap + 2;
-  filling : Filling (points_reached l.fn.at (moves 3 (operand_words l.fn.run))) (points_reached l.last (moves 3 (operand_words l.rest))) false (λ front. l.points.items ≡ front);
+  filling : Filling (points_reached l.fn.at (moves 3 (operand_words l.fn.run))) (points_reached l.last (moves 3 (operand_words l.rest))) false (λ prefix. l.points.items ≡ prefix);
 }
 
 abbrev pub decreases-loop-rest : goal.decreases-loop-rest

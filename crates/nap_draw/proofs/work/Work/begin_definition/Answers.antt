@@ -3,7 +3,7 @@ use Rattle.nap_list.specs.State.{walk}
 use Rattle.nap_draw.specs.Codes.{definition_ended}
 use Rattle.nap_draw.specs.Execution.{definition_start}
 use Rattle.nap_draw.proofs.Acting.{obeys_put, obeys_stop}
-use Rattle.nap_draw.proofs.Endings.{start_fits, one_behind}
+use Rattle.nap_draw.proofs.Endings.{start_fits, one_after}
 use Rattle.nap_draw.proofs.work.Work.begin_definition.Goals as goal
 
 pub step-requires : goal.step-requires
@@ -16,4 +16,4 @@ returns g c = rw (c.step.ensures, c.definition_start.ensures, c.restore_saved.en
 pub returns-in_err-put_start : goal.returns-in_err-put_start
 returns-in_err-put_start g c =
     let w = c.args.self.now in
-    obeys_stop g.S.Sink _ w _ _ _ _ _ c.from_residual.ensures.1 (g.met.S.Sink.took_none _) g.met.S.Sink.wants_more refl (one_behind (definition_ended w).entries (definition_start c.args.what)) c.in_err-put_start.ensures
+    obeys_stop g.S.Sink _ w _ _ _ _ _ c.from_residual.ensures.1 (g.met.S.Sink.took_none _) g.met.S.Sink.wants_more refl (one_after (definition_ended w).entries (definition_start c.args.what)) c.in_err-put_start.ensures

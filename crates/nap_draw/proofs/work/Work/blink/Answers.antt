@@ -23,11 +23,11 @@ returns-then-is_empty g c =
 pub put_and_set_pen-requires : goal.put_and_set_pen-requires
 put_and_set_pen-requires g c =
     let s = c.args.self.now.state in
-    let held : EqualCurrent (colour_only s.drawing.colour) s.drawing = record { pen = tt; pel = tt; colour = refl; texture = tt; text = tt } in
+    let current : EqualCurrent (colour_only s.drawing.colour) s.drawing = record { pen = tt; pel = tt; colour = refl; texture = tt; text = tt } in
     rw (c.pen.ensures, c.colour-colour.ensures) (record {
       agrees = c.requires;
-      follows = record { holds = held; made = tt; comes = tt };
-      leaves = left_by s (BlinkEnd s.drawing.colour) held c.requires.drawing.mode;
+      follows = record { holds = current; made = tt; comes = tt };
+      leaves = left_by s (BlinkEnd s.drawing.colour) current c.requires.drawing.mode;
     })
 
 pub put_blinks-requires : goal.put_blinks-requires

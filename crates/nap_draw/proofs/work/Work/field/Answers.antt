@@ -16,11 +16,11 @@ use Rattle.nap_draw.proofs.work.Work.field.Goals as goal
 pub put_and_set_pen-requires : goal.put_and_set_pen-requires
 put_and_set_pen-requires g c =
     let s = c.args.self.now.state in
-    let held : EqualCurrent (pen_only s.drawing.pen) s.drawing = record { pen = refl; pel = tt; colour = tt; texture = tt; text = tt } in
+    let current : EqualCurrent (pen_only s.drawing.pen) s.drawing = record { pen = refl; pel = tt; colour = tt; texture = tt; text = tt } in
     rw c.pen-pen.ensures (record {
       agrees = c.requires;
-      follows = record { holds = held; made = tt; comes = tt };
-      leaves = left_by s (entries.Field c.in_ok-area.area s.drawing.pen) held c.requires.drawing.mode;
+      follows = record { holds = current; made = tt; comes = tt };
+      leaves = left_by s (entries.Field c.in_ok-area.area s.drawing.pen) current c.requires.drawing.mode;
     })
 
 pub returns-in_err-area : goal.returns-in_err-area

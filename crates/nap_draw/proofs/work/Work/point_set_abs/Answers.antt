@@ -2,7 +2,7 @@ use Rattle.std.proofs.Common.{[], refl, sym, ◌∙◌, ap, arith}
 use Rattle.nap_values.specs.Coordinates.{point_at}
 use Rattle.nap_values.specs.Operands.{operand_words}
 use Rattle.nap_draw.proofs.ByteRuns.{one_of_three}
-use Rattle.nap_draw.proofs.Going.{goes_end, pen_behind, sets_once}
+use Rattle.nap_draw.proofs.Going.{goes_end, pen_after, sets_once}
 use Rattle.nap_draw.proofs.work.Work.point_set_abs.Goals as goal
 
 pub returns-in_default : goal.returns-in_default
@@ -15,4 +15,4 @@ pub returns : goal.returns
 returns c =
     let w = c.args.self.now in
     let one = one_of_three w.domain.multi c.args.run.now (omega (arith, c.multi.ensures.value, c.if-multi-ne3.false)) (omega (arith, c.if-run-ne3.false)) in
-    sets_once w (operand_words c.args.run.now) _ _ one (sym (c.point.ensures ∙ ap point_at c.multi_bytes.ensures) ∙ c.in-Some.is) ∙ goes_end w _ _ (pen_behind w.state.drawing [] c.in-Some.point)
+    sets_once w (operand_words c.args.run.now) _ _ one (sym (c.point.ensures ∙ ap point_at c.multi_bytes.ensures) ∙ c.in-Some.is) ∙ goes_end w _ _ (pen_after w.state.drawing [] c.in-Some.point)

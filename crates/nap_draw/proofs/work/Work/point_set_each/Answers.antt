@@ -8,8 +8,8 @@ use Rattle.nap_draw.specs.Rule.{pen_result}
 use Rattle.nap_draw.proofs.Acting.{sets_refused}
 use Rattle.nap_draw.proofs.ByteRuns.{moves_chunk, moves_none}
 use Rattle.nap_draw.proofs.Decoding.{filling_begins, filling_more, filling_none, filling_end}
-use Rattle.nap_draw.proofs.Going.{goes_end, pen_before, pen_behind}
-use Rattle.nap_draw.proofs.Turns.{points_turn, onward_more, onward_none}
+use Rattle.nap_draw.proofs.Going.{goes_end, pen_before, pen_after}
+use Rattle.nap_draw.proofs.Turns.{points_turn, cons_if_all_more, cons_if_all_none}
 use Rattle.nap_draw.proofs.work.Work.point_set_each.Goals as goal
 
 pub returns-in_err-require_operand : goal.returns-in_err-require_operand
@@ -30,7 +30,7 @@ returns-in_default c =
     let inv = c.loop-operand.invariant in
     let steps = c.in-Some.ensures.steps in
     let cut = moves_chunk c.args.self.now.domain.multi _ _ _ _ inv.size (omega (arith, c.multi.ensures.value, c.multi.ensures.least)) steps.1.0 steps.1.1 steps.1.2 in
-    let none = filling_none _ _ _ _ inv.filling (onward_none _ _ _ (points_turn _ _ _ cut) (sym (c.point.ensures ∙ ap point_at c.multi_bytes.ensures) ∙ c.in_default.is)) in
+    let none = filling_none _ _ _ _ inv.filling (cons_if_all_none _ _ _ (points_turn _ _ _ cut) (sym (c.point.ensures ∙ ap point_at c.multi_bytes.ensures) ∙ c.in_default.is)) in
     (refl, c.in_ok-require_operand.ensures.ok _ ∙ ap (pen_result c.args.self.now) none)
 
 pub loop-operand-preserved : goal.loop-operand-preserved
@@ -43,9 +43,9 @@ loop-operand-preserved c =
       finite = tt;
       size = steps.0 ∙ inv.size;
       filling = filling_more _ _ _ c.in-Some-point.point _ _ _ _ inv.filling
-          (onward_more _ _ _ _ (points_turn _ _ _ cut) (sym (c.point.ensures ∙ ap point_at c.multi_bytes.ensures) ∙ c.in-Some-point.is))
+          (cons_if_all_more _ _ _ _ (points_turn _ _ _ cut) (sym (c.point.ensures ∙ ap point_at c.multi_bytes.ensures) ∙ c.in-Some-point.is))
           (λ e. e)
-          (λ front e kept. pen_behind _ front c.in-Some-point.point);
+          (λ prefix e kept. pen_after _ prefix c.in-Some-point.point);
     }
 
 pub returns : goal.returns
@@ -53,4 +53,4 @@ unfolding points_at
 returns c =
     let filling = c.loop-operand.invariant.filling in
     let all = filling_end _ _ _ _ filling (ap points_at (moves_none _ _ c.in-None.ensures.steps.1.0)) in
-    c.in_ok-require_operand.ensures.ok _ ∙ (ap (pen_result c.args.self.now) all ∙ goes_end c.args.self.now filling.front _ (filling.kept refl))
+    c.in_ok-require_operand.ensures.ok _ ∙ (ap (pen_result c.args.self.now) all ∙ goes_end c.args.self.now filling.prefix _ (filling.kept refl))

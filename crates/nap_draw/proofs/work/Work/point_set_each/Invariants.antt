@@ -12,5 +12,5 @@ invariant-loop-operand l = record {
   can : (goal.iterator-loop-operand).can_next l.operand-iterator;
   finite : (goal.iterator-loop-operand).is_finite l.operand-iterator;
   size : chunks_size l.operand-iterator ≡ l.fn.self.domain.multi;
-  filling : Filling (points_at (moves l.fn.self.domain.multi (operand_words l.fn.run))) (points_at (moves l.fn.self.domain.multi (operand_words (chunks_rest l.operand-iterator)))) false (λ front. with_pen l.pen l.fn.self.state.drawing ≡ with_pen_at (last_or None front) l.fn.self.state.drawing);
+  filling : Filling (points_at (moves l.fn.self.domain.multi (operand_words l.fn.run))) (points_at (moves l.fn.self.domain.multi (operand_words (chunks_rest l.operand-iterator)))) false (λ prefix. with_pen l.pen l.fn.self.state.drawing ≡ with_pen_at (last_or None prefix) l.fn.self.state.drawing);
 }

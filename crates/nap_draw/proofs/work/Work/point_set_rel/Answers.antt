@@ -8,8 +8,8 @@ use Rattle.nap_draw.specs.Rule.{pen_result}
 use Rattle.nap_draw.proofs.Acting.{sets_refused}
 use Rattle.nap_draw.proofs.ByteRuns.{moves_chunk, moves_none}
 use Rattle.nap_draw.proofs.Decoding.{filling_begins, filling_more, filling_none, filling_end}
-use Rattle.nap_draw.proofs.Going.{goes_end, end_behind, pen_reached}
-use Rattle.nap_draw.proofs.Turns.{reached_turn, onward_more, onward_none}
+use Rattle.nap_draw.proofs.Going.{goes_end, end_after, pen_reached}
+use Rattle.nap_draw.proofs.Turns.{reached_turn, cons_if_all_more, cons_if_all_none}
 use Rattle.nap_draw.proofs.work.Work.point_set_rel.Goals as goal
 
 pub returns-in_err-at : goal.returns-in_err-at
@@ -31,7 +31,7 @@ returns-in_default c =
     let inv = c.loop-operand.invariant in
     let steps = c.in-Some.ensures.steps in
     let cut = moves_chunk c.args.self.now.domain.multi _ _ _ _ inv.size (omega (arith, c.multi.ensures.value, c.multi.ensures.least)) steps.1.0 steps.1.1 steps.1.2 in
-    let none = filling_none _ _ _ _ inv.filling (onward_none _ _ _ (reached_turn _ _ _ _ cut) (sym (c.by.ensures ∙ ap (displaced_point c.loop-operand.at) c.multi_bytes.ensures) ∙ c.in_default.is)) in
+    let none = filling_none _ _ _ _ inv.filling (cons_if_all_none _ _ _ (reached_turn _ _ _ _ cut) (sym (c.by.ensures ∙ ap (displaced_point c.loop-operand.at) c.multi_bytes.ensures) ∙ c.in_default.is)) in
     (refl, c.in_ok-at.ensures.ok _ ∙ ap (pen_result c.args.self.now) none)
 
 pub loop-operand-preserved : goal.loop-operand-preserved
@@ -44,9 +44,9 @@ loop-operand-preserved c =
       finite = tt;
       size = steps.0 ∙ inv.size;
       filling = filling_more _ _ _ c.in-Some-by.point _ _ _ _ inv.filling
-          (onward_more _ _ _ _ (reached_turn _ _ _ _ cut) (sym (c.by.ensures ∙ ap (displaced_point c.loop-operand.at) c.multi_bytes.ensures) ∙ c.in-Some-by.is))
+          (cons_if_all_more _ _ _ _ (reached_turn _ _ _ _ cut) (sym (c.by.ensures ∙ ap (displaced_point c.loop-operand.at) c.multi_bytes.ensures) ∙ c.in-Some-by.is))
           (λ e. e)
-          (λ front e kept. end_behind _ front c.in-Some-by.point);
+          (λ prefix e kept. end_after _ prefix c.in-Some-by.point);
     }
 
 pub returns : goal.returns
@@ -54,5 +54,5 @@ unfolding points_reached
 returns c =
     let filling = c.loop-operand.invariant.filling in
     let all = filling_end _ _ _ _ filling (ap (points_reached _) (moves_none _ _ c.in-None.ensures.steps.1.0)) in
-    let last = pen_reached c.args.self.now _ _ _ filling.front c.in_ok-at.ensures.ok all (filling.kept refl) in
-    c.in_ok-at.ensures.ok _ ∙ (ap (pen_result c.args.self.now) all ∙ goes_end c.args.self.now filling.front _ last)
+    let last = pen_reached c.args.self.now _ _ _ filling.prefix c.in_ok-at.ensures.ok all (filling.kept refl) in
+    c.in_ok-at.ensures.ok _ ∙ (ap (pen_result c.args.self.now) all ∙ goes_end c.args.self.now filling.prefix _ last)

@@ -7,7 +7,7 @@ use Rattle.nap_list.specs.State.{walk}
 use Rattle.nap_draw.specs.Codes.{repeated_chars, with_last}
 use Rattle.nap_draw.specs.Rule.{rule_result}
 use Rattle.nap_draw.proofs.Acting.{obeys_put, obeys_stop, obeys_quietly}
-use Rattle.nap_draw.proofs.Copies.{front_some, front_typed, last_is_code, repeat_is}
+use Rattle.nap_draw.proofs.Copies.{prefix_some, prefix_typed, last_is_code, repeat_is}
 use Rattle.nap_draw.proofs.work.Work.repeat.Goals as goal
 
 pub returns-then-get-eq0 : goal.returns-then-get-eq0
@@ -22,7 +22,7 @@ pub characters-requires-clause-made : goal.characters-requires-clause-made
 characters-requires-clause-made g c =
     let last = c.in-Some.last in
     let few : c.args.count < 64 = omega (arith, c.get.ensures.value, c.get.ensures.below) in
-    front_typed last c.args.count c.from.result (c.from.ensures ∙ c.get-2.ensures.value) few (last_is_code c.args.self.now.state _ last c.requires c.in-Some.is)
+    prefix_typed last c.args.count c.from.result (c.from.ensures ∙ c.get-2.ensures.value) few (last_is_code c.args.self.now.state _ last c.requires c.in-Some.is)
 
 pub returns-in_err-characters : goal.returns-in_err-characters
 returns-in_err-characters g c =
@@ -31,7 +31,7 @@ returns-in_err-characters g c =
     let some : 0 < c.args.count = grind (arith, nat_tests) in
     let few : c.args.count < 64 = omega (arith, c.get.ensures.value, c.get.ensures.below) in
     let by = repeat_is last c.args.count c.from.result (c.from.ensures ∙ c.get-2.ensures.value) few w c.in-Some.is (last_is_code w.state _ last c.requires c.in-Some.is) in
-    let entries = front_some last c.args.count c.from.result (c.from.ensures ∙ c.get-2.ensures.value) few w.state some in
+    let entries = prefix_some last c.args.count c.from.result (c.from.ensures ∙ c.get-2.ensures.value) few w.state some in
     rw c.in_err-characters.ensures.work (obeys_stop g.S.Sink _ w _ _ _ _ _ c.from_residual.ensures.1 (g.met.S.Sink.took_none _) g.met.S.Sink.wants_more by entries
     (some_put (sink_model_of g.S.Sink) (Unit {0}) _ _ _ _ _ c.in_err-characters.ensures.put))
 

@@ -16,9 +16,9 @@ use Rattle.nap_draw.proofs.work.Work.set_color.Goals as goal
 -- one colour is set
 one_colour : (w : Work) (size most : ℕ) (run : List ℕ) (grb : Components) (colour : Colour) → size ≡ w.domain.multi → 1 ≤ size → most ≡ size → 0 < length run → length run ≤ most →
     grb ≡ colour_of (operand_words run) → colour ≡ w.state.drawing.colour → set_color_rule w (operands w.domain.multi (operand_words run)) ≡ set_color_under w colour grb
-one_colour w size most run grb colour value least same some few is stands =
+one_colour w size most run grb colour value least same some few is colour_is =
     let long = carried_length run in
-    set_one w w.domain.multi (operand_words run) (omega arith) (omega arith) (omega arith) ∙ ap₂ (set_color_under w) (sym stands) (sym is)
+    set_one w w.domain.multi (operand_words run) (omega arith) (omega arith) (omega arith) ∙ ap₂ (set_color_under w) (sym colour_is) (sym is)
 
 pub returns-then-is_empty : goal.returns-then-is_empty
 returns-then-is_empty g c =

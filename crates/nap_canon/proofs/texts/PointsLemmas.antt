@@ -1,4 +1,4 @@
--- Operands of points, one behind another.
+-- Operands of points, one after another.
 
 use Rattle.std.proofs.Common.{ℕ, ◌≡◌, ◌+◌, ◌*◌, ◌<◌, ◌≤◌, List, [], ◌∷◌, ◌++◌, length, take, get_or, refl, ap, sym, ◌∙◌, append-nil, append_assoc, length-append, arith}
 use Rattle.std.proofs.lemmas.List.{take_more, take_all}

@@ -1,4 +1,4 @@
--- The bring leads to the held values. Its commands are in range where these are.
+-- The prelude makes the attributes of an entry current. Its commands are in range if these are.
 
 use Rattle.std.proofs.Common.{◌≡◌, ℕ, List, [], ◌∷◌, ◌++◌, Bool, true, false, Option, Some, None, refl, sym, ap, subst, ◌∙◌, arith, cond}
 use Rattle.std.specs.Prelude.{unwrap_or, IfSome, ◌==◌, ◌&&◌}
@@ -31,7 +31,7 @@ use Rattle.nap_canon.specs.Commands.{look_with_flag}
 use Rattle.nap_canon.specs.Equality.{same_move, same_pen, same_colour, same_base, same_size, same_texture, same_flag}
 use Rattle.nap_canon.specs.Range.{AttributesInRange}
 use Rattle.nap_canon.proofs.prelude.EqualityLemmas.{move_is, pen_is, colour_is, base_is, size_is, texture_is, flag_is}
-use Rattle.nap_canon.proofs.prelude.LeadingLemmas.{Leads, none_leads, one_leads, both_lead, unless_leads}
+use Rattle.nap_canon.proofs.prelude.LeadingLemmas.{Leads, none_leads, one_leads, both_leads, unless_leads}
 
 abbrev colours_at : Base → Colour → Drawing → Drawing
 colours_at base colour d = record d { base = base; colour = colour }
@@ -42,12 +42,12 @@ textured word mask d = record d { texture = record { word = word; mask = mask } 
 abbrev looking : TextLook → Drawing → Drawing
 looking t d = record d { text = t }
 
--- the size that stands once a given one is brought
+-- the size after a given one, if there is one, is set
 abbrev given_or : CharSize → CharSize → CharSize
 given_or old (sizes.Given m) = sizes.Given m
 given_or old (sizes.Named size) = old
 
--- a flag of the look
+-- a flag of the text attributes
 abbrev flag_of : Flag → TextLook → Bool
 flag_of flags.Reverse t = t.reverse
 flag_of flags.Underline t = t.underline
@@ -117,7 +117,7 @@ module _ (R : Type 0) where
         (λ e.
         let is = colour_is old (colours.Direct grb) e in
         ap (λ (c : Colour). colours_at base c d) is ∙ ap (λ (b : Base). colours_at b (colours.Direct grb) d) (subst (ModeZeroIsBase base) is h))
-        (both_lead R (base_commands old) last from mid end (mode_leads d base old h)
+        (both_leads R (base_commands old) last from mid end (mode_leads d base old h)
         (unless_leads R (same_base base (bases.Direct grb)) (commands.SetColor grb ∷ []) mid end
         (λ t. ap (λ (b : Base). colours_at b (colour_of_base b) d) (base_is base (bases.Direct grb) t)) (paints d base grb inside)))
     colour_leads (Some (colours.Front a)) fits inside =
@@ -154,10 +154,10 @@ module _ (R : Type 0) where
       (λ e. ap (λ (x : Texture). record d { texture = x }) (texture_is d.texture t e))
       (mask_leads d d.texture.word t.word d.texture.mask t.mask fits (λ r. (inside r).word) (λ r. (inside r).mask))
 
-  -- the text look
+  -- the text attributes
 
-  words_lead : (d : Drawing) (old t : TextLook) → (R → IsWord t.first × IsWord t.second) → Leads R (words_commands old t) (looking old d) (looking (record old { first = t.first; second = t.second }) d)
-  words_lead d old t inside =
+  words_leads : (d : Drawing) (old t : TextLook) → (R → IsWord t.first × IsWord t.second) → Leads R (words_commands old t) (looking old d) (looking (record old { first = t.first; second = t.second }) d)
+  words_leads d old t inside =
       let end : Drawing = looking (record old { first = t.first; second = t.second }) d in
       unless_leads R (old.first == t.first && old.second == t.second) (commands.Text t.first t.second ∷ []) (looking old d) end
       (λ e.
@@ -168,7 +168,7 @@ module _ (R : Type 0) where
 
   given_leads : (d : Drawing) (old t : TextLook) (size : CharSize) → (R → IsWord t.first × IsWord t.second) → (R → SizeInRange size) →
       Leads R (given_size_commands old t size) (looking old d) (looking (record old { first = t.first; second = t.second; size = given_or old.size size }) d)
-  given_leads d old t (sizes.Named size) words inside = words_lead d old t words
+  given_leads d old t (sizes.Named size) words inside = words_leads d old t words
   given_leads d old t (sizes.Given m) words inside = at (same_size old.size (sizes.Given m)) refl
     where
       at : (b : Bool) → same_size old.size (sizes.Given m) ≡ b →
@@ -176,7 +176,7 @@ module _ (R : Type 0) where
           (looking (record old { first = t.first; second = t.second; size = sizes.Given m }) d)
       at true e =
           subst (λ (s : CharSize). Leads R (words_commands old t) (looking old d) (looking (record old { first = t.first; second = t.second; size = s }) d))
-          (size_is old.size (sizes.Given m) e) (words_lead d old t words)
+          (size_is old.size (sizes.Given m) e) (words_leads d old t words)
       at false e = one_leads R (commands.TextSize t.first t.second m) _ _ refl tt (λ r. ((words r).0, (words r).1, inside r))
 
   named_leads : (d : Drawing) (t : TextLook) (old size : CharSize) → t.size ≡ given_or old size → Leads R (named_size_commands old size) (looking t d) (looking (record t { size = size }) d)
@@ -203,24 +203,24 @@ module _ (R : Type 0) where
       let t3 : TextLook = record t2 { reverse = t.reverse } in
       let t4 : TextLook = record t3 { underline = t.underline } in
       let t5 : TextLook = record t4 { wrap = t.wrap } in
-      both_lead R (given_size_commands o t t.size) _ d (looking t1 d) _ (given_leads d o t t.size (λ r. ((inside r).first, (inside r).second)) (λ r. (inside r).size))
-      (both_lead R (named_size_commands o.size t.size) _ (looking t1 d) (looking t2 d) _ (named_leads d t1 o.size t.size refl)
-      (both_lead R (flag_commands flags.Reverse o.reverse t.reverse) _ (looking t2 d) (looking t3 d) _ (flag_leads d flags.Reverse t2 t.reverse)
-      (both_lead R (flag_commands flags.Underline o.underline t.underline) _ (looking t3 d) (looking t4 d) _ (flag_leads d flags.Underline t3 t.underline)
-      (both_lead R (flag_commands flags.Wrap o.wrap t.wrap) _ (looking t4 d) (looking t5 d) _ (flag_leads d flags.Wrap t4 t.wrap)
+      both_leads R (given_size_commands o t t.size) _ d (looking t1 d) _ (given_leads d o t t.size (λ r. ((inside r).first, (inside r).second)) (λ r. (inside r).size))
+      (both_leads R (named_size_commands o.size t.size) _ (looking t1 d) (looking t2 d) _ (named_leads d t1 o.size t.size refl)
+      (both_leads R (flag_commands flags.Reverse o.reverse t.reverse) _ (looking t2 d) (looking t3 d) _ (flag_leads d flags.Reverse t2 t.reverse)
+      (both_leads R (flag_commands flags.Underline o.underline t.underline) _ (looking t3 d) (looking t4 d) _ (flag_leads d flags.Underline t3 t.underline)
+      (both_leads R (flag_commands flags.Wrap o.wrap t.wrap) _ (looking t4 d) (looking t5 d) _ (flag_leads d flags.Wrap t4 t.wrap)
       (flag_leads d flags.Scroll t5 t.scroll)))))
 
--- all held values
-pub bring_leads : (d : Drawing) (h : Attributes) → ModeZeroIsBase d.base d.colour → AttributesFit d h → Leads (AttributesInRange h) (prelude d h) d (with_attributes d h)
+-- all attributes of an entry
+pub prelude_leads : (d : Drawing) (h : Attributes) → ModeZeroIsBase d.base d.colour → AttributesFit d h → Leads (AttributesInRange h) (prelude d h) d (with_attributes d h)
 unfolding prelude
-bring_leads d h mode fits =
+prelude_leads d h mode fits =
     let R : Type 0 = AttributesInRange h in
     let d1 : Drawing = record d { pen = unwrap_or h.pen d.pen } in
     let d2 : Drawing = record d1 { pel = unwrap_or h.pel d.pel } in
     let d3 : Drawing = record d2 { base = base_after d.base h.colour; colour = unwrap_or h.colour d.colour } in
     let d4 : Drawing = record d3 { texture = unwrap_or h.texture d.texture } in
-    both_lead R (pen_prelude d.pen h.pen) _ d d1 _ (pen_leads R d h.pen fits.pen (λ r. r.pen))
-    (both_lead R (pel_prelude d.pel h.pel) _ d1 d2 _ (pel_leads R d1 h.pel (λ r. r.pel))
-    (both_lead R (colour_prelude d.base d.colour h.colour) _ d2 d3 _ (colour_leads R d2 d.base d.colour mode h.colour fits.colour (λ r. r.colour))
-    (both_lead R (texture_prelude d.texture h.texture) _ d3 d4 _ (texture_leads R d3 h.texture fits.texture (λ r. r.texture))
+    both_leads R (pen_prelude d.pen h.pen) _ d d1 _ (pen_leads R d h.pen fits.pen (λ r. r.pen))
+    (both_leads R (pel_prelude d.pel h.pel) _ d1 d2 _ (pel_leads R d1 h.pel (λ r. r.pel))
+    (both_leads R (colour_prelude d.base d.colour h.colour) _ d2 d3 _ (colour_leads R d2 d.base d.colour mode h.colour fits.colour (λ r. r.colour))
+    (both_leads R (texture_prelude d.texture h.texture) _ d3 d4 _ (texture_leads R d3 h.texture fits.texture (λ r. r.texture))
     (text_leads R d4 h.text (λ r. r.text)))))

@@ -1,4 +1,4 @@
-//! Entries whose values stand already.
+//! Entries whose attributes are already current.
 ghost use Rattle.std.specs.Prelude.{◌≡◌, ◌↔◌, IsTrue, true};
 ghost use Rattle.nap_list.specs.declared.entry.Entry.TheVariants.{Rect};
 ghost use Rattle.nap_list.specs.Agreement.{AreCurrent};
@@ -11,9 +11,9 @@ use crate::command::is_colour;
 use nap_list::{Base, Batch, Colour, Drawing, Entry, Ink, Pen, Shape, State, corner};
 use nap_values::Point;
 
-/// Whether a colour stands, which is the colour of mode 0 where it is direct.
+/// Whether a colour is current; a direct colour has to be the colour of mode 0 too.
 #[inline(always)]
-fn colour_stands(old: &Drawing, colour: Colour) -> bool
+fn colour_is_current(old: &Drawing, colour: Colour) -> bool
     ensures { IsTrue result ↔ AreCurrent (colour_only colour) old.now }
 {
     if let Colour::Direct(grb) = colour {
@@ -22,35 +22,35 @@ fn colour_stands(old: &Drawing, colour: Colour) -> bool
     old.colour == colour
 }
 
-/// Whether each value of an ink stands.
+/// Whether all attributes for lines and areas are current.
 #[inline(always)]
-pub(crate) fn ink_stands(old: &Drawing, ink: &Ink) -> bool
+pub(crate) fn ink_is_current(old: &Drawing, ink: &Ink) -> bool
     ensures { IsTrue result ↔ AreCurrent (ink_attributes ink.now) old.now }
 {
-    old.pel == ink.pel && old.texture == ink.texture && colour_stands(old, ink.colour)
+    old.pel == ink.pel && old.texture == ink.texture && colour_is_current(old, ink.colour)
 }
 
-/// Whether each value that the first entry of a batch holds stands.
+/// Whether the attributes of a batch's first entry are current.
 #[inline(always)]
-pub(crate) fn first_stands(old: &Drawing, batch: &Batch) -> bool
+pub(crate) fn batch_begins_current(old: &Drawing, batch: &Batch) -> bool
     ensures { IsTrue result ↔ FirstIsCurrent batch.now old.now }
 {
     match batch {
         Batch::Points { drawing, .. } => {
-            old.pel == drawing.pel && colour_stands(old, drawing.colour)
+            old.pel == drawing.pel && colour_is_current(old, drawing.colour)
         }
-        Batch::Lines { drawing, .. } => ink_stands(old, &drawing.ink()),
+        Batch::Lines { drawing, .. } => ink_is_current(old, &drawing.ink()),
         Batch::Text { .. } => old.first_is_current(batch),
     }
 }
 
-/// Goes on to the state that a shape leaves, whose values may all stand.
+/// Advances past a shape, whose attributes may be known to be current.
 #[inline(always)]
-pub(crate) fn step_shape(state: &mut State, shape: &Shape, stands: bool)
-    requires { stands ≡ true → AreCurrent (ink_attributes (ink_of shape.now.drawing.now)) state.old.drawing }
+pub(crate) fn step_shape(state: &mut State, shape: &Shape, is_current: bool)
+    requires { is_current ≡ true → AreCurrent (ink_attributes (ink_of shape.now.drawing.now)) state.old.drawing }
     ensures { state.new ≡ after state.old (entry_of_shape shape.now) }
 {
-    if stands {
+    if is_current {
         state.drawing.pen = Pen::At(shape.end());
         state.last = None;
         return;
@@ -58,7 +58,7 @@ pub(crate) fn step_shape(state: &mut State, shape: &Shape, stands: bool)
     state.step_shape(shape);
 }
 
-/// Goes on to the state that a rectangle leaves, whose values may all stand.
+/// Advances past a rectangle, whose attributes may be known to be current.
 #[inline(always)]
 pub(crate) fn step_rect(
     state: &mut State,
@@ -66,13 +66,13 @@ pub(crate) fn step_rect(
     from: Point,
     to: Point,
     ink: &Ink,
-    stands: bool,
+    is_current: bool,
 )
     requires fits { Fits state.old (Rect filled from to ink.now) }
-    requires stand { stands ≡ true → AreCurrent (ink_attributes ink.now) state.old.drawing }
+    requires current { is_current ≡ true → AreCurrent (ink_attributes ink.now) state.old.drawing }
     ensures { state.new ≡ after state.old (Rect filled from to ink.now) }
 {
-    if stands {
+    if is_current {
         state.drawing.pen = Pen::At(corner(from, to));
         state.last = None;
         return;
