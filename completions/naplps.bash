@@ -15,7 +15,7 @@ _naplps() {
         make) words='--stream --help' ;;
         batch) words='--help' ;;
         *)
-            # (the number behind --budget is for the user to say)
+            # (the number after --budget is for the user to say)
             if [[ $before != --budget && $before != = ]]; then words='--hex --budget --help'; fi
             if [[ $words && $command = canon ]]; then words="$words --stream"; fi
             ;;

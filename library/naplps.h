@@ -109,7 +109,7 @@ struct naplps_answer naplps_canon(uint32_t budget, const uint8_t *page, size_t l
 struct naplps_answer naplps_canon_form1(uint32_t budget, const uint8_t *page, size_t length, uint8_t *room,
                                         size_t size);
 
-/* Gives the lines of naplps_list, each behind a number and a space: the offset of the byte that brought the entry,
+/* Gives the lines of naplps_list, each after a number and a space: the offset of the byte that added the entry,
    which is often the first one of the next code; or the length of the page for an entry that came at its end.
 
    Of a page that is refused there are the lines of the entries before the refusal: status is NAPLPS_REFUSED, and length
@@ -176,7 +176,7 @@ struct naplps_answer naplps_check_begin(struct naplps_checking *page, uint32_t b
    byte of the first piece; each further call answers it again. */
 struct naplps_answer naplps_check_feed(struct naplps_checking *page, const uint8_t *piece, size_t length);
 
-/* Ends a page, and answers what naplps_check answers to all pieces, one behind another, wherever they were cut; though
+/* Ends a page, and answers what naplps_check answers to all pieces, one after another, wherever they were cut; though
    memory may be wanting to the one and not to the other. Then no page is begun, and nothing of it is kept. Where none
    was begun, the status is NAPLPS_NOT_BEGUN. */
 struct naplps_answer naplps_check_finish(struct naplps_checking *page);

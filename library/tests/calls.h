@@ -33,7 +33,7 @@ static inline void must(int right, const char *what) {
     if (!right) stop(what);
 }
 
-// A room of exactly so many bytes: null where there are none.
+// A room of exactly this number of bytes: null for none.
 static inline uint8_t *new_room(size_t size) {
     if (size == 0) return NULL;
     uint8_t *room = malloc(size);

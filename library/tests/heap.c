@@ -1,6 +1,6 @@
 // Refuses each call of the allocator in turn, and then all from one on: heap PAGE... It is linked with --wrap for
 // malloc, realloc and free, so that the library's own calls come here. Each answer is the one with memory, or the
-// refusal for want of it. Each page is tried as it is, and with a byte behind it that is refused.
+// refusal for lack of it. Each page is tried as it is, and with a byte after it that is refused.
 #include "calls.h"
 
 void *__real_malloc(size_t size);

@@ -20,7 +20,7 @@ static void try_small(text_call *call, uint32_t budget, const uint8_t *page, siz
     free(room);
 }
 
-// A room that is larger than the text: nothing behind it is written.
+// A room that is larger than the text: nothing after it is written.
 static void try_large(text_call *call, uint32_t budget, const uint8_t *page, size_t length, struct text text) {
     size_t need = text.answer.length, size = need + 1 + length % 64;
     uint8_t *room = new_room(size);

@@ -12,7 +12,7 @@ program naplps, with the same answers; `backend` says which. Threads may call th
 Beside what each one names, a function raises
 
 - TypeError for another page, and for a budget that isn't a whole number; ValueError for a budget out of its range;
-- NoMemory, a MemoryError, where memory was wanting, and NoAnswer where the program failed: neither says anything of the
+- NoMemory, a MemoryError, where memory ran out, and NoAnswer where the program failed: neither says anything of the
   page;
 - Unavailable where there is nothing to ask.
 """

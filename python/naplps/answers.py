@@ -14,7 +14,7 @@ NONSENSE = "the program answered something that is no answer"
 # Refusals that say nothing of the page.
 MEMORY = 21
 OF_THE_MACHINE = {MEMORY: NO_MEMORY, 22: "a device of the program failed"}
-# A line in front of an answer's body has so many bytes at most, and its length so many digits.
+# The greatest number of bytes of a line before an answer's body, and of digits of its length.
 MOST_LINE, MOST_DIGITS = 128, 18
 
 
@@ -170,7 +170,7 @@ class AnswerParser:
     call: str
     pages: Sequence[bytes]
     most: Optional[int]
-    # Called behind a piece that ended an answer, where more answers are to come.
+    # Called after a piece that ended an answer, where more answers are to come.
     goes_on: Callable[[], None] = lambda: None
     answers: List[HashedAnswer] = field(default_factory=list)
     # Of `make`, the line that is wrong, where one is; no page is answered then.
@@ -189,7 +189,7 @@ class AnswerParser:
         at, before = 0, len(self.answers)
         while at < len(come):
             if len(self.answers) == len(self.pages):
-                self.answers.pop()  # there is more behind the last answer, which is none then
+                self.answers.pop()  # there is more after the last answer, which is none then
                 raise Nonsense
             if self._answer is None:
                 behind = self._head(come, at)
@@ -219,7 +219,7 @@ class AnswerParser:
         return whole
 
     def _head(self, come: bytes, at: int) -> Optional[int]:
-        """Takes the two lines in front of a body; where they end, or None where they aren't whole yet."""
+        """Takes the two lines before a body; where they end, or None where they aren't whole yet."""
         first = come.find(b"\n", at)
         second = come.find(b"\n", first + 1) if first >= 0 else -1
         if second < 0:

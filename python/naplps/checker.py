@@ -28,7 +28,7 @@ class Checker:
     def feed(self, data: Data) -> None:
         """Takes the next piece. Raises Refused as soon as the page is refused; over the program, only `finish` does.
 
-        Behind a refusal it raises it again. Raises ValueError behind the end.
+        After a refusal it raises it again. Raises ValueError after the end.
         """
         piece = taken(data)
         with self._alone():
@@ -37,7 +37,7 @@ class Checker:
     def finish(self) -> int:
         """How many entries the page has: what `check` answers to all pieces joined. Raises Refused.
 
-        Raises ValueError behind the end.
+        Raises ValueError after the end.
         """
         with self._alone():
             pieces, self._pieces = self._begun(), None

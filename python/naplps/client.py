@@ -34,7 +34,7 @@ class RunEnd(NamedTuple):
 
 @dataclass(eq=False)
 class Client:
-    """The program, under a budget and limits. `beat` is called behind the answers to pages that are asked ahead.
+    """The program, under a budget and limits. `beat` is called after the answers to pages that are asked ahead.
 
     A process answers page after page. One that fails is ended, and the next page gets a new one; `started` counts them.
     """

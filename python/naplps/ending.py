@@ -8,7 +8,7 @@ SIGNALS = (signal.SIGINT, signal.SIGTERM, signal.SIGHUP)
 
 
 class Ends(Protocol):
-    """A process that goes on."""
+    """A running process."""
 
     def end(self) -> None:
         """Ends it."""
@@ -19,7 +19,7 @@ class Stopped(BaseException):
 
 
 class Ending:
-    """The processes that go on, where signals are watched. A signal that comes while one starts waits for that."""
+    """The running processes, where signals are watched. A signal that comes while one starts waits for that."""
 
     def __init__(self) -> None:
         self.processes: Set[Ends] = set()
@@ -57,7 +57,7 @@ class Ending:
                     raise Stopped(number)
 
     def end_all(self) -> None:
-        """Ends all that go on; no other signal comes between."""
+        """Ends all running processes; no other signal comes between."""
         for number in SIGNALS:
             signal.signal(number, signal.SIG_IGN)
         for process in tuple(self.processes):

@@ -1,17 +1,17 @@
 """The entries of a page: a class for each kind, with the numbers that its line in `naplps list` has.
 
-A position is a pair, x and y, in steps of which ONE are the side of the square. A displacement or a size is such a pair
-too, and may be negative. Colours have 16 bits each of green, red and blue, in this order. docs/PROFILE.md says what
-each kind is, and what its parts mean. `kind` is the first word of the line, and `str(entry)` is the line, without its
-end: of every entry whose parts are in their ranges, the one that `naplps list` prints and `naplps make` takes.
+A position is a pair, x and y, in steps of which ONE are the side of the unit screen. A displacement or a size is such
+a pair too, and may be negative. Colours have 16 bits each of green, red and blue, in this order. docs/PROFILE.md says
+what each kind is, and what its parts mean. `kind` is the first word of the line, and `str(entry)` is the line, without
+its end: of every entry whose parts are in their ranges, the one that `naplps list` prints and `naplps make` takes.
 """
 from dataclasses import dataclass
 from typing import ClassVar, Iterable, Optional, Tuple, Union
 
 Position = Tuple[int, int]
-# "start", where nothing has set it yet; "after", where nobody knows, as behind text; or a position.
+# "start", where nothing has set it yet; "after", where nobody knows, as after text; or a position.
 Pen = Union[str, Position]
-# The side of the square, in steps.
+# The side of the unit screen, in steps.
 ONE = 1 << 23
 
 
@@ -182,7 +182,7 @@ class Poly:
 class Char:
     """A character: its set, "primary", "supplementary", "mosaic" or "drcs", and its code in that.
 
-    `pen` is a position; or "start", where nothing has set it yet, or "after", where nobody knows, as behind text.
+    `pen` is a position; or "start", where nothing has set it yet, or "after", where nobody knows, as after text.
     """
 
     kind: ClassVar[str] = "CHAR"

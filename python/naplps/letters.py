@@ -7,7 +7,7 @@ UNKNOWN = "\u25a1"
 SUPPLEMENTARY: Dict[int, str] = dict(zip(range(0x21, 0x40), "¡¢£$¥#§¤‘“«←↑→↓°±²³×µ¶·÷’”»¼½¾¿"))
 SUPPLEMENTARY.update(zip(range(0x50, 0x58), "―¹®©™♪¬¦"))
 SUPPLEMENTARY.update(zip(range(0x60, 0x80), "ΩÆÐªĦ\u25a1ĲĿŁØŒºÞŦŊŉĸæđðħıĳŀłøœßþŧŋ\u25a1"))
-# The accents, by the mark that joins the letter behind them, and as signs of their own.
+# The accents, by the mark that joins the letter after them, and as signs of their own.
 MARKS: Dict[int, str] = {
     0x41: "\u0300", 0x42: "\u0301", 0x43: "\u0302", 0x44: "\u0303", 0x45: "\u0304", 0x46: "\u0306", 0x47: "\u0307",
     0x48: "\u0308", 0x49: "\u0308", 0x4A: "\u030a", 0x4B: "\u0327", 0x4C: "\u0331", 0x4D: "\u030b", 0x4E: "\u0328",
@@ -16,7 +16,7 @@ ALONE: Dict[int, str] = dict(zip(range(0x41, 0x50), "`´^~¯˘˙¨¨˚¸_˝˛ˇ"
 
 
 def is_accent(set_name: str, code: int) -> bool:
-    """Whether the character is an accent, which goes onto the letter behind it."""
+    """Whether the character is an accent, which goes onto the letter after it."""
     return set_name == "supplementary" and code in MARKS
 
 
@@ -43,7 +43,7 @@ _ALONE = {sign: code for code, sign in sorted(ALONE.items(), reverse=True) if no
 
 
 def signs(text: str) -> Iterator[Tuple[int, str]]:
-    """The signs of a text, each with the marks behind it, and where it begins."""
+    """The signs of a text, each with the marks after it, and where it begins."""
     start = 0
     for at in range(1, len(text) + 1):
         if at == len(text) or not unicodedata.combining(text[at]):

@@ -11,7 +11,7 @@ from .entry import (
     Pen, Point, Poly, Position, Rect, Reset, TextMove, Texture, ToEol,
 )
 
-# So many colours of the map are known at most.
+# The greatest number of known colours of the map.
 MOST_KNOWN = 16
 OWN, OWN_AFTER_RESET = Colour("own-start"), Colour("own-reset")
 PLAIN_LOOK = Look(0, 0, "normal", False, False, False, False)
@@ -111,7 +111,7 @@ class PageState:
         return reasons[0] if reasons else None
 
     def _held_misfits(self, entry: Entry) -> List[str]:
-        """Values that no page can bring back once they are gone."""
+        """Values that no page can restore once they are gone."""
         now, reasons = self.drawing, []
         pen: Optional[Pen] = getattr(entry, "pen", None)
         if isinstance(pen, str) and pen != now.pen:
@@ -133,7 +133,7 @@ def shown_pen(pen: Pen) -> str:
 
 
 def _pen_behind(entry: Entry, pen: Pen) -> Pen:
-    """Where the pen is behind an entry that leaves all else as it holds it."""
+    """Where the pen is after an entry that leaves all else as it holds it."""
     if isinstance(entry, Point):
         return entry.at
     if isinstance(entry, Line):

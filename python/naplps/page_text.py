@@ -9,7 +9,7 @@ OTHER_LINE = ("APD", "APU", "APR", "APH", "APS")
 
 
 class TextLines:
-    """Gathers characters into lines. A new one begins where the text doesn't go on behind the last character."""
+    """Collects characters into lines. A new one begins where the text doesn't continue after the last character."""
 
     def __init__(self) -> None:
         self.lines: List[str] = []

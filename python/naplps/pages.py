@@ -14,7 +14,7 @@ from .treating.search import Cure, find
 
 
 class Places(NamedTuple):
-    """The entries of a page, each behind its place, and why the page is refused, or None."""
+    """The entries of a page, each after its place, and why the page is refused, or None."""
 
     entries: List[Tuple[int, Entry]]
     refused: Optional[Refused]
@@ -60,7 +60,7 @@ def is_plain(data: Data) -> bool:
 def places(data: Data, budget: int = USUAL_BUDGET) -> Places:
     """The entries of a page with their places; of one that is refused, those before the refusal, which isn't raised.
 
-    A place is the offset of the byte that brought the entry, often the first one of the next code; or the length of the
+    A place is the offset of the byte that added the entry, often the first one of the next code; or the length of the
     page for an entry that came at its end. Raises NeedsLibrary for a page above 16 MiB.
     """
     told = _told("places", data, budget)

@@ -15,7 +15,7 @@ from .limits import Limits
 
 PIECE = 1 << 16
 MOST_COMPLAINT = 2048
-# So many seconds a process may take to end, on a busy machine, that has closed its output.
+# The number of seconds that a process may take to end, on a busy machine, once it has closed its output.
 GRACE = 5.0
 
 
@@ -167,7 +167,7 @@ class ChildProcess:
             return None
 
     def how_it_ended(self) -> str:
-        """Ends the process, if it goes on, and tells its status and the first line of what it complained of."""
+        """Ends the process, if it is running, and tells its status and the first line of what it complained of."""
         status = self.status(GRACE)
         self._hear()
         self.end()

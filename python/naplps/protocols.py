@@ -26,7 +26,7 @@ class Pieces(Protocol):
     """A page that comes in pieces."""
 
     def feed(self, piece: Data) -> Reply:
-        """Takes the next piece; a refusal that is told is that of the whole page. Raises NoMemory."""
+        """Takes the next piece; a refusal that is reported is that of the whole page. Raises NoMemory."""
         ...
 
     def finish(self) -> Reply:

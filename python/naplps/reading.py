@@ -108,7 +108,7 @@ def _field(it: Match[str]) -> Field:
     return Field(None if it[2] is None else (_position(it[2]), _position(it[3])), _pen(it[4]))
 
 
-# The lines by their first words: what stands behind these, and what is made of its groups.
+# The lines by their first words: what stands after these, and what is made of its groups.
 _READERS: Dict[str, Tuple[str, Callable[[Match[str]], Entry]]] = {
     "POINT": (f" {_XY}{_PEL}{_COLOUR}", _point),
     "LINE": (f" {_XY} {_XY}{_INK}", _line),
@@ -186,7 +186,7 @@ class Entries:
 
 
 def placed(body: bytes) -> List[Tuple[int, str]]:
-    """The lines in the body of `places`, each behind its place. Raises NotALine."""
+    """The lines in the body of `places`, each after its place. Raises NotALine."""
     rows: List[Tuple[int, str]] = []
     for row in body.decode("ascii").splitlines():
         place, _, line = row.partition(" ")

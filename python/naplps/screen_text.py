@@ -8,7 +8,7 @@ from . import letters
 from .drawing.cells import DOT, RIGHT, Cell, TextCursor, cell
 from .entry import Colour, Look, Pen, TextMove
 
-# Letters that stand one behind the other and look the same, as one piece; other lines of text one by one; and the rest.
+# Letters that stand one after the other and look the same, as one piece; other lines of text one by one; and the rest.
 _LINES = re.compile(
     r"CHAR (primary|mosaic|drcs) (..) pen=(\S+) (colour=\S+ text=(\S+))\n((?:CHAR \1 .. pen=after \4\n)*)"
     r"|CHAR supplementary (..) pen=(\S+) colour=\S+ text=(\S+)\n"
@@ -27,7 +27,7 @@ SAME_LINE, SAME_WORD, SAME_PLACE = 0.5, 0.3, 0.5
 
 
 class ScreenPiece(NamedTuple):
-    """Letters that stand one behind the other: their lower left corner, where they end, and the height of a cell."""
+    """Letters that stand one after the other: their lower left corner, where they end, and the height of a cell."""
 
     y: float
     x: float

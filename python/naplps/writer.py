@@ -3,8 +3,8 @@
     from naplps.writer import PageWriter
     page = PageWriter().clear().rgb(1, 0.8, 0.2).at(0.1, 0.5, "HELLO").made()
 
-Places and sizes are in sides of the square. What is drawn with stays until it is set again: the colour, the pel, the
-texture and the look of text.
+Places and sizes are in sides of the unit screen. What is drawn with stays until it is set again: the colour, the pel,
+the texture and the text attributes.
 """
 import math
 from contextlib import contextmanager
@@ -20,14 +20,14 @@ from .making import make
 from .page_state import PageState
 
 Place = Tuple[float, float]
-# An address of a map of sixteen colours is so many of those of the lines.
+# The step from an address of a map of sixteen colours to the next, in addresses of the lines.
 SIXTEENTH = 1 << 20
 
 
 class PageWriter:
     """The entries of a page, one after another. Each method gives the writer again.
 
-    Places and sizes go to the nearest of so many steps of the side, a power of two, as 256 of a screen with so many
+    Places and sizes go to the nearest of a number of steps of the side, a power of two, as 256 of a screen 256
     pels across; without a number, of all that lines have. A whole side is the last position.
     """
 
@@ -74,7 +74,7 @@ class PageWriter:
         return self
 
     def select(self, front: int, back: Optional[int] = None) -> "PageWriter":
-        """A colour of a map of sixteen, or two, in front and behind."""
+        """A colour of a map of sixteen, or two: foreground and background."""
         numbers = (front,) if back is None else (front, back)
         self._colour = Colour("front" if back is None else "pair", tuple(number * SIXTEENTH for number in numbers))
         return self

@@ -27,7 +27,7 @@ def run(command: str) -> NoReturn:
 
 
 def _end(status: int) -> NoReturn:
-    """Ends with a status, behind the last of the output."""
+    """Ends with a status, after the last of the output."""
     try:
         sys.stdout.flush()
     except BrokenPipeError:

@@ -88,7 +88,7 @@ def _limited(answer: Answer) -> Answer:
 
 
 def _tell_refusal(session: Session, page: Page, answer: Refusal) -> None:
-    """A refused page has no list and no canonical bytes: its refusal is told on standard error."""
+    """A refused page has no list and no canonical bytes: its refusal is reported on standard error."""
     session.output.flush()
     tell(f"{shown(page.name)}: {answer.line}")
 

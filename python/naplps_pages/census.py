@@ -11,7 +11,7 @@ from .json_lines import dumps
 from .page_session import Session
 from .source import Page
 
-# So many bytes of a page are read on behind its refusal, those of macros counted too.
+# The number of bytes of a page that are read after its refusal, those of macros counted too.
 MOST_STEPS = 100_000
 # The names that refusals have for codes, by those of the table of codes.
 LEFT_OUT = {name: name for name in ("CAN", "SDC", "NSR", "UNPROTECT", "EDC1", "EDC2", "EDC3", "EDC4")}
@@ -23,7 +23,7 @@ ESCAPES = ("announcer", "designation of a C0 set", "designation of a C1 set", "s
 UNKNOWN_SET = "unknown set"
 EIGHTH_BIT, TRANSPARENT = "eighth bit", "SET COLOR without a colour"
 MOST_SHOWN = 5
-# So many bytes behind the place of a refusal belong to its escape sequence.
+# The number of bytes after the place of a refusal that belong to its escape sequence.
 MOST_BEHIND = 64
 ESTIMATE = ("first: the refusal's own, which is exact. The rest is an estimate, by a reading of codes that goes on "
             "behind the refusal.")

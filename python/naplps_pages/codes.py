@@ -1,6 +1,6 @@
 """Cuts a page into codes with their names, for explanations alone: what a page means the program says.
 
-Macros are followed, since a body may change the sets or begin a code that ends behind the call.
+Macros are followed, since a body may change the sets or begin a code that ends after the call.
 """
 from typing import Dict, Iterator, List, NamedTuple, Optional, Tuple
 
@@ -94,7 +94,7 @@ class Cutter:
                 return
 
     def _letters(self) -> Iterator[Code]:
-        """The letters of the primary set in front, which is in use."""
+        """The letters of the primary set that come next, which is in use."""
         data, taken, place = self.frames[-1]
         end = min(len(data), taken + self.most_steps - self.steps)
         for at in range(taken, end):
@@ -138,7 +138,7 @@ class Cutter:
             if body:
                 self.frames.append((body, 0, self.last))
             return code
-        if name == "primary" and byte in LETTERS:  # (behind a single shift)
+        if name == "primary" and byte in LETTERS:  # (after a single shift)
             return self._named(start, LETTERS[byte])
         return self._named(start, f"{name} character {byte:02x}")
 
@@ -213,7 +213,7 @@ class Cutter:
         return self.frames[-1]
 
     def _ends_body(self) -> bool:
-        """Whether the pair in front ends a body. (A pair over the end of a body is looked at byte by byte.)"""
+        """Whether the next pair ends a body. (A pair over the end of a body is looked at byte by byte.)"""
         joined = bytearray()
         for data, taken, _ in reversed(self.frames):
             joined += data[taken:taken + 2 - len(joined)]

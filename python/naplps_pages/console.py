@@ -25,7 +25,7 @@ def tell(text: str) -> None:
 
 
 def tell_line(text: str) -> None:
-    """A line on standard error as it stands, without the name of the tool: editors find the places of such lines."""
+    """A line on standard error as it is, without the name of the tool: editors find the places of such lines."""
     try:
         sys.stderr.write(text + "\n")
         sys.stderr.flush()
@@ -34,7 +34,7 @@ def tell_line(text: str) -> None:
 
 
 class Output(NamedTuple):
-    """Standard output. A pipe that nobody reads ends the tool; other faults are told."""
+    """Standard output. A pipe that nobody reads ends the tool; other faults are reported."""
 
     file: IO[bytes]
 

@@ -22,7 +22,7 @@ from .source import Page
 
 WARNING = ("The copy is another page. That it is equal to the original, or draws what was meant there, isn't claimed; "
            "keep the original.")
-# A note that is there already is read if it is no more than so many times as long as the tool's own.
+# A note that is there already is read if it is at most this number of times as long as the tool's own.
 MOST_SPACED = 4
 GUESS = "The copy is a guess: codes of the page were taken or rewritten whose whole effect isn't certain. "
 

@@ -16,7 +16,7 @@ TOO_MUCH = "it and the pages before it have too many entries to be told apart"
 
 @dataclass(frozen=True)
 class Earlier:
-    """Pages that come before another one: their bytes one behind the other, their names, and where each ends."""
+    """Pages that come before another one: their bytes one after the other, their names, and where each ends."""
 
     data: bytes = b""
     names: Tuple[str, ...] = ()
@@ -27,7 +27,7 @@ class Earlier:
         return Page(page.name, self.data + (page.data or b""))
 
     def refusal(self, answer: Refusal) -> str:
-        """What is told where one of the earlier pages is refused."""
+        """What is reported where one of the earlier pages is refused."""
         at = next(number for number, end in enumerate(self.ends) if answer.place < end)
         start = self.ends[at - 1] if at else 0
         return f"the page before it, {shown(self.names[at])}, is {moved(answer, start).line}"
@@ -41,7 +41,7 @@ class Heard(NamedTuple):
 
 
 def read_earlier(names: List[str], seconds: float) -> Earlier:
-    """Reads the pages of these names, each in so many seconds. Raises Unread, with the name of the page."""
+    """Reads the pages of these names, each within a number of seconds. Raises Unread, with the name of the page."""
     pieces: List[bytes] = []
     ends: List[int] = []
     for name in names:
@@ -82,7 +82,7 @@ def heard(program: Client, earlier: Earlier, page: Page) -> Heard:
 
 
 def _behind(every: List[Row], before: List[Row], start: int) -> List[Row]:
-    """The entries that came with bytes from the start on, with the offsets behind it.
+    """The entries that came with bytes from the start on, with the offsets after it.
 
     At the start itself an opcode may act whose operands end there: these entries are of the page before, and come
     first.

@@ -1,4 +1,4 @@
-"""The command explain: entries beside the bytes that brought them, and the reason of a refusal."""
+"""The command explain: entries beside the bytes that added them, and the reason of a refusal."""
 import bisect
 from dataclasses import dataclass, field, replace
 from textwrap import wrap
@@ -18,17 +18,17 @@ from .source import Page
 
 IN_ROW = 8
 AROUND = 16
-# Kinds of entries that come with the last byte of their own code; the others come with the byte behind a run.
+# Kinds of entries that come with the last byte of their own code; the others come with the byte after a run.
 OF_CONTROLS = frozenset((
     "CHAR", "MOVE", "TO-EOL", "BELL", "CLEAR", "CURSOR", "BLINK-START", "BLINK-STOP", "GLYPH", "MASK", "END"))
 
-# Codes of which many may stand behind each other, and bring nothing.
+# Codes of which many may stand after each other, and add nothing.
 WITHOUT_EFFECT = ("NUL", "control without effect")
-# Codes behind which the body of a macro stands.
+# Codes after which the body of a macro stands.
 OF_BODIES = ("DEF MACRO", "DEFP MACRO")
 # The name of characters that have one row.
 CHARACTERS = "characters"
-# The name of what stands behind the codes that are cut: a page of very many is shown up to there.
+# The name of what stands after the codes that are cut: a page of very many is shown up to there.
 REST = "the rest, which isn't cut"
 
 
@@ -85,7 +85,7 @@ def _before(page: Page, answer: Union[Accepted, Refusal], entries: Optional[List
 
 
 def joined_characters(rows: Iterable[CodeRow]) -> Iterator[CodeRow]:
-    """The rows, of which those with characters that go on behind each other are one, and entries of one look too."""
+    """The rows, of which those with characters that continue each other are one, and entries of one look too."""
     waiting: Optional[CodeRow] = None
     for row in rows:
         if waiting is not None and _goes_on(waiting, row):
@@ -99,7 +99,7 @@ def joined_characters(rows: Iterable[CodeRow]) -> Iterator[CodeRow]:
 
 
 def _goes_on(last: CodeRow, row: CodeRow) -> bool:
-    """Whether a row is a character that goes on behind the last one."""
+    """Whether a row is a character that continues the last one."""
     return (len(last.lines) < MOST_IN_ROW and len(row.lines) == 1 and last.end == row.start and _is_character(row)
             and (last.name == CHARACTERS or _is_character(last)) and goes_on(last.lines[-1], row.lines[0]))
 
@@ -113,7 +113,7 @@ def _folded(row: CodeRow) -> CodeRow:
 
 
 def assigned(data: bytes, entries: List[Placed], stop: Optional[int]) -> List[CodeRow]:
-    """The rows of a page, up to the place of a refusal, with the lines of the entries that their bytes brought."""
+    """The rows of a page, up to the place of a refusal, with the lines of the entries that their bytes added."""
     rows = numbered(data, entries, stop)
     for row in rows:
         row.lines = [entries[number][1] for number in row.entries]
@@ -144,7 +144,7 @@ def numbered(data: bytes, entries: List[Placed], stop: Optional[int]) -> List[Co
 
 
 def behind(rows: Iterable[CodeRow], start: int) -> List[CodeRow]:
-    """The rows of the bytes from the start on, with their offsets behind it."""
+    """The rows of the bytes from the start on, with their offsets after it."""
     return [replace(row, start=max(0, row.start - start), end=row.end - start, acts=row.acts - start)
             for row in rows if row.end > start or row.start >= start]
 

@@ -8,7 +8,7 @@ from naplps.treating.captures import LEADING_ON
 from .source import PIECE, Page
 
 PAGE, TEXT, BLANK = "page", "text", "blank"
-# So many bytes of a file are looked at for what it looks like.
+# The number of bytes of a file that are looked at for what it looks like.
 MOST_LOOKED_AT = 512
 MAC_HEADER = 128
 # In an accepted page they stand in the bodies of its macros alone.
@@ -38,7 +38,7 @@ MAGIC = tuple(Magic(offset, data, name) for offset, data, name in (
     (0, b"\xfe\xff", "text in UTF-16"), (0, b"SAUCE00", "SAUCE record")))
 
 
-# What files of all formats but those that are known further behind begin with.
+# What files begin with, of all formats but those that are known by later bytes.
 FRONTS = tuple({magic.data for magic in MAGIC if not magic.offset})
 BEHIND = tuple(magic for magic in MAGIC if magic.offset)
 
@@ -107,7 +107,7 @@ def _pieces(file: Optional[IO[bytes]]) -> Iterator[bytes]:
 
 
 def told(it: Description) -> str:
-    """What stands behind the line of an answer: nothing for a page."""
+    """What stands after the line of an answer: nothing for a page."""
     if it.looks_like:
         return f" (looks like {it.looks_like})"
     return f" ({it.kind})" if it.kind in (TEXT, BLANK) else ""

@@ -1,7 +1,7 @@
-"""Characters in a row: entries that differ in nothing but their letter, each behind the last, are told together."""
+"""Characters in a row: entries that differ in nothing but their letter, each after the last, are told together."""
 from typing import Iterable, Iterator, List, NamedTuple, Optional, Tuple
 
-# So many characters at most are told in a row.
+# The greatest number of characters that are told in a row.
 MOST_IN_ROW = 80
 PEN, AFTER = " pen=", " pen=after "
 # Digits of a character's code.
@@ -34,13 +34,13 @@ def _character(line: str) -> Optional[_Characters]:
 
 
 def goes_on(last: str, line: str) -> bool:
-    """Whether the line is a character that goes on a row behind the last one."""
+    """Whether the line is a character that continues a row."""
     around = _around(last)
     return around is not None and line[:around[0]] + line[around[0] + CODE:] == around[1]
 
 
 def _around(line: str) -> Optional[Tuple[int, str]]:
-    """Of a character's line where its code stands, and what stands around the code in the lines that go on behind."""
+    """Of a character's line where its code stands, and what stands around the code in the lines that continue it."""
     pen = line.find(PEN)
     if pen < 0 or not line.startswith("CHAR "):
         return None
@@ -65,7 +65,7 @@ def folded(lines: Iterable[str]) -> Iterator[FoldedRow]:
 
 
 def _row(run: List[str]) -> FoldedRow:
-    """The row of some lines that go on behind each other."""
+    """The row of some lines that continue each other."""
     first = _character(run[0]) if len(run) > 1 else None
     if first is None:
         return FoldedRow(run[0], 1)

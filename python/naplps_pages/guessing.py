@@ -1,4 +1,4 @@
-"""What stands behind a refusal, by guess: the page is read on as if each code that is refused did nothing.
+"""What stands after a refusal, by guess: the page is read on as if each code that is refused did nothing.
 
 Such a code is taken for bytes without effect, so that all others keep their offsets. What comes of it is for a picture
 alone.
@@ -13,16 +13,16 @@ from .codes import Code, Cutter
 from .listing import Listed, listed
 from .source import Page
 
-# So many codes at most are passed over, so many bytes cut into codes for that, those of macros counted too, and so many
+# The greatest number of codes that are passed over, of bytes cut into codes for that, macros counted too, and of
 # bytes given to the program.
 MOST_CODES = 64
 MOST_STEPS = 1_000_000
 MOST_ASKED = 16 << 20
-# Refusals behind which nothing can be read: where the page has ended, or is too much.
+# Refusals after which nothing can be read: where the page has ended, or is too much.
 ENDS = ("Store", "Cut", "Unended", "Memory", "Sink")
 SINGLE_SHIFTS = (0x19, 0x1D)
 ESCAPE, DEFT_MACRO = 0x1B, "DEFT MACRO"
-# The bytes of a place behind NSR.
+# The bytes of a place after NSR.
 NSR, PLACE = "NSR", 2
 MOST_TOLD = 3
 
@@ -36,7 +36,7 @@ class Span(NamedTuple):
 
 @dataclass(frozen=True)
 class GuessedPage:
-    """The lines before a refusal and those behind it; where codes were passed over; and the refusal where it ends."""
+    """The lines before a refusal and those after it; where codes were passed over; and the refusal where it ends."""
 
     lines: List[str]
     start: int
@@ -63,7 +63,7 @@ class Guesser:
         self.steps, self.asked = MOST_STEPS, 0
 
     def guess(self, told: Listed) -> Optional[GuessedPage]:
-        """What stands behind the refusal of a page with these entries; nothing where that can't be read."""
+        """What stands after the refusal of a page with these entries; nothing where that can't be read."""
         answer: Answer = told.answer
         passed: List[int] = []
         while isinstance(answer, Refusal) and len(passed) < MOST_CODES and self._pass(answer):
@@ -113,7 +113,7 @@ class Guesser:
 
 def _span_of(code: Code, data: bytearray) -> Span:
     """The bytes of a code: of DEFT MACRO up to where its body ends, which isn't to be read as codes, and of NSR with
-    the place behind it, if two such bytes stand there."""
+    the place after it, if two such bytes stand there."""
     if code.name == NSR and _end_of_words(data, code.end) >= code.end + PLACE:
         return Span(code.start, code.end + PLACE)
     if code.name == DEFT_MACRO:

@@ -52,7 +52,7 @@ class Session:
         self.fail(FAILED)
 
     def front(self, name: str) -> str:
-        """What stands in front of the answer to a page: its name, where there are several."""
+        """What stands before the answer to a page: its name, where there are several."""
         return f"{shown(name)}: " if len(self.names) > 1 else ""
 
     def title(self, page: Page) -> str:

@@ -7,9 +7,9 @@ import re
 import unicodedata
 from typing import List, NamedTuple, Optional, Tuple
 
-# A text of a page that is kept has so many characters at most, and its first words so many.
+# The greatest number of characters of a page's text that is kept, and of its first words.
 MOST_TEXT, FIRST = 1 << 16, 60
-# So many characters are looked at for the first words, and so many of what is looked for.
+# The number of characters that are looked at for the first words, and of those that are asked for.
 LOOKED_AT, MOST_ASKED, MOST_PARTS = 400, 400, 32
 WORD = re.compile(r"[^\W_]+")
 PART = re.compile(r'"([^"]*)"?|([^\s"]+)')
@@ -20,7 +20,7 @@ class NoWords(ValueError):
 
 
 class Phrase(NamedTuple):
-    """Words that follow each other, and whether the last of them may go on."""
+    """Words that follow each other, and whether the last of them may continue."""
 
     words: Tuple[str, ...]
     goes_on: bool

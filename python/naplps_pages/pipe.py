@@ -11,7 +11,7 @@ class Late(OSError):
 
 
 class Pipe:
-    """Reads a pipe until all who write to it have closed it, for so many seconds. Raises OSError."""
+    """Reads a pipe until all who write to it have closed it, for a number of seconds. Raises OSError."""
 
     def __init__(self, name: str, seconds: float) -> None:
         self.seconds, self.end = seconds, time.monotonic() + seconds

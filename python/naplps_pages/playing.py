@@ -39,7 +39,7 @@ def play(session: Session) -> int:
 
 
 def _before(heard: Heard) -> List[str]:
-    """The lines of the entries that earlier pages brought."""
+    """The lines of the entries that earlier pages added."""
     every, last = heard.every.lines or [], heard.last.lines or []
     return every[:len(every) - len(last)]
 

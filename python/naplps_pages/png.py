@@ -21,7 +21,7 @@ def find() -> str:
 
 
 def png_of(svg: bytes, seconds: float) -> bytes:
-    """The picture as PNG, made in so many seconds. Raises NoPng."""
+    """The picture as PNG, made within a number of seconds. Raises NoPng."""
     try:
         # (a picture may have more bytes than libxml takes by itself)
         said = subprocess.run([find(), "--unlimited"], input=svg, stdout=subprocess.PIPE, stderr=subprocess.PIPE,

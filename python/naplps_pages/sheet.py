@@ -8,7 +8,7 @@ from naplps.drawing.elements import escaped
 from naplps.drawing.measure import HEIGHT, WIDTH
 from naplps.drawing.paper import AROUND, MOST_BYTES, MOST_WEIGHT
 
-# A sheet has so many pages at most, and as much to draw as one sketch may have.
+# The greatest number of pages of a sheet, which has as much to draw as one sketch may have.
 MOST_PAGES = 1000
 # The width of a picture, the space around it, and the lines below it.
 WIDE, SPACE, LINE, FONT = 256, 16, 18, 13
@@ -16,7 +16,7 @@ HIGH = WIDE * HEIGHT // WIDTH
 MOST_COLUMNS = 6
 # With more rows it would be higher than librsvg makes a picture, so there are more columns then.
 MOST_ROWS = 120
-# So many characters of a name or an answer stand below a picture.
+# The number of characters of a name or an answer below a picture.
 MOST_SHOWN = WIDE * 10 // (FONT * 6)
 TOO_MUCH = "too much for a sheet"
 

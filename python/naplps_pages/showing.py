@@ -89,7 +89,7 @@ class _Shown(NamedTuple):
 
 
 def _with_guess(session: Session, page: Page, heard: Heard) -> _Shown:
-    """What is drawn of a page that was answered. A refusal is told, and what the sketch shows then."""
+    """What is drawn of a page that was answered. A refusal is reported, and what the sketch shows then."""
     told, answer = Listed(heard.last.answer, heard.every.rows), heard.last.answer
     if not isinstance(answer, Refusal):
         return _Shown(told.entries)

@@ -56,7 +56,7 @@ class Unread(Exception):
 def read(name: str, seconds: float) -> Page:
     """Reads the page of this name, '-' for standard input, 'PACK!MEMBER' for a member of a pack. Raises Unread.
 
-    A pipe that has a name is waited for so many seconds. Others are waited for as other filters do.
+    A pipe that has a name is waited for a number of seconds. Others are waited for as other filters do.
     """
     try:
         if name == "-":
@@ -93,7 +93,7 @@ def _is_unnamed(name: str) -> bool:
 
 
 def _member(name: str) -> Optional[Page]:
-    """The member of a pack, where the name has a pack that is there in front. Raises Unread."""
+    """The member of a pack, where the name begins with a pack that is there. Raises Unread."""
     at = name.find(BETWEEN)
     while at >= 0:
         pack = os.path.abspath(os.fsencode(name[:at]))

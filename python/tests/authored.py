@@ -9,7 +9,7 @@ NAMES = {(65535, 65535, 65535): "white", (0, 0, 0): "black", (0, 65535, 0): "red
 
 
 def fraction(units: int) -> str:
-    """A number of units as a fraction of the square."""
+    """A number of units as a fraction of the unit screen."""
     return "%.8f" % (units / nap.ONE)
 
 

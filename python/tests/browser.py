@@ -26,7 +26,7 @@ def _as_3_and_4(*pipes):
 
 
 class Browser:
-    """One browser with one page. It keeps what the page asked for, with which Referer, and what it told as an error."""
+    """One browser with one page. It keeps what the page asked for, with which Referer, and the errors of the page."""
 
     def __init__(self, width=1240, height=900):
         self.folder = tempfile.mkdtemp(prefix="naplps-browser-")
@@ -124,7 +124,7 @@ class Browser:
             raise
 
     def tells_error(self, part, number):
-        """Waits until so many errors with this part are told."""
+        """Waits until a number of errors with this part are reported."""
         self.wait(lambda: self.run("true") and sum(part in each for each in self.errors) >= number,
                   "%d errors: %s" % (number, part))
 

@@ -1,6 +1,6 @@
 """Texts of a page in a browser that can hardly be read, by the contrast of their colours."""
 
-# WCAG 2 asks so much of texts (level AA).
+# What WCAG 2 asks of texts (level AA).
 LEAST = 4.5
 FAINT = """
 ((least) => {

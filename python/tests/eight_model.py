@@ -114,7 +114,7 @@ class Reader:
         self.acts.append(("C1", code, self.argument() if code in (0x43, 0x44, 0x46) else None))
 
     def ends(self):
-        """The bytes of the control in front that ends a body, if there is one."""
+        """The bytes of the next control that ends a body, if there is one."""
         first = self.peek()
         if self.eight and first is not None and 0x80 <= first <= 0x85:
             return 1

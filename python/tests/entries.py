@@ -98,7 +98,7 @@ MAKERS = {
 
 
 class Holding:
-    """What an entry holds: made by chance, or as it stands."""
+    """What an entry holds: made by chance, or as it is."""
 
     def __init__(self, chance, stands=None, share=0.0):
         for name, make in (("pen", pen), ("pel", step), ("colour", colour), ("texture", texture), ("text", look)):

@@ -88,9 +88,9 @@ def require_told(said, words, what=""):
 
 
 def rounds(usual):
-    """The random numbers of each round: so many rounds, or as many as there is time for if FUZZ_SECONDS says so.
+    """The random numbers of each round: a number of rounds, or as many as there is time for if FUZZ_SECONDS says so.
 
-    FUZZ_SEED gives other ones. Each round's own seed is its number behind that.
+    FUZZ_SEED gives other ones. Each round's own seed is its number after that.
     """
     seconds, seed = float(os.environ.get("FUZZ_SECONDS", "0")), os.environ.get("FUZZ_SEED", "1")
     end = time.monotonic() + seconds

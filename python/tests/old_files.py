@@ -12,7 +12,7 @@ SHIFTS = {0x0E: 1, 0x0F: 0}
 FRONTS = (b"\x18", b"\x1b\x22\x46", b"\x18\x1b\x25\x41", b"\x1f\x0c", b"\x18\x1f\x41\x42\x0c")
 STOPS = {"INCREMENTAL-LINE": b"\x0e\x3a\x52\x40\x0f", "INCREMENTAL-POINT": b"\x0e\x39\x52\x0f", "DEFT": b"\x1b\x42",
          "INCREMENTAL-POLY": b"\x0e\x3b\x52\x0f", "EDC1": b"\x1b\x51", "UNPROTECT": b"\x1b\x5f"}
-# How many bytes the codes of seven bits take behind ESC, and behind a control of one byte.
+# How many bytes the codes of seven bits take after ESC, and after a control of one byte.
 ARGUMENTS = {0x40: 1, 0x41: 1, 0x43: 1, 0x44: 1, 0x46: 1}
 
 
@@ -42,7 +42,7 @@ def in_eight_bits(page):
 
 
 def sauce(data, lines=0, mark=b"\x1a"):
-    """The data with a SAUCE record behind it, and with so many lines of comments."""
+    """The data with a SAUCE record after it, and with a number of lines of comments."""
     comments = b"COMNT" + b"a comment".ljust(64) * lines if lines else b""
     fields = b"A logo".ljust(35) + "Caf\u00e9".encode("cp437").ljust(20) + b"None".ljust(20) + b"19840114"
     record = b"SAUCE00" + fields + len(data).to_bytes(4, "little") + bytes(10) + bytes([lines]) + bytes(23)
@@ -69,7 +69,7 @@ def old(name: str, data: bytes, page: Optional[bytes] = None, *treatments: str) 
 
 
 def midst(page: bytes, code: bytes) -> bytes:
-    """The page with a code before its last text, behind the last SI."""
+    """The page with a code before its last text, after the last SI."""
     at = page.rindex(b"\x0f") + 1
     return page[:at] + code + page[at:]
 
@@ -182,7 +182,7 @@ LOOKS = {"gif": "GIF", "gz": "gzip", "pdf": "PDF", "doc": "OLE (an older Office 
 
 
 def box(number: int = 3000, seed: int = 1983) -> List[Old]:
-    """So many files of all sorts, or a few more."""
+    """A number of files of all sorts, or a few more."""
     chance = Random(seed)
     makers: Dict[int, Maker] = {
         30: lambda chance, at: old("picture %d.nap" % at, picture(chance, at)),

@@ -50,7 +50,7 @@ def member(name, data):
 
 
 def deflated(*parts, size=0):
-    """A raw deflate stream of these bytes, of so many zeros, and of what stands behind these."""
+    """A raw deflate stream of these bytes, of a number of zeros, and of what follows."""
     def piece(data):
         maker = zlib.compressobj(9, zlib.DEFLATED, -15)
         return maker.compress(data) + maker.flush(zlib.Z_FULL_FLUSH)
@@ -64,14 +64,14 @@ def gzipped(raw):
 
 
 def tar_bomb(path, size, behind=()):
-    """A tar.gz file with a member of so many zeros; its path."""
+    """A tar.gz file with a member of a number of zeros; its path."""
     start = member("first.nap", b"first") + header("bomb.nap", size)
     rest = b"".join(member(name, data) for name, data in behind) + bytes(1024)
     return written(path, gzipped(deflated(start, rest, size=size)))
 
 
 def zip_bomb(path, size, told=None):
-    """A zip file with a member of so many zeros, of which the directory may tell another size; its path."""
+    """A zip file with a member of a number of zeros, of which the directory may tell another size; its path."""
     raw = deflated(b"", size=size)
     return written(path, zip_of([entry(b"bomb.nap", raw, told or size, 8), entry(b"first.nap", b"first", 5, 0)]))
 

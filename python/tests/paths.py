@@ -14,7 +14,7 @@ def numbers(text: str) -> List[float]:
 
 
 def polygons(path: str, steps: int = 64) -> "List[List[Place]]":
-    """The closed parts of a path with large letters, curves and arcs as so many steps."""
+    """The closed parts of a path with large letters, curves and arcs as a number of steps."""
     out: List[List[Place]] = []
     for letter, rest, _ in PART.findall(path):
         values = numbers(rest)

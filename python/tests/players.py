@@ -10,7 +10,7 @@ from conftest import COMMAND
 
 # Of the pels that either picture draws off the ground 95 in a hundred are so near.
 NEAR, LEAST = 64, 0.95
-# A small or a dim shape is little of that: in each part of so many pels both ways only so many aren't very near.
+# A small or a dim shape is little of that: in each part of PART pels both ways only MOST_FAR aren't very near.
 VERY_NEAR, PART, MOST_FAR = 24, 16, 4
 # Draws a sketch in the page of a player, which forbids that: so the tests go round its policy.
 WANTED = """

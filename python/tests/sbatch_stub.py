@@ -22,7 +22,7 @@ def stop(why):
 
 
 def take(words, into):
-    """Takes options from the front of words; the words behind them."""
+    """Takes options from the front of words; the words after them."""
     rest = list(words)
     while rest and rest[0].startswith("--"):
         name, is_given, value = rest.pop(0)[2:].partition("=")
@@ -39,7 +39,7 @@ def take(words, into):
 
 
 def of_script(path):
-    """The options in a script: its lines #SBATCH in front of the first command."""
+    """The options in a script: its lines #SBATCH before the first command."""
     given = {}
     with open(path, encoding="utf-8") as script:
         if not script.readline().startswith("#!"):

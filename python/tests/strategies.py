@@ -13,7 +13,7 @@ MOVES = (0x0D, 0x0A, 0x08, 0x09, 0x0B, 0x1E)
 
 
 def _repeat(page, places):
-    """REPEAT TO EOL behind a character, and else CS."""
+    """REPEAT TO EOL after a character, and else CS."""
     if page.bytes[-1:] == b'"':
         page.escape(0x47)
     else:

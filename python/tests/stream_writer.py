@@ -1,7 +1,7 @@
 """Spells streams of NAPLPS byte by byte, as senders did and as no canonical stream is: operands of chosen lengths,
 relative moves, macros, and codes that are refused. For tests alone: what makes pages is naplps.writer.
 
-Places and sizes are in sides of the square.
+Places and sizes are in sides of the unit screen.
 """
 from typing import Iterable, Sequence, Tuple
 
@@ -41,7 +41,7 @@ class StreamWriter:
         return bytes(0x40 | (x >> at & 7) << 3 | (y >> at & 7) for at in range(bits - 3, -1, -3))
 
     def place(self, x: float, y: float) -> bytes:
-        """A point or displacement in sides of the square."""
+        """A point or displacement in sides of the unit screen."""
         return self.spelled(self.units(x), self.units(y))
 
     def moves(self, places: Sequence[Place]) -> bytes:

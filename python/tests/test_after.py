@@ -17,7 +17,7 @@ from naplps_pages.source import Page
 from players import held
 from samples import OUTSIDE, POINT, POINT_LINE
 
-# A macro of a point, and G2 for macros; a page that calls it; and one that only goes on with a run.
+# A macro of a point, and G2 for macros; a page that calls it; and one that only continues a run.
 FIRST = bytes.fromhex("1B 40 41 0E 26 52 0F 1B 45 1B 2A 7A")
 SECOND = b"\x19\x41A"
 RUN, GOES_ON = bytes.fromhex("0E 26 52 40 40"), bytes.fromhex("49 40 40 0F 41")
@@ -156,7 +156,7 @@ def test_the_entries_of_both_are_those_of_the_joined_stream(naplps, one, other):
     mine = [(place + len(one), line) for place, line in told.last.rows]
     assert mine == whole.rows[len(whole.rows) - len(mine):]
     before = whole.rows[:len(whole.rows) - len(mine)]
-    # (what comes before are entries of the first page, but for a run that goes on)
+    # (what comes before are entries of the first page, but for a run that continues)
     assert before == first.rows[:len(before)] and len(first.rows) - len(before) <= sum(
         place == len(one) for place, _ in first.rows)
     assert all(place >= len(one) for place, _ in mine)

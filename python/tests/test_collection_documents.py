@@ -1,4 +1,4 @@
-"""What docs/COLLECTIONS.md shows of the tool: each command prints what stands behind it, in their order."""
+"""What docs/COLLECTIONS.md shows of the tool: each command prints what stands after it, in their order."""
 import json
 import os
 import re

@@ -345,7 +345,7 @@ class Terminal(io.StringIO):
 
 
 class Clock:
-    """A clock that goes on when it is told to."""
+    """A clock that advances when it is told to."""
 
     def __init__(self):
         self.now = 0.0

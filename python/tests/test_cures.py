@@ -36,7 +36,7 @@ SICK = {
         b"\x1f\x41\x42\x18" + PAGE[AT:] + b"\x1a")}
 NAMES = {"odd": "parity", "announcers": "front", "place": "front", "tail and zeros": "tail", "tail and rest": "tail",
          "tail and lines": "tail", "sauce and comments": "sauce", "nsr and place": "nsr", "unknown set": "designations"}
-# What is left behind the page.
+# What is left after the page.
 LEFT = {"tail and lines": b"\r\n"}
 
 
@@ -79,7 +79,7 @@ def undone(data, treatments):
         if each["parity"]:
             data = bytes(map(WITH_BIT[each["parity"]], data))
         for edit in reversed(each["edits"]):
-            # (behind the later edits are as they were; the earlier ones have moved this one)
+            # (after the later edits are as they were; the earlier ones have moved this one)
             moved = sum(len(other["put"]) - len(other["taken"]) for other in each["edits"]
                         if other["offset"] < edit["offset"]) // 2
             at, put = edit["offset"] + moved, bytes.fromhex(edit["put"])

@@ -1,4 +1,4 @@
-"""The commands that documents and manual page show: each is run as it stands, in a folder of pages; and their links."""
+"""The commands that documents and manual page show: each is run as it is, in a folder of pages; and their links."""
 import glob
 import os
 import re

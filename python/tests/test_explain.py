@@ -1,4 +1,4 @@
-"""Explanations: entries beside the bytes that brought them, and reasons."""
+"""Explanations: entries beside the bytes that added them, and reasons."""
 import pytest
 from hypothesis import given, settings
 from hypothesis import strategies as st

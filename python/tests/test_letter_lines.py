@@ -34,7 +34,7 @@ LINES = st.lists(LOOKS.flatmap(characters), max_size=4).map(lambda parts: sum(pa
 
 
 def both(lines, guess, bound):
-    """A sketch and a player's drawing, of a page that may have so many points."""
+    """A sketch and a player's drawing, of a page that may have a number of points."""
     with pytest.MonkeyPatch.context() as patched:
         patched.setattr(paper, "MOST_WEIGHT", bound)
         return drawing.draw(lines, guess=guess), timeline(lines)

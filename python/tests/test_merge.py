@@ -143,7 +143,7 @@ def test_unfinished_parts(run, fake, here, monkeypatch):
         b"%d files: %d accepted (%d texts), 0 refused; from 2 stores\n") % (met, met, met) and 200 < met < 400
     state = run(["status", "all.db"]).stdout
     assert b", was stopped: the same command goes on\n" in state and state.endswith(b"what the scan hasn't reached\n")
-    # (the whole goes on from there, and so does the part)
+    # (the whole continues from there, and so does the part)
     assert b"; %d known" % met in scan(run, program, "pages", "all.db").stdout
     scan(run, program, "pages", "0.db", "--part", "0/2")
     assert run(["merge", "both.db", "0.db", "1.db"]).stdout == (

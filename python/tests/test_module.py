@@ -29,7 +29,7 @@ from vectors.rows import files, vectors_of  # noqa: E402
 
 CANON = bytes.fromhex("0E215F265240404040404040")
 MIB = 1 << 20
-# Each has a list that is longer than the first room; the second is refused behind it.
+# Each has a list that is longer than the first buffer; the second is refused after it.
 LONG = POINT * 2000
 LONG_REFUSED = LONG + OUTSIDE
 

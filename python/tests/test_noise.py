@@ -15,7 +15,7 @@ from naplps_pages.file_kinds import kind, last_beginning, looks_like
 PARTS = (b"\x18", b"\x1a", b"\x1f", b"\x1f\x41\x42", b"\x1b\x22\x46", b"\x1b\x25\x41", b"\x1b\x28\x41", b"\x1b\x40!",
          b"\x1b\x45", b"\x0e", b"\x0f", b"\x0c", b"\x0e\x26\x52", b"\x8e", b"\xa6\xd2", b"SAUCE00", b"COMNT",
          b"\0" * 9, b"A", b"\xff")
-# What a processor may take for a file of so many bytes, in seconds: many times what it does.
+# What a processor may take for a file of a number of bytes, in seconds: many times what it does.
 MOST_SECONDS, LENGTH = 20, 1 << 17
 
 

@@ -248,7 +248,7 @@ def test_the_census_of_the_store_counts_what_was_put_in(files, checked, naplps, 
     assert sum(each["first"] for each in row["codes"]) == row["refused"] == len(pages)
     assert row["accepted"] == len({each.data for each in kept(files).values() if each.sort in KINDS})
     assert (row["no_answer"], row["in_part"]) == (0, 0)
-    for code in STOPS:  # (behind the refusals of junk such codes are found by chance)
+    for code in STOPS:  # (after the refusals of junk such codes are found by chance)
         assert told[code]["alone"] == named[code] <= told[code]["pages"] <= told[code]["times"]
 
 

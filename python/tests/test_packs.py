@@ -67,7 +67,7 @@ def answers(store, front):
 
 
 def groups(run, store, front):
-    """The groups of equal pages, by names without what stands in front of them."""
+    """The groups of equal pages, by names without what stands before them."""
     found = [json.loads(line) for line in run(["equal", store, "--copies", "--json"]).stdout.splitlines()]
     return [(each["canonical"], [(one["hash"], [name["name"][len(front):] for name in one["files"]])
                                  for one in each["spellings"]]) for each in found]

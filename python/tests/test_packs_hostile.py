@@ -154,7 +154,7 @@ def test_a_gzip_file_that_is_cut_or_damaged(found, at):
     assert members[b""][0] == "unreadable" and members[b""][1].startswith("it is cut: it ends at byte ")
     assert len(told) == 2
     broken = bytearray(good)
-    broken[-6] ^= 1                                             # (its length, behind its sum)
+    broken[-6] ^= 1                                             # (its length, after its sum)
     members, told, _ = found(written(os.path.join(at, "sum.tgz"), bytes(broken)))
     assert members[b"!c"] == ("accepted", None) and "incorrect" in members[b""][1]
     members, made = members_of(written(os.path.join(at, "none.tgz"), b"\x1f\x8b" + bytes(500)))

@@ -1,4 +1,4 @@
-"""Parts of a scan: which files each takes, that it goes on as itself alone, and that all of them are one scan."""
+"""Parts of a scan: which files each takes, that it continues as itself alone, and that all of them are one scan."""
 import json
 import os
 import zlib
@@ -59,7 +59,7 @@ def test_eight_parts_merged_are_one_scan(run, pages, tmp_path):
     for words in (["equal"], ["refused"], ["equal", "--copies", "--json"], ["status", "--csv"]):
         told = [run([words[0], store, *words[1:]]).stdout.splitlines() for store in (into, one)]
         assert told[0][4:] == told[1][4:]
-    # (it is a store like others, which goes on)
+    # (it is a store like others, which continues)
     tree(pages, {"new": POINT})
     said = run(["scan", pages, "--into", into])
     assert said.stdout.startswith(b"303 files: ") and b"; 302 known, 0 pages asked about\n" in said.stdout

@@ -1,4 +1,4 @@
-"""What stands behind a refusal, drawn by guess: which codes are passed over, and that it is always told as a guess."""
+"""What stands after a refusal, drawn by guess: which codes are passed over, and that it is always told as a guess."""
 import os
 import re
 
@@ -16,7 +16,7 @@ from naplps_pages.source import Page
 from strategies import pages
 from test_sketch import SVG, elements, harmless, tree
 
-# A point in the middle, and one that comes behind what is refused; where their rectangles are in the drawing.
+# A point in the middle, and one that comes after what is refused; where their rectangles are in the drawing.
 POINT, BEHIND = bytes.fromhex("0E 26 52 40 40"), bytes.fromhex("0E 26 49 40 40")
 FIRST, SECOND = ("510", "286"), ("254", "542")
 HATCHED = "Hatched is a guess: what stands behind, read on without the "

@@ -26,7 +26,7 @@ QUICK = settings(max_examples=40, deadline=None, phases=[Phase.explicit, Phase.g
 
 
 def steps(part):
-    """A part of the side of the square in steps."""
+    """A part of the side of the unit screen in steps."""
     return round(part * ONE)
 
 

@@ -37,7 +37,7 @@ def test_answers_of_the_program(naplps):
 
 def test_a_canonical_stream_that_is_never_held(naplps):
     page = b"\x0e" + b"&R@@" * 200_000
-    # (a run has 2,048 points, of which the first comes behind the opcode)
+    # (a run has 2,048 points, of which the first comes after the opcode)
     wanted = b"\x0e!_" + b"".join((b"" if at % 2048 else b"&") + b"R@@@@@@@" for at in range(200_000))
     said, = ask(naplps, [page])
     assert said.answer == Accepted(200_000)

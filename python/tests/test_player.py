@@ -65,7 +65,7 @@ def program(naplps):
 
 @pytest.fixture
 def shown(browser, naplps, tmp_path):
-    """Shows the player of a page by its bytes or name; behind the test it has told no fault, and asked for nothing."""
+    """Shows the player of a page by its bytes or name; after the test it reported no fault, and asked for nothing."""
     addresses = []
 
     def shows(page, bypass=False, words=()):
@@ -431,7 +431,7 @@ def test_a_refused_page_is_played_up_to_its_refusal(naplps, tmp_path, shown):
     assert said.returncode == 1 and b"the player shows what comes before" in said.stderr
 
 
-# Of the squares of so many pels both ways: how many there are, how many have one colour, how many aren't black in the
+# Of the squares of some pels both ways: how many there are, how many have one colour, how many aren't black in the
 # player or the sketch, and of how many of these the colour isn't near to the mean of the sketch.
 RASTER = """
 ((wide, high, size, near) => {

@@ -12,7 +12,7 @@ from naplps_pages.cases import case_of
 from samples import POINT, with_parity
 from spelled import logo
 
-# Each code that is left out, and its bytes behind SO.
+# Each code that is left out, and its bytes after SO.
 LEFT_OUT = {"CAN": "18", "SDC": "1A", "NSR": "1F", "DEFT": "1B 42", "UNPROTECT": "1B 5F", "EDC1": "1B 51",
             "EDC2": "1B 52", "EDC3": "1B 53", "EDC4": "1B 54", "INCREMENTAL-POINT": "39", "INCREMENTAL-LINE": "3A",
             "INCREMENTAL-POLY": "3B"}

@@ -151,7 +151,7 @@ def test_what_is_held_of_pages(made):
 
 
 def test_a_long_list_is_held_in_part(made):
-    rings = b"\x0f" + b"A\x07" * 300  # (no two characters stand one behind the other, so each has a row)
+    rings = b"\x0f" + b"A\x07" * 300  # (no two characters stand one after the other, so each has a row)
     html, _ = made({"a.nap": rings, "b.nap": rings + OUTSIDE})
     table, (block,) = held(html)
     long, refused = table["columns"]["sketch"]
@@ -180,7 +180,7 @@ def test_how_many_sketches_where_nothing_or_all_is_said(made, naplps, tmp_path):
 
 
 class Sorted:
-    """A table of so many groups, refused files by their reasons, and others."""
+    """A table of a number of groups, refused files by their reasons, and others."""
 
     def __init__(self, groups, refused, others):
         class FakeFile:

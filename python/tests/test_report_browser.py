@@ -73,7 +73,7 @@ def wall(browser, address):
 
 
 def opened(browser, address, part):
-    """Opens a part; behind the test it has told no fault, asked for nothing else, and nothing has acted."""
+    """Opens a part; after the test it has reported no fault, asked for nothing else, and nothing has acted."""
     browser.size(1240, 900)
     browser.look()
     browser.open(address + part)

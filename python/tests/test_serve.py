@@ -33,7 +33,7 @@ class Served:
         self.port, self.key = int(found[1]), found[2]
 
     def ask(self, path, method="GET", **headers):
-        """The status, the headers and the body of an answer to what stands behind the key."""
+        """The status, the headers and the body of an answer to what stands after the key."""
         return self.ask_bare(self.key + path, method, **headers)
 
     def ask_bare(self, path, method="GET", **headers):
@@ -436,6 +436,6 @@ def test_it_ends_amid_a_drawing(slow, number):
         slow.process.send_signal(number)
         assert slow.process.wait(300) == -number
         wait_until(lambda: _is_dead(drawer) and _is_dead(program))
-        # (the server may end before it can tell that nothing is drawn, or behind that)
+        # (the server may end before it can tell that nothing is drawn, or after that)
         lost = long.exception()
         assert isinstance(lost, (OSError, http.client.HTTPException, AssertionError)) or long.result()["why"] == ENDED

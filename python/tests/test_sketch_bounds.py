@@ -22,7 +22,7 @@ FULL = "0,0 %d,%d" % (ONE - 1, ONE - 1)
 
 
 def zigzag(points):
-    """A filled polygon of so many points side by side, as a page has it."""
+    """A filled polygon of a number of points side by side, as a page has it."""
     return StreamWriter(3).code(0x37, b"RZc" + bytes(0x40 | value for at in range(points) for value in (
         (0, 0, 0o17) if at % 2 else (0o77, 0o77, 0o71))))
 

@@ -10,7 +10,7 @@ from naplps.entry import ONE
 from naplps.reading import Entries, NotALine
 from test_sketch import elements, harmless, numbers
 
-# The cell of normal text, as parts of the side of the square.
+# The cell of normal text, as parts of the side of the unit screen.
 WIDE, HIGH = 1 / 40, 5 / 128
 DOT = 1 / 256
 SCROLLS = "scrolling isn't drawn"
@@ -22,7 +22,7 @@ def place(x, y):
 
 
 def field(x, y, columns, rows):
-    """A field for so many columns and rows, by its lower left corner."""
+    """A field for a number of columns and rows, by its lower left corner."""
     return ["FIELD %s %s pen=after" % (place(x, y), place(x + columns * WIDE, y + rows * HIGH))]
 
 

@@ -41,7 +41,7 @@ def fault(line: bytes, out: bytes = b"") -> Answer:
 
 
 def limit_processor(number: int, seconds: int = LIMIT) -> None:
-    """Has a process ended, and each that it starts from now on, once it has taken `seconds` of a processor.
+    """Has a process ended, and each that it starts from now on, once it has taken a number of seconds of a processor.
     Where root may not set the limits of another user's, that has one by the clock alone."""
     with contextlib.suppress(ProcessLookupError, PermissionError):
         resource.prlimit(number, resource.RLIMIT_CPU, (seconds, seconds + 1))

@@ -37,7 +37,7 @@ LINK = 0o120777
 
 class Places(NamedTuple):
     """Where a library stands under a prefix: the folders of its own files, of the header and of the file for
-    pkg-config, with slashes at their ends; and that prefix, as this file has it."""
+    pkg-config, with slashes after it; and that prefix, as this file tells it."""
 
     own: str
     header: str
@@ -72,7 +72,7 @@ COMPLETIONS = {
 
 
 def stop(why: str) -> "SystemExit":
-    """What to raise where a script can't go on."""
+    """What to raise where a script can't continue."""
     return SystemExit(f"{Path(sys.argv[0]).name}: {why}")
 
 

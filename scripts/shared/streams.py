@@ -4,7 +4,7 @@ from typing import Callable, List, Tuple
 
 from vectors.rows import files, vectors_of
 
-# A macro that calls itself charges all of its budget, and gives as many entries.
+# A macro that calls itself charges all of its budget, and adds as many entries.
 BUDGETS = (0, 3, 20, 300, 5000)
 # The longest vector that is damaged, and the longest piece of one.
 LONGEST = 300

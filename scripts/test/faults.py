@@ -138,7 +138,7 @@ MAKES = [["make"], ["make", "--stream"]]
 
 
 class Lines(Page):
-    """The lines of a page, which `make` makes again; or lines that are none's, which are told."""
+    """The lines of a page, which `make` makes again; or lines that are none's, which are reported."""
 
     def __init__(self, page: Page, more: bytes = b"", refusal: Optional[str] = None) -> None:
         super().__init__(f"lines of {page.name} {more.decode().strip()}", page.lines + more, refusal=refusal)
@@ -146,7 +146,7 @@ class Lines(Page):
         self.canonical = page.canonical
 
     def answer(self, words: List[str]) -> Answer:
-        """The page of the lines, or what is told of them."""
+        """The page of the lines, or what is reported of them."""
         if self.refusal is not None:
             return Answer(1, self.canonical if "--stream" in words else b"", self.refusal.encode() + b"\n")
         return Answer(0, self.canonical)
@@ -199,7 +199,7 @@ def run_with(words: List[str], source: Union[int, BinaryIO], faults: Dict[str, i
 
 
 def is_want(page: Page, words: List[str], got: Answer) -> bool:
-    """Whether an answer says that memory was wanting, as it should."""
+    """Whether an answer says that memory ran out, as it should."""
     streams = "--stream" in words
     if got.status == 3:
         outputs = [b""] + page.beginnings() if streams else [b""]
@@ -211,7 +211,7 @@ def is_want(page: Page, words: List[str], got: Answer) -> bool:
 
 
 def test_memory(page: Page, words: List[str], once: int) -> Tuple[int, int]:
-    """Each growth is refused in turn: how many were told, and how many done without."""
+    """Each growth is refused in turn: how many were reported, and how many done without."""
     ample = page.answer(words)
     number, wants, without = 1, 0, 0
     while number < 10000:
@@ -246,17 +246,17 @@ def test_all_memory() -> None:
 
 
 def test_late_memory() -> None:
-    """Growths that are refused of `list` on a page that needs more after its first lines: none of these is out."""
+    """Growths that are refused of `list` on a page that wants more after its first lines: none of these is out."""
     for words in (["list"], ["list", "--hex"]):
         wants = test_memory(LATE, words, 1)[0] + test_memory(LATE, words, 0)[0]
         judge.close(f"memory: {' '.join(words)}: growths refused, wanted behind the first lines: {wants} told")
 
 
-# Tests that take want of memory for an answer, and judge all else.
+# Tests that take lack of memory for an answer, and judge all else.
 LIBRARY = [
-    "short_pages_survive_want_of_memory",
-    "a_large_shape_survives_want_of_memory",
-    "a_full_store_survives_want_of_memory",
+    "short_pages_survive_lack_of_memory",
+    "a_large_shape_survives_lack_of_memory",
+    "a_full_store_survives_lack_of_memory",
 ]
 
 
@@ -305,12 +305,12 @@ def test_words() -> None:
     judge.close(f"memory: help and wrong command lines: {wants} told, {without} done without")
 
 
-# How many entries are written when a number of bytes were read, and no end.
+# How many entries were written when a number of bytes were read, and no end.
 WRITTEN = {"point": [0], "glyph": [0] * 8 + [1] * 5 + [2] + [3]}
 
 
 def read_text(page: Page, count: int) -> bytes:
-    """What is written once a number of bytes were read."""
+    """What was written once a number of bytes were read."""
     if isinstance(page, Lines):
         return b"".join(page.pieces[: 1 + page.stream[:count].count(b"\n")])
     written = WRITTEN[page.name]
@@ -360,7 +360,7 @@ def test_writes(page: Page, words: List[str], ample: Answer, most: int, error: i
         if not letters:
             judge.same(ample, got, what)
             break
-        # All of it was gathered. What is left of it is tried once more at the end.
+        # All of it was buffered. What is left of it is tried once more at the end.
         before = ample.out[: (number - 1) * most]
         judge.same(fault(write_fault(len(ample.out)), ample.out if once else before), got, what)
         number += 1
@@ -402,7 +402,7 @@ def test_all_writes() -> None:
 
 
 def is_cut(got: Answer, ample: Answer) -> bool:
-    """Whether an answer tells of a failed write. Its count may be ahead of what went out, by what was gathered."""
+    """Whether an answer reports a failed write. Its count may be ahead of what went out, by what was buffered."""
     said = re.fullmatch(rb"write fault after (0|[1-9][0-9]*) bytes\n", got.err)
     if got.status != 3 or said is None or not ample.out.startswith(got.out):
         return False
@@ -500,7 +500,7 @@ class Requests(Page):
         return Answer(0, b"".join(self.answered))
 
     def answered_to(self, count: int) -> bytes:
-        """The answers to the requests that are complete in the first bytes, as many as given."""
+        """The answers to the requests that are complete in a number of bytes."""
         out = b""
         for asked, answered in zip(self.asked, self.answered):
             count -= len(asked)
@@ -523,7 +523,7 @@ REQUESTS = Requests(
 
 
 def is_answered(out: bytes, whole: bool) -> bool:
-    """Whether each request has its own answer, or one that says that memory was wanting; if not whole, the first
+    """Whether each request has its own answer, or one that says that memory ran out; if not whole, the first
     ones."""
     for answered in REQUESTS.answered:
         want = re.match(rb"(refused 21 Memory at (0|[1-9][0-9]*)|no memory)\n0\n", out)
@@ -600,7 +600,7 @@ def test_make() -> None:
     """Memory that is refused, reads and writes that fail, and short ones, where lines make a page."""
     made = [Lines(POINT), Lines(GLYPH)]
     wrong = Lines(GLYPH, b"WAIT 64\n", "line 5: no line of a list, at column 6")
-    # Where memory is wanting to find the column, it is 1.
+    # Where memory runs out to find the column, it is 1.
     unknown = Lines(GLYPH, b"wait 64\n", "line 5: no line of a list, at column 1")
     polygon = Lines(next(page for page in PAGES if page.name == "polygon"))
     before = runs["faulty"]
@@ -626,7 +626,7 @@ FAULT_LINES = {"read": b"read fault\n", "write": rb"write fault after (0|[1-9][0
 
 
 def test_lines() -> None:
-    """A read or a write that fails is told as that, whatever growth is refused, and all after it."""
+    """A read or a write that fails is reported as that, whatever growth is refused, and all after it."""
     told = 0
     pages: List[Tuple[List[str], Page]] = [*((words, POINT) for words in COMMANDS), (["batch"], REQUESTS)]
     for words, page in pages:

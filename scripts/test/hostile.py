@@ -170,7 +170,7 @@ def test_terminal() -> None:
 
 
 def pieces_of(piece: bytes, size: int) -> Iterator[bytes]:
-    """Equal pieces, in blocks, up to a number of bytes."""
+    """A number of bytes of equal pieces, in blocks."""
     count = size // len(piece)
     block = piece * 65536
     for _ in range(count // 65536):
@@ -277,7 +277,7 @@ LONG_ANSWERS = [
 
 
 def test_long(limit: Optional[int]) -> None:
-    """Long pages, in so much memory."""
+    """Long pages, in little memory."""
     for words, name, header, piece, more in LONG_ANSWERS:
         status, told, comparer, peak, seconds = run_long(words, name, header, piece, limit)
         room = f", in {limit // MEBIBYTE} MiB" if limit else ""
@@ -298,7 +298,7 @@ def test_long(limit: Optional[int]) -> None:
 
 
 def test_limit() -> None:
-    """Pages and texts that don't fit: want of memory, with nothing printed."""
+    """Pages and texts that don't fit: lack of memory, with nothing printed."""
     texts = ((["list"], CENTRE_LINE, POINTS * len(CENTRE_LINE)), (["canon"], RUN, len(centres(POINTS))))
     for words, piece, size in texts:
         header = HEADER if words == ["canon"] else b""
@@ -320,7 +320,7 @@ def is_unloaded(got: Answer, lessen: Callable[[], None]) -> bool:
 
 
 def test_little() -> None:
-    """From no room for data to enough of it: each answer is right, or want of memory."""
+    """From no room for data to enough of it: each answer is right, or lack of memory."""
     count = 3000
     put("middle.nap", [b"\x0e" + b"&R@@" * count])
     ample = {

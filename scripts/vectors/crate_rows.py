@@ -41,7 +41,7 @@ def spelled(text: str) -> bytes:
 
 
 def repeated(word: str) -> list[str]:
-    """A word, repeated."""
+    """A word, a number of times."""
     found = REPEATED.fullmatch(word)
     return [found[1]] * int(found[2]) if found else [word]
 

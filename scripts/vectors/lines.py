@@ -7,7 +7,7 @@ from vectors.rows import FOLDER
 
 FILE = FOLDER / "lines.rows"
 BYTE = re.compile(rb"\\x([0-9A-F]{2})")
-# After the last line comes no end.
+# The last line has no end.
 CUT = b"\\c\n"
 
 

@@ -1,6 +1,6 @@
 """The rows of docs/PROFILE.md that vectors name: of its tables, and of its lists whose items have a name or a number.
 
-After a table or a list comes a line "Vectors: `tag` in [file](../vectors/file.rows)." A vector names a row as `tag`
+After a table or a list stands a line "Vectors: `tag` in [file](../vectors/file.rows)." A vector names a row as `tag`
 and the beginning of the row, and a rule that isn't a row by the heading of its section.
 """
 import re

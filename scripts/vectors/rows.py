@@ -88,7 +88,7 @@ def vectors_of(file: Path) -> Iterator[Vector]:
 
 
 def _words(text: str) -> Dict[str, str]:
-    """The words of the fourth field, and what comes after each."""
+    """The words of the fourth field, and what stands after each."""
     words = {}
     for part in text.split(", "):
         word, _, rest = part.partition(" ")

@@ -15,7 +15,7 @@ use Rattle.nap_batch.specs.declared.request.Question.{Question}
 use Rattle.nap_batch.specs.declared.request.Question.TheVariants as question
 use Rattle.nap_batch.specs.Answers.{AnswersPage, IsAnswer, IsPlaced, ShowsText, body_of, ended_line, refused_body_of, refused_line}
 
--- What is read of a page makes the answer to its request.
+-- What was read of a page gives the answer to its request.
 
 pub is_memory : (f : Fault) → (f ≡ fault.Memory) ⊎ (f ≢ fault.Memory)
 is_memory fault.Memory = inl refl
@@ -38,7 +38,7 @@ pub answers_accepted : (q : Question) (budget : ℕ) (p line body : List ℕ) (c
 answers_accepted q budget p line body (Some n) accepted is shows same = inl (record { accepted = accepted; line_is = shows.0 ∙ ap count_line is; body_is = same })
 answers_accepted q budget p line body None accepted is shows same = cc
 
--- A page is refused, to another question than `check_answer`, and there is no body.
+-- A page is refused to another question than `check`, and there is no body.
 module _ (q : Question) (apart : q ≢ question.Check) (budget : ℕ) (p : List ℕ) (none : refused_body_of q budget p ≡ []) where
   lacking : (line body : List ℕ) (place : ℕ) → BreaksWithin budget p place → line ≡ refused_line (record { fault = fault.Memory; place = place }) → body ≡ [] → AnswersPage q budget p line body
   lacking line body place h is empty =
@@ -47,14 +47,14 @@ module _ (q : Question) (apart : q ≢ question.Check) (budget : ℕ) (p : List 
   refusing : (line body : List ℕ) (r : Refusal) → r.fault ≢ fault.Memory → (means budget p).refusal ≡ Some r → line ≡ refused_line r → body ≡ [] → AnswersPage q budget p line body
   refusing line body r own h is empty = inr (inl (record { refusal = r; own = own; refused = h; line_is = is; body_is = empty ∙ sym none }))
 
-  -- its sink can't fail
+  -- an answer for a refused page, if the sink can't fail
   pub answers_refused : {S : Type 0} (g : Ghosts S) (s : S) (f : Fault) (place : ℕ) → IsCounted g s budget p (Err (record { fault = f; place = place })) →
       (sound : (t : S) → g.failed t ≡ false) (line body : List ℕ) → (line ≡ refused_line (record { fault = f; place = place })) × (body ≡ []) → AnswersPage q budget p line body
   answers_refused g s fault.Memory place h sound line body is = lacking line body place h.counts.0 is.0 is.1
   answers_refused g s fault.Sink place h sound line body is = let (breaks, (t, failed)) = h.counts in cc (sound t)
   answers_refused g s f place h sound line body is = refusing line body (record { fault = f; place = place }) (λ wants. let bad : ⊥ = cc in absurd bad) h.counts is.0 is.1
 
-  -- so is one whose canonical text was to be made
+  -- an answer for a refused page whose canonical text was asked for
   answers_unspelled : (r : Refusal) → RefusesPage budget p r → (line body : List ℕ) → (line ≡ refused_line r) × (body ≡ []) → AnswersPage q budget p line body
   answers_unspelled r h line body is =
       elim (is_memory r.fault) [
@@ -62,7 +62,7 @@ module _ (q : Question) (apart : q ≢ question.Check) (budget : ℕ) (p : List 
         | inr apart ↦ refusing line body r apart (h.refused apart) is.0 is.1
       ]
 
--- the canonical text of a page is shown, or why that is refused
+-- an answer for a page whose canonical text was made, or refused
 pub answers_spelled : (budget : ℕ) (p line body : List ℕ) (found : Result PageText Refusal) → IsPageText budget p found → ShowsText found line body → IsAnswer question.Canon budget p line body
 answers_spelled budget p line body (Ok found) h is = answers_accepted question.Canon budget p line body found.count h.0.accepted h.1 (is.0, is.1) (is.2 ∙ h.0.text_is)
 answers_spelled budget p line body (Err r) h is = answers_unspelled question.Canon (λ h. cc) budget p refl r h line body is

@@ -14,9 +14,9 @@ use Rattle.nap_batch.specs.Waiting.{IsAsked, StopsBy}
 use Rattle.nap_batch.proofs.FrontLemmas.{page_is, whole_request}
 use Rattle.nap_batch.proofs.SessionLemmas.{stops_alike}
 
--- A request and its answer, or why there was none.
+-- A request and its answer, or why there is none.
 
--- A request was read, behind bytes that were held, and answered.
+-- A request was read, after buffered bytes, and answered.
 module _ {I O : Type 0} (i : inlet.Ghosts I) (o : outlet.Ghosts O) (written : ℕ) (old new bytes : List ℕ) (input rest : I) (output done : O) where
   abbrev before : Pipes
   before = pipes i o input output
@@ -56,7 +56,7 @@ pub stops_in : (written : ℕ) (rest : List ℕ) (before after : Pipes) (end : E
 stops_in written rest _ _ (ended.Write n) h works = absurd h
 stops_in written rest _ _ _ h works = (refl, h, works)
 
--- None was read.
+-- No request was read.
 module _ {I O : Type 0} (i : inlet.Ghosts I) (o : outlet.Ghosts O) (written : ℕ) (old new bytes : List ℕ) (input rest : I) (output : O) where
   pub unasked : Consumes (i.left input) (i.left rest) bytes → (end : Ended) → StopsBy (reading i input rest) (old ++ bytes) end →
       IsExchanged written old new (pipes i o input output) (pipes i o rest output) (Err end)
@@ -71,7 +71,7 @@ module _ {I O : Type 0} (i : inlet.Ghosts I) (o : outlet.Ghosts O) (written : �
     none_more = λ _. refl;
   }
 
--- the request in front, with its answer
+-- the buffer begins with a request, which is answered
 module _ (held : List ℕ) (r : RequestLine) (start : ℕ) (whole : IsWhole held r start) (page : List ℕ) (page_now : page ≡ take r.size (drop start held)) (text : List ℕ)
     (is : IsAnswered r.question r.budget page text) where
   abbrev pub exchange_of : Exchange

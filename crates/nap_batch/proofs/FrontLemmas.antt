@@ -9,7 +9,7 @@ use Rattle.nap_batch.specs.Laws.{BegunRequestsAreNone, RequestsAreCutOneWay}
 use Rattle.nap_batch.specs.Requests.{SplitsAtByte, IsBegun, IsLine, IsMore, IsRequest, IsShort, IsWhole, NeverStarts, StartsNone, line_for, name_of}
 use Rattle.nap_batch.proofs.RequestLemmas.{apart, cut_once, digits_above, first_cut, name_above, no_cut, parts_of, second_cut}
 
--- The end of a line stands in no line.
+-- No line of a request contains LF.
 
 line_end : (line : List ℕ) (h : RequestLine) → IsLine line h → All (λ x. x ≢ 10) line
 line_end line h is =
@@ -22,7 +22,7 @@ line_end line h is =
     (All-cons P 32 (is.budget_digits ++ 32 ∷ is.size_digits) (λ e. omega arith)
     (All-append P is.budget_digits (32 ∷ is.size_digits) budget (All-cons P 32 is.size_digits (λ e. omega arith) size))))
 
--- A request is cut at the end of its line.
+-- A request is split at the LF after its line.
 module _ (asked behind : List ℕ) (c : Question) (budget : ℕ) (page : List ℕ) (is : IsRequest asked c budget page) where
   line_cut : (all : List ℕ) → all ≡ asked ++ behind → SplitsAtByte 10 all is.line (page ++ behind)
   line_cut all same = record {
@@ -30,33 +30,33 @@ module _ (asked behind : List ℕ) (c : Question) (budget : ℕ) (page : List �
     first = line_end is.line (line_for c budget page) is.says;
   }
 
--- a cut stays where more comes
+-- a split of bytes is one of more bytes
 cut_stays : (b : ℕ) (xs front back more : List ℕ) → SplitsAtByte b xs front back → SplitsAtByte b (xs ++ more) front (back ++ more)
 cut_stays b xs front back more cut = record {
   joins = ap (λ (ys : List ℕ). ys ++ more) cut.joins ∙ append_assoc front (b ∷ back) more;
   first = cut.first;
 }
 
--- a line that says nothing is no request's, whatever comes
+-- bytes whose line is no request's never begin with a request
 pub wrong_line : (held line behind : List ℕ) → SplitsAtByte 10 held line behind → ((h : RequestLine) → IsLine line h → ⊥) → NeverStarts held
 wrong_line held line behind cut none more asked rest c budget page is same =
     let once = cut_once 10 (held ++ more) line (behind ++ more) is.line (page ++ rest) (cut_stays 10 held line behind more cut) (line_cut asked rest c budget page is (held ++ more) same) in
     none (line_for c budget page) (rw once.0 is.says)
 
--- a line says one thing
+-- a line is that of requests with one size
 pub same_size : (line : List ℕ) (h k : RequestLine) → IsLine line h → IsLine line k → h.size ≡ k.size
 same_size line h k one two =
     let parts = parts_of line (name_of h.question) (one.budget_digits ++ 32 ∷ one.size_digits) one.budget_digits one.size_digits k (first_cut line h one) (second_cut line h one) two in
     sym one.size.value ∙ parts.size.value
 
--- a request whose page isn't whole is none yet
+-- bytes with an incomplete page begin with no complete request
 pub short_page : (held line behind : List ℕ) (h : RequestLine) → SplitsAtByte 10 held line behind → IsLine line h → length behind < h.size → StartsNone held
 short_page held line behind h cut says short asked rest c budget page is same =
     let once = cut_once 10 held line behind is.line (page ++ rest) cut (line_cut asked rest c budget page is held same) in
     let size = same_size line h (line_for c budget page) says (rw once.0 is.says) in
     omega (arith, size, short, ap length once.1, length-append page rest)
 
--- a request is in front, but for the end of its page: none yet
+-- bytes that lack the end of a page begin with no complete request
 pub short_front : (bytes : List ℕ) (n : ℕ) → IsShort bytes n → StartsNone bytes
 short_front bytes n h = short_page bytes h.line h.behind h.request h.cut h.says (omega (arith, h.missing, h.some))
 
@@ -67,11 +67,11 @@ pub more_begun : (bytes : List ℕ) (n : ℕ) → IsMore bytes n → IsBegun byt
 more_begun bytes zero h = inl (h.endless refl)
 more_begun bytes (suc n) h = inr (suc n, h.short (λ none. let bad : ⊥ = omega (arith, none) in bad))
 
--- something is in front then
+-- bytes that lack the end of a page aren't empty
 pub some_front : (bytes more : List ℕ) (n : ℕ) → IsShort bytes n → bytes ++ more ≢ []
 some_front bytes more n h none = let bad : ⊥ = omega (arith, ap length none, length-append bytes more, ap length h.cut.joins, length-append h.line (10 ∷ h.behind)) in bad
 
--- and some more bytes came, but not all that are missing
+-- bytes that lack the end of a page, and fewer more bytes, still lack some
 pub still_short : (bytes more : List ℕ) (n : ℕ) → IsShort bytes n → length more < n → IsShort (bytes ++ more) (n - length more)
 still_short bytes more n h less = record {
   line = h.line;
@@ -83,11 +83,11 @@ still_short bytes more n h less = record {
   some = omega (arith, less);
 }
 
--- a line says a request with a page of its length
+-- a line is that of a request with a page of its size
 with_page : (line : List ℕ) (h : RequestLine) (page : List ℕ) → IsLine line h → h.size ≡ length page → IsLine line (line_for h.question h.budget page)
 with_page line h page says size = subst (λ (n : ℕ). IsLine line (record { question = h.question; budget = h.budget; size = n })) size says
 
--- or all of them
+-- bytes that lack the end of a page, and as many more bytes, are a request
 pub made_whole : (bytes more : List ℕ) (n : ℕ) (h : IsShort bytes n) → length more ≡ n → IsRequest (bytes ++ more) h.request.question h.request.budget (h.behind ++ more)
 made_whole bytes more n h all = record {
   line = h.line;
@@ -95,7 +95,7 @@ made_whole bytes more n h all = record {
   bytes_are = (cut_stays 10 bytes h.line h.behind more h.cut).joins;
 }
 
--- The request that is whole in front, and what stands behind it.
+-- The complete request that bytes begin with, and what follows it.
 module _ (bytes : List ℕ) (h : RequestLine) (n : ℕ) (whole : IsWhole bytes h n) where
   abbrev pub page_of : List ℕ
   page_of = take h.size whole.behind
@@ -126,7 +126,7 @@ module _ (bytes : List ℕ) (h : RequestLine) (n : ℕ) (whole : IsWhole bytes h
   pub whole_request : IsRequest (take (n + h.size) bytes) h.question h.budget page_of
   whole_request = record { line = whole.line; says = with_page whole.line h page_of whole.says size_is; bytes_are = asked_is }
 
--- bytes that can't be cut at the end of a line have none, and no request
+-- bytes that can't be split at LF contain none, and begin with no request
 pub uncut_open : (held : List ℕ) → ((front back : List ℕ) → SplitsAtByte 10 held front back → ⊥) → All (λ b. b ≢ 10) held
 uncut_open [] none = All-nil (λ b. b ≢ 10)
 uncut_open (x ∷ xs) none =
@@ -140,7 +140,7 @@ begun_requests_are_none bytes (inl endless) asked behind c budget page is same =
     no_cut 10 bytes is.line (page ++ behind) endless.none (line_cut asked behind c budget page is bytes same)
 begun_requests_are_none bytes (inr short) asked behind c budget page is same = short_front bytes short.0 short.1 asked behind c budget page is same
 
--- and where they are more than a line has, none will stand there
+-- bytes with more than a line may have, whose line ends later, contain its LF
 line_within : (held line more rest : List ℕ) → held ++ more ≡ line ++ 10 ∷ rest → length line < length held → (back : List ℕ) × (held ≡ line ++ 10 ∷ back)
 line_within [] line more rest same less = absurd (omega (arith, less))
 line_within (x ∷ held) [] more rest same less = (held, cc)
@@ -170,7 +170,7 @@ long_line held none long more asked rest c budget page is same =
     let found = line_within held is.line more (page ++ rest) cut.joins (omega (arith, short, long)) in
     none is.line found.0 (record { joins = found.1; first = cut.first })
 
--- Requests are cut in one way.
+-- Bytes are split into requests in one way.
 
 abbrev named : List ℕ → Question
 named (x ∷ y ∷ xs) = if x == 109 then question.Make else (if y == 105 then question.List else (if y == 108 then question.Places else (if y == 97 then question.Canon else question.Check)))

@@ -10,7 +10,7 @@ use Rattle.nap_batch.specs.Limits.{requests_limit}
 use Rattle.nap_batch.specs.Sessions.{Answers, Exchange, FlushedTimes, IsExchange, Pipes, Session, Stops, StopsIn, flushed_once, flushes_of}
 use Rattle.nap_batch.proofs.SessionLemmas.{answered_more, count_more, each_more, ends_behind, read_on}
 
--- flushes are counted on
+-- The number of flushes.
 
 no_times : (f : ℕ) → FlushedTimes 0 f f
 no_times f = (λ _. refl, λ some. absurd (some refl))
@@ -24,12 +24,12 @@ once_more b m a (suc n) h is =
 times_of : (xs : List Exchange) (n b m a : ℕ) → length xs ≡ n → a ≡ m → FlushedTimes n b m → FlushedTimes (length xs) b a
 times_of xs n b m a size same h = subst (λ (k : ℕ). FlushedTimes k b a) (sym size) (subst (FlushedTimes n b) (sym same) h)
 
--- those of a row that ends at a failed write or flush
+-- the flushes of a run that ends at a failed write or flush
 amid : (w : Bool) (xs : List Exchange) (k n b m a : ℕ) → length xs ≡ n → FlushedTimes n b m → a ≡ flush_count w m → FlushedTimes (flushes_of (ended.Write k) w (length xs)) b a
 amid true xs k n b m a size h is = times_of xs n b m a size is h
 amid false xs k n b m a size h is = subst (λ (i : ℕ). FlushedTimes (i + 1) b a) (sym size) (once_more b m a n h is)
 
--- those of a row that ends so
+-- the flushes of a run that ends in this way
 at_end : (end : Ended) (xs : List Exchange) (n b written : ℕ) (rest part : List ℕ) (mid after : Pipes) → length xs ≡ n → FlushedTimes n b mid.flushes → mid.output_failed ≡ false →
     StopsIn written rest part mid after end → (after.output_failed ≡ false → after.flushes ≡ mid.flushes) → FlushedTimes (flushes_of end after.write_failed (length xs)) b after.flushes
 at_end (ended.Write k) xs n b written rest part mid after size h works (x, behind, is, parts, front, number, failed, input, flushes) none =
@@ -39,7 +39,7 @@ at_end ended.Request xs n b written rest part mid after size h works stops none 
 at_end ended.Read xs n b written rest part mid after size h works stops none = times_of xs n b mid.flushes after.flushes size (none (stops.2 ∙ works)) h
 at_end ended.Memory xs n b written rest part mid after size h works stops none = times_of xs n b mid.flushes after.flushes size (none (stops.2 ∙ works)) h
 
--- So many requests were answered, and these bytes are held behind them.
+-- n requests were answered, and the buffer has these bytes.
 pub record Going (before now : Pipes) (held : List ℕ) (written n : ℕ) : Type 0 where
   pub xs : List Exchange
   pub each : All IsExchange xs
@@ -66,7 +66,7 @@ starts p = record {
   each_flushed = λ _. no_times p.flushes;
 }
 
--- one more
+-- one more request was answered
 pub goes_on : (before mid after : Pipes) (held new : List ℕ) (written m n : ℕ) → Going before mid held written n → Answers written held new mid after m → Going before after new m (n + 1)
 goes_on before mid after held new written m n h k =
     let x = k.exchange in
@@ -85,7 +85,7 @@ goes_on before mid after held new written m n h k =
       each_flushed = λ works. once_more before.flushes mid.flushes after.flushes n (h.each_flushed works) (k.once (h.output_works ∙ works));
     }
 
--- the end
+-- the run ends
 pub ends : (before mid after : Pipes) (held : List ℕ) (written n : ℕ) (end : Ended) → Going before mid held written n → Stops written held mid after end → Session before after end
 ends before mid after held written n end h k =
     let out = flat_map (λ (y : Exchange). y.answered) h.xs in
@@ -102,7 +102,7 @@ ends before mid after held written n end h k =
       each_flushed = λ began. at_end end h.xs n before.flushes written (held ++ k.bytes) k.part mid after h.requests (h.each_flushed began) (h.output_works ∙ began) k.stops k.none_more;
     }
 
--- there were as many as there may be
+-- the run ends after the greatest number of requests
 pub ends_full : (before now : Pipes) (held : List ℕ) (written n : ℕ) → n ≡ requests_limit → Going before now held written n → Session before now ended.Request
 ends_full before now held written n full h = record {
   exchanges = h.xs;
@@ -116,7 +116,7 @@ ends_full before now held written n full h = record {
   each_flushed = λ began. times_of h.xs n before.flushes now.flushes now.flushes h.requests refl (h.each_flushed began);
 }
 
--- there was no memory to begin with
+-- the run ends before its first request, for lack of memory
 pub ends_unbegun : (p : Pipes) → Session p p ended.Memory
 ends_unbegun p = record {
   exchanges = [];

@@ -30,7 +30,7 @@ module _ (q : Question) (act : Action) (budget : ℕ) (p line body : List ℕ) w
   checks_refused : (h : Refuses q budget p line body) → PrintsBy action.Check (page_command action.Check budget) p line verdict.Refused
   checks_refused h = (h.refusal, record { refused = λ _. h.refused; memory = λ is. absurd (h.own is) }, λ is. absurd (h.own is), h.line_is)
 
-  -- a page is refused, to a command that isn't `check_answer`
+  -- a page is refused to a command other than `check`
   as_refused : act ≢ action.Check → Refuses q budget p line body → body ≡ [] → AsRefused act budget p line body
   as_refused other h none =
       record { r = h.refusal; denied = (other, own_refusal h); line_is = h.line_is; checked = λ _. checks_refused h; body_is = none }
@@ -87,13 +87,13 @@ placed_join (n ∷ ns) ms (e ∷ es) fs same =
     ap (λ (bytes : List ℕ). line_at n e ++ bytes) (placed_join ns ms es fs (omega (arith, same))) ∙ sym (append_assoc (line_at n e) (lines_placed ns es) (lines_placed ms fs))
 placed_join ns ms es fs same = absurd (omega (arith, same))
 
--- places of so many entries
+-- the lines of entries after places, as many as entries
 record Placing (es : List Entry) (bytes : List ℕ) : Type 0 where
   at : List ℕ
   each : length at ≡ length es
   is : bytes ≡ lines_placed at es
 
--- and of some more, at one place
+-- the lines of more entries, at one place
 placing_more : (n : ℕ) (es fs gs : List Entry) (bytes : List ℕ) → Placing es bytes → gs ≡ es ++ fs → Placing gs (bytes ++ lines_at n fs)
 placing_more n es fs gs bytes h same = record {
   at = h.at ++ repeated n fs;
@@ -105,13 +105,13 @@ placing_more n es fs gs bytes h same = record {
       ∙ ap (lines_placed (h.at ++ repeated n fs)) (sym same);
 }
 
--- what is added to a list that goes on another
+-- the entries added to a list are those that it has after its prefix
 added_is : (es fs gs : List Entry) → gs ≡ es ++ fs → gs ≡ es ++ entries_added es gs
 added_is es fs gs same =
     let back : entries_added es gs ≡ fs = ap (drop (length es)) same ∙ drop_at es fs (length es) refl in
     same ∙ ap (λ (list : List Entry). es ++ list) (sym back)
 
--- nothing comes of no bytes
+-- no entry is added by no bytes
 
 no_code : (sets : CodeSets) → codes.front sets [] ≡ codes.unfinished
 unfolding codes.front

@@ -17,9 +17,9 @@ use Rattle.nap_reader.proofs.PublicLaws.{begun_comes_first, fed_breaks_among, mo
 use Rattle.nap_batch.specs.declared.places.PlacesText.{PlacesText}
 use Rattle.nap_batch.specs.Answers.{IsPlaced, entries_added, came_with, lines_at, places, places_before}
 
--- The lines of a page's entries, each behind its place, byte by byte.
+-- The lines of a page's entries, each after its place, byte by byte.
 
--- a stream that is refused so far is refused whatever comes
+-- a stream that is refused so far is refused whatever follows
 pub still_refused : (budget : ℕ) (p more : List ℕ) (r : Refusal) → (begun budget p).refusal ≡ Some r → (means budget (p ++ more)).refusal ≡ Some r
 still_refused budget p more r is =
     let all = ap (λ (o : Outcome). o.refusal) (more_bytes_keep_refusal budget p more r is) ∙ is in
@@ -29,7 +29,7 @@ pub walks_nothing : walk start [] ≡ start
 unfolding walk
 walks_nothing = refl
 
--- What a sink has that keeps all entries.
+-- The entries of a sink that keeps all.
 module _ {g : Ghosts (List Entry)} (keeps : (s t d : List Entry) → g.took s d t → t ≡ s ++ d) (reader : Reader (List Entry) g) (budget : ℕ) (p : List ℕ)
     (h : HasRead reader [] p) (same : budget_of reader ≡ budget) where
   pub kept : refusal_of reader ≡ None → sink_of reader ≡ (begun budget p).entries
@@ -93,7 +93,7 @@ module _ (budget : ℕ) (p : List ℕ) where
       subst (IsPlaced budget p r.text.items) (sym end) (record { refused = λ apart. let h = refused apart in (h.0, own apart ∙ h.1); memory = λ is. (breaks is, empty is) })
   stops_so (Err e) q text end empty own refused breaks = tt
 
-  -- A stream that is refused brings nothing more.
+  -- Bytes after a refusal add no entry.
   module _ (i : ℕ) (r : Refusal) (refused : (begun budget (take i p)).refusal ≡ Some r) where
     settled : (n : ℕ) → i ≤ n → begun budget (take n p) ≡ begun budget (take i p)
     settled n more =

@@ -14,7 +14,7 @@ use Rattle.nap_reader.specs.Budgets.{most_budget}
 use Rattle.nap_batch.specs.Limits.{page_limit}
 use Rattle.nap_batch.specs.Requests.{SplitsAtByte, IsLine, IsNumber, name_of}
 
--- A list is cut in one way.
+-- A list is split at the first byte of a value in one way.
 
 one_cut : (b : ℕ) (f k g l : List ℕ) → All (λ x. x ≢ b) f → All (λ x. x ≢ b) g → f ++ b ∷ k ≡ g ++ b ∷ l → (f ≡ g) × (k ≡ l)
 one_cut b [] k [] l none also same = (refl, cc)
@@ -27,7 +27,7 @@ one_cut b (x ∷ f) k (y ∷ g) l none also same =
 pub cut_once : (b : ℕ) (xs f k g l : List ℕ) → SplitsAtByte b xs f k → SplitsAtByte b xs g l → (f ≡ g) × (k ≡ l)
 cut_once b xs f k g l one two = one_cut b f k g l one.first two.first (sym one.joins ∙ two.joins)
 
--- and in none where there is no such byte
+-- a list that doesn't contain the byte isn't split
 never : (b : ℕ) (f k : List ℕ) → All (λ x. x ≢ b) (f ++ b ∷ k) → ⊥
 never b [] k none = All-head (λ x. x ≢ b) b k none refl
 never b (x ∷ f) k none = never b f k (All-tail (λ z. z ≢ b) x (f ++ b ∷ k) none)
@@ -42,7 +42,7 @@ digit_at [] i all within = let bad : ⊥ = omega (arith, within) in absurd bad
 digit_at (d ∷ ds) zero all within = all.0
 digit_at (d ∷ ds) (suc i) all within = digit_at ds i all.1 (omega (arith, within))
 
--- fewer than eight digits write a number that leaves room for one more
+-- the value of fewer than eight digits is below 10^7, so one more digit fits
 pub small : (ds : List ℕ) (i : ℕ) → AllDigits 10 (take i ds) → i < length ds → length ds ≤ 8 → digits_value 10 (take i ds) < 10 ^ 7
 small ds i all within few =
     let below = digits_value-lt 10 (take i ds) all in
@@ -51,7 +51,7 @@ small ds i all within few =
     let most : 10 ^ length (take i ds) ≤ 10 ^ 7 = pow-le-pow_right {n = 10} (omega arith) short in
     omega (arith, below, most)
 
--- Neither names nor digits have a space, or a byte below it.
+-- Names and digits contain no space and no byte below it.
 
 abbrev Above : List ℕ → Type 0
 Above [] = Unit {0}
@@ -72,7 +72,7 @@ pub digits_above : (ds : List ℕ) → AllDigits 10 ds → Above ds
 digits_above [] all = tt
 digits_above (d ∷ ds) all = let range = digit_from_value d all.0 in (omega (arith, range.0), digits_above ds all.1)
 
--- The cuts of a request's line.
+-- The splits of a request's line.
 
 pub first_cut : (line : List ℕ) (h : RequestLine) (is : IsLine line h) → SplitsAtByte 32 line (name_of h.question) (is.budget_digits ++ 32 ∷ is.size_digits)
 first_cut line h is = record { joins = is.line_is; first = apart 32 (name_of h.question) (omega arith) (name_above h.question) }
@@ -83,7 +83,7 @@ second_cut line h is = record {
   first = apart 32 is.budget_digits (omega arith) (digits_above is.budget_digits is.budget.numeral.1);
 }
 
--- The parts of a line that was cut twice are those of the request.
+-- The parts of a line that was split twice are those of the request.
 pub record Parts (h : RequestLine) (name budget_digits size_digits : List ℕ) : Type 0 where
   pub name_is : name ≡ name_of h.question
   pub budget : IsNumber most_budget budget_digits h.budget
@@ -95,7 +95,7 @@ parts_of line name numbers budget size h one two is =
     let b = cut_once 32 numbers budget size _ _ two (rw a.1 (second_cut line h is)) in
     record { name_is = a.0; budget = rw b.0 is.budget; size = rw b.1 is.size }
 
--- a line without two spaces is none
+-- a line without two spaces is no request's
 pub no_second : (line name numbers : List ℕ) (h : RequestLine) → SplitsAtByte 32 line name numbers → ((front back : List ℕ) → SplitsAtByte 32 numbers front back → ⊥) → IsLine line h → ⊥
 no_second line name numbers h one none is =
     let a = cut_once 32 line name numbers _ _ one (first_cut line h is) in

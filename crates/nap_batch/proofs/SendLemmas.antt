@@ -9,9 +9,9 @@ use Rattle.nap_batch.specs.declared.service.Ended.{Ended}
 use Rattle.nap_batch.specs.declared.service.Ended.TheVariants as ended
 use Rattle.nap_batch.specs.Sessions.{Leads, Sends, count_on, flushed_once}
 
--- An answer goes out in two parts.
+-- An answer is sent in two parts.
 
--- what a write takes of the rest joins what was taken before it
+-- bytes taken by one write and by the next were appended
 pub taken_more : (a b c : Option (List ℕ)) (i n : ℕ) (xs : List ℕ) → Appends a b (take i xs) → Appends b c (take n (drop i xs)) → Appends a c (take (i + n) xs)
 taken_more a b c i n xs h k = subst (Appends a c) (sym (take-add i n xs)) (Appends-trans a b c (take i xs) (take n (drop i xs)) h k)
 
@@ -26,14 +26,14 @@ count_behind written head body n m first second =
     counted (2 ^ 64 - 1) written (length head) (length body) n m first second ∙ ap (count_on written) (sym (length-append head body))
 
 module _ {O : Type 0} (o : outlet.Ghosts O) (written : ℕ) (head body : List ℕ) (before : O) where
-  -- the output failed amid the first
+  -- the output failed during the first part
   pub led_fails : (after : O) (end : Ended) → Sends o written head before after (Err end) → Sends o written (head ++ body) before after (Err end)
   led_fails after (ended.Write n) (part, sent, front, count, failed, flushes) =
       let few : length part ≤ length head = omega (arith, ap length front, length-take (length part) head) in
       (part, sent, take-append-le (length part) head body few ∙ front, count, failed, flushes)
   led_fails after _ h = absurd h
 
-  -- the second goes on from there
+  -- the first part was written, and then the second
   pub led_then : (mid after : O) (n : ℕ) → Leads o written head before mid (Ok n) → (result : Result ℕ Ended) → Sends o n body mid after result → Sends o written (head ++ body) before after result
   led_then mid after n (led, count, works, still) (Ok m) (sent, number, failed, out, flushes) = (
     Appends-trans (o.taken before) (o.taken mid) (o.taken after) head body led sent,
@@ -52,7 +52,7 @@ module _ {O : Type 0} (o : outlet.Ghosts O) (written : ℕ) (head body : List �
   )
   led_then mid after n led (Err _) h = absurd h
 
-  -- a write of the first failed
+  -- a write of the first part failed
   pub write_fails : (mid after : O) (taken n : ℕ) → taken ≤ length head → Appends (o.taken before) (o.taken mid) (take taken head) → Keeps (o.taken mid) (o.taken after) →
       n ≡ count_on written taken → o.failed after ≡ true → o.write_failed after ≡ true → o.flushes after ≡ o.flushes before → Sends o written head before after (Err (ended.Write n))
   write_fails mid after taken n within sent kept count failed wrote still =

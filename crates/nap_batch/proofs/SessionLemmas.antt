@@ -10,9 +10,9 @@ use Rattle.nap_batch.specs.Requests.{IsBegun}
 use Rattle.nap_batch.specs.Sessions.{EndsBy, Exchange, IsExchange, Pipes, StopsIn, reading_of}
 use Rattle.nap_batch.specs.Waiting.{StopsBy, end_of}
 
--- Requests and answers, one after another, and how they end.
+-- Requests and answers in sequence, and how they end.
 
--- a reading that ends as another does, with the same bytes left
+-- a reading that ends in the same way, with the same bytes left
 pub stops_alike : (a b : Reading) (rest : List ℕ) (end : Ended) → b.left ≡ a.left → b.failed ≡ a.failed → b.failed_before ≡ a.failed_before → StopsBy a rest end → StopsBy b rest end
 stops_alike a b rest ended.Done left failed before h = (h.0, rw left h.1, failed ∙ h.2 ∙ sym before)
 stops_alike a b rest ended.Request left failed before (inl never, none) = (inl never, failed ∙ none ∙ sym before)
@@ -22,12 +22,12 @@ stops_alike a b rest ended.Read left failed before (none, inr often) = (none, in
 stops_alike a b rest ended.Memory left failed before h = (h.0, failed ∙ h.1 ∙ sym before)
 stops_alike a b rest (ended.Write n) left failed before h = absurd h
 
--- the input ended in front of these bytes
+-- the input ended before these bytes
 pub ends_there : (seen : Reading) (rest : List ℕ) → IsBegun rest → IsAtEnd seen.left → NoneFailed seen → StopsBy seen rest (end_of rest)
 ends_there seen [] none end works = (refl, end, works)
 ends_there seen (b ∷ rest) none end works = (inr (λ h. cc, none, end), works)
 
--- one exchange more
+-- one more exchange
 pub asked_more : (xs : List Exchange) (x : Exchange) (rest : List ℕ) → flat_map (λ y. y.asked) xs ++ (x.asked ++ rest) ≡ flat_map (λ y. y.asked) (xs ++ x ∷ []) ++ rest
 asked_more xs x rest =
     sym (append_assoc (flat_map (λ y. y.asked) xs) x.asked rest) ∙ ap (λ (bytes : List ℕ). bytes ++ rest) (flat_map_more (λ (y : Exchange). y.asked) [] xs x)
@@ -38,13 +38,13 @@ answered_more xs x = flat_map_more (λ (y : Exchange). y.answered) [] xs x
 pub each_more : (xs : List Exchange) (x : Exchange) → All IsExchange xs → IsExchange x → All IsExchange (xs ++ x ∷ [])
 each_more xs x all own = All-push IsExchange xs x all own
 
--- the bytes of the requests, with one more behind those that were held
+-- the bytes of the requests, with one more after the buffered bytes
 pub read_on : (xs : List Exchange) (x : Exchange) (old new bytes : List ℕ) → old ++ bytes ≡ x.asked ++ new →
     (flat_map (λ y. y.asked) xs ++ old) ++ bytes ≡ flat_map (λ y. y.asked) (xs ++ x ∷ []) ++ new
 read_on xs x old new bytes parts =
     append_assoc (flat_map (λ y. y.asked) xs) old bytes ∙ ap (λ (back : List ℕ). flat_map (λ y. y.asked) xs ++ back) parts ∙ asked_more xs x new
 
--- counts, one behind another
+-- a number that saturates, counted in two steps
 counted : (most l p w : ℕ) → w ≡ min l most → min (w + p) most ≡ min (l + p) most
 counted most l p w is = omega (arith, is)
 
@@ -52,7 +52,7 @@ pub count_more : (out more : List ℕ) (w n : ℕ) → w ≡ min (length out) (2
 count_more out more w n was is =
     is ∙ counted (2 ^ 64 - 1) (length out) (length more) w was ∙ ap (λ (k : ℕ). min k (2 ^ 64 - 1)) (sym (length-append out more))
 
--- how a row ends that ends behind some requests
+-- how a run ends that ends after some requests
 pub ends_behind : (before mid after : Pipes) (xs : List Exchange) (rest part : List ℕ) (written : ℕ) (end : Ended) → mid.input_failed ≡ before.input_failed →
     mid.output_failed ≡ before.output_failed → written ≡ min (length (flat_map (λ x. x.answered) xs)) (2 ^ 64 - 1) → StopsIn written rest part mid after end →
     EndsBy before after xs rest part end

@@ -15,7 +15,7 @@ use Rattle.nap_batch.specs.Waiting.{Finds, IsAsked, IsFound, IsLast, IsSkipped, 
 use Rattle.nap_batch.proofs.FrontLemmas.{made_whole, more_begun, some_front, still_short}
 use Rattle.nap_batch.proofs.SessionLemmas.{ends_there, stops_alike}
 
--- The bytes of requests are read until one is whole, or none can be.
+-- The bytes of requests are read until one is complete, or none can be.
 
 pub keeps_all : (a b : Option (List ℕ)) → Keeps a b → Consumes a b []
 keeps_all None b h = tt
@@ -34,11 +34,11 @@ none_came seen old new piece none is zero end works =
     subst (λ (xs : List ℕ). StopsBy seen xs (end_of new)) (sym nothing)
     (subst (λ (xs : List ℕ). StopsBy seen old (end_of xs)) (sym (is ∙ nothing)) (ends_there seen old none end works))
 
--- and what was held is behind nothing that came
+-- the buffered bytes are followed by none
 pub behind_nothing : (seen : Reading) (old : List ℕ) (end : Ended) → StopsBy seen old end → StopsBy seen (old ++ []) end
 behind_nothing seen old end h = subst (λ (xs : List ℕ). StopsBy seen xs end) (sym (append-nil old)) h
 
--- the end of a page was dropped, or the input ended amid it
+-- the end of a page was dropped, or the input ended during it
 pub dropped : (seen : Reading) (old bytes : List ℕ) (n : ℕ) → IsShort old n → length bytes ≡ n → IsAsked (old ++ bytes)
 dropped seen old bytes n short all = (short.request.question, short.request.budget, short.behind ++ bytes, made_whole old bytes n short all)
 
@@ -50,14 +50,14 @@ stops_amid seen old bytes n most ended.Read short few (less, inr (often, works))
     (inr (n - length bytes, still_short old bytes n short less), inr (omega (arith, often, few, length-append old bytes), works))
 stops_amid seen old bytes n most _ short few h = absurd h
 
--- what stands in front after the last read
+-- what the bytes begin with after the last read
 pub last_found : (seen : Reading) (all held : List ℕ) (r : Result FoundRequest Ended) → held ≡ all → reads_limit ≤ length all → NoneFailed seen → IsLast held r → Finds seen all held r
 last_found seen all held (Ok (found.Whole line start)) same many works h = (same, subst (λ (xs : List ℕ). IsWhole xs line start) same h, works)
 last_found seen all held (Err ended.Request) same many works h = (inl (subst NeverStarts same h), works)
 last_found seen all held (Err ended.Read) same many works h = (subst IsBegun same h, inr (many, works))
 last_found seen all held _ same many works h = absurd h
 
--- One read, where so many bytes of a page are missing.
+-- One read, with this many bytes of a page missing.
 module _ {I : Type 0} (i : inlet.Ghosts I) (old : List ℕ) (n : ℕ) (more : IsMore old n) (before : I) where
   pub ends_step : (new : List ℕ) (after : I) → ReadsOn i old new before after (Ok 0) → IsStep i old new before after (Err (end_of new))
   ends_step new after (piece, read, is, size, end, works) =
@@ -92,7 +92,7 @@ module _ {I : Type 0} (i : inlet.Ghosts I) (old : List ℕ) (n : ℕ) (more : Is
         let h = skipped (Err end) is in
         record { bytes = h.bytes; read = h.read; steps = stops_amid (reading i before after) old h.bytes n most end (more.short some) few h.skips }
 
--- Bytes were read behind those that were held, and none of these reads failed.
+-- Bytes were appended to the buffered ones, and none of these reads failed.
 module _ {I : Type 0} (i : inlet.Ghosts I) (old held bytes : List ℕ) (before mid : I) (read : Consumes (i.left before) (i.left mid) bytes) (is : held ≡ old ++ bytes)
     (works : i.failed mid ≡ i.failed before) where
   pub finds_wrong : NeverStarts held → IsFound i old held before mid (Err ended.Request)

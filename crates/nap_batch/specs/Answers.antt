@@ -144,7 +144,7 @@ IsAnswer q budget p line body = AnswersPage q budget p line body
 abbrev pub answer_text : List ℕ → List ℕ → List ℕ
 answer_text line body = line ++ decimal (length body) ++ 10 ∷ body
 
--- The commands of the same names.
+-- The commands with the same names.
 
 -- the command of an action, on bytes
 abbrev pub page_command : Action → ℕ → Command

@@ -22,12 +22,12 @@ RequestsAreCutOneWay = (asked other behind rest : List ℕ) (q r : Question) (b 
 abbrev pub BegunRequestsAreNone : Type 0
 BegunRequestsAreNone = (bytes : List ℕ) → IsBegun bytes → StartsNone bytes
 
--- A page is accepted: the line is what `check_answer` prints, and the body what the command prints.
+-- A page is accepted: the line is what `check` prints, and the body what the command prints.
 pub record AsAccepted (act : Action) (budget : ℕ) (p line body : List ℕ) : Type 0 where
   pub line_is : PrintsBy action.Check (page_command action.Check budget) p line verdict.Accepted
   pub body_is : PrintsBy act (page_command act budget) p body verdict.Accepted
 
--- The command refuses a page, as the line says, and the body is empty. Unless memory ran out, `check_answer` prints that line.
+-- The command refuses a page, as the line says, and the body is empty. Unless memory ran out, `check` prints that line.
 pub record AsRefused (act : Action) (budget : ℕ) (p line body : List ℕ) : Type 0 where
   pub r : Refusal
   pub denied : DeniesPage act budget p (failure.Refused r)
@@ -38,7 +38,7 @@ pub record AsRefused (act : Action) (budget : ℕ) (p line body : List ℕ) : Ty
 abbrev pub AsCommand : Action → ℕ → List ℕ → List ℕ → List ℕ → Type 0
 AsCommand act budget p line body = AsAccepted act budget p line body ⊎ AsRefused act budget p line body
 
--- the line is what `check_answer` prints, and the body is empty
+-- the line is what `check` prints, and the body is empty
 pub record AsCheck (budget : ℕ) (p line body : List ℕ) : Type 0 where
   pub v : Verdict
   pub line_is : PrintsBy action.Check (page_command action.Check budget) p line v
@@ -58,7 +58,7 @@ lines_placed [] entries = []
 lines_placed (n ∷ ns) [] = []
 lines_placed (n ∷ ns) (e ∷ es) = line_at n e ++ lines_placed ns es
 
--- The places without their numbers are the lines that `print_list` prints.
+-- The places without their numbers are the lines that `list` prints.
 abbrev pub PlacesAreLines : Type 0
 PlacesAreLines = (budget : ℕ) (p : List ℕ) →
     (at : List ℕ) × (length at ≡ length (means budget p).entries) × (places budget p ≡ lines_placed at (means budget p).entries)

@@ -57,7 +57,7 @@ Sends o written text before after (Err _) = ⊥
 pub record IsSent {O : Type 0} (o : outlet.Ghosts O) (written : ℕ) (text : List ℕ) (before after : O) (result : Result ℕ Ended) : Type 0 where
   pub sends : Sends o written text before after result
 
--- The same of the first part of an answer, which isn't sent on yet.
+-- an output took the bytes before a body after a number of bytes, and wasn't flushed; or it failed during them
 abbrev pub Leads : {O : Type 0} → outlet.Ghosts O → ℕ → List ℕ → O → O → Result ℕ Ended → Type 0
 Leads o written head before after (Ok n) =
     Appends (o.taken before) (o.taken after) head × (n ≡ count_on written (length head)) × (o.failed after ≡ o.failed before) × (o.flushes after ≡ o.flushes before)

@@ -15,7 +15,7 @@ use Rattle.nap_batch.specs.declared.waiting.ReadStep.{ReadStep}
 use Rattle.nap_batch.specs.declared.waiting.ReadStep.TheVariants as step
 use Rattle.nap_batch.specs.Requests.{IsBegun, IsOpen, IsRequest, IsWhole, NeverStarts}
 
--- The bytes of requests are read.
+-- Reading of the bytes of requests.
 
 -- one read appended a number of bytes, or none, and no byte was lost
 abbrev pub ReadsOn : {I : Type 0} → inlet.Ghosts I → List ℕ → List ℕ → I → I → Result ℕ Stop → Type 0

@@ -20,14 +20,14 @@ use std::alloc::{AllocError, Global};
 /// The answer to a request: a line, and a body (docs/BATCH.md).
 #[derive(Drop)]
 pub struct BatchAnswer {
-    /// Whether the page is accepted, as `check_answer` prints it, with LF.
+    /// Whether the page is accepted, as `check` prints it, with LF.
     pub line: Vec<u8>,
     /// What was asked for.
     pub body: Vec<u8>,
 }
 
 impl BatchAnswer {
-    /// The answer as it goes out, in two parts: the line and how many bytes the body has, and then the body.
+    /// Returns the bytes of the answer in two parts: the line with the number of bytes of the body, and the body.
     pub fn into_parts(self) -> Result<(Vec<u8>, Vec<u8>), AllocError>
         ensures { IfOk result (λ parts. parts.0.items ++ parts.1.items ≡ answer_text self.line.items self.body.items) }
     {
@@ -40,7 +40,7 @@ impl BatchAnswer {
     }
 }
 
-/// Returns what `check_answer` prints of a page.
+/// Returns what `check` prints of a page.
 fn check_answer(alloc: Global, budget: Budget, page: &[u8]) -> Result<Printout, AllocError>
     ensures { IfOk result (λ a. PrintsBy Check (page_command Check budget) page.now a.text.items a.verdict) }
 {
@@ -52,7 +52,7 @@ fn check_answer(alloc: Global, budget: Budget, page: &[u8]) -> Result<Printout, 
     };
     match answer_stream(alloc, &command, page) {
         Ok(printout) => Ok(printout),
-        // `check_answer` prints a refusal, and fails only for lack of memory.
+        // `check` prints a refusal, and fails only for lack of memory.
         Err(_) => Err(AllocError),
     }
 }

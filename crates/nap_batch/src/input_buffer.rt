@@ -54,7 +54,7 @@ impl InputBuffer {
         &self.bytes[self.start..]
     }
 
-    /// Drops the first `operand_count` bytes.
+    /// Drops the first `count` bytes.
     pub(crate) fn drop_first(&mut self, count: usize)
         requires { count ≤ length self.old }
         ensures { self.new ≡ drop count self.old }
@@ -108,7 +108,7 @@ impl InputBuffer {
         };
         match self.bytes.extend_from_slice(&scratch[..count]) {
             Ok(()) => Ok(count),
-            // There is memory for all of the scratch bytes.
+            // The scratch bytes fit into the reserved memory.
             Err(AllocError) => unreachable!(),
         }
     }

@@ -34,7 +34,7 @@ pub enum Ended {
 /// The answer if memory ran out for one.
 const NO_MEMORY: &[u8] = b"no memory\n0\n";
 
-/// The answer to a request whose page is here, as it goes out: what comes before the body, and the body.
+/// Returns the answer to a request with this page: the bytes before the body, and the body.
 fn answer_parts(
     alloc: Global,
     line: RequestLine,
@@ -46,7 +46,8 @@ fn answer_parts(
     answer.into_parts()
 }
 
-/// Writes what comes before a body, after so many bytes, and returns how many bytes that makes. It isn't flushed.
+/// Writes the bytes before a body, without a flush. Returns the number of bytes written so far, of which `written` came
+/// before.
 fn lead<O: Outlet>(output: &mut O, written: u64, head: &[u8]) -> Result<u64, Ended>
     ensures { IsLed O.Outlet written head.now output.old output.new result }
 {
@@ -60,7 +61,8 @@ fn lead<O: Outlet>(output: &mut O, written: u64, head: &[u8]) -> Result<u64, End
     Ok(written.saturating_add(taken as u64))
 }
 
-/// Writes an answer, or the rest of one, after so many bytes, and returns how many bytes that makes.
+/// Writes an answer, or the rest of one, and flushes the output. Returns the number of bytes written so far, of which
+/// `written` came before.
 fn send<O: Outlet>(output: &mut O, written: u64, text: &[u8]) -> Result<u64, Ended>
     ensures { IsSent O.Outlet written text.now output.old output.new result }
 {
@@ -72,7 +74,8 @@ fn send<O: Outlet>(output: &mut O, written: u64, text: &[u8]) -> Result<u64, End
     }
 }
 
-/// Writes an answer in two parts after so many bytes, and returns how many bytes that makes.
+/// Writes an answer in two parts, and flushes the output. Returns the number of bytes written so far, of which
+/// `written` came before.
 fn send_parts<O: Outlet>(
     output: &mut O,
     written: u64,

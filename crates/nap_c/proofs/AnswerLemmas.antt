@@ -12,7 +12,7 @@ is_memory : (f : Fault) → (f ≡ fault.Memory) ⊎ (f ≢ fault.Memory)
 is_memory fault.Memory = inl refl
 is_memory f = inr (λ is. let bad : ⊥ = cc in bad)
 
--- a page was answered with the text that was found of it, or with why there is none
+-- the answer with the text of a page, or with the reason why there is none
 pub answers_text : {V : Type 0} (items : V → List ℕ) (budget : ℕ) (p : List ℕ) (CanLack : ℕ → Type 0) (whole old new : List ℕ) (a : Answer) (found : Result V Refusal) →
     MatchResult found (λ text. IsTextOf budget p whole (items text)) (IsRefusal budget p CanLack) →
     MatchResult found (λ text. Offers (items text) old new (accepted_answer (length (items text))) a) (λ r. (a ≡ refused_answer r 0) × (new ≡ old)) →
@@ -33,12 +33,12 @@ answers_text items budget p CanLack whole old new a (Err r) is says =
       | inr apart ↦ inr (inl (record { refusal = r; own = apart; refused = is.refused apart; offers = inl (record { fits = omega arith; room = says.1; answer = says.0 }) }))
     ]
 
--- where an empty text was offered, nothing changed
+-- copying an empty text changes nothing
 nothing_given : (old new : List ℕ) (whole a : Answer) → Offers [] old new whole a → (a ≡ whole) × (new ≡ old)
 nothing_given old new whole a (inl gives) = (gives.answer, gives.room)
 nothing_given old new whole a (inr wants) = absurd (omega (arith, wants.few))
 
--- a page was answered with its places
+-- the answer with the places of a page
 pub answers_places : (budget : ℕ) (p text old new : List ℕ) (a : Answer) (ended : Result ℕ Refusal) → IsPlaced budget p text ended → Offers text old new (ended_answer ended (length text)) a →
     IsAnswered budget p (LacksForText budget p) (places budget p) (places budget p) old new a
 answers_places budget p text old new a (Ok n) is offers =
@@ -62,7 +62,7 @@ answers_places budget p text old new a (Err r) is offers =
           }))
     ]
 
--- a page was answered with why it wasn't counted
+-- the answer with the reason why a page wasn't counted
 pub answers_uncounted : (budget : ℕ) (p : List ℕ) (f : Fault) (place : ℕ) (a : Answer) → IsRefusal budget p (LacksToCount budget p) (record { fault = f; place = place }) →
     a ≡ refused_answer (record { fault = f; place = place }) 0 → IsCounted budget p a
 answers_uncounted budget p f place a is says =

@@ -30,7 +30,7 @@ pub none_or_some : {X : Type 0} (o : Option X) → (o ≡ None) ⊎ ((x : X) × 
 none_or_some None = inl refl
 none_or_some (Some x) = inr (x, refl)
 
--- the refusal of an end, or another one where it went well
+-- the refusal at an end, or another one if it was accepted
 refusal_told : {X S : Type 0} → Refusal → Result X (Stopped S) → Refusal
 refusal_told other (Ok x) = other
 refusal_told other (Err stopped) = stopped.refusal
@@ -39,16 +39,16 @@ pub same_refusal : {X S : Type 0} (found : Result X (Stopped S)) (a b : Stopped 
 unfolding refusal_told
 same_refusal found a b one two = ap (refusal_told a.refusal) (sym one ∙ two)
 
--- a page that is refused so far is refused whatever comes
+-- a page that is refused so far is refused whatever follows
 refused_on : (budget : ℕ) (p more : List ℕ) (r : Refusal) → (begun budget p).refusal ≡ Some r → (means budget (p ++ more)).refusal ≡ Some r
 refused_on budget p more r is =
     let all = ap (λ (o : Outcome). o.refusal) (more_bytes_keep_refusal budget p more r is) ∙ is in
     ap (λ (q : Option Refusal). (ended_by (begun budget (p ++ more)) (length (p ++ more)) q).refusal) all ∙ all
 
--- Why a page is refused that is checked in pieces, under this budget.
+-- Why a page that is checked in pieces is refused, under this budget.
 module _ {g : Ghosts CountSink} (wants_is : (d : List Entry) → g.wants uncounted d → Uncounted uncounted d) (reader : Reader CountSink g) (budget : ℕ) (same : budget_of reader ≡ budget)
     (p : List ℕ) (stands : HasRead reader uncounted p) (r : Refusal) where
-  -- a count that is wanting is that of all entries, and more
+  -- a count exceeds 64 bits for all entries if it does for a prefix
   uncountable : (known more all : List Entry) → all ≡ known ++ more → WantsSome g uncounted known → 2 ^ 64 ≤ length all
   uncountable known more all joins (first, rest, parts, wants) =
       omega (arith, wants_is first wants, ap length parts, ap length joins, length-append first rest, length-append known more)
@@ -69,7 +69,7 @@ module _ {g : Ghosts CountSink} (wants_is : (d : List Entry) → g.wants uncount
   own : (q : List ℕ) → cause_of r.fault ≡ stream → (means budget q).refusal ≡ Some r → IsRefusal budget q (LacksToCount budget q) r
   own q is refused = record { refused = λ _. refused; memory = λ wants. let bad : stream ≡ memory = sym is ∙ ap cause_of wants in absurd cc }
 
-  -- It was refused before its end, and more bytes stand behind.
+  -- The page was refused before its end, and more bytes follow.
   module _ (some : refusal_of reader ≡ Some r) (sound : r.fault ≢ fault.Sink) (more : List ℕ) where
     known : AnswersBy g uncounted budget p (sink_of reader) (left_of reader) r (cause_of r.fault)
     known =
@@ -97,7 +97,7 @@ module _ {g : Ghosts CountSink} (wants_is : (d : List Entry) → g.wants uncount
     pub refused_so_far : IsRefusal budget (p ++ more) (LacksToCount budget (p ++ more)) r
     refused_so_far = why (cause_of r.fault) refl known
 
-  -- It is refused at its end.
+  -- The page is refused at its end.
   module _ (t : CountSink) (unrefused : refusal_of reader ≡ None) (refused : cause_of r.fault ≡ stream → IsTaken g uncounted (means (budget_of reader) p) t (Some r))
       (breaks : cause_of r.fault ≢ stream → BreaksInRun g uncounted (budget_of reader) p t r) (sound : r.fault ≢ fault.Sink) where
     before : (begun budget p).refusal ≡ None

@@ -1,4 +1,4 @@
--- The machine value of a `Checking`, apart and together.
+-- The machine value of a `Checking`, taken apart and put together.
 use Rattle.std.proofs.Common.{◌≡◌, ℕ, List, [], ◌∷◌, ◌++◌, refl, subst, lit<}
 use lib.Dec.{T}
 use seplogic.Ra.Ura.{Ura}
@@ -39,7 +39,7 @@ ptr_good (block_ptr b o) = (tt, tt)
 ptr_good null_ptr = (tt, record { fits = lit< tt })
 
 module _ {M : Type 1} {𝓤 : Ura M} (𝓛 : Logic 𝓤) (a : Global) where
-  -- the start of a block can be told from null
+  -- the start of a block differs from null
   tested : (p : Ptr) (x : Known) → ent 𝓤 (sem 𝓛 (box_at a p x)) (guard 𝓤 (Testable p) (sem 𝓛 (box_at a p x)))
   tested p x =
       let σ = bare (lone (check.the_row).mir) in
@@ -48,7 +48,7 @@ module _ {M : Type 1} {𝓤 : Ura M} (𝓛 : Logic 𝓤) (a : Global) where
       (guard_i 𝓤 (Testable p) (sem 𝓛 (box_at a p x)))
 
 module _ {M : Type 1} {𝓤 : Ura M} {𝓛 : Logic 𝓤} {K : Type 0} {Γ : List (Item 𝓤)} {G : Goal 𝓤 𝓛.H} where
-  -- nothing at null, or the box
+  -- no page at null; else the box at the pointer
   pub kept_out : K → (p : Ptr) (c : Option Known) → (p ≡ null_ptr → c ≡ None → Seq K 𝓛 Γ G)
       → ((b o : ℕ) (a : Global) (x : Known) → p ≡ block_ptr b o → c ≡ Some x → Testable (block_ptr b o) → Seq K 𝓛 (‵ (box_at a (block_ptr b o) x) ∷ Γ) G)
       → Seq K 𝓛 (‵ (page_at p c) ∷ Γ) G

@@ -1,4 +1,4 @@
--- The machine value of a `RawBox`, apart and together.
+-- The machine value of a `RawBox`, taken apart and put together.
 use Rattle.std.proofs.Common.{◌≡◌, ℕ, List, [], ◌∷◌, ◌++◌, refl, subst}
 use mathlib.Core.Bool.{true, ◌&&◌}
 use lib.Dec.{T}

@@ -1,4 +1,4 @@
--- A page that lines make was given to a room, or that is too small for it.
+-- The page that lines make was copied to a room, or the room is too small for it.
 
 use Rattle.std.proofs.Common.{ℕ, ◌≡◌, ◌∙◌, Bool, List, length, ap, ap₂, inl, subst}
 use Rattle.nap_maker.specs.declared.text.MadePage.{MadePage}

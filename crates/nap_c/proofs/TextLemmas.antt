@@ -19,7 +19,7 @@ use Rattle.nap_c.specs.Texts.{IsRefusal, IsTextOf, LacksForText, LacksToCount}
 pub true_isnt : false ≡ true → ⊥
 true_isnt h = let bad : ⊥ = cc in bad
 
--- A page was refused whose entries were counted.
+-- A page whose entries were counted is refused.
 module _ (g : Ghosts CountSink) (s : CountSink) (none : s.count ≡ 0) (wants_is : (d : List Entry) → g.wants s d → Uncounted s d) (sound : (t : CountSink) → g.failed t ≡ false) (budget : ℕ) (p : List ℕ) where
   own : (place : ℕ) → LacksMemoryFor g s budget p place → LacksWithin budget p place ⊎ (2 ^ 64 ≤ length (means budget p).entries)
   own place (inl reader) = inl reader
@@ -31,7 +31,7 @@ module _ (g : Ghosts CountSink) (s : CountSink) (none : s.count ≡ 0) (wants_is
   refused_to_count fault.Sink place h = let (breaks, (t, failed)) = h.collects in absurd (true_isnt (sym (sound t) ∙ failed))
   refused_to_count f place h = record { refused = λ _. h.collects; memory = λ is. let bad : ⊥ = cc in absurd bad }
 
--- the canonical text of a page was made, or that is refused
+-- the canonical text of a page was made, or refused
 pub text_made : {V : Type 0} (items : V → List ℕ) (budget : ℕ) (p : List ℕ) (found : Result PageText Refusal) (result : Result V Refusal) → IsPageText budget p found →
     MatchResult found (λ t. MatchResult result (λ made. items made ≡ t.text.items) (λ r. ⊥)) (λ r. result ≡ Err r) →
     MatchResult result (λ made. IsTextOf budget p (text (list_of budget p)) (items made)) (IsRefusal budget p (LacksForText budget p))

@@ -21,7 +21,7 @@ pub line_is_free : is_simple_and_free command_line ≡ true
 unfolding clap_on_literals
 line_is_free = refl
 
--- clap's fault of the words
+-- clap's error for the words
 pub fault_found : (words : List Text) (e : Error) → HasKind (fault_of command_line words) e → IsFault words (kind_of e)
 fault_found words e (inl h) = inl h
 fault_found words e (inr h) = inr (inl h)
@@ -64,7 +64,7 @@ entered_by words m name rows has named rowed =
 pub entered_none : (words : List Text) (m : ArgMatches) → HasMatchesOf command_line words m → subcommand_name_of m ≡ None → subcommand_of command_line words ≡ None
 entered_none words m has named = sym (has line_is_simple).1 ∙ none_by_part (subcommand_rows (out-ArgMatches m).subcommand) (name_of_rows (out-ArgMatches m).subcommand ∙ named)
 
--- what clap found is that of no job
+-- what clap found is no job's
 pub nothing_chosen : (words : List Text) (name : Text) (rows : List Row) → subcommand_of command_line words ≡ Some (name, rows)
     → ((j : Job) → job_name j ≡ name → ChoosesJob rows j → ⊥) → (j : Job) → SaysJob words j → ⊥
 nothing_chosen words name rows entered none (job.Page c) says =
@@ -82,7 +82,7 @@ nothing_entered words entered (job.Page c) says = none_or_some (action_name c.ac
 nothing_entered words entered (job.Make stream) says = none_or_some (codes "make", says.rows) (sym entered ∙ says.entered)
 nothing_entered words entered job.Batch says = none_or_some (codes "batch", says.rows) (sym entered ∙ says.entered)
 
--- a job, or none, that has the options that clap found
+-- a job, or none, with the options that clap found
 module _ (words : List Text) (m : ArgMatches) (name : Text) (rows : List Row) (has : HasMatchesOf command_line words m) (named : Some name ≡ subcommand_name_of m)
     (rowed : Some rows ≡ option_map (λ (p : Text × List Row). p.1) (subcommand_rows (out-ArgMatches m).subcommand)) where
   abbrev pub IsJob : Option Job → Type 0
@@ -104,7 +104,7 @@ module _ (words : List Text) (m : ArgMatches) (name : Text) (rows : List Row) (h
   says_nothing None h is = nothing_chosen words name rows found h
   says_nothing (Some k) h is = absurd (none_or_some k (sym is))
 
--- the fault of words that say no command
+-- clap's error for words that ask for no command
 pub no_job_said : (words : List Text) (k : ErrorKind) → (k ≡ kind.OutOfMemory) ⊎ (k ≡ kind.MissingSubcommand) → ((j : Job) → SaysJob words j → ⊥) → IsFault words k
 no_job_said words k (inl h) none = inl h
 no_job_said words k (inr h) none = inr (inr (h, none))

@@ -7,7 +7,7 @@ use Rattle.nap_command.specs.declared.failure.Failure.TheVariants as failure
 use Rattle.nap_command.specs.Devices.{Takes}
 use Rattle.nap_cli.specs.Explaining.{Explains, FlushesOnce, Outputs, ShowsHelp, ShowsText, WantsMemory}
 
--- words of any kind, where memory is wanting
+-- words of any kind, if memory runs out
 
 memory_at_help : (before after : Outputs) (status : ℕ) → WantsMemory before after status → ShowsHelp before after status
 memory_at_help before after status h = record {

@@ -86,7 +86,7 @@ pub record WantsMemory (before after : Outputs) (status : ℕ) : Type 0 where
   pub told : Appends before.told after.told e
   pub tells : Reports e after.errors_failed (Err failure.Memory) status
 
--- Nothing was printed. What standard error took is clap's report of the words.
+-- Standard error took clap's report of the words, and nothing was printed.
 pub record TellsWrong (before after : Outputs) (status : ℕ) : Type 0 where
   pub unprinted : Unprinted before after
   pub e : List ℕ

@@ -316,7 +316,7 @@ fn action_named(name: &str) -> Option<Action>
     }
 }
 
-/// Whether `--stream` is among the options.
+/// Returns whether `--stream` is among the options.
 fn stream_chosen(options: &ArgMatches<'_>) -> Option<bool>
     ensures { MatchOption result ((stream : Bool) → one_of (codes "stream") (rows_of (found_of options.now)) ≡ Some (flag_text stream) → ⊥)
         (λ stream. one_of (codes "stream") (rows_of (found_of options.now)) ≡ Some (flag_text stream)) }
@@ -325,7 +325,7 @@ fn stream_chosen(options: &ArgMatches<'_>) -> Option<bool>
     Some(stream)
 }
 
-/// Whether an action prints as it reads, by the options of its command.
+/// Returns whether an action prints as it reads, by the options of its command.
 fn streams(action: Action, options: &ArgMatches<'_>) -> Option<bool>
     ensures { MatchOption result ((stream : Bool) → ChoosesStream action (rows_of (found_of options.now)) stream → ⊥)
         (λ stream. ChoosesStream action (rows_of (found_of options.now)) stream) }

@@ -29,7 +29,7 @@ use Rattle.nap_command.specs.declared.failure.Failure.TheVariants as failure
 use Rattle.nap_reader.specs.Collecting.{Collects, IsRead, LacksMemoryFor, RefusedBy}
 use Rattle.nap_command.specs.Commands.{Denies, Fails, Finds, IsRefusal, LacksToCount, PrintsBy, PrintsCount, canon_text, count_line}
 
--- What is read of a page makes the answer of a command.
+-- What was read of a page gives the answer of a command.
 
 -- A page was counted.
 module _ (g : Ghosts CountSink) (s : CountSink) (none : s.count ≡ 0) (took_is : (t : CountSink) (d : List Entry) → g.took s d t → CountsEntries s d t)
@@ -63,7 +63,7 @@ module _ (g : Ghosts CountSink) (s : CountSink) (none : s.count ≡ 0) (took_is 
   prints_count found (Ok a) h is = counted found a.text.items a.verdict h.collects is
   prints_count found (Err f) h is = rw is tt
 
-  -- and its bytes were read
+  -- a page was counted, and all its bytes were read
   pub finds_count : (seen : Reading) (found : Result CountSink Refusal) (result : Result Printout Failure) → c.hex ≡ false → IsReadWhole seen p → IsRead g s c.budget p found →
       MatchResult result (λ a. PrintsCount found a.text.items a.verdict) (λ f. f ≡ failure.Memory) →
       MatchResult result (λ a. Finds c p seen a.text.items a.verdict) (Fails c p seen)
@@ -79,7 +79,7 @@ prints_page c p canon (Ok t) (Ok a) h is = subst (λ (act : Action). PrintsBy ac
 prints_page c p canon (Ok t) (Err f) h is = rw is tt
 prints_page c p canon (Err r) result h is = rw is (λ other. let bad : ⊥ = cc (canon, other) in bad, record { refused = h.refused; memory = h.memory })
 
--- The text of a page was taken, by an outlet that tells its bytes.
+-- The text of a page was written to an outlet that tells its bytes.
 module _ {O : Type 0} (o : outlet.Ghosts O) (w : O) (s : Canonical O) (begins : StartsText o w s) (works : o.failed s.outlet ≡ false) (items : O → List ℕ)
     (tells : (u : O) → o.taken u ≡ Some (items u)) (empty : items w ≡ []) (g : Ghosts (Canonical O))
     (took_is : (t : Canonical O) (d : List Entry) → g.took s d t → Took o s d t) (c : Command) (p : List ℕ) (canon : c.action ≡ action.Canon) where
@@ -109,7 +109,7 @@ module _ {O : Type 0} (o : outlet.Ghosts O) (w : O) (s : Canonical O) (begins : 
   prints_text hex (Ok t) (Err f) same h is = rw is tt
   prints_text hex (Err r) result same h is = rw is (λ other. let bad : ⊥ = cc (canon, other) in bad, lacks r.fault r.place h.collects)
 
-  -- and its bytes were read
+  -- the text of a page was made, and all its bytes were read
   pub finds_text : (seen : Reading) (found : Result (Canonical O) Refusal) (result : Result Printout Failure) → c.hex ≡ false → IsReadWhole seen p → IsRead g s c.budget p found →
       MatchResult found (λ t. MatchResult result (λ a. (a.text.items ≡ canon_text false (items t.outlet)) × (a.verdict ≡ verdict.Accepted)) (λ f. f ≡ failure.Memory))
       (λ r. result ≡ Err (failure.Refused (refusal_of_text r))) →

@@ -8,7 +8,7 @@ use Rattle.nap_list.specs.Reading.{Reading}
 use Rattle.nap_command.specs.Devices.{Takes}
 use Rattle.nap_command.specs.Commands.{EndsWhole, Fails, Finds, IsPartly}
 
--- How a command ends whose output fails.
+-- The end of a command whose output fails.
 
 front_length : (n : ℕ) (xs : List ℕ) → n ≤ length xs → length (take n xs) ≡ n
 front_length n xs h = omega (arith, length-take n xs, h)
@@ -17,7 +17,7 @@ take_of_nothing : (n : ℕ) → let nothing : List ℕ = [] in take n nothing �
 take_of_nothing zero = refl
 take_of_nothing (suc n) = refl
 
--- the output failed once it had taken so many bytes of a text
+-- the output failed after n bytes of a text
 broken : (c : Command) (p : List ℕ) (a : Reading) (text : List ℕ) (old new : Option (List ℕ)) (b : Bool) (n : ℕ)
     → Takes old new text (Err (failure.Write n)) → b ≡ true → IsPartly c p a (take n text) → (q : List ℕ) × Appends old new q × EndsWhole c p a q b (Err (failure.Write n))
 broken c p a text old new b n k e partly = (
@@ -26,7 +26,7 @@ broken c p a text old new b n k e partly = (
   subst (λ (x : Bool). EndsWhole c p a (take n text) x (Err (failure.Write n))) (sym e) (sym (front_length n text k.0), partly),
 )
 
--- the output failed amid what was found
+-- the output failed during a printout
 pub ends_amid : (c : Command) (p : List ℕ) (a : Reading) (text : List ℕ) (v : Verdict) (old new : Option (List ℕ)) (b : Bool) (f : Failure)
     → Finds c p a text v → Takes old new text (Err f) → b ≡ true → (q : List ℕ) × Appends old new q × EndsWhole c p a q b (Err f)
 ends_amid c p a text v old new b (failure.Write n) h k e =
@@ -34,7 +34,7 @@ ends_amid c p a text v old new b (failure.Write n) h k e =
     (inl (text, v, h, subst (λ (m : ℕ). take m text ≡ take n text) (sym (front_length n text k.0)) refl))
 ends_amid c p a text v old new b _ h k e = absurd k
 
--- the output failed after the command had
+-- the output failed after the command had failed
 pub ends_after : (c : Command) (p : List ℕ) (a : Reading) (before : Failure) (old new : Option (List ℕ)) (b : Bool) (f : Failure)
     → Fails c p a before → Takes old new [] (Err f) → b ≡ true → (q : List ℕ) × Appends old new q × EndsWhole c p a q b (Err f)
 ends_after c p a before old new b (failure.Write n) h k e = broken c p a [] old new b n k e (inr (before, h, take_of_nothing n))

@@ -4,9 +4,9 @@ use Rattle.std.specs.Io.KnownBytes.{Appends}
 use Rattle.std.proofs.Math.Bool.{or-false}
 use Rattle.std.proofs.KnownBytes.{Appends-trans}
 
--- Reads and writes, one after another.
+-- Reads and writes in sequence.
 
--- what a write takes of the rest joins what was taken before it
+-- bytes taken by one write and by the next were appended
 pub taken_more : (a b c : Option (List ℕ)) (i n : ℕ) (xs : List ℕ) → Appends a b (take i xs) → Appends b c (take n (drop i xs)) → Appends a c (take (i + n) xs)
 taken_more a b c i n xs h k = subst (Appends a c) (sym (take-add i n xs)) (Appends-trans a b c (take i xs) (take n (drop i xs)) h k)
 
@@ -19,6 +19,6 @@ pub none_written_amiss : (wrote failed : Bool) → (wrote ≡ true → failed �
 none_written_amiss false failed law works = refl
 none_written_amiss true failed law works = let bad = sym (law refl) ∙ works in cc
 
--- a call that doesn't fail leaves the flag
+-- a call that doesn't fail keeps the flag
 pub flag_stays : (first before after : Bool) → before ≡ first → after ≡ (before || false) → after ≡ first
 flag_stays first before after h k = k ∙ (or-false before ∙ h)

@@ -32,7 +32,7 @@ use Rattle.nap_command.specs.declared.failure.Failure.TheVariants as failure
 use Rattle.nap_command.specs.Commands.{EndsListed, EndsSo, ended_so, Fails, Finds, IsPartly, IsRefusal, IsStream}
 use Rattle.nap_command.specs.Devices.{Takes}
 
--- What `print_list` prints of a page that it reads twice.
+-- What `list` prints of a page that it reads twice.
 
 front_taken : (q left whole : List ℕ) → whole ≡ q ++ left → take (length q) whole ≡ q
 front_taken q left whole is = ap (take (length q)) is ∙ take-append_seam q left
@@ -41,7 +41,7 @@ memory_fault : (f : Fault) → cause_of f ≡ memory → f ≡ fault.Memory
 memory_fault fault.Memory is = refl
 memory_fault _ is = cc
 
--- why a page is refused that was counted
+-- a page that was counted is refused for this reason
 refusal_by : {S : Type 0} (g : Ghosts S) (s : S) (sound : (t : S) → g.failed t ≡ false) (c : Command) (page : List ℕ) (f : Fault) (place : ℕ) →
     RefusedBy g s c.budget page (record { fault = f; place = place }) (cause_of f) → IsRefusal c page (record { fault = f; place = place })
 refusal_by g s sound c page fault.Memory place h = record { refused = λ no. absurd (no refl); memory = λ _. h.0 }
@@ -52,7 +52,7 @@ pub list_refuses : (c : Command) (p page : List ℕ) (seen : Reading) (r : Refus
     Fails c p seen (failure.Refused r)
 list_refuses c p page seen r list whole streams refusal = (whole, (page, streams, ((λ other. let bad : ⊥ = cc (list, other) in bad), refusal)))
 
--- the output failed after the command had
+-- the output failed after the command had failed
 pub listed_after : (c : Command) (p : List ℕ) (seen : Reading) (before : Failure) (old new : Option (List ℕ)) (b : Bool) (f : Failure) → Fails c p seen before →
     Takes old new [] (Err f) → b ≡ true → (q : List ℕ) × Appends old new q × EndsListed c p seen q b (Err f)
 listed_after c p seen before old new b (failure.Write n) h k e = (
@@ -70,18 +70,18 @@ module _ {O : Type 0} (o : outlet.Ghosts O) (w : O) (works : o.failed w ≡ fals
   abbrev begun : Printing O
   begun = record { outlet = w; written = 0; buffered = []; state = start }
 
-  -- for any input that is this page
+  -- any input that gives this page
   abbrev ForPage : (List ℕ → Reading → Type 0) → Type 0
   ForPage claim = (p : List ℕ) (seen : Reading) → IsReadWhole seen p → IsStream c.hex p page → claim p seen
 
-  -- what went out, which is a front of what is printed
+  -- what was printed, a prefix of what the command prints
   pub record Leaves (u : O) (n : ℕ) (read : Result CountSink Refusal) : Type 0 where
     pub q : List ℕ
     pub grows : Grows (sending o w 0) q (sending o u n)
     pub partly : ForPage (λ p seen. IsPartly c p seen q)
     pub ends : o.failed u ≡ false → ForPage (λ p seen. EndsListed c p seen q false (ended_so read))
 
-  -- the page is refused, and nothing went out
+  -- the page is refused, and nothing was printed
   none_printed : (u : O) (n : ℕ) (r : Refusal) → u ≡ w → n ≡ 0 → IsRefusal c page r → Leaves u n (Err r)
   none_printed u n r output written refusal =
       let fails : ForPage (λ p seen. Fails c p seen (failure.Refused r)) = λ p seen whole streams. list_refuses c p page seen r list whole streams refusal in
@@ -117,7 +117,7 @@ module _ {O : Type 0} (o : outlet.Ghosts O) (w : O) (works : o.failed w ≡ fals
       refuses : r.fault ≡ fault.Memory → ForPage (λ p seen. Fails c p seen (failure.Refused r))
       refuses is p seen whole streams = list_refuses c p page seen r list whole streams (record { refused = λ no. absurd (no is); memory = λ _. place })
 
-      -- a front of the lines went out
+      -- a prefix of the lines was printed
       some_printed : (first rest : List Entry) (left : List ℕ) → list_of c.budget page ≡ first ++ rest → SendsPart (sending o w 0) [] (lines first) left (sending_of o v) →
           (o.failed v.outlet ≡ false → r.fault ≡ fault.Memory) → Leaves u n (Err r)
       some_printed first rest left entries passes fault_is =
@@ -134,7 +134,7 @@ module _ {O : Type 0} (o : outlet.Ghosts O) (w : O) (works : o.failed w ≡ fals
                 );
           }
 
-  -- What both readings gave, of which the second is a printer's.
+  -- The results of both readings, the second into a printer.
   module _ (g : Ghosts CountSink) (s : CountSink) (sound : (t : CountSink) → g.failed t ≡ false) (k : Ghosts (Printing O)) (fresh : k.failed begun ≡ false)
       (took_is : (t : Printing O) (d : List Entry) → k.took begun d t → Took o begun d t) (broke_is : (t : Printing O) (d : List Entry) (e : Entry) → k.broke begun d e t → Broke o begun d e t)
       (u : O) (n : ℕ) (v : Printing O) where
@@ -160,7 +160,7 @@ module _ {O : Type 0} (o : outlet.Ghosts O) (w : O) (works : o.failed w ≡ fals
     leaves printer new bytes same read h =
         by read (subst (λ (p : List ℕ). ReadsTwice g k s begun c.budget p v read) same (subst (λ (x : Printing O). ReadsTwice g k s x c.budget bytes v read) new h.reads))
 
-  -- the output as it is given back
+  -- the output that is returned
   module _ (u v : O) (n : ℕ) (found : Result CountSink Refusal) (answer : Result Verdict Failure) (out : Leaves u n found) (keeps : Keeps (o.taken u) (o.taken v))
       (fails : o.failed u ≡ true → o.failed v ≡ true) (so : EndsSo found n (o.failed v) answer) where
     works_on : (b : Bool) → o.failed u ≡ b → o.failed v ≡ false → b ≡ false
@@ -174,7 +174,7 @@ module _ {O : Type 0} (o : outlet.Ghosts O) (w : O) (works : o.failed w ≡ fals
     pub ends : (q : List ℕ) × Appends (o.taken w) (o.taken v) q × ForPage (λ p seen. EndsListed c p seen q (o.failed v) answer)
     ends = (out.q, Appends-kept (o.taken w) (o.taken u) (o.taken v) out.q out.grows.taken keeps, at (o.failed v) refl so)
 
-  -- it was flushed once where no write failed
+  -- the output was flushed once, if no write failed
   pub flushes_once : (u v : O) (n : ℕ) (found : Result CountSink Refusal) → Leaves u n found → o.write_failed w ≡ false → o.flushes v ≡ flush_count (o.failed u) (o.flushes u) →
       o.write_failed v ≡ o.write_failed u → FlushedOnce o w v
   flushes_once u v n found out none flushes wrote =

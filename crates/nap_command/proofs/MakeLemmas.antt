@@ -1,4 +1,4 @@
--- How `make` ends.
+-- The end of `make`.
 
 use Rattle.std.proofs.Common.{◌≡◌, ◌≤◌, inl, inr, ℕ, zero, suc, List, [], Bool, true, false, Option, Ok, Err, refl, sym, subst, take, length, length-take, arith}
 use Rattle.std.specs.Io.KnownBytes.{Appends}
@@ -18,7 +18,7 @@ module _ (p q : List ℕ) (seen : Reading) where
   page_found false n h = (h.1.read, h.1.made)
   page_found true n h = absurd h
 
-  -- the lines make none
+  -- the lines make no page
   pub lines_refused : (failed : Bool) (fault : MakeFault) (n : ℕ) → MakesPage p seen q failed (Err (page_faults.Lines fault n)) → FailsToMake p seen (failure_of fault)
   lines_refused false (make_faults.Line number column) n h = record { fault = make_faults.Line number column; before = q; refuses = h.1; fails = refl }
   lines_refused false (make_faults.Misfit number) n h = record { fault = make_faults.Misfit number; before = q; refuses = h.1; fails = refl }
@@ -50,13 +50,13 @@ module _ (p : List ℕ) (seen : Reading) where
     subst (λ (x : Bool). EndsMadeWhole p seen (take n text) x (Err (failure.Write n))) (sym e) (sym (front_length n text k.0), partly),
   )
 
-  -- amid the page
+  -- the output failed during the page
   pub page_amid : (text : List ℕ) (old new : Option (List ℕ)) (b : Bool) (f : Failure) → FindsPage p seen text → Takes old new text (Err f) → b ≡ true →
       (q : List ℕ) × Appends old new q × EndsMadeWhole p seen q b (Err f)
   page_amid text old new b (failure.Write n) h k e = broken text old new b n k e (inl (text, h, subst (λ (m : ℕ). take m text ≡ take n text) (sym (front_length n text k.0)) refl))
   page_amid text old new b _ h k e = absurd k
 
-  -- after the lines were found to make none
+  -- the output failed after the lines were refused
   pub page_after : (before : Failure) (old new : Option (List ℕ)) (b : Bool) (f : Failure) → FailsToMake p seen before → Takes old new [] (Err f) → b ≡ true →
       (q : List ℕ) × Appends old new q × EndsMadeWhole p seen q b (Err f)
   page_after before old new b (failure.Write n) h k e = broken [] old new b n k e (inr (before, h, take_of_nothing n))

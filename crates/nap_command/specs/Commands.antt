@@ -84,7 +84,7 @@ FailsToSpell text failure.Hex = IsErr (decode_of (hex_digits_of text))
 FailsToSpell text failure.Memory = Unit {0}
 FailsToSpell text _ = ⊥
 
--- why a command prints nothing of a stream: `print_list` and `canon` refuse it, or memory ran out
+-- why a command prints nothing of a stream: `list` and `canon` refuse it, or memory ran out
 abbrev pub Denies : Command → List ℕ → Failure → Type 0
 Denies c stream (failure.Refused r) = (c.action ≢ action.Check) × IsRefusal c stream r
 Denies c stream failure.Memory = Unit {0}
@@ -128,7 +128,7 @@ abbrev pub PrintsPart : Command → List ℕ → Reading → List ℕ → Failur
 PrintsPart c p input q (failure.Refused r) = (r.fault ≡ fault.Memory) × ((whole : List ℕ) × Finds c p input whole verdict.Accepted × (take (length q) whole ≡ q))
 PrintsPart c p input q _ = ⊥
 
--- `print_list` read the bytes p, and printed q once all of the page was accepted. If it fails it prints nothing, except where
+-- `list` read the bytes p, and printed q once all of the page was accepted. If it fails it prints nothing, except where
 -- memory runs out as lines are made.
 abbrev pub EndsListed : Command → List ℕ → Reading → List ℕ → Bool → Result Verdict Failure → Type 0
 EndsListed c p input q false (Ok v) = Finds c p input q v

@@ -1,4 +1,4 @@
-//! The page that `print_list` keeps, since it reads it twice.
+//! The page that `list` keeps, since it reads it twice.
 ghost use Rattle.std.specs.Prelude.{◌≡◌, ◌+◌, ◌<◌, ◌≤◌, ◌^◌, ℕ, List, MatchResult};
 ghost use Rattle.std.specs.Io.KnownBytes.{Consumes};
 ghost use Rattle.nap_list.specs.Limits.{reads_limit};
@@ -20,8 +20,8 @@ pub(crate) struct KeptPage {
     pub(crate) memory: Vec<u8>,
 }
 
-/// The bytes of the page that a command reads, those of its input or those that its hexadecimal text spells, and the memory
-/// for its lines.
+/// Returns the bytes of the page that a command reads, those of its input or those that its hexadecimal text spells,
+/// with the memory for its lines.
 pub(crate) fn read_page<I: Inlet>(
     alloc: Global,
     command: &Command,

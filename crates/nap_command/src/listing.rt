@@ -1,4 +1,4 @@
-//! `print_list` on its input and its output.
+//! `list` on its input and its output.
 ghost use Rattle.std.specs.Prelude.{◌≡◌, ◌+◌, ◌<◌, ◌≤◌, ◌^◌, ℕ, List, false, true, MatchResult};
 ghost use Rattle.std.specs.Io.KnownBytes.{Appends, Consumes, Keeps};
 ghost use Rattle.nap_list.specs.Flushing.{FlushedOnce, flush_count};
@@ -17,7 +17,7 @@ use nap_list::{CountSink, Inlet, Outlet};
 use nap_reader::{Refusal, read_twice};
 use std::alloc::Global;
 
-/// Flushes the output of `print_list`, unless a write has failed, and returns how the command ends.
+/// Flushes the output of `list`, unless a write has failed, and returns how the command ends.
 fn end_list<O: Outlet>(
     output: &mut O,
     written: u64,
@@ -39,7 +39,8 @@ fn end_list<O: Outlet>(
     }
 }
 
-/// The output of a printer, and how many bytes it took: what is held goes out where both readings took the whole page.
+/// Returns the output of a printer, and the number of bytes that it took. Sends the buffered lines first if both
+/// readings accepted the page.
 fn finished<O: Outlet + Drop>(
     printer: LinePrinter<O>,
     read: &Result<CountSink, Refusal>,

@@ -1,4 +1,4 @@
--- One more entry, behind those of the lines before.
+-- One more entry, after those of earlier lines.
 
 use Rattle.std.proofs.Common.{ℕ, ◌≡◌, ◌≢◌, ◌+◌, ◌∙◌, List, [], ◌∷◌, ◌++◌, Option, Some, None, IsSome, is_some, true, length, refl, ap, sym, subst, append-nil, append_assoc, length-append}
 use Rattle.std.proofs.lemmas.List.Elements.{All-nil, All-push}
@@ -14,7 +14,7 @@ use Rattle.nap_lines.specs.Listing.{lines}
 use Rattle.nap_make.specs.Entries.{IsProper}
 use Rattle.nap_line_reader.specs.Lists.{LinesSoFar, OpenedAt}
 
--- a walk, one entry further
+-- a walk over one more entry
 pub walk_more : (es : List Entry) (e : Entry) → walk start (es ++ e ∷ []) ≡ after (walk start es) e
 unfolding walk
 walk_more es e = walks_join start es (e ∷ [])
@@ -26,7 +26,7 @@ fit_more es e fit fits = (fits_join start es (e ∷ [])).1 (fit, (fits, tt))
 pub length_more : (es : List Entry) (e : Entry) → length (es ++ e ∷ []) ≡ length es + 1
 length_more es e = length-append es (e ∷ [])
 
--- lines, one further
+-- the lines of one more entry
 pub lines_more : (es : List Entry) (e : Entry) (rest : List ℕ) → lines (es ++ e ∷ []) ++ rest ≡ lines es ++ (line e ++ 10 ∷ rest)
 lines_more [] e rest = ap (λ (bytes : List ℕ). bytes ++ rest) (append-nil (line e ++ 10 ∷ [])) ∙ append_assoc (line e) (10 ∷ []) rest
 lines_more (x ∷ es) e rest =
@@ -41,7 +41,7 @@ so_far_more p es e rest h proper fits = record {
   parts = h.parts ∙ sym (lines_more es e rest);
 }
 
--- The definition that is open behind an entry.
+-- The definition that is open after an entry.
 
 -- the end of a definition leaves none open
 ended : (s : State) (e : Entry) → e ≡ entries.DefEnd → IsSome (after s e).definition → ⊥
@@ -52,8 +52,8 @@ pub opened_more : (es : List Entry) (e : Entry) (before now : ℕ) → (IsSome (
     IsSome (walk start (es ++ e ∷ [])).definition → OpenedAt (es ++ e ∷ []) now
 opened_more es e before now opened same new opens = by (walk start es).definition refl
   where
-    goes_on : IsSome (after (walk start es) e).definition
-    goes_on = subst (λ (s : State). IsSome s.definition) (walk_more es e) opens
+    still_open : IsSome (after (walk start es) e).definition
+    still_open = subst (λ (s : State). IsSome s.definition) (walk_more es e) opens
 
     by : (o : Option OpenDefinition) → (walk start es).definition ≡ o → OpenedAt (es ++ e ∷ []) now
     by (Some o) is =
@@ -67,7 +67,7 @@ opened_more es e before now opened same new opens = by (walk start es).definitio
           place = same some ∙ h.place;
           closed = h.closed;
           opens = h.opens;
-          unended = All-push (λ x. x ≢ entries.DefEnd) h.inside e h.unended (λ end. ended (walk start es) e end goes_on);
+          unended = All-push (λ x. x ≢ entries.DefEnd) h.inside e h.unended (λ end. ended (walk start es) e end still_open);
         }
     by None is =
         let none : IsSome (walk start es).definition → ⊥ = λ some. false≢true (sym (ap is_some is) ∙ some) in

@@ -1,4 +1,4 @@
--- Lines behind those of the entries that were taken.
+-- Lines after those of the entries taken.
 
 use Rattle.std.proofs.Common.{ℕ, ◌≡◌, ◌≢◌, ◌<◌, ◌≤◌, ◌∙◌, List, [], ◌∷◌, ◌++◌, ◌==◌, All, Bool, true, false, IfErr, OnOk, IsSome, None, Result, Ok, Err, length, refl, ap, sym, subst, append-nil, append_assoc, length-append, eqb-true, take, drop, take-append-drop, arith}
 use Rattle.std.proofs.lemmas.Bool.{eqb-false}
@@ -21,52 +21,52 @@ use Rattle.nap_line_reader.specs.Making.{IsUnendedLine as CutsOff, Ends, Feeds, 
 use Rattle.nap_line_reader.proofs.EntryLemmas.{lines_more, so_far_more}
 use Rattle.nap_line_reader.proofs.LineLemmas.{column_stays, long_begins_none, no_long_line, part_begins_none, whole_begins_none}
 
--- bytes that aren't cut have no end in them
-pub uncut : (xs : List ℕ) → ((front back : List ℕ) → SplitsAtByte 10 xs front back → ⊥) → All (λ b. b ≢ 10) xs
+-- bytes that aren't split contain no LF
+pub uncut : (xs : List ℕ) → ((prefix back : List ℕ) → SplitsAtByte 10 xs prefix back → ⊥) → All (λ b. b ≢ 10) xs
 uncut [] none = All-nil (λ b. b ≢ 10)
 uncut (x ∷ xs) none = by (x == 10) refl (λ other.
-    uncut xs (λ front back cuts. none (x ∷ front) back (record {
+    uncut xs (λ prefix back cuts. none (x ∷ prefix) back (record {
       joins = ap (λ (ys : List ℕ). x ∷ ys) cuts.joins;
-      first = All-cons (λ b. b ≢ 10) x front other cuts.first;
+      first = All-cons (λ b. b ≢ 10) x prefix other cuts.first;
     })))
   where
     by : (end : Bool) → (x == 10) ≡ end → (x ≢ 10 → All (λ b. b ≢ 10) xs) → All (λ b. b ≢ 10) (x ∷ xs)
     by true is rest = let here : x ≡ 10 = eqb-true x 10 is in absurd (none [] xs (record { joins = ap (λ (b : ℕ). b ∷ xs) here; first = All-nil (λ b. b ≢ 10) }))
     by false is rest = let other : x ≢ 10 = eqb-false x 10 is in All-cons (λ b. b ≢ 10) x xs other (rest other)
 
--- a line that is too long was none
+-- a line that is too long is no entry's
 pub never_ok : (Q : Type 0) (bytes : List ℕ) (r : Result (Unit {0}) MakeFault) → OnOk r (IsLine bytes) → longest_line < length bytes → OnOk r Q
 never_ok Q bytes (Ok done) own long = absurd (no_long_line bytes own.0 own.1 long)
 never_ok Q bytes (Err f) own long = tt
 
 module _ {S : Type 0} (g : Ghosts S) where
   -- a line that is too long
-  pub keeps_long : (old m : LineMaker S) (bytes front more : List ℕ) (r : Result (Unit {0}) MakeFault) → bytes ≡ front ++ more → All (λ x. x ≢ 10) front → longest_line < length front →
-      ((s : S) (es : List Entry) → MakerHasPut g s es old → Takes g s es front m r) → IfErr r (λ f. (s : S) (es : List Entry) → MakerHasPut g s es old → KeepsPart g s es bytes m f)
-  keeps_long old m bytes front more (Ok done) parts none long takes = tt
-  keeps_long old m bytes front more (Err (faults.Line number column)) parts none long takes = λ s es holds.
+  pub keeps_long : (old m : LineMaker S) (bytes prefix more : List ℕ) (r : Result (Unit {0}) MakeFault) → bytes ≡ prefix ++ more → All (λ x. x ≢ 10) prefix → longest_line < length prefix →
+      ((s : S) (es : List Entry) → MakerHasPut g s es old → Takes g s es prefix m r) → IfErr r (λ f. (s : S) (es : List Entry) → MakerHasPut g s es old → KeepsPart g s es bytes m f)
+  keeps_long old m bytes prefix more (Ok done) parts none long takes = tt
+  keeps_long old m bytes prefix more (Err (faults.Line number column)) parts none long takes = λ s es holds.
       let h = takes s es holds in (
         h.0,
-        (let size = ap (λ (xs : List ℕ). length xs) parts in omega (arith, size, long, length-append front more)),
-        λ rest. subst BeginsNoLine (sym (append_assoc front more rest) ∙ ap (λ (xs : List ℕ). xs ++ rest) (sym parts)) (long_begins_none front (more ++ rest) none long),
-        subst (λ (xs : List ℕ). TellsColumn xs column) (sym parts) (column_stays front more column h.2),
+        (let size = ap (λ (xs : List ℕ). length xs) parts in omega (arith, size, long, length-append prefix more)),
+        λ rest. subst BeginsNoLine (sym (append_assoc prefix more rest) ∙ ap (λ (xs : List ℕ). xs ++ rest) (sym parts)) (long_begins_none prefix (more ++ rest) none long),
+        subst (λ (xs : List ℕ). TellsColumn xs column) (sym parts) (column_stays prefix more column h.2),
         h.3,
       )
-  keeps_long old m bytes front more (Err faults.Memory) parts none long takes = takes
-  keeps_long old m bytes front more (Err (faults.Misfit number)) parts none long takes = λ s es holds. let h = takes s es holds in absurd (no_long_line front h.0 h.1 long)
-  keeps_long old m bytes front more (Err (faults.Open number opening)) parts none long takes = λ s es holds. let h = takes s es holds in absurd (no_long_line front h.0 h.1 long)
-  keeps_long old m bytes front more (Err faults.Write) parts none long takes = λ s es holds. let h = takes s es holds in absurd (no_long_line front h.0 h.1 long)
+  keeps_long old m bytes prefix more (Err faults.Memory) parts none long takes = takes
+  keeps_long old m bytes prefix more (Err (faults.Misfit number)) parts none long takes = λ s es holds. let h = takes s es holds in absurd (no_long_line prefix h.0 h.1 long)
+  keeps_long old m bytes prefix more (Err (faults.Open number opening)) parts none long takes = λ s es holds. let h = takes s es holds in absurd (no_long_line prefix h.0 h.1 long)
+  keeps_long old m bytes prefix more (Err faults.Write) parts none long takes = λ s es holds. let h = takes s es holds in absurd (no_long_line prefix h.0 h.1 long)
 
-  -- no more of a line is kept than a line may have, and one byte
-  pub keeps_front : (old m : LineMaker S) (part bytes front : List ℕ) (kept : ℕ) (r : Result (Unit {0}) MakeFault) → front ≡ part ++ take kept bytes → All (λ x. x ≢ 10) part → All (λ x. x ≢ 10) bytes →
-      longest_line < length front → ((s : S) (es : List Entry) → MakerHasPut g s es old → Takes g s es front m r) →
+  -- at most one byte more than a line may have is kept
+  pub keeps_prefix : (old m : LineMaker S) (part bytes prefix : List ℕ) (kept : ℕ) (r : Result (Unit {0}) MakeFault) → prefix ≡ part ++ take kept bytes → All (λ x. x ≢ 10) part → All (λ x. x ≢ 10) bytes →
+      longest_line < length prefix → ((s : S) (es : List Entry) → MakerHasPut g s es old → Takes g s es prefix m r) →
       IfErr r (λ f. (s : S) (es : List Entry) → MakerHasPut g s es old → KeepsPart g s es (part ++ bytes) m f)
-  keeps_front old m part bytes front kept r is none also long takes =
-      keeps_long old m (part ++ bytes) front (drop kept bytes) r
+  keeps_prefix old m part bytes prefix kept r is none also long takes =
+      keeps_long old m (part ++ bytes) prefix (drop kept bytes) r
       (sym (ap (λ (xs : List ℕ). xs ++ drop kept bytes) is ∙ append_assoc part (take kept bytes) (drop kept bytes) ∙ ap (λ (xs : List ℕ). part ++ xs) (take-append-drop kept bytes)))
       (subst (λ (xs : List ℕ). All (λ x. x ≢ 10) xs) (sym is) (All-append (λ x. x ≢ 10) part (take kept bytes) none (All-take (λ x. x ≢ 10) kept bytes also))) long takes
 
-  -- a line that was refused before its end was read
+  -- a line that was refused before its end
   pub ends_kept : (s : S) (es : List Entry) (bytes : List ℕ) (m : LineMaker S) (f : MakeFault) → KeepsPart g s es bytes m f → Ends g s es bytes m (Err f)
   ends_kept s es bytes m (faults.Line number column) h = (h.0, λ more. h.2 (10 ∷ more), h.3, h.4)
   ends_kept s es bytes m faults.Memory h = h
@@ -74,7 +74,7 @@ module _ {S : Type 0} (g : Ghosts S) where
   ends_kept s es bytes m (faults.Open number opening) h = absurd h
   ends_kept s es bytes m faults.Write h = absurd h
 
-  -- a whole line that was taken, or not
+  -- a complete line was taken, or the fault says why not
   pub ends_taken : (s : S) (es : List Entry) (bytes : List ℕ) (m : LineMaker S) (r : Result (Unit {0}) MakeFault) → All (λ x. x ≢ 10) bytes → Takes g s es bytes m r → Ends g s es bytes m r
   ends_taken s es bytes m (Ok done) none h = h
   ends_taken s es bytes m (Err (faults.Line number column)) none h = (h.0, λ more. whole_begins_none bytes more none h.1, h.2, h.3)
@@ -83,7 +83,7 @@ module _ {S : Type 0} (g : Ghosts S) where
   ends_taken s es bytes m (Err (faults.Open number opening)) none h = h
   ends_taken s es bytes m (Err faults.Write) none h = h
 
-  -- what is kept behind the last end of a piece
+  -- the bytes after the last LF of a piece are kept
   pub ready_last : (old new : LineReader S) (rest : List ℕ) (r : Result (Unit {0}) MakeFault) → IsReady g old → All (λ b. b ≢ 10) rest → OnOk r (new.part.items ≡ old.part.items ++ rest) →
       OnOk r (new.maker ≡ old.maker) → OnOk r (length new.part.items ≤ longest_line) → OnOk r (IsReady g new)
   ready_last old new rest (Ok done) ready none part maker short = record {
@@ -97,15 +97,15 @@ module _ {S : Type 0} (g : Ghosts S) where
     so_far : (q rest : List ℕ) → q ≡ lines es ++ rest → LinesSoFar q es rest
     so_far q rest parts = record { proper = holds.proper; fit = holds.fit; parts = parts }
 
-    -- more bytes behind
-    behind : (q rest more : List ℕ) → q ≡ lines es ++ rest → q ++ more ≡ lines es ++ (rest ++ more)
-    behind q rest more parts = ap (λ (xs : List ℕ). xs ++ more) parts ∙ append_assoc (lines es) rest more
+    -- the bytes read, and more bytes
+    with_more : (q rest more : List ℕ) → q ≡ lines es ++ rest → q ++ more ≡ lines es ++ (rest ++ more)
+    with_more q rest more parts = ap (λ (xs : List ℕ). xs ++ more) parts ∙ append_assoc (lines es) rest more
 
-    -- more bytes behind a line with its end
-    behind_line : (bytes rest more : List ℕ) → (bytes ++ 10 ∷ rest) ++ more ≡ bytes ++ 10 ∷ (rest ++ more)
-    behind_line bytes rest more = append_assoc bytes (10 ∷ rest) more
+    -- a line with LF, and more bytes
+    line_with_more : (bytes rest more : List ℕ) → (bytes ++ 10 ∷ rest) ++ more ≡ bytes ++ 10 ∷ (rest ++ more)
+    line_with_more bytes rest more = append_assoc bytes (10 ∷ rest) more
 
-    -- a whole line with its end makes no list
+    -- a refused line with LF makes no list
     pub ends_stops : (q bytes rest : List ℕ) (m : LineMaker S) (f : MakeFault) → q ≡ lines es ++ (bytes ++ 10 ∷ rest) → Ends g s es bytes m (Err f) → Stops g s q m.sink f
     ends_stops q bytes rest m (faults.Line number column) parts h = record {
       entries = es;
@@ -113,7 +113,7 @@ module _ {S : Type 0} (g : Ghosts S) where
       why = (
         λ more. record {
           rest = bytes ++ 10 ∷ (rest ++ more);
-          so_far = so_far (q ++ more) (bytes ++ 10 ∷ (rest ++ more)) (behind q (bytes ++ 10 ∷ rest) more parts ∙ ap (λ (xs : List ℕ). lines es ++ xs) (behind_line bytes rest more));
+          so_far = so_far (q ++ more) (bytes ++ 10 ∷ (rest ++ more)) (with_more q (bytes ++ 10 ∷ rest) more parts ∙ ap (λ (xs : List ℕ). lines es ++ xs) (line_with_more bytes rest more));
           place = h.0;
           some = omega (arith, length-append bytes (10 ∷ (rest ++ more)));
           none = h.1 (rest ++ more);
@@ -130,7 +130,7 @@ module _ {S : Type 0} (g : Ghosts S) where
           entry = h.0;
           rest = rest ++ more;
           so_far = so_far (q ++ more) (line h.0 ++ 10 ∷ (rest ++ more))
-              (behind q (bytes ++ 10 ∷ rest) more parts ∙ ap (λ (xs : List ℕ). lines es ++ xs) (behind_line bytes rest more ∙ ap (λ (xs : List ℕ). xs ++ 10 ∷ (rest ++ more)) h.1.written));
+              (with_more q (bytes ++ 10 ∷ rest) more parts ∙ ap (λ (xs : List ℕ). lines es ++ xs) (line_with_more bytes rest more ∙ ap (λ (xs : List ℕ). xs ++ 10 ∷ (rest ++ more)) h.1.written));
           place = h.2.0;
           proper = h.1.fitting;
           misfit = h.2.1;
@@ -139,7 +139,7 @@ module _ {S : Type 0} (g : Ghosts S) where
       );
     }
     ends_stops q bytes rest m (faults.Open number opening) parts h = absurd h.2
-    ends_stops q bytes rest m faults.Memory parts h = record { entries = es; first = (bytes ++ 10 ∷ rest, so_far q (bytes ++ 10 ∷ rest) parts); why = (λ more. ((bytes ++ 10 ∷ rest) ++ more, so_far (q ++ more) ((bytes ++ 10 ∷ rest) ++ more) (behind q (bytes ++ 10 ∷ rest) more parts)), h) }
+    ends_stops q bytes rest m faults.Memory parts h = record { entries = es; first = (bytes ++ 10 ∷ rest, so_far q (bytes ++ 10 ∷ rest) parts); why = (λ more. ((bytes ++ 10 ∷ rest) ++ more, so_far (q ++ more) ((bytes ++ 10 ∷ rest) ++ more) (with_more q (bytes ++ 10 ∷ rest) more parts)), h) }
     ends_stops q bytes rest m faults.Write parts h = record {
       entries = es;
       first = (bytes ++ 10 ∷ rest, so_far q (bytes ++ 10 ∷ rest) parts);
@@ -149,13 +149,13 @@ module _ {S : Type 0} (g : Ghosts S) where
           rest ++ more,
           so_far_more (q ++ more) es h.0 (rest ++ more)
               (so_far (q ++ more) (line h.0 ++ 10 ∷ (rest ++ more))
-              (behind q (bytes ++ 10 ∷ rest) more parts ∙ ap (λ (xs : List ℕ). lines es ++ xs) (behind_line bytes rest more ∙ ap (λ (xs : List ℕ). xs ++ 10 ∷ (rest ++ more)) h.1.written))) h.1.fitting h.2.0,
+              (with_more q (bytes ++ 10 ∷ rest) more parts ∙ ap (λ (xs : List ℕ). lines es ++ xs) (line_with_more bytes rest more ∙ ap (λ (xs : List ℕ). xs ++ 10 ∷ (rest ++ more)) h.1.written))) h.1.fitting h.2.0,
         ),
         h.2.1,
       );
     }
 
-    -- a part of a line makes none
+    -- a refused part of a line makes no list
     pub keep_stops : (q bytes : List ℕ) (m : LineMaker S) (f : MakeFault) → q ≡ lines es ++ bytes → KeepsPart g s es bytes m f → Stops g s q m.sink f
     keep_stops q bytes m (faults.Line number column) parts h = record {
       entries = es;
@@ -163,7 +163,7 @@ module _ {S : Type 0} (g : Ghosts S) where
       why = (
         λ more. record {
           rest = bytes ++ more;
-          so_far = so_far (q ++ more) (bytes ++ more) (behind q bytes more parts);
+          so_far = so_far (q ++ more) (bytes ++ more) (with_more q bytes more parts);
           place = h.0;
           some = omega (arith, h.1, length-append bytes more);
           none = h.2 more;
@@ -174,10 +174,10 @@ module _ {S : Type 0} (g : Ghosts S) where
     }
     keep_stops q bytes m (faults.Misfit number) parts h = absurd h
     keep_stops q bytes m (faults.Open number opening) parts h = absurd h
-    keep_stops q bytes m faults.Memory parts h = record { entries = es; first = (bytes, so_far q bytes parts); why = (λ more. (bytes ++ more, so_far (q ++ more) (bytes ++ more) (behind q bytes more parts)), h) }
+    keep_stops q bytes m faults.Memory parts h = record { entries = es; first = (bytes, so_far q bytes parts); why = (λ more. (bytes ++ more, so_far (q ++ more) (bytes ++ more) (with_more q bytes more parts)), h) }
     keep_stops q bytes m faults.Write parts h = absurd h
 
-    -- the lines end with a part of one
+    -- the lines end without LF
     pub finishes_cut : (p bytes : List ℕ) (f : MakeFault) → p ≡ lines es ++ bytes → All (λ x. x ≢ 10) bytes → 0 < length bytes → CutsOff es bytes f → Finishes g s p old.sink (Err f)
     finishes_cut p bytes (faults.Line number column) parts none some h = record {
       entries = es;
@@ -197,7 +197,7 @@ module _ {S : Type 0} (g : Ghosts S) where
     }
     finishes_cut p bytes faults.Write parts none some h = absurd h
 
-    -- the lines end, and the definition that is open isn't ended
+    -- the lines end inside a definition
     pub finishes_open : (p : List ℕ) → p ≡ lines es ++ [] → IsSome old.state.definition → Finishes g s p old.sink (Err (faults.Open old.lines old.opening))
     finishes_open p parts opens =
         let here = so_far p [] parts in
@@ -209,7 +209,7 @@ module _ {S : Type 0} (g : Ghosts S) where
           kept = holds.kept;
         }
 
-    -- the lines end, and no definition is open
+    -- the lines end outside a definition
     pub finishes_list : (p : List ℕ) → p ≡ lines es ++ [] → old.state.definition ≡ None → Finishes g s p old.sink (Ok old.lines)
     finishes_list p parts closed = (
       record {
@@ -225,41 +225,41 @@ module _ {S : Type 0} (g : Ghosts S) where
       holds.count,
     )
 
-  -- bytes that stand behind those that were read
-  behind_part : (p done rest : List ℕ) (es : List Entry) (part : List ℕ) → p ++ done ≡ lines es ++ part → p ++ (done ++ rest) ≡ lines es ++ (part ++ rest)
-  behind_part p done rest es part is = sym (append_assoc p done rest) ∙ ap (λ (xs : List ℕ). xs ++ rest) is ∙ append_assoc (lines es) part rest
+  -- the bytes read, and the rest of a piece
+  part_with_more : (p done rest : List ℕ) (es : List Entry) (part : List ℕ) → p ++ done ≡ lines es ++ part → p ++ (done ++ rest) ≡ lines es ++ (part ++ rest)
+  part_with_more p done rest es part is = sym (append_assoc p done rest) ∙ ap (λ (xs : List ℕ). xs ++ rest) is ∙ append_assoc (lines es) part rest
 
-  -- the last bytes of a piece were read, or make no list
+  -- the bytes after the last LF of a piece were read, or make no list
   pub fed_last : (s : S) (p done rest : List ℕ) (old new : LineReader S) (r : Result (Unit {0}) MakeFault) → HasRead g s (p ++ done) old → OnOk r (new.part.items ≡ old.part.items ++ rest) →
       OnOk r (new.maker ≡ old.maker) → IfErr r (λ f. (s : S) (es : List Entry) → MakerHasPut g s es old.maker → KeepsPart g s es (old.part.items ++ rest) new.maker f) → Feeds g s (p ++ (done ++ rest)) new r
-  fed_last s p done rest old new (Ok ok) stands part maker keeps = record {
-    entries = stands.entries;
-    holds = subst (λ (m : LineMaker S). MakerHasPut g s stands.entries m) (sym maker) stands.holds;
-    parts = behind_part p done rest stands.entries old.part.items stands.parts ∙ ap (λ (xs : List ℕ). lines stands.entries ++ xs) (sym part);
+  fed_last s p done rest old new (Ok ok) has_read part maker keeps = record {
+    entries = has_read.entries;
+    holds = subst (λ (m : LineMaker S). MakerHasPut g s has_read.entries m) (sym maker) has_read.holds;
+    parts = part_with_more p done rest has_read.entries old.part.items has_read.parts ∙ ap (λ (xs : List ℕ). lines has_read.entries ++ xs) (sym part);
   }
-  fed_last s p done rest old new (Err f) stands part maker keeps =
-      keep_stops s stands.entries old.maker stands.holds (p ++ (done ++ rest)) (old.part.items ++ rest) new.maker f (behind_part p done rest stands.entries old.part.items stands.parts)
-      (keeps s stands.entries stands.holds)
+  fed_last s p done rest old new (Err f) has_read part maker keeps =
+      keep_stops s has_read.entries old.maker has_read.holds (p ++ (done ++ rest)) (old.part.items ++ rest) new.maker f (part_with_more p done rest has_read.entries old.part.items has_read.parts)
+      (keeps s has_read.entries has_read.holds)
 
-  -- a line with its end, and more behind
-  line_behind : (p done front more : List ℕ) (es : List Entry) (part : List ℕ) → p ++ done ≡ lines es ++ part → p ++ (done ++ (front ++ 10 ∷ more)) ≡ lines es ++ ((part ++ front) ++ 10 ∷ more)
-  line_behind p done front more es part is = behind_part p done (front ++ 10 ∷ more) es part is ∙ ap (λ (xs : List ℕ). lines es ++ xs) (sym (append_assoc part front (10 ∷ more)))
+  -- the bytes read, a line with LF, and more bytes
+  line_then_more : (p done prefix more : List ℕ) (es : List Entry) (part : List ℕ) → p ++ done ≡ lines es ++ part → p ++ (done ++ (prefix ++ 10 ∷ more)) ≡ lines es ++ ((part ++ prefix) ++ 10 ∷ more)
+  line_then_more p done prefix more es part is = part_with_more p done (prefix ++ 10 ∷ more) es part is ∙ ap (λ (xs : List ℕ). lines es ++ xs) (sym (append_assoc part prefix (10 ∷ more)))
 
-  -- it makes no list
-  pub line_stops : (s : S) (p done front more : List ℕ) (old : LineReader S) (m : LineMaker S) (f : MakeFault) (stands : HasRead g s (p ++ done) old) →
-      Ends g s stands.entries (old.part.items ++ front) m (Err f) → Stops g s (p ++ (done ++ (front ++ 10 ∷ more))) m.sink f
-  line_stops s p done front more old m f stands ends =
-      ends_stops s stands.entries old.maker stands.holds (p ++ (done ++ (front ++ 10 ∷ more))) (old.part.items ++ front) more m f (line_behind p done front more stands.entries old.part.items stands.parts) ends
+  -- a line with LF makes no list
+  pub line_stops : (s : S) (p done prefix more : List ℕ) (old : LineReader S) (m : LineMaker S) (f : MakeFault) (has_read : HasRead g s (p ++ done) old) →
+      Ends g s has_read.entries (old.part.items ++ prefix) m (Err f) → Stops g s (p ++ (done ++ (prefix ++ 10 ∷ more))) m.sink f
+  line_stops s p done prefix more old m f has_read ends =
+      ends_stops s has_read.entries old.maker has_read.holds (p ++ (done ++ (prefix ++ 10 ∷ more))) (old.part.items ++ prefix) more m f (line_then_more p done prefix more has_read.entries old.part.items has_read.parts) ends
 
-  -- it was taken
-  pub line_taken : (s : S) (p done front : List ℕ) (old new : LineReader S) (stands : HasRead g s (p ++ done) old) → Ends g s stands.entries (old.part.items ++ front) new.maker (Ok tt) →
-      new.part.items ≡ [] → HasRead g s (p ++ (done ++ (front ++ 10 ∷ []))) new
-  line_taken s p done front old new stands ends empty = record {
-    entries = stands.entries ++ ends.0 ∷ [];
+  -- a line with LF was taken
+  pub line_taken : (s : S) (p done prefix : List ℕ) (old new : LineReader S) (has_read : HasRead g s (p ++ done) old) → Ends g s has_read.entries (old.part.items ++ prefix) new.maker (Ok tt) →
+      new.part.items ≡ [] → HasRead g s (p ++ (done ++ (prefix ++ 10 ∷ []))) new
+  line_taken s p done prefix old new has_read ends empty = record {
+    entries = has_read.entries ++ ends.0 ∷ [];
     holds = ends.2;
     parts =
-        line_behind p done front [] stands.entries old.part.items stands.parts
-        ∙ ap (λ (xs : List ℕ). lines stands.entries ++ (xs ++ 10 ∷ [])) ends.1.written
-        ∙ sym (lines_more stands.entries ends.0 [])
-        ∙ ap (λ (xs : List ℕ). lines (stands.entries ++ ends.0 ∷ []) ++ xs) (sym empty);
+        line_then_more p done prefix [] has_read.entries old.part.items has_read.parts
+        ∙ ap (λ (xs : List ℕ). lines has_read.entries ++ (xs ++ 10 ∷ [])) ends.1.written
+        ∙ sym (lines_more has_read.entries ends.0 [])
+        ∙ ap (λ (xs : List ℕ). lines (has_read.entries ++ ends.0 ∷ []) ++ xs) (sym empty);
   }

@@ -1,5 +1,5 @@
 pub mod EntryLemmas
 pub mod LineLemmas
 pub mod FeedLemmas
-pub mod HoldLemmas
+pub mod MakerLemmas
 pub mod MakeLemmas

@@ -11,7 +11,7 @@ use Rattle.nap_make.specs.Reading.{IsWritten, WritesNone}
 use Rattle.nap_make.proofs.PublicLaws.{lines_are_bounded, lines_have_no_ends}
 use Rattle.nap_line_reader.specs.Lists.{BeginsNoLine}
 
--- bytes without an end are cut at the first behind them
+-- bytes without LF are followed by the first LF
 
 one_cut : (a b c d : List ℕ) → All (λ x. x ≢ 10) a → All (λ x. x ≢ 10) c → a ++ 10 ∷ b ≡ c ++ 10 ∷ d → a ≡ c
 one_cut [] b [] d none also is = refl
@@ -24,39 +24,39 @@ no_cut a [] d none is = All-head (λ x. x ≢ 10) 10 d (subst (λ (xs : List ℕ
 no_cut [] (y ∷ c) d none is = let bad : ⊥ = cc in bad
 no_cut (x ∷ a) (y ∷ c) d none is = no_cut a c d (All-tail (λ z. z ≢ 10) x a none) (cc)
 
--- bytes without an end aren't cut before their own
+-- no LF is inside bytes without one
 no_short : (a b c d : List ℕ) → All (λ x. x ≢ 10) a → length c < length a → a ++ b ≡ c ++ 10 ∷ d → ⊥
 no_short [] b c d none less is = absurd (omega (arith, less))
 no_short (x ∷ a) b [] d none less is = All-head (λ z. z ≢ 10) x a none (cc)
 no_short (x ∷ a) b (y ∷ c) d none less is = no_short a b c d (All-tail (λ z. z ≢ 10) x a none) (omega (arith, less)) (cc)
 
--- more bytes than a line may have, without its end, begin none
-pub long_begins_none : (front more : List ℕ) → All (λ x. x ≢ 10) front → longest_line < length front → BeginsNoLine (front ++ more)
-long_begins_none front more none long e rest proper is = no_short front more (line e) rest none (omega (arith, lines_are_bounded e proper, long)) is
+-- more bytes than a line may have, without LF, begin no line
+pub long_begins_none : (prefix more : List ℕ) → All (λ x. x ≢ 10) prefix → longest_line < length prefix → BeginsNoLine (prefix ++ more)
+long_begins_none prefix more none long e rest proper is = no_short prefix more (line e) rest none (omega (arith, lines_are_bounded e proper, long)) is
 
--- bytes that aren't a line begin none where its end stands behind them
+-- bytes that are no line, and then LF, begin no line
 pub whole_begins_none : (bytes more : List ℕ) → All (λ x. x ≢ 10) bytes → WritesNone IsProper line bytes → BeginsNoLine (bytes ++ 10 ∷ more)
 whole_begins_none bytes more none writes e rest proper is = writes e proper (one_cut bytes more (line e) rest none (lines_have_no_ends e proper) is)
 
--- bytes without an end begin none
+-- bytes without LF begin no line with LF
 pub part_begins_none : (bytes : List ℕ) → All (λ x. x ≢ 10) bytes → BeginsNoLine bytes
 part_begins_none bytes none e rest proper is = no_cut bytes (line e) rest none is
 
--- a column of the first bytes is one of all
-pub column_stays : (front more : List ℕ) (column : ℕ) → TellsColumn front column → TellsColumn (front ++ more) column
-column_stays front more column h = record {
+-- a column of a prefix is one of all bytes
+pub column_stays : (prefix more : List ℕ) (column : ℕ) → TellsColumn prefix column → TellsColumn (prefix ++ more) column
+column_stays prefix more column h = record {
   low = h.low;
-  high = omega (arith, h.high, length-append front more);
-  before = subst BeginsLine (sym (take-append-le (column - 1) front more (omega (arith, h.high)))) h.before;
+  high = omega (arith, h.high, length-append prefix more);
+  before = subst BeginsLine (sym (take-append-le (column - 1) prefix more (omega (arith, h.high)))) h.before;
 }
 
--- an entry's line is no longer than the longest
+-- no entry's line is longer than the longest line
 pub no_long_line : (bytes : List ℕ) (e : Entry) → IsWritten IsProper line bytes e → longest_line < length bytes → ⊥
 no_long_line bytes e h long = let same = ap (λ (xs : List ℕ). length xs) h.written in omega (arith, same, lines_are_bounded e h.fitting, long)
 
--- behind a whole line, its end is missing
-pub column_behind : (bytes : List ℕ) (e : Entry) → IsWritten IsProper line bytes e → TellsColumn bytes (length bytes + 1)
-column_behind bytes e h = record {
+-- a complete line without LF has its fault in the column after it
+pub column_after : (bytes : List ℕ) (e : Entry) → IsWritten IsProper line bytes e → TellsColumn bytes (length bytes + 1)
+column_after bytes e h = record {
   low = omega arith;
   high = omega arith;
   before = record { entry = e; more = []; proper = h.fitting; begins = sym h.written ∙ sym (append-nil bytes) ∙ ap (λ (xs : List ℕ). xs ++ []) (sym (take_all (length bytes + 1 - 1) bytes (omega arith))) };

@@ -24,7 +24,7 @@ makes_none g s p seen r list_faults.Read h = record {
 }
 
 module _ {S : Type 0} (g : Ghosts S) (s : S) (p : List ℕ) (t : S) where
-  -- lines that show that they are no list's are none's
+  -- lines that show that no list has them are no list's
   shown_none : (f : MakeFault) (es : List Entry) → f ≢ faults.Write → ComeFirst p es → ShowsNone p es f → SinkTook g s es t → MakesNoList g s p t f
   shown_none f es own first shows kept = record {
     entries = es;

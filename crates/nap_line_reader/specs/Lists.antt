@@ -11,7 +11,7 @@ use Rattle.nap_line_reader.specs.declared.fault.MakeFault.TheVariants as faults
 
 -- The lines of a list.
 
--- these bytes are the lines of this list, which is legal and in range
+-- the bytes are the lines of this list, which is legal and in range
 pub record AreLines (p : List ℕ) (es : List Entry) : Type 0 where
   pub legal : Legal es
   pub in_range : AllInRange es
@@ -58,7 +58,7 @@ pub record OpenedAt (es : List Entry) (number : ℕ) : Type 0 where
   pub opens : IsSome (walk start (before ++ opening ∷ [])).definition
   pub unended : All (λ e. e ≢ entries.DefEnd) inside
 
--- These are the lines of as many entries, and the definition opened by one of them isn't ended.
+-- The bytes are the lines of as many entries, and the definition opened by one of them isn't ended.
 pub record OpenAt (p : List ℕ) (es : List Entry) (number opening : ℕ) : Type 0 where
   pub so_far : LinesSoFar p es []
   pub place : number ≡ length es
@@ -68,8 +68,8 @@ pub record OpenAt (p : List ℕ) (es : List Entry) (number opening : ℕ) : Type
 abbrev pub ComeFirst : List ℕ → List Entry → Type 0
 ComeFirst p es = (rest : List ℕ) × LinesSoFar p es rest
 
--- Why these lines, after those of these entries, aren't a list's. Memory may run out anywhere, and a device fails at
--- the entry of one more line.
+-- Why lines, after those of these entries, aren't a list's. Memory may run out anywhere, and a device fails at the
+-- entry of one more line.
 abbrev pub MakesNone : List ℕ → List Entry → MakeFault → Type 0
 MakesNone p es (faults.Line number column) = NoLineAt p es number column
 MakesNone p es (faults.Misfit number) = MisfitAt p es number
@@ -77,6 +77,6 @@ MakesNone p es (faults.Open number opening) = OpenAt p es number opening
 MakesNone p es faults.Memory = ComeFirst p es
 MakesNone p es faults.Write = (e : Entry) × ComeFirst p (es ++ e ∷ [])
 
--- these lines, and whatever follows them, aren't a list's
+-- lines, and whatever follows them, aren't a list's
 abbrev pub ShowsNone : List ℕ → List Entry → MakeFault → Type 0
 ShowsNone p es fault = (more : List ℕ) → MakesNone (p ++ more) es fault

@@ -29,7 +29,7 @@ impl<S: Sink> LineReader<S> {
     pub(crate) fn new(alloc: Global, sink: S) -> LineReader<S>
         requires start { S.state sink ≡ start }
         requires works { S.failed sink ≡ false }
-        ensures stands { HasRead S.Sink sink [] result }
+        ensures has_read { HasRead S.Sink sink [] result }
         ensures ready { IsReady S.Sink result }
     {
         LineReader {
@@ -50,7 +50,7 @@ impl<S: Sink> LineReader<S> {
         let kept = min(buffer, bytes.len());
         self.part.extend_from_slice(&bytes[..kept])?;
         if self.part.len() > LONGEST_LINE {
-            // No entry has a line as long.
+            // No line of an entry is as long.
             return self.maker.take_line(alloc, self.part.as_slice());
         }
         Ok(())
@@ -77,8 +77,8 @@ impl<S: Sink> LineReader<S> {
     {
         let mut rest = piece;
         while let Some(next) = split_at_byte(rest, b'\n') {
-            let (front, more) = next;
-            self.end_line(alloc, front)?;
+            let (prefix, more) = next;
+            self.end_line(alloc, prefix)?;
             rest = more;
         }
         self.keep_part(alloc, rest)

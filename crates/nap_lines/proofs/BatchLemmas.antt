@@ -24,22 +24,22 @@ use Rattle.nap_list.specs.BatchLaws.{points_prefix, lines_prefix, text_prefix, p
 use Rattle.nap_list.specs.Putting.{SinkModel, sink_model}
 use Rattle.nap_lines.specs.Lines.{line, ink_text, pen_text, move_text, colour_text, look_text, hand_text, set_text}
 use Rattle.nap_lines.specs.Listing.{LineSinkState, TakesLinesOf, lines}
-use Rattle.nap_lines.specs.Batches.{point_front, point_end, line_front, char_front, move_front, text_byte_front_as, text_byte_front, hand_text_without_pen, lines_with, pen_at, LinesGoOn}
+use Rattle.nap_lines.specs.Batches.{point_front, point_end, line_front, char_front, move_front, text_byte_front_as, text_byte_front, hand_text_without_pen, lines_with, pen_at, LinesContinue}
 
 -- The lines of a batch.
 
--- the end of a line stays where its front is taken off
+-- dropping the beginning of a line leaves its end
 pub kept : (buffer front end : List ℕ) (n : ℕ) → buffer ≡ front ++ end → n ≡ length end → drop (length buffer - n) buffer ≡ end
 kept buffer front end n is size =
     let at : length buffer - n ≡ length front = omega (arith, ap length is, length-append front end) in
     rw (at, is) (drop-append_seam front end)
 
--- what stands before a code and behind it
+-- what is before a code, and what is after it
 pub around : (front two end buffer : List ℕ) (place : ℕ) → buffer ≡ (front ++ two) ++ end → length two ≡ 2 → place ≡ length front → (take place buffer ≡ front) × (drop (place + 2) buffer ≡ end)
 around front two end buffer place is size at = (
   rw (at, is, append_assoc) (take-append_seam front (two ++ end)),
-  let behind : place + 2 ≡ length (front ++ two) = omega (arith, length-append front two) in
-      rw (behind, is) (drop-append_seam (front ++ two) end),
+  let after_code : place + 2 ≡ length (front ++ two) = omega (arith, length-append front two) in
+      rw (after_code, is) (drop-append_seam (front ++ two) end),
 )
 
 -- the line of a character as far as its set
@@ -52,7 +52,7 @@ start_utf8 sets.Supplementary = search rules
 start_utf8 sets.Mosaic = search rules
 start_utf8 sets.Drcs = search rules
 
--- one line more was written
+-- one more line was written
 
 pub appended : {T E : Type 0} (r : Result T E) (failed : Bool) (now old bytes : List ℕ) → now ≡ (if is_ok r then old ++ bytes else old) → failed ≡ is_err r → failed ≡ false →
     now ≡ old ++ bytes
@@ -73,23 +73,23 @@ pub text_goes : (first now next before after bytes : List ℕ) → now ≡ first
 text_goes first now next before after bytes is more goes =
     more ∙ ap (λ (list : List ℕ). list ++ bytes) is ∙ append_assoc first before bytes ∙ ap (λ (list : List ℕ). first ++ list) (sym goes)
 
--- lines on from point to point
+-- lines from each point to the next
 
-pub goes_first : (end : List ℕ) (from : Coordinates) → LinesGoOn end from [] from
+pub goes_first : (end : List ℕ) (from : Coordinates) → LinesContinue end from [] from
 unfolding lines_with
 goes_first end from rest = refl
 
-pub goes_line : (end : List ℕ) (from at to : Coordinates) (points : List Coordinates) (i : ℕ) → i < length points → to ≡ get_or points i to → LinesGoOn end from (take i points) at →
+pub goes_line : (end : List ℕ) (from at to : Coordinates) (points : List Coordinates) (i : ℕ) → i < length points → to ≡ get_or points i to → LinesContinue end from (take i points) at →
     lines_with end from (take (i + 1) points) ≡ lines_with end from (take i points) ++ (line_front at to ++ end)
 unfolding lines_with
 goes_line end from at to points i less is goes =
     let more : take (i + 1) points ≡ take i points ++ to ∷ [] = take_more points i to less ∙ ap (λ (p : Coordinates). take i points ++ p ∷ []) (sym is) in
     ap (lines_with end from) more ∙ goes (to ∷ []) ∙ ap (λ (bytes : List ℕ). lines_with end from (take i points) ++ bytes) (append-nil (line_front at to ++ end))
 
-pub goes_on : (end : List ℕ) (from at to : Coordinates) (points : List Coordinates) (i : ℕ) → i < length points → to ≡ get_or points i to → LinesGoOn end from (take i points) at →
-    LinesGoOn end from (take (i + 1) points) to
+pub continues : (end : List ℕ) (from at to : Coordinates) (points : List Coordinates) (i : ℕ) → i < length points → to ≡ get_or points i to → LinesContinue end from (take i points) at →
+    LinesContinue end from (take (i + 1) points) to
 unfolding lines_with
-goes_on end from at to points i less is goes rest =
+continues end from at to points i less is goes rest =
     let more : take (i + 1) points ≡ take i points ++ to ∷ [] = take_more points i to less ∙ ap (λ (p : Coordinates). take i points ++ p ∷ []) (sym is) in
     let here = lines_with end from (take i points) in
     ap (λ (done : List Coordinates). lines_with end from (done ++ rest)) more
@@ -98,7 +98,7 @@ goes_on end from at to points i less is goes rest =
     ∙ sym (append_assoc here (line_front at to ++ end) (lines_with end to rest))
     ∙ ap (λ (bytes : List ℕ). bytes ++ lines_with end to rest) (sym (goes_line end from at to points i less is goes))
 
--- lines of points, lines and characters, with their fronts and ends
+-- lines of points, lines and characters, from their beginnings and ends
 
 dot_line : (d : Drawing) (at : Coordinates) → point_front at ++ (point_end d.pel d.colour ++ 10 ∷ []) ≡ line (point_entry d at) ++ 10 ∷ []
 dot_line d at = parts (point_front at) (codes " pel=") (move_text d.pel) (codes " colour=") (colour_text d.colour) (10 ∷ [])
@@ -128,7 +128,7 @@ pub typed_line : (set : CharSet) (hand : Hand) (code : ℕ) →
     text_byte_front set code ++ (codes " pen=" ++ (pen_text hand.pen ++ (hand_text_without_pen hand ++ 10 ∷ []))) ≡ line (text_entry set hand code) ++ 10 ∷ []
 typed_line set hand code = typed_line_as (format_effector code) set hand code
 
--- a byte that isn't below the codes of a set has the front of a character
+-- the line of a byte that is a character's code begins as a Char's line
 letter_typed_as : (step : Option TextStep) (set : CharSet) (code : ℕ) → format_effector code ≡ step → 0x20 ≤ code → text_byte_front_as step set code ≡ char_front set code
 letter_typed_as (Some step) set code is above = let below = (format_effector_front code step is).0 in absurd (omega (arith, below, above))
 letter_typed_as None set code is above = refl
@@ -160,15 +160,15 @@ letters_are_lines set hand (c ∷ cs) =
     ap (λ (bytes : List ℕ). bytes ++ flat_map (λ code. text_byte_front set code ++ (codes " pen=after" ++ (hand_text_without_pen hand ++ 10 ∷ []))) cs) (typed_line set (record hand { pen = After }) c)
     ∙ ap (λ (bytes : List ℕ). (line (text_entry set (record hand { pen = After }) c) ++ 10 ∷ []) ++ bytes) (letters_are_lines set hand cs)
 
--- a room with the end of a line, behind which nothing stood
+-- the empty buffer after LF and the end of a line were pushed
 pub ended : (buffer pushed cleared end : List ℕ) → buffer ≡ end ++ pushed → pushed ≡ codes "\n" ++ cleared → cleared ≡ [] → buffer ≡ end ++ 10 ∷ []
 ended buffer pushed cleared end is push clear = is ∙ ap (λ (bytes : List ℕ). end ++ bytes) (push ∙ ap (λ (bytes : List ℕ). codes "\n" ++ bytes) clear)
 
--- so many were written of a part
+-- no more were written than a part has
 pub few_of : {A : Type 0} (few xs : List A) (m n : ℕ) → few ≡ take m xs → n ≤ length few → n ≤ m
 few_of few xs m n is less = omega (arith, ap length is, length-take m xs, less)
 
--- the lines of a batch from one entry on, of which so many were written
+-- the written lines of a batch are those of its entries from an index on
 
 pub points_written : (b : Batch) (points : _) (d : _) (first m n : ℕ) (old new buffer : List ℕ) (few : List Coordinates) → b ≡ batches.Points points d → n ≤ m →
     buffer ≡ point_end d.now.pel d.now.colour ++ 10 ∷ [] → few ≡ take m (drop first points.now) →
@@ -197,18 +197,18 @@ lines_written b from points d first m n start old new buffer few is less end beg
     ∙ ap (λ (list : List Entry). old ++ lines (take n list)) (lines_rest d.now from points.now first) in
     rw is bytes
 
--- characters of a text from one on: behind the first the pen is as text leaves it
+-- the lines of a text from an index on: after its first byte the pen is that which text leaves
 text_rest : (set : CharSet) (hand : Hand) (codes : List ℕ) (n : ℕ) → text_entries_in set (record hand { pen = After }) (drop n codes) ≡ drop n (text_entries_in set (record hand { pen = After }) codes)
 unfolding text_entries_in
 text_rest set hand codes zero = refl
 text_rest set hand [] (suc n) = refl
 text_rest set hand (c ∷ cs) (suc n) = text_rest set hand cs n
 
-text_behind : (set : CharSet) (hand : Hand) (codes : List ℕ) (n : ℕ) → text_entries_in set (record hand { pen = pen_at hand.pen n }) (drop n codes) ≡ drop n (text_entries_in set hand codes)
+text_from_index : (set : CharSet) (hand : Hand) (codes : List ℕ) (n : ℕ) → text_entries_in set (record hand { pen = pen_at hand.pen n }) (drop n codes) ≡ drop n (text_entries_in set hand codes)
 unfolding text_entries_in
-text_behind set hand codes zero = refl
-text_behind set hand [] (suc n) = refl
-text_behind set hand (c ∷ cs) (suc n) = text_rest set hand cs n
+text_from_index set hand codes zero = refl
+text_from_index set hand [] (suc n) = refl
+text_from_index set hand (c ∷ cs) (suc n) = text_rest set hand cs n
 
 pub part_written : (b : Batch) (set : CharSet) (bytes : _) (pen : Pen) (d : _) (first m n : ℕ) (hand : Hand) (old new few : List ℕ) → b ≡ batches.Text set bytes pen d → n ≤ m →
     hand ≡ record (hand_of d.now) { pen = pen_at pen first } → few ≡ take m (drop first bytes.now) →
@@ -221,10 +221,10 @@ part_written b set bytes pen d first m n hand old new few is less in_hand slice 
     ∙ ap (λ (few : List ℕ). old ++ lines (take n (text_entries_in set (record whole { pen = pen_at pen first }) few))) slice
     ∙ ap (λ (list : List Entry). old ++ lines (take n list)) (text_prefix set (record whole { pen = pen_at pen first }) (drop first bytes.now) m)
     ∙ ap (λ (list : List Entry). old ++ lines list) (take-take n m (text_entries_in set (record whole { pen = pen_at pen first }) (drop first bytes.now)) less)
-    ∙ ap (λ (list : List Entry). old ++ lines (take n list)) (text_behind set whole bytes.now first) in
+    ∙ ap (λ (list : List Entry). old ++ lines (take n list)) (text_from_index set whole bytes.now first) in
     rw is all
 
--- the lines of a text, of which the first has a pen of its own
+-- the lines of a text, the first with its own pen
 pub text_written : (set : CharSet) (hand : Hand) (all others : List ℕ) (first n : ℕ) (old mid new bytes buffer : List ℕ) → all ≡ first ∷ others → mid ≡ old ++ bytes →
     bytes ≡ text_byte_front set first ++ (codes " pen=" ++ (pen_text hand.pen ++ (hand_text_without_pen hand ++ 10 ∷ []))) → buffer ≡ codes " pen=after" ++ (hand_text_without_pen hand ++ 10 ∷ []) →
     new ≡ mid ++ flat_map (λ code. text_byte_front set code ++ buffer) (take n others) → new ≡ old ++ lines (take (n + 1) (text_entries_in set hand all))
@@ -244,6 +244,6 @@ text_written set hand all others first n old mid new bytes buffer is one front e
     ∙ append_assoc old (line begun ++ 10 ∷ []) rest
     ∙ ap (λ (list : List Entry). old ++ lines list) (sym taken)
 
--- a sink of lines, as any sink shows
+-- the model of a sink of lines
 abbrev pub lines_shows : SinkModel LineSinkState
 lines_shows = sink_model (λ s. s.state) (λ s d. Unit {0}) (λ s. false) TakesLinesOf (λ s d e t. ⊥)

@@ -8,37 +8,37 @@ use Rattle.std.proofs.Math.Seq.{take-add, take-append-add, drop-append-add, take
 use Rattle.nap_codes.specs.declared.code_set.CharSet.{CharSet}
 use Rattle.nap_lines.specs.Lines.{code_text}
 use Rattle.nap_lines.specs.Batches.{text_byte_front}
-use Rattle.nap_lines.specs.Blocks.{laid, recoded, repeated}
+use Rattle.nap_lines.specs.Blocks.{with_bytes_at, recoded, repeated}
 use Rattle.nap_lines.proofs.BatchLemmas.{char_start, letter_typed}
 
 -- Blocks of lines.
 
--- lines of characters with these codes: each starts so, and ends so behind its digits
+-- lines of characters with these codes, with this beginning and this end
 abbrev pub coded : List ℕ → List ℕ → List ℕ → List ℕ
 coded start end codes = flat_map (λ code. start ++ (code_text code ++ end)) codes
 
 line_size : (start end : List ℕ) (code : ℕ) → length (start ++ (code_text code ++ end)) ≡ length start + 2 + length end
 line_size start end code = omega (arith, length-append start (code_text code ++ end), length-append (code_text code) end)
 
--- bytes that are put behind a front
-laid_behind : (front bytes more : List ℕ) (at n : ℕ) → at ≡ length front + n → laid (front ++ bytes) at more ≡ front ++ laid bytes n more
-laid_behind front bytes more at n is =
-    let ends : at + length more ≡ length front + (n + length more) = omega (arith, is) in
-    ap (λ (m : ℕ). take m (front ++ bytes) ++ (more ++ drop (at + length more) (front ++ bytes))) is
-    ∙ ap (λ (m : ℕ). take (length front + n) (front ++ bytes) ++ (more ++ drop m (front ++ bytes))) ends
-    ∙ ap (λ (first : List ℕ). first ++ (more ++ drop (length front + (n + length more)) (front ++ bytes))) (take-append-add front bytes n)
-    ∙ ap (λ (rest : List ℕ). (front ++ take n bytes) ++ (more ++ rest)) (drop-append-add front bytes (n + length more))
-    ∙ append_assoc front (take n bytes) (more ++ drop (n + length more) bytes)
+-- bytes that are copied to an index after a prefix
+with_bytes_after_prefix : (prefix bytes more : List ℕ) (at n : ℕ) → at ≡ length prefix + n → with_bytes_at (prefix ++ bytes) at more ≡ prefix ++ with_bytes_at bytes n more
+with_bytes_after_prefix prefix bytes more at n is =
+    let ends : at + length more ≡ length prefix + (n + length more) = omega (arith, is) in
+    ap (λ (m : ℕ). take m (prefix ++ bytes) ++ (more ++ drop (at + length more) (prefix ++ bytes))) is
+    ∙ ap (λ (m : ℕ). take (length prefix + n) (prefix ++ bytes) ++ (more ++ drop m (prefix ++ bytes))) ends
+    ∙ ap (λ (first : List ℕ). first ++ (more ++ drop (length prefix + (n + length more)) (prefix ++ bytes))) (take-append-add prefix bytes n)
+    ∙ ap (λ (rest : List ℕ). (prefix ++ take n bytes) ++ (more ++ rest)) (drop-append-add prefix bytes (n + length more))
+    ∙ append_assoc prefix (take n bytes) (more ++ drop (n + length more) bytes)
 
--- a line is put behind those that stand
+-- one more copy of a line
 pub one_more_line : (line block : List ℕ) (i at : ℕ) → at ≡ length (repeated i line) → at + length line ≤ length block →
-    laid (repeated i line ++ drop at block) at line ≡ repeated (i + 1) line ++ drop (at + length line) block
+    with_bytes_at (repeated i line ++ drop at block) at line ≡ repeated (i + 1) line ++ drop (at + length line) block
 unfolding repeated
 one_more_line line block i at is within =
     let so_far = repeated i line in
     let next : repeated (i + 1) line ≡ so_far ++ line = rw (add_one i) refl in
     let none : 0 + length line ≡ length line = omega arith in
-    laid_behind so_far (drop at block) line at 0 (omega (arith, is))
+    with_bytes_after_prefix so_far (drop at block) line at 0 (omega (arith, is))
     ∙ ap (λ (n : ℕ). so_far ++ (line ++ drop n (drop at block))) none
     ∙ ap (λ (rest : List ℕ). so_far ++ (line ++ rest)) (drop-drop (length line) at block)
     ∙ sym (append_assoc so_far line (drop (at + length line) block))
@@ -52,7 +52,7 @@ unfolding repeated
 repeated_size line zero = omega arith
 repeated_size line (suc n) = omega (arith, length-append (repeated n line) line, repeated_size line n, suc-mul n (length line))
 
--- a line of some code, so many times
+-- copies of a line are lines of some codes
 pub repeated_coded : (start end : List ℕ) (n : ℕ) → (codes : List ℕ) × ((length codes ≡ n) × (repeated n (start ++ (code_text 0 ++ end)) ≡ coded start end codes))
 unfolding repeated
 repeated_coded start end zero = ([], (refl, refl))
@@ -68,7 +68,7 @@ repeated_coded start end (suc n) =
       ),
     )
 
--- a block that was filled with a line of some code
+-- a block filled with copies of a line
 pub filled : (start end line left block : List ℕ) (n : ℕ) → block ≡ repeated n line ++ left → line ≡ start ++ (code_text 0 ++ end) →
     (codes : List ℕ) × ((rest : List ℕ) × ((length codes ≡ n) × (block ≡ coded start end codes ++ rest)))
 filled start end line left block n is one =
@@ -83,7 +83,7 @@ coded_size start end (c ∷ cs) size is =
 regroup : (a t d r : List ℕ) → a ++ (t ++ (d ++ r)) ≡ (a ++ (t ++ d)) ++ r
 regroup a t d r = simp append_assoc
 
--- a line with other digits
+-- a line with the digits of another code
 recoded_line : ℕ → ℕ → ℕ → List ℕ → List ℕ
 recoded_line size place code lines = take place lines ++ (code_text code ++ drop (place + 2) (take size lines))
 
@@ -99,18 +99,18 @@ recoded_line_size size place code lines within long =
       length-take-le size lines long,
     )
 
--- the digits of one code more
+-- the digits of one more code
 pub recoded_next : (size place code : ℕ) (codes lines : List ℕ) (at : ℕ) → place + 2 ≤ size → length codes * size + size ≤ length lines → at ≡ length codes * size + place →
-    laid (recoded size place codes lines) at (code_text code) ≡ recoded size place (codes ++ code ∷ []) lines
+    with_bytes_at (recoded size place codes lines) at (code_text code) ≡ recoded size place (codes ++ code ∷ []) lines
 unfolding recoded recoded_line
 recoded_next size place code [] lines at within long is =
     let here : at ≡ place = omega (arith, is) in
     let whole : size ≤ length lines = omega (arith, long) in
-    let behind : drop (place + 2) lines ≡ drop (place + 2) (take size lines) ++ drop size lines =
+    let rest_is : drop (place + 2) lines ≡ drop (place + 2) (take size lines) ++ drop size lines =
     ap (drop (place + 2)) (sym (take-append-drop size lines))
     ∙ drop-append-le (place + 2) (take size lines) (drop size lines) (omega (arith, within, length-take-le size lines whole)) in
-    ap (λ (n : ℕ). laid lines n (code_text code)) here
-    ∙ ap (λ (rest : List ℕ). take place lines ++ (code_text code ++ rest)) behind
+    ap (λ (n : ℕ). with_bytes_at lines n (code_text code)) here
+    ∙ ap (λ (rest : List ℕ). take place lines ++ (code_text code ++ rest)) rest_is
     ∙ regroup (take place lines) (code_text code) (drop (place + 2) (take size lines)) (drop size lines)
 recoded_next size place code (c ∷ cs) lines at within long is =
     let more = suc-mul (length cs) size in
@@ -118,7 +118,7 @@ recoded_next size place code (c ∷ cs) lines at within long is =
     let rest = recoded size place cs (drop size lines) in
     let next : ℕ = length cs * size + place in
     let size_is : length head ≡ size = recoded_line_size size place c lines within (omega (arith, long, more)) in
-    laid_behind head rest (code_text code) at next (omega (arith, is, more, size_is))
+    with_bytes_after_prefix head rest (code_text code) at next (omega (arith, is, more, size_is))
     ∙ ap (λ (bytes : List ℕ). head ++ bytes) (recoded_next size place code cs (drop size lines) next within (omega (arith, long, more, length-drop size lines)) refl)
 
 pub recoded_size : (size place : ℕ) (codes lines : List ℕ) → place + 2 ≤ size → length codes * size ≤ length lines → length (recoded size place codes lines) ≡ length lines
@@ -136,7 +136,7 @@ recoded_size size place (c ∷ cs) lines within long =
       more,
     )
 
--- other digits in lines of characters
+-- lines of characters with the digits of other codes
 pub coded_again : (start end codes others rest : List ℕ) (size place : ℕ) → place ≡ length start → size ≡ length start + 2 + length end → length codes ≤ length others →
     recoded size place codes (coded start end others ++ rest) ≡ coded start end codes ++ (coded start end (drop (length codes) others) ++ rest)
 unfolding recoded
@@ -148,32 +148,32 @@ coded_again start end (c ∷ cs) (o ∷ os) rest size place at is few =
     let lines : List ℕ = coded start end (o ∷ os) ++ rest in
     let apart : lines ≡ one ++ after = append_assoc one (coded start end os) rest in
     let long : size ≡ length one = omega (arith, is, line_size start end o) in
-    let front : take place lines ≡ start =
+    let prefix : take place lines ≡ start =
     ap (take place) (apart ∙ append_assoc start (code_text o ++ end) after) ∙ ap (λ (n : ℕ). take n (start ++ ((code_text o ++ end) ++ after))) at ∙ take-append_seam start ((code_text o ++ end) ++ after) in
     let whole : take size lines ≡ one = ap (take size) apart ∙ ap (λ (n : ℕ). take n (one ++ after)) long ∙ take-append_seam one after in
     let left : drop size lines ≡ after = ap (drop size) apart ∙ ap (λ (n : ℕ). drop n (one ++ after)) long ∙ drop-append_seam one after in
     let digits : place + 2 ≡ length (start ++ code_text o) = omega (arith, at, length-append start (code_text o)) in
-    let behind : drop (place + 2) one ≡ end =
+    let rest_is : drop (place + 2) one ≡ end =
     ap (drop (place + 2)) (sym (append_assoc start (code_text o) end)) ∙ ap (λ (n : ℕ). drop n ((start ++ code_text o) ++ end)) digits ∙ drop-append_seam (start ++ code_text o) end in
     let now : List ℕ = start ++ (code_text c ++ end) in
-    ap (λ (bytes : List ℕ). (bytes ++ (code_text c ++ drop (place + 2) (take size lines))) ++ recoded size place cs (drop size lines)) front
+    ap (λ (bytes : List ℕ). (bytes ++ (code_text c ++ drop (place + 2) (take size lines))) ++ recoded size place cs (drop size lines)) prefix
     ∙ ap (λ (bytes : List ℕ). (start ++ (code_text c ++ drop (place + 2) bytes)) ++ recoded size place cs (drop size lines)) whole
-    ∙ ap (λ (bytes : List ℕ). (start ++ (code_text c ++ bytes)) ++ recoded size place cs (drop size lines)) behind
+    ∙ ap (λ (bytes : List ℕ). (start ++ (code_text c ++ bytes)) ++ recoded size place cs (drop size lines)) rest_is
     ∙ ap (λ (bytes : List ℕ). now ++ recoded size place cs bytes) left
     ∙ ap (λ (bytes : List ℕ). now ++ bytes) (coded_again start end cs os rest size place at is (omega (arith, few)))
     ∙ sym (append_assoc now (coded start end cs) (coded start end (drop (length cs) os) ++ rest))
 
--- lines of codes of characters are those of bytes of a text
+-- lines of characters' codes are those of the bytes of a text
 pub coded_typed : (set : CharSet) (end codes : List ℕ) → All (λ code. 0x20 ≤ code) codes → coded (char_start set) end codes ≡ flat_map (λ code. text_byte_front set code ++ end) codes
 coded_typed set end [] all = refl
 coded_typed set end (c ∷ cs) all =
     let above : 0x20 ≤ c = All-head (λ code. 0x20 ≤ code) c cs all in
     let one : char_start set ++ (code_text c ++ end) ≡ text_byte_front set c ++ end =
-    sym (append_assoc (char_start set) (code_text c) end) ∙ ap (λ (front : List ℕ). front ++ end) (sym (letter_typed set c above)) in
+    sym (append_assoc (char_start set) (code_text c) end) ∙ ap (λ (prefix : List ℕ). prefix ++ end) (sym (letter_typed set c above)) in
     ap (λ (bytes : List ℕ). bytes ++ coded (char_start set) end cs) one
     ∙ ap (λ (bytes : List ℕ). (text_byte_front set c ++ end) ++ bytes) (coded_typed set end cs (All-tail (λ code. 0x20 ≤ code) c cs all))
 
--- a block of lines of characters, with other digits in the first ones
+-- a block of lines of characters, the first ones with the digits of other codes
 pub block_again : (start end now others rest block : List ℕ) (size place : ℕ) → place ≡ length start → size ≡ length start + 2 + length end → length now ≤ length others → block ≡ coded start end others ++ rest →
     recoded size place now block ≡ coded start end (now ++ drop (length now) others) ++ rest
 block_again start end now others rest block size place at long few is =
@@ -193,7 +193,7 @@ first_lines start end now others rest size n long is =
     let many : n ≡ length first = is ∙ sym (coded_size start end now size long) in
     ap (take n) apart ∙ ap (λ (n : ℕ). take n (first ++ (coded start end others ++ rest))) many ∙ take-append_seam first (coded start end others ++ rest)
 
--- lines of so many bytes of a part behind those of the bytes before it
+-- lines of n more bytes are those of a part
 pub more_lines : (f : ℕ → List ℕ) (all few : List ℕ) (i m n : ℕ) → few ≡ take m (drop i all) → n ≤ m → flat_map f (take (i + n) all) ≡ flat_map f (take i all) ++ flat_map f (take n few)
 more_lines f all few i m n is less =
     let same : take n few ≡ take n (drop i all) = ap (take n) is ∙ take-take n m (drop i all) less in

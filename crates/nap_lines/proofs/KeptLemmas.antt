@@ -7,9 +7,9 @@ use Rattle.std.proofs.lemmas.List.{drop-append-le, drop-drop, drop-take, length-
 use Rattle.std.proofs.Math.Seq.{drop-append-add, take-append_seam}
 use borrow.Rule.Slice.PartMut.{put_mid}
 
--- Bytes that are copied from the front of a room's, and put in front again.
+-- Bytes that are copied from the beginning of a buffer, and pushed again.
 
--- the last bytes of a part that ends behind so many are these
+-- the last bytes of an array that holds a copy
 pub first_copied : (bytes : List ℕ) (at count start size from : ℕ) → count ≤ size → start + size ≡ at + count → from + count ≡ size →
     drop from (take size (drop start bytes)) ≡ take count (drop at bytes)
 first_copied bytes at count start size from few ends rest =
@@ -18,33 +18,33 @@ first_copied bytes at count start size from few ends rest =
     ∙ drop-take from count (drop start bytes)
     ∙ ap (take count) (drop-drop from start bytes ∙ ap (λ (n : ℕ). drop n bytes) same)
 
--- bytes were put in front, of which the last ones count
+-- the buffer's bytes after some were pushed
 pub last_put : (bytes kept : List ℕ) (end start size at from : ℕ) → end ≤ length bytes → start + size ≡ end → length kept ≡ size → from ≤ size → at ≡ start + from →
     drop at (put_mid start size bytes kept) ≡ drop from kept ++ drop end bytes
 last_put bytes kept end start size at from within ends few less is =
     let long : length (take start bytes) ≡ start = length-take-le start bytes (omega (arith, within, ends)) in
-    let behind : drop size (drop start bytes) ≡ drop end bytes = drop-drop size start bytes ∙ ap (λ (n : ℕ). drop n bytes) ends in
+    let rest_is : drop size (drop start bytes) ≡ drop end bytes = drop-drop size start bytes ∙ ap (λ (n : ℕ). drop n bytes) ends in
     ap (λ (n : ℕ). drop n (put_mid start size bytes kept)) is
     ∙ skip start from (take start bytes) (kept ++ drop size (drop start bytes)) long
     ∙ drop-append-le from kept (drop size (drop start bytes)) (omega (arith, few, less))
-    ∙ ap (λ (rest : List ℕ). drop from kept ++ rest) behind
+    ∙ ap (λ (rest : List ℕ). drop from kept ++ rest) rest_is
   where
     skip : (n m : ℕ) (xs ys : List ℕ) → length xs ≡ n → drop (n + m) (xs ++ ys) ≡ drop m ys
     skip n m xs ys is = ap (λ (n : ℕ). drop (n + m) (xs ++ ys)) (sym is) ∙ drop-append-add xs ys m
 
--- what was put in front last
-pub front_is : (front old now : List ℕ) (count : ℕ) → now ≡ front ++ old → count ≡ length now - length old → take count now ≡ front
-front_is front old now count is size =
-    let many : count ≡ length front = omega (arith, size, ap length is, length-append front old) in
-    rw (many, is) (take-append_seam front old)
+-- the bytes that were pushed last
+pub last_pushed : (prefix old now : List ℕ) (count : ℕ) → now ≡ prefix ++ old → count ≡ length now - length old → take count now ≡ prefix
+last_pushed prefix old now count is size =
+    let many : count ≡ length prefix = omega (arith, size, ap length is, length-append prefix old) in
+    rw (many, is) (take-append_seam prefix old)
 
--- the text of a point has digits and a comma alone
+-- the text of a point is UTF-8: digits and a comma
 pub point_utf8 : (x y : ℕ) → x < 2 ^ 64 → y < 2 ^ 64 → IsUtf8 (decimal x ++ codes "," ++ decimal y)
 point_utf8 x y wide high =
     IsUtf8-from_ascii (decimal x ++ codes "," ++ decimal y)
     (IsAscii-append (decimal x ++ codes ",") (decimal y) (IsAscii-append (decimal x) (codes ",") (IsAscii-decimal x wide) (IsAscii-cons 44 [] (omega arith) IsAscii-nil)) (IsAscii-decimal y high))
 
--- each coordinate has seven digits at most
+-- the text of a point has at most 15 bytes, since each coordinate has at most seven digits
 pub point_few : (x y : ℕ) → x < 8388608 → y < 8388608 → length (decimal x ++ codes "," ++ decimal y) ≤ 15
 point_few x y wide high =
     omega (

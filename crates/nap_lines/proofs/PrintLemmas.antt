@@ -17,7 +17,7 @@ use Rattle.nap_lines.specs.Listing.{lines, lines_join}
 use Rattle.nap_lines.specs.Printing.{SendsPart, SendsBuffered, Closes, Printing, sending_of, Took, Broke, StopsAt, Prints, taken_count}
 use Rattle.nap_lines.specs.PrintingLaws.{passes_none, passes_more, passes_on, took_none}
 
--- a first part was sent
+-- a prefix was sent
 pub part_passes : (s : Sending) (t : Sending) (i : ℕ) (xs : List ℕ) → Grows s (take i xs) t → SendsPart s [] xs (drop i xs) t
 part_passes s t i xs sent = record { sent = take i xs; parts = sym (take-append-drop i xs); grows = sent }
 
@@ -25,11 +25,11 @@ part_passes s t i xs sent = record { sent = take i xs; parts = sym (take-append-
 pub rest_of : (i : ℕ) (xs : List ℕ) → take (length xs - i) (drop i xs) ≡ drop i xs
 rest_of i xs = take_all (length xs - i) (drop i xs) (omega (arith, length-drop i xs))
 
--- What was held is sent.
+-- The buffered bytes are sent.
 
--- bytes that come first are those that were held
-held_first : (s t : Sending) (buffered left : List ℕ) → SendsPart s [] buffered left t → SendsPart s buffered [] left t
-held_first s t buffered left h = record { sent = h.sent; parts = append-nil buffered ∙ h.parts; grows = h.grows }
+-- the first bytes sent are the buffered ones
+buffered_first : (s t : Sending) (buffered left : List ℕ) → SendsPart s [] buffered left t → SendsPart s buffered [] left t
+buffered_first s t buffered left h = record { sent = h.sent; parts = append-nil buffered ∙ h.parts; grows = h.grows }
 
 module _ {O : Type 0} (o : outlet.Ghosts O) (w u : O) (m n : ℕ) (buffered bytes : List ℕ) (v : State) (is : bytes ≡ buffered) where
   abbrev before : Printing O
@@ -45,7 +45,7 @@ module _ {O : Type 0} (o : outlet.Ghosts O) (w u : O) (m n : ℕ) (buffered byte
   pub sent_part : (f : DeviceFault) → ((left : List ℕ) × SendsPart (sending o w m) [] bytes left (sending o u n)) × (o.failed u ≡ true) →
       SendsBuffered o before (record { outlet = u; written = n; buffered = buffered; state = v }) (Err f)
   sent_part f sent = (
-    (sent.0.0, held_first (sending o w m) (sending o u n) buffered sent.0.0 (subst (λ (bytes : List ℕ). SendsPart (sending o w m) [] bytes sent.0.0 (sending o u n)) is sent.0.1)),
+    (sent.0.0, buffered_first (sending o w m) (sending o u n) buffered sent.0.0 (subst (λ (bytes : List ℕ). SendsPart (sending o w m) [] bytes sent.0.0 (sending o u n)) is sent.0.1)),
     sent.1,
     refl,
   )
@@ -75,16 +75,16 @@ closes_by o s t (Err fault) works sent none = record {
   still = λ set. (let bad : true ≡ false = sym set ∙ works in cc);
 }
 
--- Lines behind what is held.
+-- Lines after the buffered ones.
 
 pub one_line : (e : Entry) → line e ++ 10 ∷ [] ≡ lines (e ∷ [])
 one_line e = sym (append-nil (line e ++ 10 ∷ []))
 
--- bytes were held too, and then what is held was passed on
-pub held_on : (s t : Sending) (buffered now bytes left : List ℕ) → now ≡ buffered ++ bytes → SendsPart s now [] left t → SendsPart s buffered bytes left t
-held_on s t buffered now bytes left is h = record { sent = h.sent; parts = sym is ∙ sym (append-nil now) ∙ h.parts; grows = h.grows }
+-- bytes were buffered too, and then the buffer was sent
+pub buffered_too : (s t : Sending) (buffered now bytes left : List ℕ) → now ≡ buffered ++ bytes → SendsPart s now [] left t → SendsPart s buffered bytes left t
+buffered_too s t buffered now bytes left is h = record { sent = h.sent; parts = sym is ∙ sym (append-nil now) ∙ h.parts; grows = h.grows }
 
--- more entries' lines behind the first ones
+-- the lines of more entries are buffered
 pub lines_on : (s t : Sending) (buffered left now : List ℕ) (list : List Entry) (n more : ℕ) → SendsPart s buffered (lines (take n list)) left t →
     now ≡ left ++ lines (take more (drop n list)) → SendsPart s buffered (lines (take (n + more) list)) now t
 lines_on s t buffered left now list n more h is =
@@ -92,12 +92,12 @@ lines_on s t buffered left now list n more h is =
     ap lines (take-add n more list) ∙ lines_join (take n list) (take more (drop n list)) in
     rw (all, is) (passes_on s t buffered left (lines (take n list)) (lines (take more (drop n list))) h)
 
--- what was held went on
+-- the buffered bytes were sent
 pub sent_on : (s t u : Sending) (buffered mid left bytes : List ℕ) → SendsPart s buffered bytes mid t → SendsPart t mid [] left u → SendsPart s buffered bytes left u
 sent_on s t u buffered mid left bytes first second =
     subst (λ (bytes : List ℕ). SendsPart s buffered bytes left u) (append-nil bytes) (passes_more s t u buffered mid left bytes [] first second)
 
--- what was held is passed on, and then more entries' lines are made
+-- the buffered bytes are sent, and then the lines of more entries are made
 pub chunk : {O : Type 0} (o : outlet.Ghosts O) (s t m : Printing O) (list : List Entry) (n more : ℕ) (buffered now : List ℕ) (w : O) (k : ℕ) →
     SendsPart (sending_of o s) s.buffered (lines (take n list)) t.buffered (sending_of o t) → SendsPart (sending_of o t) t.buffered [] m.buffered (sending_of o m) → w ≡ m.outlet → k ≡ m.written → buffered ≡ m.buffered →
     now ≡ buffered ++ lines (take more (drop n list)) → SendsPart (sending_of o s) s.buffered (lines (take (n + more) list)) now (sending o w k)
@@ -110,11 +110,11 @@ prints_state o s t d (Ok done) prints = prints.2
 prints_state o s t d (Err stop) prints = prints.2
 
 module _ {O : Type 0} (o : outlet.Ghosts O) where
-  -- a printer, as any sink shows
+  -- the model of a printer
   abbrev pub printer_shows : SinkModel (Printing O)
   printer_shows = sink_model (λ s. s.state) (λ s d. Unit {0}) (λ s. o.failed s.outlet) (Took o) (Broke o)
 
-  -- The lines of a list were printed, and the state goes on.
+  -- The lines of a list were printed, and the state advances.
   module _ (s t : Printing O) (v : State) (d : List Entry) (works : o.failed s.outlet ≡ false) where
     abbrev pub u : Printing O
     u = record t { state = v }
@@ -125,7 +125,7 @@ module _ {O : Type 0} (o : outlet.Ghosts O) where
     took_front : (n : ℕ) → SendsPart (sending_of o s) s.buffered (lines (take n d)) t.buffered (sending_of o t) → o.failed t.outlet ≡ false → v ≡ walk s.state (take n d) → Took o s (take n d) u
     took_front n passes clear is = record { passes = passes; failed = clear ∙ sym works; state = is }
 
-    -- a write failed behind so many
+    -- a write failed after the lines of n entries
     breaks : (n : ℕ) (left : List ℕ) → n < length d → SendsPart (sending_of o s) s.buffered (lines (take n d)) left (sending_of o t) → o.failed t.outlet ≡ true → v ≡ walk s.state (take n d) →
         (rest : List Entry) → d ≡ take n d ++ rest → BreaksAfter (Broke o) s d n u
     breaks n left less passes failed is [] parts = absurd (omega (arith, less, length-take-le n d (omega (arith, less)), ap length parts, ap length (append-nil (take n d))))
@@ -143,7 +143,7 @@ module _ {O : Type 0} (o : outlet.Ghosts O) where
       };
     }
 
-    -- so many, and then memory ran out or a write failed
+    -- memory ran out, or a write failed, after the lines of n entries
     stopped : (n : ℕ) (fault : SinkFault) → StopsAt o s d n t fault → n < length d → v ≡ walk s.state (take n d) → HaltsAfter printer_shows d s u n fault × FaultMatchesDevice printer_shows s u n fault
     stopped n faults.Memory (passes, clear) less is = stops_after printer_shows s u d n less works clear (took_front n passes clear is) (λ x. tt)
     stopped n faults.Write ((left, passes), failed) less is = (
@@ -162,17 +162,17 @@ module _ {O : Type 0} (o : outlet.Ghosts O) where
         }
     put_by (Err stop) (stops, less, _) is = stopped stop.taken stop.fault stops less is
 
-    -- as it is left
+    -- a batch was put into a printer
     pub put_at : (w : O) (m : ℕ) (buffered : List ℕ) (r : Result (Unit {0}) BatchFault) → w ≡ t.outlet → m ≡ t.written → buffered ≡ t.buffered → Prints o s d t r →
         v ≡ walk s.state (take (taken_count (length d) r) d) → Put printer_shows d s (record { outlet = w; written = m; buffered = buffered; state = v }) r
     put_at w m buffered r outlet written same prints is = rw (outlet, written, same) (put_by r prints is)
 
-  -- One entry's line was held too, and then what is held was sent where it was much.
-  module _ (s m t : Printing O) (e : Entry) (shown_is : sending_of o m ≡ sending_of o s) (held_is : m.buffered ≡ s.buffered ++ lines (e ∷ [])) where
+  -- One entry's line was buffered too, and then the buffer was sent if it was large.
+  module _ (s m t : Printing O) (e : Entry) (shown_is : sending_of o m ≡ sending_of o s) (buffered_is : m.buffered ≡ s.buffered ++ lines (e ∷ [])) where
     pub took_one : (w : O) (n : ℕ) (buffered : List ℕ) (v : State) (f : Unit {0}) → SendsBuffered o m t (Ok f) → o.failed m.outlet ≡ o.failed s.outlet → w ≡ t.outlet → n ≡ t.written → buffered ≡ t.buffered →
         v ≡ walk s.state (e ∷ []) → Took o s (e ∷ []) (record { outlet = w; written = n; buffered = buffered; state = v })
     took_one w n buffered v f sent same outlet written left state = rw (outlet, written, left) (record {
-      passes = held_on (sending_of o s) (sending_of o t) s.buffered m.buffered (lines (e ∷ [])) t.buffered held_is (subst (λ (x : Sending). SendsPart x m.buffered [] t.buffered (sending_of o t)) shown_is sent.0);
+      passes = buffered_too (sending_of o s) (sending_of o t) s.buffered m.buffered (lines (e ∷ [])) t.buffered buffered_is (subst (λ (x : Sending). SendsPart x m.buffered [] t.buffered (sending_of o t)) shown_is sent.0);
       failed = sent.1 ∙ same;
       state = state;
     })
@@ -181,12 +181,12 @@ module _ {O : Type 0} (o : outlet.Ghosts O) where
     unfolding walk
     broke_one f sent state = record {
       left = sent.0.0;
-      passes = held_on (sending_of o s) (sending_of o t) s.buffered m.buffered (lines (e ∷ [])) sent.0.0 held_is (subst (λ (x : Sending). SendsPart x m.buffered [] sent.0.0 (sending_of o t)) shown_is sent.0.1);
+      passes = buffered_too (sending_of o s) (sending_of o t) s.buffered m.buffered (lines (e ∷ [])) sent.0.0 buffered_is (subst (λ (x : Sending). SendsPart x m.buffered [] sent.0.0 (sending_of o t)) shown_is sent.0.1);
       failed = sent.1;
       state = state;
     }
 
-  -- what that says of a shape
+  -- a shape was taken, or why it wasn't
 
   pub shape_taken : (s u : Printing O) (e : Entry) → o.failed s.outlet ≡ false → Took o s (e ∷ []) u → TakesAll printer_shows (e ∷ []) s u
   shape_taken s u e works took = record {

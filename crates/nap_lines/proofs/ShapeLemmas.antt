@@ -16,14 +16,14 @@ use Rattle.nap_lines.specs.Writing.{Writes}
 
 -- The line of a shape, part by part.
 
--- one part was written, and then another
-pub goes_on : (old mid new a b : List ℕ) → mid ≡ old ++ a → new ≡ mid ++ b → new ≡ old ++ (a ++ b)
-goes_on old mid new a b first second = second ∙ ap (λ (bytes : List ℕ). bytes ++ b) first ∙ append_assoc old a b
+-- a text keeps what was before two parts, where the second wasn't written
+pub both_written : (old mid new a b : List ℕ) → mid ≡ old ++ a → new ≡ mid ++ b → new ≡ old ++ (a ++ b)
+both_written old mid new a b first second = second ∙ ap (λ (bytes : List ℕ). bytes ++ b) first ∙ append_assoc old a b
 
 -- what stood before both still stands where the second wasn't written
-pub stands : {E : Type 0} (old mid new a bytes : List ℕ) (r : Result (Unit {0}) E) → mid ≡ old ++ a → take (length mid) new ≡ mid → IsErr r → Writes old bytes new r
-stands old mid new a bytes (Ok done) is kept fails = let bad : ⊥ = cc in absurd bad
-stands old mid new a bytes (Err fault) is kept fails =
+pub text_kept : {E : Type 0} (old mid new a bytes : List ℕ) (r : Result (Unit {0}) E) → mid ≡ old ++ a → take (length mid) new ≡ mid → IsErr r → Writes old bytes new r
+text_kept old mid new a bytes (Ok done) is kept fails = let bad : ⊥ = cc in absurd bad
+text_kept old mid new a bytes (Err fault) is kept fails =
     sym (take-take (length old) (length mid) new (omega (arith, ap length is, length-append old a)))
     ∙ ap (take (length old)) (kept ∙ is)
     ∙ take-append_seam old a
@@ -31,7 +31,7 @@ stands old mid new a bytes (Err fault) is kept fails =
 points_join : (xs ys : List Coordinates) → points_text (xs ++ ys) ≡ points_text xs ++ points_text ys
 points_join xs ys = flat_map-append (λ (p : Coordinates). codes " " ++ point_text p) xs ys
 
--- the points of a shape are those that it goes through, and its start again where it goes back there
+-- the points of a shape are those that it goes through, and its start again if it returns there
 way_is : (kind : ShapeKind) (p : Coordinates) (points : List Coordinates) → outline kind (p ∷ points) ≡ p ∷ (points ++ closing_points kind p points)
 way_is kinds.Arc p [] = refl
 way_is kinds.Arc p (q ∷ []) = refl

@@ -49,5 +49,5 @@ lines_with end p [] = []
 lines_with end p (q ∷ qs) = line_front p q ++ end ++ lines_with end q qs
 
 -- lines as far as a point are followed by the lines from it
-abbrev pub LinesGoOn : List ℕ → Coordinates → List Coordinates → Coordinates → Type 0
-LinesGoOn end from done at = (rest : List Coordinates) → lines_with end from (done ++ rest) ≡ lines_with end from done ++ lines_with end at rest
+abbrev pub LinesContinue : List ℕ → Coordinates → List Coordinates → Coordinates → Type 0
+LinesContinue end from done at = (rest : List Coordinates) → lines_with end from (done ++ rest) ≡ lines_with end from done ++ lines_with end at rest

@@ -1,18 +1,18 @@
 use Rattle.std.specs.Prelude.{ℕ, zero, suc, ◌+◌, List, [], ◌∷◌, ◌++◌, length, take, drop}
 use Rattle.nap_lines.specs.Lines.{code_text}
 
--- Blocks of lines, which differ in the digits of a code alone.
+-- Blocks of lines, which differ only in the digits of a code.
 
--- a block where bytes were put at a place
-abbrev pub laid : List ℕ → ℕ → List ℕ → List ℕ
-laid block at bytes = take at block ++ (bytes ++ drop (at + length bytes) block)
+-- a block with these bytes at an index
+abbrev pub with_bytes_at : List ℕ → ℕ → List ℕ → List ℕ
+with_bytes_at block at bytes = take at block ++ (bytes ++ drop (at + length bytes) block)
 
--- a line so many times
+-- n copies of a line
 unfoldable pub repeated : ℕ → List ℕ → List ℕ
 repeated zero line = []
 repeated (suc n) line = repeated n line ++ line
 
--- lines of this size, with the digits of these codes, one a line, at this place of each
+-- lines of this size, in which the digits of these codes are at an index, one code a line
 unfoldable pub recoded : ℕ → ℕ → List ℕ → List ℕ → List ℕ
 recoded size place [] lines = lines
 recoded size place (code ∷ codes) lines = (take place lines ++ (code_text code ++ drop (place + 2) (take size lines))) ++ recoded size place codes (drop size lines)

@@ -10,7 +10,7 @@ use Rattle.nap_list.specs.Sending.{Sending, sending, Grows}
 use Rattle.nap_list.specs.State.{walk}
 use Rattle.nap_lines.specs.Listing.{lines}
 
--- Lines that are printed as their entries come.
+-- Lines that are printed as entries are taken.
 
 -- A prefix of the buffered bytes and these was sent, and the rest is left.
 pub record SendsPart (s : Sending) (buffered bytes left : List ℕ) (t : Sending) : Type 0 where
@@ -62,7 +62,7 @@ abbrev pub SendsBuffered : {O : Type 0} → outlet.Ghosts O → Printing O → P
 SendsBuffered o s t (Ok done) = SendsPart (sending_of o s) s.buffered [] t.buffered (sending_of o t) × (o.failed t.outlet ≡ o.failed s.outlet) × (t.state ≡ s.state)
 SendsBuffered o s t (Err fault) = ((left : List ℕ) × SendsPart (sending_of o s) s.buffered [] left (sending_of o t)) × (o.failed t.outlet ≡ true) × (t.state ≡ s.state)
 
--- this many lines of a list were printed, and then memory ran out or a write failed, with an outlet that hadn't failed
+-- n lines of a list were printed, and then memory ran out or a write failed, with an outlet that hadn't failed
 -- before
 abbrev pub StopsAt : {O : Type 0} → outlet.Ghosts O → Printing O → List Entry → ℕ → Printing O → SinkFault → Type 0
 StopsAt o s d n t faults.Memory = SendsPart (sending_of o s) s.buffered (lines (take n d)) t.buffered (sending_of o t) × (o.failed t.outlet ≡ false)

@@ -8,7 +8,7 @@ use Rattle.nap_list.proofs.PublicLaws.{walks_join}
 use Rattle.nap_lines.specs.Listing.{lines, lines_join}
 use Rattle.nap_lines.specs.Printing.{SendsPart, Printing, sending_of, Took, Broke}
 
--- What was passed on in two steps was passed on.
+-- Bytes that are sent in two steps are sent.
 
 pub passes_none : (s : Sending) (buffered : List ℕ) → SendsPart s buffered [] buffered s
 passes_none s buffered = record { sent = []; parts = append-nil buffered; grows = grows_none s }

@@ -151,7 +151,7 @@ pub(crate) fn write_text_byte(
     written
 }
 
-/// Returns `count` items from `copy_of_first`.
+/// Returns `count` items from `first`.
 #[inline(always)]
 pub(crate) fn slice_part<X>(items: &[X], first: usize, count: usize) -> &[X]
     requires { first + count ≤ length items.now }
@@ -160,7 +160,7 @@ pub(crate) fn slice_part<X>(items: &[X], first: usize, count: usize) -> &[X]
     &items[first..first + count]
 }
 
-/// From so many characters on, lines are written by blocks.
+/// The least number of bytes of a text whose lines are written by blocks.
 const MANY: usize = 8;
 
 /// Appends a line for each byte of a text, as `write_point_lines` does.
@@ -220,7 +220,7 @@ fn pen_at(pen: Pen, index: usize) -> Pen
     Pen::After
 }
 
-/// Appends a line for each of `count` entries of a batch, from `copy_of_first`. Returns the number of lines, which is less only
+/// Appends a line for each of `count` entries of a batch, from `first`. Returns the number of lines, which is less only
 /// if memory runs out.
 #[inline(always)]
 pub(crate) fn write_batch(

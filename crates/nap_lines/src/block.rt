@@ -1,34 +1,34 @@
-//! Blocks of lines of characters, which differ in their digits alone.
+//! Blocks of lines of characters, which differ only in the digits of their codes.
 ghost use Rattle.std.specs.Prelude.{◌≡◌, ◌+◌, ◌*◌, ◌≤◌, ◌++◌, All, drop, length, take};
-ghost use Rattle.nap_lines.specs.Blocks.{laid, recoded, repeated};
+ghost use Rattle.nap_lines.specs.Blocks.{with_bytes_at, recoded, repeated};
 
 use crate::backward_buffer::digit;
 
-/// The bytes of a block of lines.
+/// The number of bytes of a block of lines.
 pub(crate) const BLOCK: usize = 1_024;
 
-/// Puts bytes at a place.
+/// Copies bytes to an index of the block.
 #[inline(always)]
-fn lay(block: &mut [u8], at: usize, bytes: &[u8])
+fn copy_at(block: &mut [u8], at: usize, bytes: &[u8])
     requires within { at + length bytes.now ≤ length block.old }
-    ensures { block.new ≡ laid block.old at bytes.now }
+    ensures { block.new ≡ with_bytes_at block.old at bytes.now }
 {
     block[at..at + bytes.len()].copy_from_slice(bytes);
 }
 
-/// Puts a line at the start of a block so many times.
+/// Fills the beginning of a block with `count` copies of a line.
 pub(crate) fn fill_lines(block: &mut [u8], line: &[u8], count: usize)
     requires within { count * length line.now ≤ length block.old }
     ensures { block.new ≡ repeated count line.now ++ drop (count * length line.now) block.old }
 {
     let size = line.len();
     for i in 0..count {
-        lay(block, i * size, line);
+        copy_at(block, i * size, line);
     }
 }
 
-/// Puts the digits of codes into the lines of a block, one a line, at this place of each, as far as they are codes of
-/// characters. Returns how many.
+/// Writes the digits of codes into the lines of a block, one code a line at index `place`, up to the first that is no
+/// character's code. Returns their number.
 #[inline(always)]
 pub(crate) fn recode_lines(block: &mut [u8], size: usize, place: usize, codes: &[u8]) -> usize
     requires place { place + 2 ≤ size }
@@ -42,7 +42,7 @@ pub(crate) fn recode_lines(block: &mut [u8], size: usize, place: usize, codes: &
         if code < 0x20 {
             return i;
         }
-        lay(
+        copy_at(
             block,
             i * size + place,
             &[digit(code / 16), digit(code % 16)],

@@ -108,7 +108,7 @@ impl BackwardBuffer {
         }
     }
 
-    /// Prepends the field `push_colour=`, which ends the line of an entry.
+    /// Prepends the field `colour=`, which ends the line of an entry.
     pub(crate) fn push_colour_field(&mut self, colour: &Colour)
         requires space { length self.old + 47 ≤ line_limit }
         ensures text { self.new ≡ codes " colour=" ++ colour_text colour.now ++ self.old }

@@ -8,8 +8,8 @@ use crate::batch::{slice_part, write_text_byte};
 use crate::block::{BLOCK, fill_lines, recode_lines};
 use nap_codes::CharSet;
 
-/// Writes a line for each character and for each move among them, one by one. Each line ends as the
-/// room holds it. Answers how many it wrote: not all of them where memory is wanting.
+/// Appends a line for each byte of a text, one by one, each with the buffer's contents as its end. Returns the number
+/// of lines, which is less than the number of bytes only if memory runs out.
 pub(crate) fn write_few(
     buffer: &mut BackwardBuffer,
     text: &mut Vec<u8>,
@@ -21,7 +21,7 @@ pub(crate) fn write_few(
     ensures text { text.new.items ≡ text.old.items ++ flat_map (λ code. text_byte_front set code ++ buffer.old) (take result codes.now) }
 {
     let end = buffer.len();
-    // The digits stand for those of any code.
+    // The digits of each code replace these.
     buffer.push_char_front(set, 0);
     let place = buffer.len() - end - 2;
     let mut written = 0;
@@ -41,7 +41,7 @@ pub(crate) fn write_few(
     written
 }
 
-/// Writes a line for each character and for each move among them, by blocks of lines, as `write_few` does.
+/// Appends a line for each byte of a text, by blocks of lines, as `write_few` does.
 #[inline(never)]
 pub(crate) fn write_many(
     buffer: &mut BackwardBuffer,
@@ -54,7 +54,7 @@ pub(crate) fn write_many(
     ensures text { text.new.items ≡ text.old.items ++ flat_map (λ code. text_byte_front set code ++ buffer.old) (take result codes.now) }
 {
     let end = buffer.len();
-    // The digits stand for those of any code.
+    // The digits of each code replace these.
     buffer.push_char_front(set, 0);
     let size = buffer.len();
     let place = size - end - 2;

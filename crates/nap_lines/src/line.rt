@@ -22,7 +22,7 @@ impl BackwardBuffer {
         self.push_point_front(at);
     }
 
-    // The part INK of a Line, a Rect or a shape, after a space.
+    // Prepends a space and the part INK of a Line, a Rect or a shape.
     pub(crate) fn push_ink_part(&mut self, ink: &Ink)
         requires { length self.old + 118 ≤ line_limit }
         ensures text { self.new ≡ codes " " ++ ink_text ink.now ++ self.old }
@@ -183,7 +183,7 @@ impl BackwardBuffer {
         self.push("MASK ");
     }
 
-    // Of a shape what comes after its points, and all of any other line.
+    // Prepends what follows the points of a shape, or all of any other line.
     fn push_last_part(&mut self, entry: &Entry)
         requires { length self.old ≤ 1 }
         ensures { self.new ≡ last_part entry.now ++ self.old }

@@ -39,7 +39,7 @@ impl LineSink {
         }
     }
 
-    /// The lines of the entries that were taken so far.
+    /// Returns the lines of the entries taken so far.
     pub fn text(&self) -> &[u8]
         ensures { result.now ≡ self.now.text }
     {

@@ -14,7 +14,7 @@ use nap_list::{Batch, BatchFault, DeviceFault, Entry, Outlet, Shape, Sink, SinkF
 use std::alloc::Global;
 use std::marker::Model;
 
-/// The lines are sent when they have this many bytes, as many as a pipe takes at once.
+/// The least number of bytes of lines that are sent, as many as a pipe takes at once.
 const SEND_SIZE: usize = 65_536;
 
 /// The greatest number of entries of a batch whose lines are made at once.

@@ -4,7 +4,7 @@ ghost use Rattle.nap_lines.specs.Printing.{SentUpTo};
 
 use nap_list::{DeviceFault, Outlet};
 
-/// Writes all bytes, and adds the number that the outlet takes to `push_hand_without_pen`, saturating at the greatest `u64`.
+/// Writes all bytes, and adds the number that the outlet takes to `written`, saturating at the greatest `u64`.
 pub(crate) fn send_all<O: Outlet>(
     outlet: &mut O,
     written: &mut u64,

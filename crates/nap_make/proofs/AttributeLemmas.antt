@@ -22,7 +22,7 @@ use Rattle.nap_make.proofs.LookLemmas.{look_visible}
 use Rattle.nap_make.proofs.PlaceLemmas.{move_visible, point_visible}
 use Rattle.nap_make.proofs.SpellLemmas.{IsVisible, Spells, above, both_spell, decimal_spells, key_spells, spaceless}
 
--- a number has bytes that are seen
+-- the digits of a number are visible
 pub number_visible : (n : ℕ) → n < 16777216 → All IsVisible (decimal n)
 number_visible n fits = decimal_spells IsVisible (λ d low high. omega (arith, low)) n (omega (arith, fits))
 
@@ -46,7 +46,7 @@ texture_visible : Spells IsVisible TextureInRange texture_text
 texture_visible t fits = rw (append_assoc (decimal t.word) (codes "/") (mask_size_text t.mask))
     (both_spell IsVisible IsWord decimal 47 MaskInRange mask_size_text (λ n less. number_visible n (omega (arith, less))) (omega arith) mask_visible (t.word, t.mask) (fits.word, fits.mask))
 
--- Bytes of fields.
+-- Visible bytes of fields.
 
 pub grb_visible : Spells IsVisible HasSixteenBitParts grb_text
 grb_visible c fits = rw (from_right (decimal c.g) (codes ",") (decimal c.r) (codes ",") (decimal c.b))
@@ -60,10 +60,10 @@ colour_visible (colours.Own origins.AtStart) fits = above 32 (codes "own-start")
 colour_visible (colours.Own origins.AfterReset) fits = above 32 (codes "own-reset") (omega arith)
 colour_visible (colours.Direct grb) fits = All-append IsVisible (codes "direct:") (grb_text grb) (above 32 (codes "direct:") (omega arith)) (grb_visible grb fits)
 colour_visible (colours.Front addr) fits = All-append IsVisible (codes "front:") (decimal addr) (above 32 (codes "front:") (omega arith)) (number_visible addr fits)
-colour_visible (colours.Pair front back) fits =
-    All-append IsVisible (codes "pair:" ++ decimal front ++ codes ",") (decimal back)
-    (All-append IsVisible (codes "pair:" ++ decimal front) (codes ",")
-    (All-append IsVisible (codes "pair:") (decimal front) (above 32 (codes "pair:") (omega arith)) (number_visible front fits.0))
+colour_visible (colours.Pair prefix back) fits =
+    All-append IsVisible (codes "pair:" ++ decimal prefix ++ codes ",") (decimal back)
+    (All-append IsVisible (codes "pair:" ++ decimal prefix) (codes ",")
+    (All-append IsVisible (codes "pair:") (decimal prefix) (above 32 (codes "pair:") (omega arith)) (number_visible prefix fits.0))
     (above 32 (codes ",") (omega arith)))
     (number_visible back fits.1)
 colour_visible (colours.ByReset presets.Two) fits = above 32 (codes "reset-2") (omega arith)
@@ -89,7 +89,7 @@ pen_field_visible = key_spells PenInRange pen_text (codes "pen=") (omega arith) 
 pub look_field_visible : Spells IsVisible TextInRange look_field
 look_field_visible = key_spells TextInRange look_text (codes "text=") (omega arith) look_visible
 
--- What lines, areas and characters are drawn with.
+-- The parts INK and HAND.
 
 pub ink_end : Layout ColourInRange colour_field 32 TextureInRange texture_field
 ink_end = record { apart = spaceless ColourInRange colour_field colour_field_visible }

@@ -42,9 +42,9 @@ use Rattle.nap_make.proofs.LookLemmas.{look_parts, look_triple, modes_bytes, siz
 use Rattle.nap_make.proofs.PlaceLemmas.{coordinates, move_pair, point_pair, signs, word_pair, word_triple}
 use Rattle.nap_make.proofs.SpellLemmas.{low_neg, low_pos}
 
--- How long texts are.
+-- The greatest lengths of texts.
 
--- the texts of values that fit have at most so many bytes
+-- the texts of values that fit have at most n bytes
 abbrev pub AtMost : {V : Type 0} → ℕ → (V → Type 0) → (V → List ℕ) → Type 0
 AtMost {V = V} n P f = (v : V) → P v → length (f v) ≤ n
 
@@ -93,11 +93,11 @@ colour_bound (colours.Own origins.AtStart) fits = omega arith
 colour_bound (colours.Own origins.AfterReset) fits = omega arith
 colour_bound (colours.Direct grb) fits = key_bound 17 HasSixteenBitParts grb_text (codes "direct:") grb_bound grb fits
 colour_bound (colours.Front addr) fits = omega (arith, key_bound 8 IsAddress decimal (codes "front:") addr_bound addr fits)
-colour_bound (colours.Pair front back) fits =
-    let one : length (codes "pair:" ++ decimal front ++ codes "," ++ decimal back) ≡ length (codes "pair:" ++ decimal front ++ codes ",") + length (decimal back) = length-append (codes "pair:" ++ decimal front ++ codes ",") (decimal back) in
-    let two : length (codes "pair:" ++ decimal front ++ codes ",") ≡ length (codes "pair:" ++ decimal front) + 1 = length-append (codes "pair:" ++ decimal front) (codes ",") in
-    let three : length (codes "pair:" ++ decimal front) ≡ 5 + length (decimal front) = length-append (codes "pair:") (decimal front) in
-    omega (arith, one, two, three, addr_bound front fits.0, addr_bound back fits.1)
+colour_bound (colours.Pair prefix back) fits =
+    let one : length (codes "pair:" ++ decimal prefix ++ codes "," ++ decimal back) ≡ length (codes "pair:" ++ decimal prefix ++ codes ",") + length (decimal back) = length-append (codes "pair:" ++ decimal prefix ++ codes ",") (decimal back) in
+    let two : length (codes "pair:" ++ decimal prefix ++ codes ",") ≡ length (codes "pair:" ++ decimal prefix) + 1 = length-append (codes "pair:" ++ decimal prefix) (codes ",") in
+    let three : length (codes "pair:" ++ decimal prefix) ≡ 5 + length (decimal prefix) = length-append (codes "pair:") (decimal prefix) in
+    omega (arith, one, two, three, addr_bound prefix fits.0, addr_bound back fits.1)
 colour_bound (colours.ByReset presets.Two) fits = omega arith
 colour_bound (colours.ByReset presets.Three) fits = omega arith
 

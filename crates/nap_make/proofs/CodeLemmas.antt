@@ -20,7 +20,7 @@ two_bytes (x ∷ []) two = absurd (omega (arith, two))
 two_bytes (x ∷ y ∷ []) two = refl
 two_bytes (x ∷ y ∷ z ∷ more) two = absurd (omega (arith, two))
 
--- a byte that no digit is isn't the first or the second of a code
+-- two bytes of which one is no hexadecimal digit are no code's
 pub no_high : (xs : List ℕ) → ((d : ℕ) → IsNibble d → get_or xs 0 0 ≢ digit_char d) → WritesNone IsCode code_text xs
 no_high xs none n fits is = none (n / 16) (omega (arith, fits)) (ap (λ (s : List ℕ). get_or s 0 0) is)
 
@@ -34,13 +34,13 @@ high_digit xs high n fits first made is = digit_tells high (n / 16) fits (omega 
 pub code_written : (xs : List ℕ) (high low : ℕ) → length xs ≡ 2 → get_or xs 0 0 ≡ digit_char high → get_or xs 1 0 ≡ digit_char low → 2 ≤ high → high ≤ 7 → IsNibble low →
     IsWritten IsCode code_text xs (high * 16 + low)
 code_written xs high low two first second least most nibble =
-    let front : (high * 16 + low) / 16 ≡ high = omega (arith, nibble) in
+    let prefix : (high * 16 + low) / 16 ≡ high = omega (arith, nibble) in
     let back : (high * 16 + low) % 16 ≡ low = omega (arith, nibble) in
     record {
       fitting = (omega (arith, least), omega (arith, most, nibble));
       written =
           two_bytes xs two
-          ∙ ap₂ (λ (a b : ℕ). a ∷ b ∷ []) (first ∙ ap digit_char (sym front)) (second ∙ ap digit_char (sym back));
+          ∙ ap₂ (λ (a b : ℕ). a ∷ b ∷ []) (first ∙ ap digit_char (sym prefix)) (second ∙ ap digit_char (sym back));
     }
 
 digit_visible : (d : ℕ) → IsNibble d → 32 < digit_char d

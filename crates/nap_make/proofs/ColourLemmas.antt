@@ -15,7 +15,7 @@ use Rattle.nap_make.proofs.CutLemmas.{cut_text}
 use Rattle.nap_make.proofs.LayoutLemmas.{Alike, Layout}
 use Rattle.nap_make.proofs.SpellLemmas.{above, apart_below, decimal_spells}
 
--- lists that are pair_text from the left, from the right
+-- lists joined from the left, and from the right
 pub from_right : (a b c d e : List ℕ) → a ++ b ++ c ++ d ++ e ≡ a ++ (b ++ (c ++ (d ++ e)))
 from_right a b c d e = append_assoc (a ++ b ++ c) d e ∙ append_assoc (a ++ b) c (d ++ e) ∙ append_assoc a b (c ++ (d ++ e))
 
@@ -42,11 +42,11 @@ NoNumbers kinds.Direct more = WritesNone HasSixteenBitParts grb_text more
 NoNumbers kinds.Front more = WritesNone IsAddress decimal more
 NoNumbers kinds.Pair more = WritesNone (BothFit IsAddress IsAddress) (pair_text decimal 44 decimal) more
 
--- a text is that of a colour by its numbers, before and behind its colon
+-- a text is that of a colour with numbers: what is before its colon, and what is after it
 abbrev pub HasKind : Colour → List ℕ → List ℕ → Type 0
 HasKind (colours.Direct grb) name more = (name ≡ codes "direct") × (more ≡ grb_text grb)
 HasKind (colours.Front addr) name more = (name ≡ codes "front") × (more ≡ decimal addr)
-HasKind (colours.Pair front back) name more = (name ≡ codes "pair") × (more ≡ pair_text decimal 44 decimal (front, back))
+HasKind (colours.Pair prefix back) name more = (name ≡ codes "pair") × (more ≡ pair_text decimal 44 decimal (prefix, back))
 HasKind _ name more = ⊥
 
 kind_apart : (k : ColourKind) → All (λ x. x ≢ 58) (kind_name k)
@@ -59,16 +59,16 @@ has_kind bytes name more (colours.Own origin) cut fits is = absurd fits
 has_kind bytes name more (colours.ByReset preset) cut fits is = absurd fits
 has_kind bytes name more (colours.Direct grb) cut fits is = cut_text 58 bytes name more (codes "direct") (grb_text grb) cut (kind_apart kinds.Direct) is
 has_kind bytes name more (colours.Front addr) cut fits is = cut_text 58 bytes name more (codes "front") (decimal addr) cut (kind_apart kinds.Front) is
-has_kind bytes name more (colours.Pair front back) cut fits is =
-    cut_text 58 bytes name more (codes "pair") (pair_text decimal 44 decimal (front, back)) cut (kind_apart kinds.Pair)
-    (is ∙ ap (λ (s : List ℕ). codes "pair:" ++ s) (append_assoc (decimal front) (codes ",") (decimal back)))
+has_kind bytes name more (colours.Pair prefix back) cut fits is =
+    cut_text 58 bytes name more (codes "pair") (pair_text decimal 44 decimal (prefix, back)) cut (kind_apart kinds.Pair)
+    (is ∙ ap (λ (s : List ℕ). codes "pair:" ++ s) (append_assoc (decimal prefix) (codes ",") (decimal back)))
 
-pub no_colon : (bytes : List ℕ) → ((front back : List ℕ) → SplitsAtByte 58 bytes front back → ⊥) → WritesNone IsNumbered colour_text bytes
+pub no_colon : (bytes : List ℕ) → ((prefix back : List ℕ) → SplitsAtByte 58 bytes prefix back → ⊥) → WritesNone IsNumbered colour_text bytes
 no_colon bytes none (colours.Own origin) fits is = fits
 no_colon bytes none (colours.ByReset preset) fits is = fits
 no_colon bytes none (colours.Direct grb) fits is = none (codes "direct") (grb_text grb) (record { joins = is; first = kind_apart kinds.Direct })
 no_colon bytes none (colours.Front addr) fits is = none (codes "front") (decimal addr) (record { joins = is; first = kind_apart kinds.Front })
-no_colon bytes none (colours.Pair front back) fits is = none (codes "pair") (decimal front ++ codes "," ++ decimal back) (record { joins = is; first = kind_apart kinds.Pair })
+no_colon bytes none (colours.Pair prefix back) fits is = none (codes "pair") (decimal prefix ++ codes "," ++ decimal back) (record { joins = is; first = kind_apart kinds.Pair })
 
 pub no_kind : (bytes name more : List ℕ) → SplitsAtByte 58 bytes name more → ((k : ColourKind) → name ≢ kind_name k) → WritesNone IsNumbered colour_text bytes
 no_kind bytes name more cut none c fits is = by c (has_kind bytes name more c cut fits is)
@@ -78,9 +78,9 @@ no_kind bytes name more cut none c fits is = by c (has_kind bytes name more c cu
     by (colours.ByReset preset) has = has
     by (colours.Direct grb) has = none kinds.Direct has.0
     by (colours.Front addr) has = none kinds.Front has.0
-    by (colours.Pair front back) has = none kinds.Pair has.0
+    by (colours.Pair prefix back) has = none kinds.Pair has.0
 
--- the names of the kinds tell them
+-- kinds with equal names are equal
 kinds_tell : (j k : ColourKind) → kind_name j ≡ kind_name k → j ≡ k
 kinds_tell kinds.Direct kinds.Direct is = refl
 kinds_tell kinds.Front kinds.Front is = refl
@@ -103,4 +103,4 @@ no_numbers bytes name more k cut named none c fits is = by c fits (has_kind byte
     by (colours.ByReset preset) fits has = has
     by (colours.Direct grb) fits has = at kinds.Direct has.0 grb fits has.1
     by (colours.Front addr) fits has = at kinds.Front has.0 addr fits has.1
-    by (colours.Pair front back) fits has = at kinds.Pair has.0 (front, back) fits has.1
+    by (colours.Pair prefix back) fits has = at kinds.Pair has.0 (prefix, back) fits has.1

@@ -3,7 +3,7 @@ use Rattle.std.specs.Prelude.{All}
 use Rattle.std.proofs.lemmas.List.Elements.{All-head, All-tail}
 use Rattle.nap_make.specs.Cutting.{SplitsAtByte}
 
--- A list is cut in one way.
+-- A list is split at the first byte of a value in one way.
 
 pub one_cut : (b : ℕ) (f k g l : List ℕ) → All (λ x. x ≢ b) f → All (λ x. x ≢ b) g → f ++ b ∷ k ≡ g ++ b ∷ l → (f ≡ g) × (k ≡ l)
 one_cut b [] k [] l none also same = (refl, cc)
@@ -13,11 +13,11 @@ one_cut b (x ∷ f) k (y ∷ g) l none also same =
     let more = one_cut b f k g l (All-tail (λ z. z ≢ b) x f none) (All-tail (λ z. z ≢ b) y g also) (cc) in
     (cc, more.1)
 
--- the parts of a list that was cut are those of a text that has no such byte in front of its own
+-- the parts of a split list are those of a text whose first part doesn't contain the byte
 pub cut_text : (b : ℕ) (xs f k g l : List ℕ) → SplitsAtByte b xs f k → All (λ x. x ≢ b) g → xs ≡ g ++ b ∷ l → (f ≡ g) × (k ≡ l)
 cut_text b xs f k g l cut none is = one_cut b f k g l cut.first none (sym cut.joins ∙ is)
 
--- a list without such a byte isn't cut
+-- a list that doesn't contain the byte isn't split
 pub no_cut : (b : ℕ) (xs f k : List ℕ) → All (λ x. x ≢ b) xs → xs ≡ f ++ b ∷ k → ⊥
 no_cut b xs f k none is = never f (subst (λ (ys : List ℕ). All (λ x. x ≢ b) ys) is none)
   where

@@ -18,8 +18,8 @@ rest_or_alone entry.Bell = inr (inl refl)
 rest_or_alone entry.DefEnd = inr (inr refl)
 rest_or_alone _ = inl tt
 
--- bytes without a space that aren't the two names that stand alone
-pub no_name_alone : (bytes : List ℕ) → ((front back : List ℕ) → SplitsAtByte 32 bytes front back → ⊥) → bytes ≢ codes "BELL" → bytes ≢ codes "END" → WritesNone IsProper line bytes
+-- bytes without a space are no line, except BELL and END
+pub no_name_alone : (bytes : List ℕ) → ((prefix back : List ℕ) → SplitsAtByte 32 bytes prefix back → ⊥) → bytes ≢ codes "BELL" → bytes ≢ codes "END" → WritesNone IsProper line bytes
 no_name_alone bytes whole bell end e proper is = by (rest_or_alone e)
   where
     by : HasRest e ⊎ ((line e ≡ codes "BELL") ⊎ (line e ≡ codes "END")) → ⊥
@@ -27,12 +27,12 @@ no_name_alone bytes whole bell end e proper is = by (rest_or_alone e)
     by (inr (inl alone)) = bell (is ∙ alone)
     by (inr (inr alone)) = end (is ∙ alone)
 
--- bytes that are a name, but not one that stands alone
-pub other_name : (bytes : List ℕ) (n : Name) → ((front back : List ℕ) → SplitsAtByte 32 bytes front back → ⊥) → bytes ≡ name_text n → n ≢ names.Bell → n ≢ names.End → WritesNone IsProper line bytes
+-- the name of another entry is no line by itself
+pub other_name : (bytes : List ℕ) (n : Name) → ((prefix back : List ℕ) → SplitsAtByte 32 bytes prefix back → ⊥) → bytes ≡ name_text n → n ≢ names.Bell → n ≢ names.End → WritesNone IsProper line bytes
 other_name bytes n whole named_so bell end =
     no_name_alone bytes whole (λ is. bell (names_tell n names.Bell (sym named_so ∙ is))) (λ is. end (names_tell n names.End (sym named_so ∙ is)))
 
--- bytes that no name stands before the space of
+-- bytes are no line if what is before their first space is no name
 pub no_such_name : (bytes name rest : List ℕ) → SplitsAtByte 32 bytes name rest → ((n : Name) → name ≢ name_text n) → WritesNone IsProper line bytes
 no_such_name bytes name rest cut none e proper is = by (rest_or_none e)
   where
@@ -40,9 +40,9 @@ no_such_name bytes name rest cut none e proper is = by (rest_or_none e)
     by (inl has) = none (name_of e) (cut_text 32 bytes name rest (name_text (name_of e)) (rest_of e) cut (name_apart (name_of e)) (is ∙ line_named e has)).0
     by (inr whole) = no_cut 32 (line e) name rest whole (sym is ∙ cut.joins)
 
--- bytes that a name stands before the space of
+-- bytes with a name before their first space
 pub has_name : (bytes name rest : List ℕ) (n : Name) → SplitsAtByte 32 bytes name rest → name ≡ name_text n → bytes ≡ line_from n rest
 has_name bytes name rest n cut is = cut.joins ∙ ap (λ (s : List ℕ). s ++ 32 ∷ rest) is
 
 pub read_as : (bytes name rest : List ℕ) (n : Name) (r : Option Entry) → SplitsAtByte 32 bytes name rest → name ≡ name_text n → ReadsLine (line_from n rest) r → ReadsLine bytes r
-read_as bytes name rest n r cut is told = subst (λ (s : List ℕ). ReadsLine s r) (sym (has_name bytes name rest n cut is)) told
+read_as bytes name rest n r cut is ensured = subst (λ (s : List ℕ). ReadsLine s r) (sym (has_name bytes name rest n cut is)) ensured

@@ -24,9 +24,9 @@ use Rattle.nap_make.proofs.LayoutLemmas.{Layout}
 use Rattle.nap_make.proofs.PlaceLemmas.{point_spells, point_visible}
 use Rattle.nap_make.proofs.SpellLemmas.{IsVisible, Spells, above, both_spell, spaceless}
 
--- What stands behind the names of lines, by its fields.
+-- What follows the names of lines, by its fields.
 
--- the parts of an entry that begins with a point
+-- the parts of what follows a name
 point_apart : (p : Coordinates) → IsInSquare p → All (λ x. x ≢ 32) (point_text p)
 point_apart = spaceless IsInSquare point_text point_visible
 
@@ -113,9 +113,9 @@ reset_end = record { apart = word_apart }
 pub reset_parts : Layout IsWord decimal 32 (BothFit IsWord PenInRange) (pair_text decimal 32 pen_field)
 reset_parts = record { apart = word_apart }
 
--- Texts that begin otherwise.
+-- Texts with other beginnings.
 
--- what begins with a byte that a text before a space hasn't is no such text
+-- a text that begins with a byte which the part before its first space doesn't contain
 pub other_start : (b : ℕ) (f k l : List ℕ) → 32 < b → All (λ x. x ≢ b) f → f ++ 32 ∷ k ≡ b ∷ l → ⊥
 other_start b [] k l high none is = let same : 32 ≡ b = ap (λ (s : List ℕ). get_or s 0 0) is in omega (arith, same, high)
 other_start b (x ∷ f) k l high none is = All-head (λ y. y ≢ b) x f none (ap (λ (s : List ℕ). get_or s 0 0) is)
@@ -124,12 +124,12 @@ other_start b (x ∷ f) k l high none is = All-head (λ y. y ≢ b) x f none (ap
 pub point_without : (b : ℕ) → 58 ≤ b → (p : Coordinates) → IsInSquare p → All (λ x. x ≢ b) (point_text p)
 point_without b letter = point_spells (λ x. x ≢ b) (λ d low high is. omega (arith, high, is, letter)) (λ is. omega (arith, is, letter))
 
--- Moves of text by their steps.
+-- TextMoves by their format effectors.
 
 pub position_joined : (row column hand : List ℕ) → codes "APS " ++ row ++ codes " " ++ column ++ 32 ∷ hand ≡ codes "APS " ++ (row ++ 32 ∷ (column ++ 32 ∷ hand))
 position_joined row column hand = ap (λ (s : List ℕ). codes "APS " ++ s) (append_assoc (row ++ codes " ") column (32 ∷ hand) ∙ append_assoc row (codes " ") (column ++ 32 ∷ hand))
 
--- where a text has an APS, its bytes and what is drawn with there are none
+-- if `APS ` comes first, and its bytes and the part HAND don't follow, no move has this text
 pub no_position : (rest others : List ℕ) → rest ≡ codes "APS " ++ others →
     WritesNone (BothFit IsCode (BothFit IsCode HandInRange)) (pair_text code_text 32 (pair_text code_text 32 hand_text)) others → WritesNone (BothFit StepMade HandInRange) (pair_text step_text 32 hand_text) rest
 no_position rest others begins none v fits is = by v.0 fits.0 (sym begins ∙ is)
@@ -144,7 +144,7 @@ no_position rest others begins none v fits is = by v.0 fits.0 (sym begins ∙ is
     by (steps.Aps row column) made also =
         none (row, (column, v.1)) (made.0, (made.1, fits.1)) (append_cancel_left (codes "APS ") others _ (also ∙ position_joined (code_text row) (code_text column) (hand_text v.1)))
 
--- where it has none, it is no other move
+-- if `APS ` doesn't come first, and no other move and HAND do, no move has this text
 pub no_plain : (rest : List ℕ) → ((more : List ℕ) → rest ≢ codes "APS " ++ more) →
     WritesNone (BothFit IsPlainStep HandInRange) (pair_text step_text 32 hand_text) rest → WritesNone (BothFit StepMade HandInRange) (pair_text step_text 32 hand_text) rest
 no_plain rest other none v fits is = by v.0 fits.0 is
@@ -158,12 +158,12 @@ no_plain rest other none v fits is = by v.0 fits.0 is
     by steps.Apr made also = none (steps.Apr, v.1) (tt, fits.1) also
     by steps.Aph made also = none (steps.Aph, v.1) (tt, fits.1) also
 
--- the text of an APS and what is drawn with there
+-- the text of an APS and the part HAND
 pub position_is : (rest others : List ℕ) (row column : ℕ) (hand : List ℕ) → rest ≡ codes "APS " ++ others → others ≡ code_text row ++ 32 ∷ (code_text column ++ 32 ∷ hand) →
     rest ≡ step_text (steps.Aps row column) ++ 32 ∷ hand
 position_is rest others row column hand begins is = begins ∙ ap (λ (s : List ℕ). codes "APS " ++ s) is ∙ sym (position_joined (code_text row) (code_text column) hand)
 
--- a move that is read without bytes of its own is well made
+-- a format effector of one byte is well made
 pub plain_made : (step : TextStep) → IsPlainStep step → StepMade step
 plain_made (steps.Aps row column) fits = absurd fits
 plain_made steps.Apb fits = tt
@@ -187,7 +187,7 @@ plain_range steps.Aph fits = tt
 pub part_joined : (from to pen : List ℕ) → from ++ codes " " ++ to ++ 32 ∷ pen ≡ from ++ 32 ∷ (to ++ 32 ∷ pen)
 part_joined from to pen = append_assoc (from ++ codes " ") to (32 ∷ pen) ∙ append_assoc from (codes " ") (to ++ 32 ∷ pen)
 
--- where a text has the whole area, its pen is none
+-- if the whole area comes first, and no pen follows, no Field has this text
 pub no_whole : (rest others : List ℕ) → rest ≡ codes "whole " ++ others → WritesNone PenInRange pen_field others → WritesNone (BothFit AreaInRange PenInRange) (pair_text area_text 32 pen_field) rest
 no_whole rest others begins none v fits is = by v.0 fits.0 (sym begins ∙ is)
   where
@@ -197,7 +197,7 @@ no_whole rest others begins none v fits is = by v.0 fits.0 (sym begins ∙ is)
         other_start 119 (point_text from) (point_text to ++ 32 ∷ pen_field v.1) (codes "hole " ++ others) (omega arith) (point_without 119 (omega arith) from inside.0)
         (sym (also ∙ part_joined (point_text from) (point_text to) (pen_field v.1)))
 
--- where it has two corners, these or its pen are none
+-- if the whole area doesn't come first, and two corners and a pen don't, no Field has this text
 pub no_corners : (rest : List ℕ) → ((more : List ℕ) → rest ≢ codes "whole " ++ more) →
     WritesNone (BothFit IsInSquare (BothFit IsInSquare PenInRange)) (pair_text point_text 32 (pair_text point_text 32 pen_field)) rest → WritesNone (BothFit AreaInRange PenInRange) (pair_text area_text 32 pen_field) rest
 no_corners rest other none v fits is = by v.0 fits.0 is

@@ -21,7 +21,7 @@ use Rattle.nap_make.proofs.CutLemmas.{no_cut, one_cut}
 use Rattle.nap_make.proofs.NameLemmas.{name_apart, names_tell}
 use Rattle.nap_make.proofs.SpellLemmas.{above, apart_below}
 
--- What a line has behind its name and a space.
+-- What a line has after its name and a space.
 
 abbrev pub times_text : ℕ × (ℕ × ℕ) → List ℕ
 times_text = pair_text decimal 44 (pair_text decimal 44 decimal)
@@ -92,7 +92,7 @@ line_named (entry.GlyphStart code) has = refl
 line_named (entry.MaskStart mask) has = refl
 line_named entry.DefEnd has = absurd has
 
--- Which bytes no line has behind its name.
+-- Bytes that no line has after its name.
 
 abbrev pub ArcFits : List Coordinates × Ink → Type 0
 ArcFits s = ShapeFits s × (3 ≤ length s.0)
@@ -100,35 +100,35 @@ ArcFits s = ShapeFits s × (3 ≤ length s.0)
 abbrev pub PolyFits : List Coordinates × Ink → Type 0
 PolyFits s = ShapeFits s × (2 ≤ length s.0)
 
-abbrev pub NoneBehind : Name → List ℕ → Type 0
-NoneBehind names.Point rest = WritesNone (BothFit IsInSquare (BothFit IsInRange ColourInRange)) (pair_text point_text 32 (pair_text pel_field 32 colour_field)) rest
-NoneBehind names.Line rest = WritesNone (BothFit IsInSquare (BothFit IsInSquare InkInRange)) (pair_text point_text 32 (pair_text point_text 32 ink_text)) rest
-NoneBehind names.ArcOutlined rest = WritesNone ArcFits shape_text rest
-NoneBehind names.ArcFilled rest = WritesNone ArcFits shape_text rest
-NoneBehind names.RectOutlined rest = WritesNone (BothFit IsInSquare (BothFit IsInSquare InkInRange)) (pair_text point_text 32 (pair_text point_text 32 ink_text)) rest
-NoneBehind names.RectFilled rest = WritesNone (BothFit IsInSquare (BothFit IsInSquare InkInRange)) (pair_text point_text 32 (pair_text point_text 32 ink_text)) rest
-NoneBehind names.PolyOutlined rest = WritesNone PolyFits shape_text rest
-NoneBehind names.PolyFilled rest = WritesNone PolyFits shape_text rest
-NoneBehind names.Char rest = WritesNone (BothFit AnyValue (BothFit IsCode HandInRange)) (pair_text set_text 32 (pair_text code_text 32 hand_text)) rest
-NoneBehind names.Move rest = WritesNone (BothFit StepMade HandInRange) (pair_text step_text 32 hand_text) rest
-NoneBehind names.ToEol rest = WritesNone HandInRange hand_text rest
-NoneBehind names.Map rest = WritesNone (BothFit IsAddress HasSixteenBitParts) (pair_text decimal 32 grb_text) rest
-NoneBehind names.Blink rest = WritesNone (BothFit IsAddress (BothFit (BothFit IsWord (BothFit IsWord IsWord)) ColourInRange)) (pair_text decimal 32 (pair_text times_text 32 colour_field)) rest
-NoneBehind names.BlinkEnd rest = WritesNone ColourInRange colour_field rest
-NoneBehind names.BlinkStart rest = WritesNone ColourInRange colour_field rest
-NoneBehind names.BlinkStop rest = WritesNone ColourInRange colour_field rest
-NoneBehind names.Wait rest = WritesNone IsWord decimal rest
-NoneBehind names.Bell rest = Unit {0}
-NoneBehind names.Cursor rest = WritesNone AnyValue cursor_text rest
-NoneBehind names.Field rest = WritesNone (BothFit AreaInRange PenInRange) (pair_text area_text 32 pen_field) rest
-NoneBehind names.Reset rest = WritesNone (BothFit IsWord (BothFit IsWord PenInRange)) (pair_text decimal 32 (pair_text decimal 32 pen_field)) rest
-NoneBehind names.Clear rest = WritesNone PenInRange pen_field rest
-NoneBehind names.Glyph rest = WritesNone IsCode code_text rest
-NoneBehind names.Mask rest = WritesNone AnyValue mask_text rest
-NoneBehind names.End rest = Unit {0}
+abbrev pub NoneAfter : Name → List ℕ → Type 0
+NoneAfter names.Point rest = WritesNone (BothFit IsInSquare (BothFit IsInRange ColourInRange)) (pair_text point_text 32 (pair_text pel_field 32 colour_field)) rest
+NoneAfter names.Line rest = WritesNone (BothFit IsInSquare (BothFit IsInSquare InkInRange)) (pair_text point_text 32 (pair_text point_text 32 ink_text)) rest
+NoneAfter names.ArcOutlined rest = WritesNone ArcFits shape_text rest
+NoneAfter names.ArcFilled rest = WritesNone ArcFits shape_text rest
+NoneAfter names.RectOutlined rest = WritesNone (BothFit IsInSquare (BothFit IsInSquare InkInRange)) (pair_text point_text 32 (pair_text point_text 32 ink_text)) rest
+NoneAfter names.RectFilled rest = WritesNone (BothFit IsInSquare (BothFit IsInSquare InkInRange)) (pair_text point_text 32 (pair_text point_text 32 ink_text)) rest
+NoneAfter names.PolyOutlined rest = WritesNone PolyFits shape_text rest
+NoneAfter names.PolyFilled rest = WritesNone PolyFits shape_text rest
+NoneAfter names.Char rest = WritesNone (BothFit AnyValue (BothFit IsCode HandInRange)) (pair_text set_text 32 (pair_text code_text 32 hand_text)) rest
+NoneAfter names.Move rest = WritesNone (BothFit StepMade HandInRange) (pair_text step_text 32 hand_text) rest
+NoneAfter names.ToEol rest = WritesNone HandInRange hand_text rest
+NoneAfter names.Map rest = WritesNone (BothFit IsAddress HasSixteenBitParts) (pair_text decimal 32 grb_text) rest
+NoneAfter names.Blink rest = WritesNone (BothFit IsAddress (BothFit (BothFit IsWord (BothFit IsWord IsWord)) ColourInRange)) (pair_text decimal 32 (pair_text times_text 32 colour_field)) rest
+NoneAfter names.BlinkEnd rest = WritesNone ColourInRange colour_field rest
+NoneAfter names.BlinkStart rest = WritesNone ColourInRange colour_field rest
+NoneAfter names.BlinkStop rest = WritesNone ColourInRange colour_field rest
+NoneAfter names.Wait rest = WritesNone IsWord decimal rest
+NoneAfter names.Bell rest = Unit {0}
+NoneAfter names.Cursor rest = WritesNone AnyValue cursor_text rest
+NoneAfter names.Field rest = WritesNone (BothFit AreaInRange PenInRange) (pair_text area_text 32 pen_field) rest
+NoneAfter names.Reset rest = WritesNone (BothFit IsWord (BothFit IsWord PenInRange)) (pair_text decimal 32 (pair_text decimal 32 pen_field)) rest
+NoneAfter names.Clear rest = WritesNone PenInRange pen_field rest
+NoneAfter names.Glyph rest = WritesNone IsCode code_text rest
+NoneAfter names.Mask rest = WritesNone AnyValue mask_text rest
+NoneAfter names.End rest = Unit {0}
 
--- what an entry's line has behind its name is some entry's
-refuted : (e : Entry) → IsProper e → HasRest e → NoneBehind (name_of e) (rest_of e) → ⊥
+-- what a line has after its name is no such text
+refuted : (e : Entry) → IsProper e → HasRest e → NoneAfter (name_of e) (rest_of e) → ⊥
 refuted (entry.Point at pel colour) proper has none = none (at, (pel, colour)) (proper.in_range.0, (proper.in_range.1, proper.in_range.2)) refl
 refuted (entry.Line from to ink) proper has none = none (from, (to, ink)) (proper.in_range.0, (proper.in_range.1, proper.in_range.2)) refl
 refuted (entry.Arc true points ink) proper has none = none (points, ink) (record { points = proper.in_range.0; few = proper.well_made.1; ink = proper.in_range.1 }, proper.well_made.0) refl
@@ -156,29 +156,29 @@ refuted (entry.GlyphStart code) proper has none = none code proper.well_made ref
 refuted (entry.MaskStart mask) proper has none = none mask tt refl
 refuted entry.DefEnd proper has none = has
 
--- a line has something behind its name, or no space
+-- a line has something after its name, or no space
 pub rest_or_none : (e : Entry) → HasRest e ⊎ All (λ x. x ≢ 32) (line e)
 rest_or_none entry.Bell = inr (apart_below 32 32 (codes "BELL") (omega arith) (above 32 (codes "BELL") (omega arith)))
 rest_or_none entry.DefEnd = inr (apart_below 32 32 (codes "END") (omega arith) (above 32 (codes "END") (omega arith)))
 rest_or_none _ = inl tt
 
-with_rest : (n : Name) (rest : List ℕ) (e : Entry) → NoneBehind n rest → IsProper e → HasRest e → line_from n rest ≡ line e → ⊥
+with_rest : (n : Name) (rest : List ℕ) (e : Entry) → NoneAfter n rest → IsProper e → HasRest e → line_from n rest ≡ line e → ⊥
 with_rest n rest e none proper has is =
     let same = one_cut 32 (name_text n) rest (name_text (name_of e)) (rest_of e) (name_apart n) (name_apart (name_of e)) (is ∙ line_named e has) in
-    refuted e proper has (subst (λ m. NoneBehind m (rest_of e)) (names_tell n (name_of e) same.0) (subst (λ r. NoneBehind n r) same.1 none))
+    refuted e proper has (subst (λ m. NoneAfter m (rest_of e)) (names_tell n (name_of e) same.0) (subst (λ r. NoneAfter n r) same.1 none))
 
--- no entry has a line whose name has such bytes behind it
-pub none_named : (n : Name) (rest : List ℕ) → NoneBehind n rest → WritesNone IsProper line (line_from n rest)
+-- no entry has a line with this name and these bytes after it
+pub none_named : (n : Name) (rest : List ℕ) → NoneAfter n rest → WritesNone IsProper line (line_from n rest)
 none_named n rest none e proper is =
     elim (rest_or_none e) [ inl has ↦ with_rest n rest e none proper has is | inr whole ↦ no_cut 32 (line e) (name_text n) rest whole (sym is) ]
 
--- and an entry has the line of its name and what is behind it
+-- an entry has the line of its name and what follows it
 pub written_named : (e : Entry) (rest : List ℕ) → IsProper e → HasRest e → rest ≡ rest_of e → IsWritten IsProper line (line_from (name_of e) rest) e
 written_named e rest proper has is = record { fitting = proper; written = ap (λ (r : List ℕ). line_from (name_of e) r) is ∙ sym (line_named e has) }
 
--- Names that depend on a choice.
+-- Names for two kinds of entries.
 
-pub none_rect : (filled : Bool) (rest : List ℕ) → NoneBehind names.Line rest → WritesNone IsProper line (line_from (rect_name filled) rest)
+pub none_rect : (filled : Bool) (rest : List ℕ) → NoneAfter names.Line rest → WritesNone IsProper line (line_from (rect_name filled) rest)
 none_rect true rest none = none_named names.RectFilled rest none
 none_rect false rest none = none_named names.RectOutlined rest none
 

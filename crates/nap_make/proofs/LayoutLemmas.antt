@@ -5,11 +5,11 @@ use Rattle.nap_make.specs.Cutting.{SplitsAtByte}
 use Rattle.nap_make.specs.Reading.{WritesNone, IsWritten, Reads, BothFit, pair_text}
 use Rattle.nap_make.proofs.CutLemmas.{one_cut, cut_text}
 
--- A text of two parts: one without this byte, the byte, and another.
+-- A text of two parts, separated by a byte that the first doesn't contain.
 pub record Layout {A B : Type 0} (P : A → Type 0) (f : A → List ℕ) (b : ℕ) (Q : B → Type 0) (g : B → List ℕ) : Type 0 where
   pub apart : (v : A) → P v → All (λ x. x ≢ b) (f v)
 
--- Bytes are no such text if the byte isn't in them, and if one part is that of no value.
+-- Bytes are no such text if they don't contain the byte, or if one part is no value's.
 
 pub no_byte : {A B : Type 0} {P : A → Type 0} {f : A → List ℕ} {b : ℕ} {Q : B → Type 0} {g : B → List ℕ} {xs : List ℕ} → Layout P f b Q g →
     ((x y : List ℕ) → SplitsAtByte b xs x y → ⊥) → WritesNone (BothFit P Q) (pair_text f b g) xs
@@ -25,7 +25,7 @@ pub no_second : {A B : Type 0} {P : A → Type 0} {f : A → List ℕ} {b : ℕ}
 no_second {f = f} {b = b} {g = g} {xs = xs} {x = x} {y = y} layout cut none v fits is =
     none v.1 fits.1 (cut_text b xs x y (f v.0) (g v.1) cut (layout.apart v.0 fits.0) is).1
 
--- and they are if both parts are
+-- bytes are such a text if each part is a value's
 pub both_written : {A B : Type 0} {P : A → Type 0} {f : A → List ℕ} {b : ℕ} {Q : B → Type 0} {g : B → List ℕ} {xs x y : List ℕ} {v : A} {w : B} → Layout P f b Q g →
     SplitsAtByte b xs x y → IsWritten P f x v → IsWritten Q g y w → IsWritten (BothFit P Q) (pair_text f b g) xs (v, w)
 both_written {b = b} layout cut one two = record {
@@ -33,7 +33,7 @@ both_written {b = b} layout cut one two = record {
   written = cut.joins ∙ ap₂ (λ (s t : List ℕ). s ++ b ∷ t) one.written two.written;
 }
 
--- Values of one type are written as those of another that stand for them.
+-- Values of one type have the texts of values of another.
 pub record Alike {V W : Type 0} (to : V → W) (P : V → Type 0) (f : V → List ℕ) (Q : W → Type 0) (g : W → List ℕ) : Type 0 where
   pub there : (v : V) → P v → Q (to v)
   pub back : (v : V) → Q (to v) → P v
@@ -45,19 +45,19 @@ none_alike {to = to} alike none v fits is = none (to v) (alike.there v fits) (is
 
 pub written_alike : {V W : Type 0} {to : V → W} {P : V → Type 0} {f : V → List ℕ} {Q : W → Type 0} {g : W → List ℕ} {xs : List ℕ} → Alike to P f Q g → (v : V) →
     IsWritten Q g xs (to v) → IsWritten P f xs v
-written_alike alike v told = record { fitting = alike.back v told.fitting; written = told.written ∙ sym (alike.same v) }
+written_alike alike v ensured = record { fitting = alike.back v ensured.fitting; written = ensured.written ∙ sym (alike.same v) }
 
--- a value that is tried for a text that it has
+-- a value with this text, tried whether it is in range
 pub reads_tried : {V : Type 0} (P : V → Type 0) (f : V → List ℕ) (xs : List ℕ) (v : V) (r : Option V) → IsWritten P f xs v → (IsSome r ↔ P v) → IfSome r (λ w. w ≡ v) → Reads P f xs r
-reads_tried P f xs v None told found value = let bad = found.1 told.fitting in let no : ⊥ = cc (bad) in absurd no
-reads_tried P f xs v (Some w) told found value = subst (λ u. IsWritten P f xs u) (sym value) told
+reads_tried P f xs v None ensured found value = let bad = found.1 ensured.fitting in let no : ⊥ = cc (bad) in absurd no
+reads_tried P f xs v (Some w) ensured found value = subst (λ u. IsWritten P f xs u) (sym value) ensured
 
--- what is read behind a key
+-- the value after a key
 pub reads_keyed : {V : Type 0} (P : V → Type 0) (f : V → List ℕ) (key xs rest : List ℕ) (r : Option V) → xs ≡ key ++ rest → Reads P f rest r → Reads P (λ v. key ++ f v) xs r
-reads_keyed P f key xs rest None is told = λ v fits also. told v fits (append_cancel_left key rest (f v) (sym is ∙ also))
-reads_keyed P f key xs rest (Some v) is told = record { fitting = told.fitting; written = is ∙ ap (λ (s : List ℕ). key ++ s) told.written }
+reads_keyed P f key xs rest None is ensured = λ v fits also. ensured v fits (append_cancel_left key rest (f v) (sym is ∙ also))
+reads_keyed P f key xs rest (Some v) is ensured = record { fitting = ensured.fitting; written = is ∙ ap (λ (s : List ℕ). key ++ s) ensured.written }
 
--- Values that fit and are written alike are equal.
+-- Values in range with equal texts are equal.
 abbrev pub Tells : {V : Type 0} → (V → Type 0) → (V → List ℕ) → Type 0
 Tells {V = V} P f = (v w : V) → P v → P w → f v ≡ f w → v ≡ w
 

@@ -33,7 +33,7 @@ use Rattle.nap_make.proofs.SpellLayouts.{alike_spells, layout_spells}
 
 -- Bytes of lines.
 
--- a byte that is seen, or a space
+-- a visible byte, or a space
 abbrev IsInLine : ℕ → Type 0
 IsInLine b = 31 < b
 
@@ -141,7 +141,7 @@ rest_in (entry.GlyphStart code) fits = code_in code fits
 rest_in (entry.MaskStart mask) fits = mask_in mask
 rest_in entry.DefEnd fits = All-nil IsInLine
 
--- no line has an end of a line in it
+-- no line contains LF
 pub line_whole : (e : Entry) → InRange e → All (λ x. x ≢ 10) (line e)
 line_whole e fits = All-weaker IsInLine (λ x. x ≢ 10) (λ x high is. omega (arith, high, is)) (line e) (by (rest_or_alone e))
   where
@@ -150,9 +150,9 @@ line_whole e fits = All-weaker IsInLine (λ x. x ≢ 10) (λ x high is. omega (a
     by (inr (inl is)) = subst (λ (s : List ℕ). All IsInLine s) (sym is) (above 31 (codes "BELL") (omega arith))
     by (inr (inr is)) = subst (λ (s : List ℕ). All IsInLine s) (sym is) (above 31 (codes "END") (omega arith))
 
--- Lines tell their entries.
+-- Entries with equal lines are equal.
 
--- entries whose lines stand alone, by their lines
+-- the entries whose lines are a name alone
 bell_of : (e : Entry) → line e ≡ codes "BELL" → e ≡ entry.Bell
 bell_of entry.Bell is = refl
 bell_of entry.DefEnd is = let first : 69 ≡ 66 = ap (λ (s : List ℕ). get_or s 0 0) is in absurd (omega (arith, first))
@@ -163,7 +163,7 @@ end_of entry.DefEnd is = refl
 end_of entry.Bell is = let first : 66 ≡ 69 = ap (λ (s : List ℕ). get_or s 0 0) is in absurd (omega (arith, first))
 end_of e is = absurd (no_cut 32 (codes "END") (name_text (name_of e)) (rest_of e) (name_apart names.End) (sym is ∙ line_named e tt))
 
--- a line that stands alone has no space
+-- a line that is a name alone has no space
 alone_whole : (xs : List ℕ) → ((xs ≡ codes "BELL") ⊎ (xs ≡ codes "END")) → All (λ x. x ≢ 32) xs
 alone_whole xs (inl is) = subst (λ (s : List ℕ). All (λ x. x ≢ 32) s) (sym is) (name_apart names.Bell)
 alone_whole xs (inr is) = subst (λ (s : List ℕ). All (λ x. x ≢ 32) s) (sym is) (name_apart names.End)
@@ -188,7 +188,7 @@ line_tells e f e_fits f_fits is = by (rest_or_alone e) (rest_or_alone f)
     by (inr (inl one)) (inr (inr two)) = absurd (letters (sym one ∙ is ∙ two))
     by (inr (inr one)) (inr (inl two)) = absurd (letters (sym two ∙ sym is ∙ one))
 
--- a list with its first line
+-- the lines of a list begin with that of its first entry
 lines_cut : (x : Entry) (d : List Entry) → lines (x ∷ d) ≡ line x ++ 10 ∷ lines d
 lines_cut x d = append_assoc (line x) (10 ∷ []) (lines d)
 

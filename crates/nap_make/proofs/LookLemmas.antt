@@ -16,7 +16,7 @@ use Rattle.nap_make.proofs.LayoutLemmas.{Alike, Layout}
 use Rattle.nap_make.proofs.PlaceLemmas.{move_spells}
 use Rattle.nap_make.proofs.SpellLemmas.{IsVisible, OfDigits, Spells, above, both_spell, decimal_spells}
 
--- TextModes by four bytes.
+-- The four flags by their bytes.
 
 pub flag_byte : (on : Bool) (letter : ℕ) → flag_text on (letter ∷ []) ≡ cond on letter 45 ∷ []
 flag_byte true letter = refl
@@ -25,7 +25,7 @@ flag_byte false letter = refl
 pub modes_bytes : (m : TextModes) → modes_text m ≡ cond m.reverse 114 45 ∷ cond m.underline 117 45 ∷ cond m.wrap 119 45 ∷ cond m.scroll 115 45 ∷ []
 modes_bytes m = rw (flag_byte m.reverse 114, flag_byte m.underline 117, flag_byte m.wrap 119, flag_byte m.scroll 115) refl
 
--- a byte that no flag is isn't there in the text of modes
+-- a byte that is neither the letter of a flag nor `-` is no flag's
 no_flag : (xs : List ℕ) (i letter : ℕ) (on : TextModes → Bool) → ((m : TextModes) → get_or (modes_text m) i 0 ≡ cond (on m) letter 45) →
     ((b : Bool) → get_or xs i 0 ∷ [] ≢ flag_text b (letter ∷ [])) → WritesNone AnyValue modes_text xs
 no_flag xs i letter on at none m fits is = none (on m) (ap (λ (x : ℕ). x ∷ []) (ap (λ (s : List ℕ). get_or s i 0) is ∙ at m) ∙ sym (flag_byte (on m) letter))
@@ -53,7 +53,7 @@ four_bytes (a ∷ b ∷ c ∷ []) four = absurd (omega (arith, four))
 four_bytes (a ∷ b ∷ c ∷ d ∷ []) four = refl
 four_bytes (a ∷ b ∷ c ∷ d ∷ e ∷ more) four = absurd (omega (arith, four))
 
--- a byte that is this flag
+-- a byte that is this flag's
 flag_is : (x letter : ℕ) (on : Bool) → x ∷ [] ≡ flag_text on (letter ∷ []) → x ≡ cond on letter 45
 flag_is x letter on is = ap (λ (s : List ℕ). get_or s 0 0) (is ∙ flag_byte on letter)
 
@@ -67,7 +67,7 @@ modes_written xs m four r u w s =
     let bytes : get_or xs 0 0 ∷ get_or xs 1 0 ∷ get_or xs 2 0 ∷ get_or xs 3 0 ∷ [] ≡ cond m.reverse 114 45 ∷ cond m.underline 117 45 ∷ cond m.wrap 119 45 ∷ cond m.scroll 115 45 ∷ [] = cc in
     record { fitting = tt; written = four_bytes xs four ∙ bytes ∙ sym (modes_bytes m) }
 
--- Looks by their parts.
+-- Text attributes by their parts.
 
 -- a text without a slash has none in its parts
 pub size_spells : (R : ℕ → Type 0) → OfDigits R → R 44 → R 45 → ((x : ℕ) → 96 < x → R x) → Spells R SizeInRange size_text

@@ -6,7 +6,7 @@ use Rattle.nap_make.specs.declared.name.Name.TheVariants as names
 use Rattle.nap_make.specs.Names.{name_text}
 use Rattle.nap_make.proofs.SpellLemmas.{EachAbove, above, apart_below}
 
--- what stands beside this text in a table, and a value for texts that aren't there
+-- the value beside a text in a table, or a default
 abbrev pub value_in_table : {V : Type 0} → List (List ℕ × V) → V → List ℕ → V
 value_in_table [] other xs = other
 value_in_table (row ∷ rows) other xs = cond (bytes_eq row.0 xs) row.1 (value_in_table rows other xs)
@@ -54,7 +54,7 @@ again names.Glyph = refl
 again names.Mask = refl
 again names.End = refl
 
--- the texts of names tell them
+-- names with equal texts are equal
 pub names_tell : (m n : Name) → name_text m ≡ name_text n → m ≡ n
 names_tell m n is = sym (again m) ∙ ap name_at is ∙ again n
 
@@ -92,7 +92,7 @@ name_visible n = above 32 (name_text n) (visible n)
 pub name_apart : (n : Name) → All (λ x. x ≢ 32) (name_text n)
 name_apart n = apart_below 32 32 (name_text n) (omega arith) (name_visible n)
 
--- Each name is among all of them.
+-- Each name is in the list of names.
 
 abbrev pub all_names : List Name
 all_names = names.Point ∷ names.Line ∷ names.ArcOutlined ∷ names.ArcFilled ∷ names.RectOutlined ∷ names.RectFilled ∷ names.PolyOutlined ∷ names.PolyFilled ∷ names.Char ∷ names.Move ∷ names.ToEol ∷ names.Map ∷ names.Blink ∷ names.BlinkEnd ∷ names.BlinkStart ∷ names.BlinkStop ∷ names.Wait ∷ names.Bell ∷ names.Cursor ∷ names.Field ∷ names.Reset ∷ names.Clear ∷ names.Glyph ∷ names.Mask ∷ names.End ∷ []

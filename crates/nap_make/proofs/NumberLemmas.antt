@@ -12,7 +12,7 @@ use Rattle.nap_make.specs.Numbers.{IsNumeralOf, IsShort}
 pub fits64 : (n : ℕ) → IsShort n → n < 2 ^ 64
 fits64 n short = omega (arith, short)
 
--- What a text that is a number's is like.
+-- The text of a number.
 
 pub not_empty : (ds : List ℕ) (n : ℕ) → IsShort n → ds ≡ decimal n → length ds ≡ 0 → ⊥
 not_empty ds n short is none =
@@ -34,9 +34,9 @@ digit_at (d ∷ ds) (suc i) all within = digit_at ds i all.1 (omega (arith, with
 pub a_digit : (ds : List ℕ) (n i : ℕ) → IsShort n → ds ≡ decimal n → i < length ds → digit_value (get_or ds i 0) < 10
 a_digit ds n i short is within = digit_at ds i (subst (λ (xs : List ℕ). AllDigits 10 xs) (sym is) (decimal_is_IsNumeral n (fits64 n short)).0.1) within
 
--- What a few digits write.
+-- The value of fewer than eight digits.
 
--- fewer than eight digits write a number that leaves room for one more
+-- the value of fewer than eight digits is below 10^7, so one more digit fits
 pub small : (ds : List ℕ) (i : ℕ) → AllDigits 10 (take i ds) → i < length ds → length ds ≤ 8 → digits_value 10 (take i ds) < 10 ^ 7
 small ds i all within few =
     let low = digits_value-lt 10 (take i ds) all in
@@ -53,16 +53,16 @@ short_value ds all few =
 
 -- Numbers by their digits.
 
--- digits tell their number
+-- digits have one value
 pub numeral_tells : (ds : List ℕ) (m n : ℕ) → IsNumeralOf ds m → IsShort n → ds ≡ decimal n → m ≡ n
-numeral_tells ds m n told short is = sym told.value ∙ ap (λ (xs : List ℕ). digits_value 10 xs) is ∙ (decimal_is_IsNumeral n (fits64 n short)).1
+numeral_tells ds m n ensured short is = sym ensured.value ∙ ap (λ (xs : List ℕ). digits_value 10 xs) is ∙ (decimal_is_IsNumeral n (fits64 n short)).1
 
--- digits without a zero in front, or one alone, are the decimal ones of their number
+-- digits without leading zeros are the decimal digits of their value
 pub no_zero : (ds : List ℕ) (n : ℕ) → IsNumeralOf ds n → (get_or ds 0 0 ≡ 48 → length ds ≡ 1) → ds ≡ decimal n
-no_zero ds n told lone =
-    sym (ap decimal (sym told.value) ∙ decimal-digits_value (numerals_by_value (AllDigits 10) tells_digits) ds told.numeral.1 told.numeral.0 lone (subst (λ (m : ℕ). m < 2 ^ 64) (sym told.value) (fits64 n told.short)))
+no_zero ds n ensured lone =
+    sym (ap decimal (sym ensured.value) ∙ decimal-digits_value (numerals_by_value (AllDigits 10) tells_digits) ds ensured.numeral.1 ensured.numeral.0 lone (subst (λ (m : ℕ). m < 2 ^ 64) (sym ensured.value) (fits64 n ensured.short)))
 
--- and others are those of none
+-- digits with a leading zero are the decimal digits of no number
 pub zero_first : (ds : List ℕ) (n : ℕ) → IsShort n → ds ≡ decimal n → get_or ds 0 0 ≡ 48 → length ds ≢ 1 → ⊥
 zero_first ds zero short is first more = more (ap (λ (xs : List ℕ). length xs) (is ∙ decimal_digit 0 (omega arith)))
 zero_first ds (suc n) short is first more =
@@ -70,6 +70,6 @@ zero_first ds (suc n) short is first more =
     let same : get_or ds 0 0 ≡ get_or (decimal (suc n)) 0 0 = ap (λ (xs : List ℕ). get_or xs 0 0) is in
     omega (arith, high, same, first)
 
--- a text that is that of two numbers is that of one
+-- a text is the decimal digits of one number
 pub same_number : (ds : List ℕ) (m n : ℕ) → ds ≡ decimal m → ds ≡ decimal n → m < 2 ^ 64 → n < 2 ^ 64 → m ≡ n
 same_number ds m n one two m_fits n_fits = decimal_injective m n m_fits n_fits (sym one ∙ two)

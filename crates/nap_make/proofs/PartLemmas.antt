@@ -182,7 +182,7 @@ parts_of (entry.GlyphStart code) fits = (code, record { in_range = fits; text = 
 parts_of (entry.MaskStart mask) fits = (mask, record { in_range = tt; text = refl; again = refl })
 parts_of entry.DefEnd fits = (tt, record { in_range = tt; text = refl; again = refl })
 
--- Parts that are written alike are equal.
+-- Parts with equal texts are equal.
 
 points_tell : (ps qs : List Coordinates) (i j : Ink) → All IsInSquare ps → All IsInSquare qs → InkInRange i → InkInRange j → points_before ps (ink_text i) ≡ points_before qs (ink_text j) → (ps ≡ qs) × (i ≡ j)
 points_tell [] [] i j ps_fit qs_fit i_fits j_fits is = (refl, ink_tells i j i_fits j_fits is)
@@ -215,7 +215,7 @@ plain_tells s t s_fits t_fits is = by s t s_fits t_fits (ap (λ (xs : List ℕ).
     by steps.Aph steps.Aph s_fits t_fits same = refl
     by s t s_fits t_fits same = absurd (omega (arith, same))
 
--- a move without bytes of its own isn't written as an APS is
+-- a format effector of one byte isn't written as APS
 no_aps : (s : TextStep) (hand more : List ℕ) → IsPlainStep s → step_text s ++ 32 ∷ hand ≡ codes "APS " ++ more → ⊥
 no_aps s hand more fits is = by s fits (ap (λ (xs : List ℕ). get_or xs 2 0) is)
   where
@@ -223,7 +223,7 @@ no_aps s hand more fits is = by s fits (ap (λ (xs : List ℕ). get_or xs 2 0) i
     by (steps.Aps row column) fits same = absurd fits
     by s fits same = omega (arith, same)
 
--- a move has bytes of its own or none
+-- a format effector has one byte, or is APS
 step_kind : (s : TextStep) → IsPlainStep s ⊎ ((row : ℕ) × (column : ℕ) × (s ≡ steps.Aps row column))
 step_kind (steps.Aps row column) = inr (row, column, refl)
 step_kind s = inl tt
@@ -234,7 +234,7 @@ bytes_pair = record { apart = code_apart }
 bytes_end : Layout IsByte code_text 32 HandInRange hand_text
 bytes_end = record { apart = code_apart }
 
--- an APS and what is drawn with there
+-- the bytes of APS, and the part HAND
 abbrev aps_text : ℕ × (ℕ × Hand) → List ℕ
 aps_text v = step_text (steps.Aps v.0 v.1.0) ++ 32 ∷ hand_text v.1.1
 
@@ -314,7 +314,7 @@ parts_tell names.Glyph v w v_fits w_fits is = code_tells v w v_fits w_fits is
 parts_tell names.Mask v w v_fits w_fits is = mask_tells v w tt tt is
 parts_tell names.End v w v_fits w_fits is = refl
 
--- entries of one name and with one rest are equal
+-- entries with one name and one text after it are equal
 pub same_entry : (e f : Entry) → InRange e → InRange f → name_of e ≡ name_of f → rest_of e ≡ rest_of f → e ≡ f
 same_entry e f e_fits f_fits names_are rests_are =
     let own = parts_of e e_fits in

@@ -12,7 +12,7 @@ use Rattle.nap_make.proofs.LayoutLemmas.{Alike, Layout, Tells, alike_tell, both_
 use Rattle.nap_make.proofs.SignedLemmas.{signed_tells}
 use Rattle.nap_make.proofs.SpellLemmas.{IsVisible, OfDigits, Spells, both_spell, decimal_spells, signed_spells}
 
--- Numbers that a comma parts.
+-- Numbers separated by commas.
 
 pub coordinates : Layout (λ n. n < 8388608) decimal 44 (λ n. n < 8388608) decimal
 coordinates = record { apart = λ n fits. decimal_spells (λ x. x ≢ 44) (λ d low high is. omega (arith, low, is)) n (omega (arith, fits)) }
@@ -41,12 +41,12 @@ move_pair = record {
   same = λ m. append_assoc (signed_decimal m.x) (codes ",") (signed_decimal m.y);
 }
 
--- a displacement that is tried as another that equals it
+-- a displacement that equals one with this text, tried whether it is in range
 pub move_tried : (xs : List ℕ) (m n : Displacement) (r : Option Displacement) → n ≡ m → IsWritten IsInRange move_text xs m → (IsSome r ↔ IsInRange n) → IfSome r (λ d. d ≡ n) →
     Reads IsInRange move_text xs r
-move_tried xs m n r same told found value = reads_tried IsInRange move_text xs n r (subst (λ (d : Displacement). IsWritten IsInRange move_text xs d) (sym same) told) found value
+move_tried xs m n r same ensured found value = reads_tried IsInRange move_text xs n r (subst (λ (d : Displacement). IsWritten IsInRange move_text xs d) (sym same) ensured) found value
 
--- What bytes they have.
+-- Bytes of points and displacements.
 
 number_spells : (R : ℕ → Type 0) → OfDigits R → Spells R (λ n. n < 8388608) decimal
 number_spells R digit n fits = decimal_spells R digit n (omega (arith, fits))
@@ -65,7 +65,7 @@ move_spells R digit comma minus m fits = rw (append_assoc (signed_decimal m.x) (
 pub move_visible : Spells IsVisible IsInRange move_text
 move_visible = move_spells IsVisible (λ d low high. omega (arith, low)) (omega arith) (omega arith)
 
--- What is written alike is alike.
+-- Points and displacements with equal texts are equal.
 
 pub point_tells : Tells IsInSquare point_text
 point_tells = alike_tell point_pair (λ (p : ℕ × ℕ). record { x = p.0; y = p.1 }) (λ p. refl) (both_tell coordinates below_tells below_tells)

@@ -13,47 +13,47 @@ use Rattle.nap_make.proofs.KindLayouts.{other_start, point_without}
 use Rattle.nap_make.proofs.PlaceLemmas.{point_tells, point_visible}
 use Rattle.nap_make.proofs.SpellLemmas.{spaceless}
 
--- no text of a point begins what a shape is drawn with
+-- no text of a point and a space begins the part INK
 pub no_point : (p : Coordinates) (more : List ℕ) (ink : Ink) → IsInSquare p → point_text p ++ 32 ∷ more ≡ ink_text ink → ⊥
 no_point p more ink fits is = other_start 112 (point_text p) more _ (omega arith) (point_without 112 (omega arith) p fits) is
 
--- one more point before what is left
+-- one more point is read
 pub one_more : (points : List Coordinates) (p : Coordinates) (more : List ℕ) → points_before (points ++ p ∷ []) more ≡ points_before points (point_text p ++ 32 ∷ more)
 one_more [] p more = refl
 one_more (q ∷ points) p more = ap (λ (s : List ℕ). point_text q ++ 32 ∷ s) (one_more points p more)
 
--- points of a text are the first of the points that it has, and the others are in what is left
-pub points_go_on : (done points : List Coordinates) (rest : List ℕ) (ink : Ink) → All IsInSquare done → All IsInSquare points → points_before done rest ≡ points_before points (ink_text ink) →
+-- the points read so far are the first of a text's points, and the others are in its rest
+pub points_continue : (done points : List Coordinates) (rest : List ℕ) (ink : Ink) → All IsInSquare done → All IsInSquare points → points_before done rest ≡ points_before points (ink_text ink) →
     (others : List Coordinates) × (points ≡ done ++ others) × (rest ≡ points_before others (ink_text ink))
-points_go_on [] points rest ink done_fit fit is = (points, refl, is)
-points_go_on (p ∷ done) [] rest ink done_fit fit is = absurd (no_point p (points_before done rest) ink (All-head IsInSquare p done done_fit) is)
-points_go_on (p ∷ done) (q ∷ points) rest ink done_fit fit is =
+points_continue [] points rest ink done_fit fit is = (points, refl, is)
+points_continue (p ∷ done) [] rest ink done_fit fit is = absurd (no_point p (points_before done rest) ink (All-head IsInSquare p done done_fit) is)
+points_continue (p ∷ done) (q ∷ points) rest ink done_fit fit is =
     let p_fits = All-head IsInSquare p done done_fit in
     let q_fits = All-head IsInSquare q points fit in
     let same = one_cut 32 (point_text p) (points_before done rest) (point_text q) (points_before points (ink_text ink))
     (spaceless IsInSquare point_text point_visible p p_fits) (spaceless IsInSquare point_text point_visible q q_fits) is in
-    let more = points_go_on done points rest ink (All-tail IsInSquare p done done_fit) (All-tail IsInSquare q points fit) same.1 in
+    let more = points_continue done points rest ink (All-tail IsInSquare p done done_fit) (All-tail IsInSquare q points fit) same.1 in
     (more.0, ap₂ (λ (x : Coordinates) (xs : List Coordinates). x ∷ xs) (sym (point_tells p q p_fits q_fits same.0)) more.1, more.2)
 
--- the last of a list's points are in the square
+-- the last points of a list are in the unit screen
 others_fit : (done points others : List Coordinates) → points ≡ done ++ others → All IsInSquare points → All IsInSquare others
-others_fit done points others is fit = behind done (subst (λ (xs : List Coordinates). All IsInSquare xs) is fit)
+others_fit done points others is fit = rest_fits done (subst (λ (xs : List Coordinates). All IsInSquare xs) is fit)
   where
-    behind : (done : List Coordinates) → All IsInSquare (done ++ others) → All IsInSquare others
-    behind [] fit = fit
-    behind (p ∷ done) fit = behind done (All-tail IsInSquare p (done ++ others) fit)
+    rest_fits : (done : List Coordinates) → All IsInSquare (done ++ others) → All IsInSquare others
+    rest_fits [] fit = fit
+    rest_fits (p ∷ done) fit = rest_fits done (All-tail IsInSquare p (done ++ others) fit)
 
--- what reading points has come to
+-- these points were read, and this is the rest
 pub record HasPoints (bytes : List ℕ) (done : List Coordinates) (rest : List ℕ) : Type 0 where
   pub so_far : bytes ≡ points_before done rest
   pub fit : All IsInSquare done
   pub few : length done ≤ points_limit
 
--- a point more than a shape has
+-- a shape doesn't have a further point above its limit
 pub too_many : (bytes : List ℕ) (done : List Coordinates) (rest : List ℕ) (p : Coordinates) (more : List ℕ) → HasPoints bytes done rest → length done ≡ points_limit →
     IsInSquare p → rest ≡ point_text p ++ 32 ∷ more → WritesNone ShapeFits shape_text bytes
 too_many bytes done rest p more has full fits next s shape is =
-    let goes = points_go_on done s.0 rest s.1 has.fit shape.points (sym has.so_far ∙ is) in
+    let goes = points_continue done s.0 rest s.1 has.fit shape.points (sym has.so_far ∙ is) in
     by goes.0 goes.1 (sym next ∙ goes.2)
   where
     by : (others : List Coordinates) → s.0 ≡ done ++ others → point_text p ++ 32 ∷ more ≡ points_before others (ink_text s.1) → ⊥
@@ -62,36 +62,36 @@ too_many bytes done rest p more has full fits next s shape is =
         let size : length s.0 ≡ length done + length (q ∷ others) = ap (λ (xs : List Coordinates). length xs) joins ∙ length-append done (q ∷ others) in
         omega (arith, size, full, shape.few)
 
--- no point more, and nothing that a shape is drawn with
+-- no point follows, and no part INK
 pub no_shape : (bytes : List ℕ) (done : List Coordinates) (rest : List ℕ) → HasPoints bytes done rest → ((p : Coordinates) (more : List ℕ) → IsInSquare p → rest ≢ point_text p ++ 32 ∷ more) →
     WritesNone InkInRange ink_text rest → WritesNone ShapeFits shape_text bytes
 no_shape bytes done rest has last none s shape is =
-    let goes = points_go_on done s.0 rest s.1 has.fit shape.points (sym has.so_far ∙ is) in
+    let goes = points_continue done s.0 rest s.1 has.fit shape.points (sym has.so_far ∙ is) in
     by goes.0 (others_fit done s.0 goes.0 goes.1 shape.points) goes.2
   where
     by : (others : List Coordinates) → All IsInSquare others → rest ≡ points_before others (ink_text s.1) → ⊥
     by [] fit also = none s.1 shape.ink also
     by (q ∷ others) fit also = last q (points_before others (ink_text s.1)) (All-head IsInSquare q others fit) also
 
--- all points, and what the shape is drawn with
+-- all points were read, and the part INK
 pub shape_written : (bytes : List ℕ) (done : List Coordinates) (rest : List ℕ) (ink : Ink) → HasPoints bytes done rest → IsWritten InkInRange ink_text rest ink → IsWritten ShapeFits shape_text bytes (done, ink)
-shape_written bytes done rest ink has told = record {
-  fitting = record { points = has.fit; few = has.few; ink = told.fitting };
-  written = has.so_far ∙ ap (λ (s : List ℕ). points_before done s) told.written;
+shape_written bytes done rest ink has ensured = record {
+  fitting = record { points = has.fit; few = has.few; ink = ensured.fitting };
+  written = has.so_far ∙ ap (λ (s : List ℕ). points_before done s) ensured.written;
 }
 
 -- one more point was read
 pub point_read : (bytes : List ℕ) (done : List Coordinates) (rest : List ℕ) (p : Coordinates) (more : List ℕ) → HasPoints bytes done rest → length done ≢ points_limit →
     IsInSquare p → rest ≡ point_text p ++ 32 ∷ more → HasPoints bytes (done ++ p ∷ []) more
-point_read bytes done rest p more has room fits next = record {
+point_read bytes done rest p more has below_limit fits next = record {
   so_far = has.so_far ∙ ap (λ (s : List ℕ). points_before done s) next ∙ sym (one_more done p more);
   fit = All-append IsInSquare done (p ∷ []) has.fit (All-cons IsInSquare p [] fits (All-nil IsInSquare));
   few =
       let size : length (done ++ p ∷ []) ≡ length done + 1 = length-append done (p ∷ []) in
-      omega (arith, size, room, has.few);
+      omega (arith, size, below_limit, has.few);
 }
 
--- a shape that has its points and what it is drawn with has them alone
+-- shapes with equal texts have the same points
 pub shape_tells : (s t : List Coordinates × Ink) → All IsInSquare s.0 → InkInRange s.1 → All IsInSquare t.0 → InkInRange t.1 → shape_text s ≡ shape_text t → s.0 ≡ t.0
 shape_tells s t s_fit s_ink t_fit t_ink is = by s.0 t.0 s_fit t_fit is
   where
@@ -106,14 +106,14 @@ shape_tells s t s_fit s_ink t_fit t_ink is = by s.0 t.0 s_fit t_fit is
         (spaceless IsInSquare point_text point_visible p p_fits) (spaceless IsInSquare point_text point_visible q q_fits) also in
         ap₂ (λ (x : Coordinates) (xs : List Coordinates). x ∷ xs) (point_tells p q p_fits q_fits same.0) (by ps qs (All-tail IsInSquare p ps ps_fit) (All-tail IsInSquare q qs qs_fit) same.1)
 
--- where a text has fewer points, it is that of no shape with so many
+-- a text with fewer points than a shape requires is that of no such shape
 pub other_count : (least : ℕ) (bytes : List ℕ) (done : List Coordinates) (ink : Ink) → IsWritten ShapeFits shape_text bytes (done, ink) → length done < least →
     WritesNone (λ s. ShapeFits s × (least ≤ length s.0)) shape_text bytes
-other_count least bytes done ink told less s fits is =
-    let same = shape_tells (done, ink) s told.fitting.points told.fitting.ink fits.0.points fits.0.ink (sym told.written ∙ is) in
+other_count least bytes done ink ensured less s fits is =
+    let same = shape_tells (done, ink) s ensured.fitting.points ensured.fitting.ink fits.0.points fits.0.ink (sym ensured.written ∙ is) in
     let size : length done ≡ length s.0 = ap (λ (ps : List Coordinates). length ps) same in
     omega (arith, size, less, fits.1)
 
--- and where it is that of none, of none with so many
+-- a text of no shape is that of no shape with a least number of points
 pub no_more : (least : ℕ) (bytes : List ℕ) → WritesNone ShapeFits shape_text bytes → WritesNone (λ s. ShapeFits s × (least ≤ length s.0)) shape_text bytes
 no_more least bytes none s fits is = none s fits.0 is

@@ -22,24 +22,24 @@ no_minus n ds fits is =
 pub with_minus : (bytes digits : List ℕ) (r : Option ℤ) → bytes ≡ 45 ∷ digits →
     MatchOption r ((n : ℕ) → IsSigned (negsuc n) → digits ≢ decimal (suc n)) (λ z. IsSigned z × (45 ∷ digits ≡ signed_decimal z)) →
     Reads IsSigned signed_decimal bytes r
-with_minus bytes digits None joins told = none
+with_minus bytes digits None joins ensured = none
   where
     none : WritesNone IsSigned signed_decimal bytes
     none (pos n) fits is = no_minus n digits (omega (arith, low_pos n fits)) (sym joins ∙ is)
-    none (negsuc n) fits is = let whole : 45 ∷ digits ≡ 45 ∷ decimal (suc n) = sym joins ∙ is in told n fits (cc)
-with_minus bytes digits (Some z) joins told = record { fitting = told.0; written = joins ∙ told.1 }
+    none (negsuc n) fits is = let whole : 45 ∷ digits ≡ 45 ∷ decimal (suc n) = sym joins ∙ is in ensured n fits (cc)
+with_minus bytes digits (Some z) joins ensured = record { fitting = ensured.0; written = joins ∙ ensured.1 }
 
 pub without_minus : (bytes : List ℕ) (r : Option ℤ) → get_or bytes 0 0 ≢ 45 →
     MatchOption r ((n : ℕ) → IsSigned (pos n) → bytes ≢ decimal n) (λ z. IsSigned z × (bytes ≡ signed_decimal z)) →
     Reads IsSigned signed_decimal bytes r
-without_minus bytes None other told = none
+without_minus bytes None other ensured = none
   where
     none : WritesNone IsSigned signed_decimal bytes
-    none (pos n) fits is = told n fits is
+    none (pos n) fits is = ensured n fits is
     none (negsuc n) fits is = other (ap (λ (xs : List ℕ). get_or xs 0 0) is)
-without_minus bytes (Some z) other told = record { fitting = told.0; written = told.1 }
+without_minus bytes (Some z) other ensured = record { fitting = ensured.0; written = ensured.1 }
 
--- what is behind a minus
+-- what follows a minus
 pub after_minus : (bytes : List ℕ) → 0 < length bytes → get_or bytes 0 0 ≡ 45 → bytes ≡ 45 ∷ take (length bytes - 1) (drop 1 bytes)
 after_minus [] some first = absurd (omega (arith, some))
 after_minus (x ∷ xs) some first = let all : take (length (x ∷ xs) - 1) xs ≡ xs = take_all (length (x ∷ xs) - 1) xs (omega arith) in rw (first, all) refl

@@ -4,7 +4,7 @@ use Rattle.nap_make.specs.Reading.{BothFit, pair_text}
 use Rattle.nap_make.proofs.LayoutLemmas.{Alike, Layout}
 use Rattle.nap_make.proofs.SpellLemmas.{Spells, both_spell}
 
--- Which bytes a text has, by how it is put together.
+-- The bytes of a text, by its parts.
 
 pub layout_spells : {A B : Type 0} {P : A → Type 0} {f : A → List ℕ} {b : ℕ} {Q : B → Type 0} {g : B → List ℕ} (R : ℕ → Type 0) → Layout P f b Q g → R b → Spells R P f → Spells R Q g → Spells R (BothFit P Q) (pair_text f b g)
 layout_spells {P = P} {f = f} {b = b} {Q = Q} {g = g} R layout byte one two = both_spell R P f b Q g one byte two

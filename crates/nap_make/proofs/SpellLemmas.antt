@@ -9,13 +9,13 @@ use Rattle.std.proofs.lemmas.Str.Parse.{digit_from_value}
 use Rattle.nap_make.specs.Numbers.{IsSigned}
 use Rattle.nap_make.specs.Reading.{BothFit, pair_text}
 
--- Which bytes a text has.
+-- The bytes of a text.
 
--- so is each byte of the texts of values that fit
+-- each byte of the texts of values in range has this property
 abbrev pub Spells : {V : Type 0} → (ℕ → Type 0) → (V → Type 0) → (V → List ℕ) → Type 0
 Spells {V = V} R P f = (v : V) → P v → All R (f v)
 
--- so is each digit
+-- each digit has this property
 abbrev pub OfDigits : (ℕ → Type 0) → Type 0
 OfDigits R = (d : ℕ) → 48 ≤ d → d < 58 → R d
 
@@ -48,15 +48,15 @@ pub above : (low : ℕ) (xs : List ℕ) → EachAbove low xs → All (λ x. low 
 above low [] all = All-nil (λ x. low < x)
 above low (x ∷ xs) all = All-cons (λ x. low < x) x xs all.0 (above low xs all.1)
 
--- a byte that isn't above this isn't in such a list
+-- a list whose bytes are above this doesn't contain a byte that isn't
 pub apart_below : (low b : ℕ) (xs : List ℕ) → b ≤ low → All (λ x. low < x) xs → All (λ x. x ≢ b) xs
 apart_below low b xs least all = All-weaker (λ x. low < x) (λ x. x ≢ b) (λ x high is. omega (arith, high, is, least)) xs all
 
--- a byte that is seen, and isn't a space
+-- a visible byte, which isn't a space
 abbrev pub IsVisible : ℕ → Type 0
 IsVisible b = 32 < b
 
--- the texts of values that fit have no space
+-- the texts of values with visible bytes contain no space
 pub spaceless : {V : Type 0} (P : V → Type 0) (f : V → List ℕ) → Spells IsVisible P f → (v : V) → P v → All (λ x. x ≢ 32) (f v)
 spaceless P f spells v fits = apart_below 32 32 (f v) (omega arith) (spells v fits)
 

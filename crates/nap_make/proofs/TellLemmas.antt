@@ -38,13 +38,13 @@ use Rattle.nap_make.proofs.LookLemmas.{look_parts, look_triple, modes_bytes, siz
 use Rattle.nap_make.proofs.NameLemmas.{value_in_table}
 use Rattle.nap_make.proofs.PlaceLemmas.{addr_pair, move_spells, move_tells, point_spells, point_tells, word_pair, word_triple}
 
--- Values that are written alike are equal, field by field.
+-- Values with equal texts are equal, field by field.
 
--- texts that something reads back tell their values
-pub told_by : {V : Type 0} (P : V → Type 0) (f : V → List ℕ) (read : List ℕ → V) → ((v : V) → P v → read (f v) ≡ v) → Tells P f
-told_by P f read again v w v_fits w_fits is = sym (again v v_fits) ∙ ap read is ∙ again w w_fits
+-- texts that can be read back are those of one value
+pub tells_if_read : {V : Type 0} (P : V → Type 0) (f : V → List ℕ) (read : List ℕ → V) → ((v : V) → P v → read (f v) ≡ v) → Tells P f
+tells_if_read P f read again v w v_fits w_fits is = sym (again v v_fits) ∙ ap read is ∙ again w w_fits
 
--- texts behind a key
+-- texts after a key
 key_tells : {V : Type 0} (P : V → Type 0) (f : V → List ℕ) (key : List ℕ) → Tells P f → Tells P (λ v. key ++ f v)
 key_tells P f key tells v w v_fits w_fits is = tells v w v_fits w_fits (append_cancel_left key (f v) (f w) is)
 
@@ -75,17 +75,17 @@ grb_tells = alike_tell grb_triple (λ (t : ℕ × (ℕ × ℕ)). record { g = t.
     part_tells : Tells (λ n. n < 65536) decimal
     part_tells m n m_fits n_fits is = decimal_injective m n (omega (arith, m_fits)) (omega (arith, n_fits)) is
 
--- both digits of a code tell it
+-- codes with equal digits are equal
 pub code_tells : Tells IsByte code_text
 code_tells m n m_fits n_fits is =
     let high = digit_tells (m / 16) (n / 16) (omega (arith, m_fits)) (omega (arith, n_fits)) (ap (λ (s : List ℕ). get_or s 0 0) is) in
     let low = digit_tells (m % 16) (n % 16) (omega arith) (omega arith) (ap (λ (s : List ℕ). get_or s 1 0) is) in
     omega (arith, high, low)
 
--- Values that have a word of their own.
+-- Values with names.
 
 pub set_tells : Tells AnyValue set_text
-set_tells = told_by AnyValue set_text (value_in_table ((codes "primary", char_sets.Primary) ∷ (codes "supplementary", char_sets.Supplementary) ∷ (codes "mosaic", char_sets.Mosaic) ∷ []) char_sets.Drcs) again
+set_tells = tells_if_read AnyValue set_text (value_in_table ((codes "primary", char_sets.Primary) ∷ (codes "supplementary", char_sets.Supplementary) ∷ (codes "mosaic", char_sets.Mosaic) ∷ []) char_sets.Drcs) again
   where
     again : (set : CharSet) → AnyValue set → value_in_table ((codes "primary", char_sets.Primary) ∷ (codes "supplementary", char_sets.Supplementary) ∷ (codes "mosaic", char_sets.Mosaic) ∷ []) char_sets.Drcs (set_text set) ≡ set
     again char_sets.Primary any = refl
@@ -94,7 +94,7 @@ set_tells = told_by AnyValue set_text (value_in_table ((codes "primary", char_se
     again char_sets.Drcs any = refl
 
 pub cursor_tells : Tells AnyValue cursor_text
-cursor_tells = told_by AnyValue cursor_text (value_in_table ((codes "flash", cursors.Flash) ∷ (codes "steady", cursors.Steady) ∷ []) cursors.Off) again
+cursor_tells = tells_if_read AnyValue cursor_text (value_in_table ((codes "flash", cursors.Flash) ∷ (codes "steady", cursors.Steady) ∷ []) cursors.Off) again
   where
     again : (kind : CursorKind) → AnyValue kind → value_in_table ((codes "flash", cursors.Flash) ∷ (codes "steady", cursors.Steady) ∷ []) cursors.Off (cursor_text kind) ≡ kind
     again cursors.Flash any = refl
@@ -102,7 +102,7 @@ cursor_tells = told_by AnyValue cursor_text (value_in_table ((codes "flash", cur
     again cursors.Off any = refl
 
 pub mask_tells : Tells AnyValue mask_text
-mask_tells = told_by AnyValue mask_text (value_in_table ((codes "A", masks.A) ∷ (codes "B", masks.B) ∷ (codes "C", masks.C) ∷ []) masks.D) again
+mask_tells = tells_if_read AnyValue mask_text (value_in_table ((codes "A", masks.A) ∷ (codes "B", masks.B) ∷ (codes "C", masks.C) ∷ []) masks.D) again
   where
     again : (mask : Mask) → AnyValue mask → value_in_table ((codes "A", masks.A) ∷ (codes "B", masks.B) ∷ (codes "C", masks.C) ∷ []) masks.D (mask_text mask) ≡ mask
     again masks.A any = refl
@@ -111,7 +111,7 @@ mask_tells = told_by AnyValue mask_text (value_in_table ((codes "A", masks.A) �
     again masks.D any = refl
 
 named_tells : Tells AnyValue (λ (n : Size). size_text (sizes.Named n))
-named_tells = told_by AnyValue (λ (n : Size). size_text (sizes.Named n)) (value_in_table ((codes "small", named_sizes.Small) ∷ (codes "medium", named_sizes.Medium) ∷ (codes "normal", named_sizes.Normal) ∷ (codes "tall", named_sizes.Tall) ∷ []) named_sizes.Double) again
+named_tells = tells_if_read AnyValue (λ (n : Size). size_text (sizes.Named n)) (value_in_table ((codes "small", named_sizes.Small) ∷ (codes "medium", named_sizes.Medium) ∷ (codes "normal", named_sizes.Normal) ∷ (codes "tall", named_sizes.Tall) ∷ []) named_sizes.Double) again
   where
     again : (n : Size) → AnyValue n → value_in_table ((codes "small", named_sizes.Small) ∷ (codes "medium", named_sizes.Medium) ∷ (codes "normal", named_sizes.Normal) ∷ (codes "tall", named_sizes.Tall) ∷ []) named_sizes.Double (size_text (sizes.Named n)) ≡ n
     again named_sizes.Small any = refl
@@ -122,7 +122,7 @@ named_tells = told_by AnyValue (λ (n : Size). size_text (sizes.Named n)) (value
 
 -- Values of several forms.
 
--- no displacement is written as a size by name is
+-- no displacement has the text of a named size
 no_name : (n : Size) (m : Displacement) → IsInRange m → move_text m ≡ size_text (sizes.Named n) → ⊥
 no_name named_sizes.Small m fits is = low_start 115 (move_text m) (codes "mall") (omega arith) (low_move m fits) is
 no_name named_sizes.Medium m fits is = low_start 109 (move_text m) (codes "edium") (omega arith) (low_move m fits) is
@@ -158,7 +158,7 @@ abbrev letter_of : Colour → ℕ
 letter_of (colours.Own origin) = 111
 letter_of (colours.Direct grb) = 100
 letter_of (colours.Front addr) = 102
-letter_of (colours.Pair front back) = 112
+letter_of (colours.Pair prefix back) = 112
 letter_of (colours.ByReset preset) = 114
 
 first_letter : (c : Colour) → get_or (colour_text c) 0 0 ≡ letter_of c
@@ -166,7 +166,7 @@ first_letter (colours.Own origins.AtStart) = refl
 first_letter (colours.Own origins.AfterReset) = refl
 first_letter (colours.Direct grb) = refl
 first_letter (colours.Front addr) = refl
-first_letter (colours.Pair front back) = refl
+first_letter (colours.Pair prefix back) = refl
 first_letter (colours.ByReset presets.Two) = refl
 first_letter (colours.ByReset presets.Three) = refl
 
@@ -193,7 +193,7 @@ colour_tells c d c_fits d_fits is = by c d c_fits d_fits is (sym (first_letter c
     by (colours.ByReset presets.Three) (colours.ByReset presets.Three) c_fits d_fits is same = refl
     by c d c_fits d_fits is same = absurd (omega (arith, same))
 
--- What entries are drawn with.
+-- Textures, INK and HAND.
 
 texture_tells : Tells TextureInRange texture_text
 texture_tells = alike_tell texture_pair (λ (t : ℕ × Option Displacement). record { word = t.0; mask = t.1 }) (λ t. refl) (both_tell texture_parts word_tells mask_size_tells)

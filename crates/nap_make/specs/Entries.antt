@@ -30,11 +30,11 @@ pub record BeginsShape (bytes : List ℕ) : Type 0 where
   pub begins : bytes ≡ line_from name rest
 
 -- the bytes begin the line of a well-made entry in range
-pub record BeginsLine (front : List ℕ) : Type 0 where
+pub record BeginsLine (prefix : List ℕ) : Type 0 where
   pub entry : Entry
   pub more : List ℕ
   pub proper : IsProper entry
-  pub begins : line entry ≡ front ++ more
+  pub begins : line entry ≡ prefix ++ more
 
 -- what is before this column, counted from 1, begins the line of an entry
 pub record TellsColumn (bytes : List ℕ) (column : ℕ) : Type 0 where
@@ -50,6 +50,6 @@ TellsLine bytes (Err (faults.Line column)) = WritesNone IsProper line bytes × T
 TellsLine bytes (Err faults.Memory) = BeginsShape bytes
 
 -- the first bytes are a prefix of the others
-pub record Extends (front whole : List ℕ) : Type 0 where
+pub record Extends (prefix whole : List ℕ) : Type 0 where
   pub more : List ℕ
-  pub parts : whole ≡ front ++ more
+  pub parts : whole ≡ prefix ++ more

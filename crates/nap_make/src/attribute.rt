@@ -45,7 +45,7 @@ pub(crate) fn pel_field(bytes: &[u8]) -> Option<Move>
     displacement(text)
 }
 
-/// Parses the field `push_colour=`.
+/// Parses the field `colour=`.
 pub(crate) fn colour_field(bytes: &[u8]) -> Option<Colour>
     ensures { Reads ColourInRange colour_field bytes.now result }
 {
@@ -53,7 +53,7 @@ pub(crate) fn colour_field(bytes: &[u8]) -> Option<Colour>
     colour(text)
 }
 
-/// Parses the field `push_texture=`.
+/// Parses the field `texture=`.
 pub(crate) fn texture_field(bytes: &[u8]) -> Option<Texture>
     ensures { Reads TextureInRange texture_field bytes.now result }
 {
@@ -61,7 +61,7 @@ pub(crate) fn texture_field(bytes: &[u8]) -> Option<Texture>
     texture(text)
 }
 
-/// Parses the field `push_pen=`.
+/// Parses the field `pen=`.
 pub(crate) fn pen_field(bytes: &[u8]) -> Option<Pen>
     ensures { Reads PenInRange pen_field bytes.now result }
 {

@@ -63,12 +63,12 @@ fn colour_by_numbers(bytes: &[u8]) -> Option<Colour>
             Some(Colour::Direct(grb))
         }
         ColourKind::Front => {
-            let front = addr(numbers)?;
-            Some(Colour::Front(front))
+            let foreground = addr(numbers)?;
+            Some(Colour::Front(foreground))
         }
         ColourKind::Pair => {
-            let (front, back) = two_addrs(numbers)?;
-            Some(Colour::Pair(front, back))
+            let (foreground, background) = two_addrs(numbers)?;
+            Some(Colour::Pair(foreground, background))
         }
     }
 }

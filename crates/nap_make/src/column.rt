@@ -191,7 +191,7 @@ fn wrong_fields(fields: &'static [Field], bytes: &[u8]) -> FieldFault
     }
 }
 
-/// Returns the first fault after the name of a shape with at least this many points.
+/// Returns the first fault after the name of a shape with at least `least` points.
 fn wrong_shape(least: usize, rest: &[u8]) -> FieldFault
     ensures { result.size ≤ length rest.now }
 {
@@ -248,11 +248,11 @@ fn wrong_part(bytes: &[u8]) -> FieldFault
 }
 
 /// Returns the bytes followed by examples of the fields.
-fn with_sample_fields(alloc: Global, front: &[u8], fields: &[Field]) -> Result<Vec<u8>, AllocError>
-    ensures { IfOk result (λ text. Extends front.now text.items) }
+fn with_sample_fields(alloc: Global, prefix: &[u8], fields: &[Field]) -> Result<Vec<u8>, AllocError>
+    ensures { IfOk result (λ text. Extends prefix.now text.items) }
 {
     let mut text = Vec::new(alloc);
-    text.extend_from_slice(front)?;
+    text.extend_from_slice(prefix)?;
     let Some((last, others)) = fields.split_last() else {
         return Ok(text);
     };
@@ -265,10 +265,10 @@ fn with_sample_fields(alloc: Global, front: &[u8], fields: &[Field]) -> Result<V
 }
 
 /// Whether the bytes followed by examples of the fields are the line of an entry.
-fn begins_line(alloc: Global, front: &[u8], fields: &[Field]) -> bool
-    ensures { IsTrue result → BeginsLine front.now }
+fn begins_line(alloc: Global, prefix: &[u8], fields: &[Field]) -> bool
+    ensures { IsTrue result → BeginsLine prefix.now }
 {
-    match with_sample_fields(alloc, front, fields) {
+    match with_sample_fields(alloc, prefix, fields) {
         Ok(text) => match read(alloc, text.as_slice()) {
             Ok(Some(_)) => true,
             Ok(None) => false,

@@ -4,7 +4,7 @@ ghost use Rattle.nap_make.specs.Cutting.{SplitsAtByte};
 
 /// Returns what is before the first byte of this value, and what is after it.
 pub fn split_at_byte(bytes: &[u8], byte: u8) -> Option<(&[u8], &[u8])>
-    ensures { MatchOption result ((front back : List ℕ) → SplitsAtByte byte bytes.now front back → ⊥) (λ parts. SplitsAtByte byte bytes.now parts.0.now parts.1.now) }
+    ensures { MatchOption result ((prefix back : List ℕ) → SplitsAtByte byte bytes.now prefix back → ⊥) (λ parts. SplitsAtByte byte bytes.now parts.0.now parts.1.now) }
 {
     let mut at = 0;
     while at < bytes.len() {
@@ -17,10 +17,10 @@ pub fn split_at_byte(bytes: &[u8], byte: u8) -> Option<(&[u8], &[u8])>
 }
 
 /// Returns what follows a prefix.
-pub(crate) fn rest_after<'a>(bytes: &'a [u8], front: &[u8]) -> Option<&'a [u8]>
-    ensures { MatchOption result ((rest : List ℕ) → bytes.now ≢ front.now ++ rest) (λ rest. bytes.now ≡ front.now ++ rest.now) }
+pub(crate) fn rest_after<'a>(bytes: &'a [u8], prefix: &[u8]) -> Option<&'a [u8]>
+    ensures { MatchOption result ((rest : List ℕ) → bytes.now ≢ prefix.now ++ rest) (λ rest. bytes.now ≡ prefix.now ++ rest.now) }
 {
-    bytes.strip_prefix(front)
+    bytes.strip_prefix(prefix)
 }
 
 /// Whether the bytes are this text.

@@ -184,7 +184,7 @@ pub(crate) fn cursor_entry(rest: &[u8]) -> Option<Entry>
     Some(Entry::Cursor(kind))
 }
 
-/// Parses two corners and the field `push_pen=`.
+/// Parses two corners and the field `pen=`.
 fn two_points_and_pen(bytes: &[u8]) -> Option<(Point, (Point, Pen))>
     ensures { Reads (BothFit IsInSquare (BothFit IsInSquare PenInRange)) (pair_text point_text 32 (pair_text point_text 32 pen_field)) bytes.now result }
 {

@@ -50,7 +50,7 @@ fn entry_named(alloc: Global, name: Name, rest: &[u8]) -> Result<Option<Entry>, 
 
 /// Parses a line that is a name alone.
 fn entry_alone(bytes: &[u8]) -> Option<Entry>
-    requires { (front back : List ℕ) → SplitsAtByte 32 bytes.now front back → ⊥ }
+    requires { (prefix back : List ℕ) → SplitsAtByte 32 bytes.now prefix back → ⊥ }
     ensures { ReadsLine bytes.now result }
 {
     let name = Name::of(bytes)?;

@@ -1,4 +1,4 @@
-//! What the libraries say of a stream.
+//! What the libraries answer about a stream.
 use crate::notation::MOST;
 use crate::report::Report;
 use nap_command::Failure;
@@ -7,25 +7,25 @@ use nap_list::{CountSink, Entry, ListSink, Sink};
 use nap_reader::{Budget, Reader, Refusal};
 use std::alloc::{AllocError, Global};
 
-/// All that a reader says of a stream.
+/// All that a reader answers about a stream.
 #[derive(Drop)]
 pub struct Answer {
-    /// The entries before the end, or before what is refused.
+    /// The entries before the end, or before the refusal.
     pub list: Vec<Entry>,
     /// Why the stream is refused, if it is.
     pub refusal: Option<Refusal>,
-    /// Whether it was refused before its end.
+    /// Whether the stream was refused before its end.
     pub early: bool,
-    /// How many bytes were taken.
+    /// The number of bytes read.
     pub fed: u64,
-    /// How many turns there were.
+    /// The number of turns.
     pub turns: u64,
-    /// How much was charged.
+    /// The number of bytes charged.
     pub charged: u64,
 }
 
 impl Answer {
-    /// Whether the other is the same.
+    /// Whether two answers are equal.
     pub fn is(&self, other: &Answer) -> bool {
         self.list == other.list
             && (self.refusal, self.early) == (other.refusal, other.early)
@@ -33,18 +33,18 @@ impl Answer {
     }
 }
 
-/// In which pieces a stream comes.
+/// The pieces of a stream.
 #[derive(Clone, Copy, Drop)]
 pub enum Cut {
-    /// In one.
+    /// One piece.
     Whole,
-    /// In two, each with an empty piece behind it.
+    /// Two pieces, cut at this index, each followed by an empty piece.
     At(usize),
-    /// In single bytes, with empty pieces between them where that is wanted.
+    /// Single bytes, each after an empty piece if this is true.
     Single(bool),
 }
 
-/// Feeds a piece. Once a stream is refused, each further piece is.
+/// Feeds a piece, and checks that a refused stream stays so.
 fn feed<S: Sink>(report: &mut Report, reader: &mut Reader<S>, piece: &[u8]) {
     if piece.len() > MOST || reader.fed() > MOST as u64 {
         report.tell("there are too many bytes");
@@ -78,7 +78,7 @@ fn feed_in<S: Sink>(report: &mut Report, reader: &mut Reader<S>, stream: &[u8], 
     }
 }
 
-/// The sink at the end of the stream, and why it is refused.
+/// Ends the stream, and returns the sink and the refusal.
 pub fn end<S: Sink>(reader: Reader<S>) -> (S, Option<Refusal>) {
     match reader.finish() {
         Ok(sink) => (sink, None),
@@ -86,7 +86,7 @@ pub fn end<S: Sink>(reader: Reader<S>) -> (S, Option<Refusal>) {
     }
 }
 
-/// What a reader into this sink says of a stream in these pieces, and the sink.
+/// Reads a stream in these pieces into the reader's sink, and returns the sink and the answer.
 pub fn read_into<S: Sink + Drop>(
     report: &mut Report,
     mut reader: Reader<S>,
@@ -111,7 +111,7 @@ pub fn read_into<S: Sink + Drop>(
     (sink, answer)
 }
 
-/// What a reader says of a stream in these pieces.
+/// Reads a stream in these pieces, and returns the answer with its list.
 #[tactic(auto, unfolding(nap_list::specs::State::walk))]
 pub fn answer_in(report: &mut Report, budget: Budget, stream: &[u8], cut: Cut) -> Answer {
     let alloc = report.alloc;
@@ -123,7 +123,8 @@ pub fn answer_in(report: &mut Report, budget: Budget, stream: &[u8], cut: Cut) -
     }
 }
 
-/// With which byte each entry comes, where each byte is a piece; those that come at the end have the length.
+/// Returns the index of the byte that adds each entry, where each byte is a piece; the length for entries added at the
+/// end.
 pub fn places_in(
     report: &mut Report,
     budget: Budget,
@@ -142,7 +143,7 @@ pub fn places_in(
     Ok(places)
 }
 
-/// The entries that have no place yet, of so many, came there.
+/// Appends this place for each of the `count` entries that has none yet.
 fn place_new(places: &mut Vec<u64>, count: u64, place: u64) -> Result<(), AllocError> {
     for _ in places.len() as u64..count {
         places.push(place)?;
@@ -150,7 +151,7 @@ fn place_new(places: &mut Vec<u64>, count: u64, place: u64) -> Result<(), AllocE
     Ok(())
 }
 
-/// The lines of a list, each with its end.
+/// Returns the lines of a list, each with LF.
 pub fn lines_of(alloc: Global, list: &[Entry]) -> Result<String, AllocError> {
     let mut lines = String::new(alloc);
     for entry in list {
@@ -160,7 +161,7 @@ pub fn lines_of(alloc: Global, list: &[Entry]) -> Result<String, AllocError> {
     Ok(lines)
 }
 
-/// How a stream ended, as a row has it: what the program says of a refusal.
+/// Returns how a stream ended, as a row has it: what the program prints of a refusal.
 pub fn ended(alloc: Global, refusal: Option<Refusal>) -> Result<String, AllocError> {
     match refusal {
         None => String::from_str(alloc, "accepted"),
@@ -168,7 +169,7 @@ pub fn ended(alloc: Global, refusal: Option<Refusal>) -> Result<String, AllocErr
     }
 }
 
-/// A stream ended as it was wanted.
+/// Checks that a stream ended as wanted.
 pub fn same_end(
     report: &mut Report,
     wanted: Option<Refusal>,

@@ -1,16 +1,16 @@
-//! Checks tables of streams against what the libraries say of each. Its arguments name the tables, a file each.
+//! Checks tables of streams against what the libraries answer. Its arguments name the tables, a file each.
 //!
 //! A row is a line `STREAM | LIST | CANONICAL` of a stream that is accepted, or `STREAM | LIST | refused 10 Outside at 3` of
 //! one that is refused, with the entries before that. A line that begins with `#` is a comment, an empty one is nothing.
 //!
 //! STREAM and CANONICAL are bytes: hexadecimal digits, texts in quotes as `"A"`, and groups in brackets. `40*7` is seven times
-//! 40, `(26 52)*3` three times 26 52. LIST has the lines of the entries, with `;` between: `LINE *3` stands for three such lines,
-//! and the word `0,0*3` for three such words. LIST or CANONICAL is `-` where the row says nothing of it.
+//! 40, `(26 52)*3` three times 26 52. LIST has the lines of the entries, with `;` between: `LINE *3` is three such lines,
+//! and the word `0,0*3` three such words. LIST or CANONICAL is `-` if the row doesn't say it.
 //!
 //! A fourth field has more, with `,` between: `budget N` (else the usual one), `charged N` (else 0), `turns N` (else as many as
-//! bytes, where nothing is charged), `fed N` bytes taken, `places N ..` (with which byte each entry comes), `form1 BYTES` (the
-//! text in form 1), `plain` and `not plain`. `charged -` and `turns -` stand for any number. `stops` and `breaks` say where sinks
-//! and outlets with little room stop the reading.
+//! bytes, if nothing is charged), `fed N` bytes read, `places N ..` (the index of the byte that adds each entry), `form1 BYTES` (the
+//! text in form 1), `plain` and `not plain`. `charged -` and `turns -` are any number. `stops` and `breaks` say where sinks
+//! and outlets with little space stop the reading.
 #![tactic(auto)]
 
 mod answer;
@@ -27,7 +27,7 @@ use std::rt::Files;
 use std::{env, io};
 use table::{Trouble, check_file};
 
-/// Checks the tables of these files, and prints each row that disagrees. Answers how many do.
+/// Checks the tables of these files, and prints each row that disagrees. Returns the number of these.
 fn check_all(rt: &(impl Files + Print + AllocGlobal), names: &[String]) -> Result<u64, Trouble> {
     let mut wrong: u64 = 0;
     for name in names {
@@ -36,7 +36,7 @@ fn check_all(rt: &(impl Files + Print + AllocGlobal), names: &[String]) -> Resul
     Ok(wrong)
 }
 
-/// Prints how the checks ended, and answers the exit status.
+/// Prints how the checks ended, and returns the exit status.
 fn conclude(rt: &(impl Print + Eprint), checked: Result<u64, Trouble>) -> io::Result<u8> {
     let trouble = match checked {
         Ok(0) => {

@@ -3,10 +3,10 @@ use crate::report::Report;
 use State::{Between, Counted, High, Quoted};
 use std::alloc::{AllocError, Global};
 
-/// The most bytes that one field spells.
+/// The greatest number of bytes of a field.
 pub const MOST: usize = 16_777_216;
 
-/// What has come of the part that is being read.
+/// What was read of the current part.
 #[derive(Clone, Copy, Drop)]
 enum State {
     /// No part is open.
@@ -15,7 +15,7 @@ enum State {
     High(u8),
     /// A quote, and perhaps some characters.
     Quoted,
-    /// How often the last part stands there, as far as its digits came.
+    /// `*`, and perhaps digits of how often the last part is repeated.
     Counted(Option<usize>),
 }
 
@@ -24,15 +24,15 @@ enum State {
 struct Spelling {
     state: State,
     bytes: Vec<u8>,
-    /// Where the open groups begin.
+    /// The indices where the open groups begin.
     groups: Vec<usize>,
-    /// Where the last part begins, if it can be repeated.
+    /// The index where the last part begins, if it can be repeated.
     part: Option<usize>,
-    /// What is wrong, empty where nothing is.
+    /// What is wrong, or empty.
     wrong: &'static str,
 }
 
-/// The value of a hexadecimal digit.
+/// Returns the value of a hexadecimal digit.
 fn digit(byte: u8) -> Option<u8> {
     match byte {
         b'0'..=b'9' => Some(byte - b'0'),
@@ -56,7 +56,7 @@ impl Spelling {
         }
     }
 
-    /// A byte where no part is open.
+    /// Reads a byte outside a part.
     fn begin(&mut self, byte: u8) -> Result<(), AllocError> {
         match byte {
             b' ' | b'\t' => {}
@@ -84,7 +84,7 @@ impl Spelling {
         Ok(())
     }
 
-    /// The second digit of a byte.
+    /// Reads the second digit of a byte.
     fn end_byte(&mut self, high: u8, byte: u8) -> Result<(), AllocError> {
         let Some(low) = digit(byte) else {
             self.wrong = "a byte lacks its second digit";
@@ -95,7 +95,7 @@ impl Spelling {
         Ok(self.bytes.push(high.wrapping_mul(16) | low)?)
     }
 
-    /// A byte behind `*` and perhaps some digits.
+    /// Reads a byte after `*` and perhaps some digits.
     fn count(&mut self, count: Option<usize>, byte: u8) -> Result<(), AllocError> {
         if byte.is_ascii_digit() {
             let tens = count.unwrap_or(0).saturating_mul(10);
@@ -107,7 +107,7 @@ impl Spelling {
         self.begin(byte)
     }
 
-    /// The last part stands there so often.
+    /// Repeats the last part, so that it is there `count` times.
     fn repeat(&mut self, count: Option<usize>) -> Result<(), AllocError> {
         let (Some(count), Some(start)) = (count, self.part) else {
             self.wrong = "a count has no digits";
@@ -127,7 +127,7 @@ impl Spelling {
         Ok(())
     }
 
-    /// The last byte has come.
+    /// Ends the text.
     fn finish(&mut self) -> Result<(), AllocError> {
         match self.state {
             Between => {}
@@ -145,8 +145,8 @@ impl Spelling {
     }
 }
 
-/// The bytes that a text spells: hexadecimal digits, texts in quotes, and groups in brackets, each of which stands so often
-/// as a number behind `*` says.
+/// Returns the bytes that a text spells: hexadecimal digits, texts in quotes, and groups in brackets, each repeated as
+/// often as a number after `*` says.
 pub fn bytes_of(report: &mut Report, text: &str) -> Result<Vec<u8>, AllocError> {
     let mut spelling = Spelling {
         state: Between,

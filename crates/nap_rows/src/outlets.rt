@@ -1,4 +1,4 @@
-//! Streams whose canonical text goes into outlets with little room.
+//! Streams whose canonical text is written to outlets with little space.
 use crate::answer::{Cut, read_into, same_end};
 use crate::report::Report;
 use crate::row::{Row, Stop, stops_of};
@@ -8,29 +8,29 @@ use nap_list::Target;
 use nap_reader::{Fault, Reader, Refusal};
 use std::alloc::AllocError;
 
-/// A longer text is written where there is room for all of it alone.
+/// Longer texts are written only to outlets with space for all of it.
 const LONG: usize = 1_024;
 
-/// Into an outlet with so much room, which takes so many bytes at a write, goes as much of the text as there is room for. Where the
-/// row says so, the reading stops at a place.
+/// Writes the text to an outlet with space for `space` bytes, which takes at most `most` bytes at a write, and checks
+/// that it took all that it has space for, and where the reading stops.
 fn check_outlet(
     report: &mut Report,
     row: &Row<'_>,
     text: &[u8],
-    room: usize,
+    space: usize,
     most: usize,
     stop: Option<Stop>,
 ) -> Result<(), AllocError> {
-    let taker = Taker::new(report.alloc, room, most, End::Fails);
+    let taker = Taker::new(report.alloc, space, most, End::Fails);
     let reader = Reader::new(report.alloc, row.budget, CanonSink::new(Target::new(taker)));
     let (sink, answer) = read_into(report, reader, &row.stream, Cut::Whole);
     let (failed, written) = (sink.failed(), sink.written());
     let Taker { kept, flushes, .. } = sink.close().into_inner();
-    let front = text.get(..room).unwrap_or(text);
-    report.same_bytes("text", front, &kept);
-    report.same_count("written", front.len() as u64, written);
+    let prefix = text.get(..space).unwrap_or(text);
+    report.same_bytes("text", prefix, &kept);
+    report.same_count("written", prefix.len() as u64, written);
     report.same_count("flushes", 0, flushes);
-    report.check(failed == (room < text.len()), "whether it failed");
+    report.check(failed == (space < text.len()), "whether it failed");
     let wanted = match stop {
         Some(Stop { place, .. }) => Some(Refusal {
             fault: Fault::Sink,
@@ -42,7 +42,7 @@ fn check_outlet(
     same_end(report, wanted, answer.refusal)
 }
 
-/// An outlet with any room takes the text, or as much of it as there is room for.
+/// Checks that outlets with any space take the text, or as much of it as they have space for.
 pub fn check_outlets(report: &mut Report, row: &Row<'_>, text: &[u8]) -> Result<(), AllocError> {
     for most in [1, 2, 3, 5, 64, 4_096] {
         report.try_now("into an outlet that takes at a write", most);
@@ -52,10 +52,10 @@ pub fn check_outlets(report: &mut Report, row: &Row<'_>, text: &[u8]) -> Result<
     if text.len() > LONG {
         return Ok(());
     }
-    for room in 0..text.len() {
-        report.try_now("into an outlet with room for", room);
+    for space in 0..text.len() {
+        report.try_now("into an outlet with room for", space);
         for most in [1, 3, 5, 100] {
-            check_outlet(report, row, text, room, most, breaks.get(room).copied())?;
+            check_outlet(report, row, text, space, most, breaks.get(space).copied())?;
         }
     }
     Ok(())

@@ -1,24 +1,24 @@
 //! What is wrong with a row.
 use std::alloc::{AllocError, Global};
 
-/// The most bytes that are printed of a text.
+/// The greatest number of bytes of a text that are printed.
 const SHOWN: usize = 40;
 
-/// What is wrong with a row: the first thing that is told.
+/// What is wrong with a row: the first fault reported.
 #[derive(Drop)]
 pub struct Report {
-    /// Where its texts are.
+    /// The allocator of the texts.
     pub alloc: Global,
-    /// What is told, empty while nothing is.
+    /// The first fault, or empty.
     pub text: String,
-    /// What is being tried, and a number in its name.
+    /// The trial that is made, and the number in its name.
     tried: (&'static str, usize),
-    /// Whether there was no memory to tell something.
+    /// Whether memory ran out for a report.
     lacks_memory: bool,
 }
 
 impl Report {
-    /// Nothing is wrong so far.
+    /// Returns a report without a fault.
     pub fn new(alloc: Global) -> Report {
         Report {
             alloc,
@@ -28,12 +28,12 @@ impl Report {
         }
     }
 
-    /// Whether nothing is wrong so far.
+    /// Whether no fault was reported.
     pub fn is_well(&self) -> bool {
         self.text.is_empty() && !self.lacks_memory
     }
 
-    /// Whether there was memory for what was told.
+    /// Fails if memory ran out for a report.
     pub fn is_complete(&self) -> Result<(), AllocError> {
         if self.lacks_memory {
             return Err(AllocError);
@@ -41,34 +41,34 @@ impl Report {
         Ok(())
     }
 
-    /// What is told from now on is of this.
+    /// Begins a trial: later faults are of it.
     pub fn try_now(&mut self, name: &'static str, number: usize) {
         self.tried = (name, number);
     }
 
-    /// This text is told, where nothing was before.
-    fn take(&mut self, told: Result<String, AllocError>) {
-        match told {
+    /// Keeps a fault, unless one was reported before.
+    fn take(&mut self, found: Result<String, AllocError>) {
+        match found {
             Ok(text) if self.is_well() => self.text = text,
             Ok(_) => {}
             Err(AllocError) => self.lacks_memory = true,
         }
     }
 
-    /// This is what is wrong.
+    /// Reports a fault of the current trial.
     pub fn tell(&mut self, what: &str) {
         let (name, number) = self.tried;
         self.take(format!(in self.alloc; "{name} {number}: {what}"));
     }
 
-    /// This is wrong where that doesn't hold.
+    /// Reports a fault unless the condition holds.
     pub fn check(&mut self, holds: bool, what: &str) {
         if !holds {
             self.tell(what);
         }
     }
 
-    /// Tells what was wanted, and what came.
+    /// Reports what was wanted, and what came.
     fn differ(&mut self, name: &str, wanted: &str, came: &str) {
         match format!(in self.alloc; "{name}: `{wanted}` was wanted, `{came}` came") {
             Ok(text) => self.tell(&text),
@@ -76,14 +76,14 @@ impl Report {
         }
     }
 
-    /// An answer is the wanted one.
+    /// Checks that a text is the wanted one.
     pub fn same_text(&mut self, name: &str, wanted: &str, came: &str) {
         if wanted != came {
             self.differ(name, wanted, came);
         }
     }
 
-    /// The same of a count.
+    /// Checks that a count is the wanted one.
     pub fn same_count(&mut self, name: &str, wanted: u64, came: u64) {
         if wanted != came {
             match format!(in self.alloc; "{name}: {wanted} were wanted, {came} came") {
@@ -93,7 +93,7 @@ impl Report {
         }
     }
 
-    /// The same of bytes.
+    /// Checks that bytes are the wanted ones.
     pub fn same_bytes(&mut self, name: &str, wanted: &[u8], came: &[u8]) {
         if wanted == came {
             return;
@@ -105,7 +105,7 @@ impl Report {
         }
     }
 
-    /// Tells which bytes were wanted from a place on, and which came.
+    /// Reports which bytes were wanted from an index on, and which came.
     fn differ_from(
         &mut self,
         name: &str,
@@ -119,7 +119,7 @@ impl Report {
         Ok(())
     }
 
-    /// The same of lines, each with its end.
+    /// Checks that lines, each with LF, are the wanted ones.
     pub fn same_lines(&mut self, name: &str, wanted: &str, came: &str) {
         if wanted == came {
             return;
@@ -139,7 +139,7 @@ impl Report {
     }
 }
 
-/// Some bytes from a place on, in hexadecimal, and where they begin.
+/// Returns some bytes from an index on, in hexadecimal, and the index.
 fn excerpt(alloc: Global, bytes: &[u8], from: usize) -> Result<String, AllocError> {
     let rest = bytes.get(from..).unwrap_or(&[]);
     let shown = hex::encode(alloc, rest.get(..SHOWN).unwrap_or(rest))?;

@@ -1,36 +1,36 @@
-//! A stream, and what is wanted of it.
+//! A stream with what is wanted of it.
 use crate::notation::{MOST, bytes_of};
 use crate::report::Report;
 use nap_reader::Budget;
 use std::alloc::AllocError;
 
-/// Where a sink stops the reading.
+/// How a sink stops the reading.
 #[derive(Clone, Copy, Drop)]
 pub struct Stop {
-    /// The place that the refusal tells.
+    /// The place of the refusal.
     pub place: u64,
-    /// How many bytes were taken before it came, if it didn't come at the end.
+    /// The number of bytes read before it, unless it comes at the end.
     pub fed: Option<u64>,
-    /// How many turns there were then.
+    /// The number of turns before it.
     pub turns: Option<u64>,
 }
 
-/// A stream, and what is wanted of it.
+/// A stream with what is wanted of it.
 #[derive(Drop)]
 pub struct Row<'a> {
-    /// Its bytes.
+    /// The bytes of the stream.
     pub stream: Vec<u8>,
     /// The lines of its entries, or `-`.
     pub list: &'a str,
-    /// Its canonical stream, why it is refused, or `-`.
+    /// Its canonical stream, its refusal, or `-`.
     pub ending: &'a str,
     /// What else is wanted.
     more: &'a str,
-    /// The budget that it is read under.
+    /// The budget under which it is read.
     pub budget: Budget,
 }
 
-/// A number in decimal digits.
+/// Parses a decimal number.
 pub fn number(report: &mut Report, text: &str) -> u64 {
     match text.trim().parse::<u64>() {
         Ok(number) => number,
@@ -41,7 +41,7 @@ pub fn number(report: &mut Report, text: &str) -> u64 {
     }
 }
 
-/// A word, and how often it stands there.
+/// Parses a word, and how often it is repeated.
 fn counted<'a>(report: &mut Report, word: &'a str) -> (&'a str, u64) {
     let Some((word, times)) = word.split_once('*') else {
         return (word, 1);
@@ -51,7 +51,7 @@ fn counted<'a>(report: &mut Report, word: &'a str) -> (&'a str, u64) {
     (word, times.min(MOST as u64))
 }
 
-/// Where the reading stops: `PLACE/TAKEN/TURNS`, of which TURNS may be left out, and TAKEN where it stops at the end.
+/// Parses how a sink stops the reading: `PLACE/TAKEN/TURNS`, without TURNS or with it, and without TAKEN at the end.
 fn stop_of(report: &mut Report, word: &str) -> Stop {
     let Some((place, taken)) = word.split_once('/') else {
         return Stop {
@@ -68,7 +68,7 @@ fn stop_of(report: &mut Report, word: &str) -> Stop {
     }
 }
 
-/// A count, or `-` for any.
+/// Parses a count, or `-` for any.
 pub fn count(report: &mut Report, text: &str) -> Option<u64> {
     if text.trim() == "-" {
         return None;
@@ -76,7 +76,7 @@ pub fn count(report: &mut Report, text: &str) -> Option<u64> {
     Some(number(report, text))
 }
 
-/// Where sinks stop the reading.
+/// Parses how sinks stop the reading.
 pub fn stops_of(report: &mut Report, text: &str) -> Result<Vec<Stop>, AllocError> {
     let mut stops = Vec::new(report.alloc);
     for word in text.split_whitespace() {
@@ -89,7 +89,7 @@ pub fn stops_of(report: &mut Report, text: &str) -> Result<Vec<Stop>, AllocError
     Ok(stops)
 }
 
-/// Appends a word so many times, each with a blank behind it.
+/// Appends a word `times` times, each with a space after it.
 fn push_word(line: &mut String, word: &str, times: u64) -> Result<(), AllocError> {
     for _ in 0..times {
         line.push_str(word)?;
@@ -98,7 +98,7 @@ fn push_word(line: &mut String, word: &str, times: u64) -> Result<(), AllocError
     Ok(())
 }
 
-/// Appends a line. Of its words `W*3` is three times W, and `*3` has the line three times.
+/// Appends a line, in which `W*3` is three times the word W. With the last word `*3`, appends it three times.
 fn push_lines(report: &mut Report, lines: &mut String, text: &str) -> Result<(), AllocError> {
     let mut line = String::new(report.alloc);
     let mut repeated = 1;
@@ -117,7 +117,7 @@ fn push_lines(report: &mut Report, lines: &mut String, text: &str) -> Result<(),
     Ok(())
 }
 
-/// The lines of a list, each with its end.
+/// Returns the lines of a list, each with LF.
 pub fn lines_of(report: &mut Report, list: &str) -> Result<String, AllocError> {
     let mut lines = String::new(report.alloc);
     for line in list.split(';') {
@@ -128,7 +128,7 @@ pub fn lines_of(report: &mut Report, list: &str) -> Result<String, AllocError> {
     Ok(lines)
 }
 
-/// The word of an item, and what stands behind it.
+/// Splits an item into its word and what follows it.
 fn parted(item: &str) -> (&str, &str) {
     let item = item.trim();
     item.split_once(' ').unwrap_or((item, ""))
@@ -141,7 +141,7 @@ fn budget(report: &mut Report, text: &str) -> Budget {
     budget.unwrap_or(Budget::usual())
 }
 
-/// An item begins with one of the words, and what stands behind that can be read, whether or not the row is refused.
+/// Checks that an item begins with one of the words, and that what follows can be parsed, also if the row is refused.
 fn check_item(report: &mut Report, item: &str) -> Result<(), AllocError> {
     let (word, rest) = parted(item);
     let says = match word {
@@ -175,7 +175,7 @@ fn check_item(report: &mut Report, item: &str) -> Result<(), AllocError> {
 }
 
 impl<'a> Row<'a> {
-    /// The row of a line: the stream, its list, its canonical stream or why it is refused, and perhaps more.
+    /// Parses the row of a line: the stream, its list, its canonical stream or its refusal, and perhaps more.
     pub fn parse(report: &mut Report, line: &'a str) -> Result<Row<'a>, AllocError> {
         let mut fields = line.split('|');
         let stream = bytes_of(report, fields.next().unwrap_or(""))?;
@@ -199,7 +199,7 @@ impl<'a> Row<'a> {
         Ok(row)
     }
 
-    /// What stands behind this word in what else is wanted, where it stands last, if it is there.
+    /// Returns what follows this word in the last of its items, if there is one.
     pub fn item(&self, word: &str) -> Option<&'a str> {
         let mut last = None;
         for item in self.more.split(',') {
@@ -211,7 +211,7 @@ impl<'a> Row<'a> {
         last
     }
 
-    /// How much is charged, if the row says so.
+    /// Returns how much is charged, if the row says so.
     pub fn charged(&self, report: &mut Report) -> Option<u64> {
         match self.item("charged") {
             Some(text) => count(report, text),
@@ -219,7 +219,7 @@ impl<'a> Row<'a> {
         }
     }
 
-    /// How many turns there are for so many bytes, if that is wanted.
+    /// Returns the wanted number of turns for `fed` bytes, if there is one.
     pub fn turns(&self, report: &mut Report, fed: u64) -> Option<u64> {
         match self.item("turns") {
             Some(text) => count(report, text),
@@ -228,7 +228,7 @@ impl<'a> Row<'a> {
         }
     }
 
-    /// Whether the stream is plain, if the row says so.
+    /// Returns whether the stream is plain, if the row says so.
     pub fn plain(&self) -> Option<bool> {
         if self.item("not") == Some("plain") {
             return Some(false);

@@ -1,4 +1,4 @@
-//! Streams that are read into sinks with little room.
+//! Streams that are read into sinks with little space.
 use crate::answer::{Answer, Cut, read_into, same_end};
 use crate::report::Report;
 use crate::row::{Row, Stop, stops_of};
@@ -7,7 +7,7 @@ use nap_list::{Entry, SinkFault};
 use nap_reader::{Fault, Reader, Refusal};
 use std::alloc::AllocError;
 
-/// Where the refusal of a sink is told.
+/// Returns the refusal for a fault of a sink at this place.
 fn refusal_at(fault: SinkFault, place: u64) -> Refusal {
     let fault = match fault {
         SinkFault::Memory => Fault::Memory,
@@ -16,15 +16,15 @@ fn refusal_at(fault: SinkFault, place: u64) -> Refusal {
     Refusal { fault, place }
 }
 
-/// A sink that has room for so many entries, and how it fails then, or that has failed before.
+/// The number of entries that a sink has space for, and how it fails then; or a sink that has failed before.
 #[derive(Clone, Copy, Drop)]
 struct Limit {
-    room: usize,
+    space: usize,
     fault: SinkFault,
     failed: bool,
 }
 
-/// A stream in these pieces stops there, or nowhere, over a sink with this limit, which takes these entries.
+/// Checks that a sink with this limit stops the reading of a stream in these pieces as wanted, and has these entries.
 #[tactic(auto, unfolding(nap_list::specs::State::walk))]
 fn check_stop(
     report: &mut Report,
@@ -37,7 +37,7 @@ fn check_stop(
     let fault = limit.fault;
     let sink = Faltering {
         failed: limit.failed,
-        ..Faltering::new(report.alloc, limit.room, fault)
+        ..Faltering::new(report.alloc, limit.space, fault)
     };
     let reader = Reader::new(report.alloc, row.budget, sink);
     let (sink, answer) = read_into(report, reader, &row.stream, cut);
@@ -55,7 +55,7 @@ fn check_stop(
     Ok(())
 }
 
-/// A sink with this limit stops the reading there, or nowhere, whole and byte by byte.
+/// Checks that a sink with this limit stops the reading as wanted, of the stream in one piece and byte by byte.
 fn check_limit(
     report: &mut Report,
     row: &Row<'_>,
@@ -69,25 +69,26 @@ fn check_limit(
     Ok(())
 }
 
-/// A sink that takes no entry, one, two and so on stops the reading where the row says so, for want of memory and at its device.
-/// One that has failed does as one that takes none, and a stream without entries passes it.
+/// Checks that sinks for no entry, for one, for two and so on stop the reading as the row says, for lack of memory and
+/// at their device. A sink that has failed stops it as one for no entry does, and a stream without entries isn't
+/// stopped.
 pub fn check_stops(report: &mut Report, row: &Row<'_>, answer: &Answer) -> Result<(), AllocError> {
     let stops = stops_of(report, row.item("stops").unwrap_or(""))?;
     if !stops.is_empty() || (answer.list.is_empty() && answer.refusal.is_none()) {
         report.try_now("over a sink that has failed", 1);
         let limit = Limit {
-            room: 1,
+            space: 1,
             fault: SinkFault::Write,
             failed: true,
         };
         check_limit(report, row, limit, stops.first().copied(), &[])?;
     }
-    for (room, stop) in stops.iter().enumerate() {
-        report.try_now("over a sink that takes", room);
-        let list = answer.list.get(..room).unwrap_or(&[]);
+    for (space, stop) in stops.iter().enumerate() {
+        report.try_now("over a sink that takes", space);
+        let list = answer.list.get(..space).unwrap_or(&[]);
         for fault in [SinkFault::Write, SinkFault::Memory] {
             let limit = Limit {
-                room,
+                space,
                 fault,
                 failed: false,
             };

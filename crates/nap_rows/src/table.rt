@@ -9,15 +9,15 @@ use std::{fs, io};
 /// Why the checks end before all rows were tried.
 #[derive(Drop)]
 pub enum Trouble {
-    /// There was no memory.
+    /// Memory ran out.
     Memory,
     /// Standard output failed.
     Output,
-    /// A file wasn't read.
+    /// A file, with this name, wasn't read.
     Unread(String),
 }
 
-/// What is wrong with the row of a line; nothing, if the text is empty.
+/// Returns what is wrong with the row of a line, or an empty text.
 fn check_line(alloc: Global, line: &str) -> Result<String, AllocError> {
     let mut report = Report::new(alloc);
     let row = Row::parse(&mut report, line)?;
@@ -28,8 +28,8 @@ fn check_line(alloc: Global, line: &str) -> Result<String, AllocError> {
     Ok(report.text)
 }
 
-/// Checks the rows of a text, and prints those that disagree. A line that begins with `#`, and an empty one, is no row. Answers how
-/// many disagree.
+/// Checks the rows of a text, and prints those that disagree. Returns the number of these. A line that begins with `#`,
+/// and an empty one, is no row.
 fn check_text(rt: &(impl Print + AllocGlobal), name: &str, text: &str) -> Result<u64, Trouble> {
     let mut wrong: u64 = 0;
     let mut number: u64 = 0;
@@ -52,7 +52,7 @@ fn check_text(rt: &(impl Print + AllocGlobal), name: &str, text: &str) -> Result
     Ok(wrong)
 }
 
-/// Checks the rows of a file, and answers how many disagree.
+/// Checks the rows of a file, and returns the number of those that disagree.
 pub fn check_file(rt: &(impl Files + Print + AllocGlobal), name: &String) -> Result<u64, Trouble> {
     match fs::read_to_string(rt, name) {
         Ok(text) => check_text(rt, name, &text),

@@ -1,4 +1,4 @@
-//! What is checked of a row.
+//! The checks of a row.
 use crate::answer::{Answer, Cut, answer_in, end, ended, lines_of, places_in};
 use crate::notation::bytes_of;
 use crate::outlets::check_outlets;
@@ -12,13 +12,13 @@ use nap_list::{Entry, Source, Target};
 use nap_reader::{Budget, Reader, Refusal, read_all};
 use std::alloc::{AllocError, Global};
 
-/// A stream is cut at every place up to this length.
+/// A stream is cut at every index up to this length.
 const SHORT: usize = 64;
 
 /// A stream with more turns is read less often.
 const LONG: u64 = 20_000;
 
-/// The list of an answer, or why the stream is refused, is what the row wants.
+/// Checks that the list of an answer, or its refusal, is what the row wants.
 fn check_answer(report: &mut Report, row: &Row<'_>, answer: &Answer) -> Result<(), AllocError> {
     let came = ended(report.alloc, answer.refusal)?;
     let is_refused = row.ending.starts_with("refused ");
@@ -32,7 +32,7 @@ fn check_answer(report: &mut Report, row: &Row<'_>, answer: &Answer) -> Result<(
     Ok(())
 }
 
-/// The counts of an answer are what the row wants.
+/// Checks that the counts of an answer are what the row wants.
 fn check_counts(report: &mut Report, row: &Row<'_>, answer: &Answer) {
     let all = row.stream.len() as u64;
     if let Some(text) = row.item("fed") {
@@ -42,8 +42,8 @@ fn check_counts(report: &mut Report, row: &Row<'_>, answer: &Answer) {
         report.same_count("fed", all, answer.fed);
     }
     if let Some(refusal) = answer.refusal {
-        let behind = refusal.place.saturating_add(1);
-        let least = if answer.early { behind } else { all };
+        let past = refusal.place.saturating_add(1);
+        let least = if answer.early { past } else { all };
         let is_in_range = least <= answer.fed && answer.fed <= all;
         report.check(
             is_in_range,
@@ -56,14 +56,14 @@ fn check_counts(report: &mut Report, row: &Row<'_>, answer: &Answer) {
     report.same_count("turns", turns, answer.turns);
 }
 
-/// The stream in these pieces has the same answer.
+/// Checks that the stream in these pieces has the same answer.
 fn check_cut(report: &mut Report, row: &Row<'_>, answer: &Answer, cut: Cut) {
     let other = answer_in(report, row.budget, &row.stream, cut);
     report.check(other.is(answer), "the answer isn't that of the whole");
 }
 
-/// The stream has the same answer in single bytes and in every cut, near its end alone where it has more bytes. One that has
-/// many turns has no empty pieces between its bytes, and no cuts where it is short.
+/// Checks that the stream has the same answer in single bytes and in every cut, or in cuts near its end if it is
+/// longer. A stream with many turns has no empty pieces between its bytes, and no cuts if it is short.
 fn check_cuts(report: &mut Report, row: &Row<'_>, answer: &Answer) {
     let length = row.stream.len();
     let few = answer.turns <= LONG;
@@ -82,7 +82,7 @@ fn check_cuts(report: &mut Report, row: &Row<'_>, answer: &Answer) {
     }
 }
 
-/// Each entry comes with the byte that the row says.
+/// Checks that each entry is added by the byte that the row says.
 fn check_places(report: &mut Report, row: &Row<'_>) -> Result<(), AllocError> {
     let Some(text) = row.item("places") else {
         return Ok(());
@@ -96,7 +96,7 @@ fn check_places(report: &mut Report, row: &Row<'_>) -> Result<(), AllocError> {
     Ok(())
 }
 
-/// What is read in one call is the answer's.
+/// Checks that reading the stream in one call has the same answer.
 fn check_whole(report: &mut Report, row: &Row<'_>, answer: &Answer) {
     let is_same = match read_all(report.alloc, row.budget, &row.stream) {
         Ok(list) => answer.refusal.is_none() && list == answer.list,
@@ -105,7 +105,7 @@ fn check_whole(report: &mut Report, row: &Row<'_>, answer: &Answer) {
     report.check(is_same, "read in one call it has another answer");
 }
 
-/// A sink of lines has those of the list.
+/// Checks that a sink of lines has those of the list.
 fn check_lines(report: &mut Report, row: &Row<'_>, list: &[Entry]) -> Result<(), AllocError> {
     let alloc = report.alloc;
     let mut reader = Reader::new(alloc, row.budget, LineSink::new(alloc));
@@ -116,7 +116,7 @@ fn check_lines(report: &mut Report, row: &Row<'_>, list: &[Entry]) -> Result<(),
     Ok(())
 }
 
-/// What is converted from memory to memory: the bytes, and how that ended.
+/// Converts the stream from memory to memory, and returns the bytes and the result.
 fn converted(alloc: Global, row: &Row<'_>) -> (Vec<u8>, Result<u64, ConvertFault>) {
     let mut input = Source::new(row.stream.as_slice());
     let output = Target::new(Vec::new(alloc));
@@ -124,7 +124,7 @@ fn converted(alloc: Global, row: &Row<'_>) -> (Vec<u8>, Result<u64, ConvertFault
     (output.into_inner(), outcome)
 }
 
-/// A refused stream is so by the calls above the reader, too.
+/// Checks that the calls above the reader refuse a refused stream in the same way.
 fn check_refused(report: &mut Report, row: &Row<'_>, refusal: Refusal) {
     let refused = normalise(report.alloc, row.budget, &row.stream).err();
     report.check(refused == Some(refusal), "normalise refuses it otherwise");
@@ -134,7 +134,7 @@ fn check_refused(report: &mut Report, row: &Row<'_>, refusal: Refusal) {
     report.check(outcome == Err(fault), "convert refuses it otherwise");
 }
 
-/// The call answers this text.
+/// Checks that a call returns this text.
 fn gives<E: Drop>(report: &mut Report, name: &str, text: &[u8], answer: Result<Vec<u8>, E>) {
     match answer {
         Ok(other) => report.same_bytes(name, text, &other),
@@ -142,7 +142,7 @@ fn gives<E: Drop>(report: &mut Report, name: &str, text: &[u8], answer: Result<V
     }
 }
 
-/// A stream is plain, has this list, and no macros.
+/// Checks that a plain stream has this list, and no macros.
 fn check_plain(report: &mut Report, list: &[Entry], stream: &[u8]) {
     report.check(is_plain(stream), "it isn't plain");
     let none = Budget::new(0);
@@ -155,8 +155,8 @@ fn check_plain(report: &mut Report, list: &[Entry], stream: &[u8]) {
     report.same_count("turns", stream.len() as u64, answer.turns);
 }
 
-/// The canonical stream is that of each call that makes it. It has the same list, is its own canonical stream, and is what outlets
-/// with any room take.
+/// Checks that each call that makes the canonical stream gives the one wanted, which has the same list and is its own
+/// canonical stream, and that outlets with any space take it.
 fn check_canonical(report: &mut Report, row: &Row<'_>, answer: &Answer) -> Result<(), AllocError> {
     let alloc = report.alloc;
     let Ok(text) = canon(alloc, &answer.list) else {
@@ -190,7 +190,7 @@ fn check_canonical(report: &mut Report, row: &Row<'_>, answer: &Answer) -> Resul
     Ok(())
 }
 
-/// The text in form 1 has the same list.
+/// Checks that the text in form 1 has the same list.
 fn check_form1(report: &mut Report, row: &Row<'_>, answer: &Answer) -> Result<(), AllocError> {
     report.try_now("form", 1);
     let Ok(text) = canon_form1(report.alloc, &answer.list) else {

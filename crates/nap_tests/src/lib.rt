@@ -1,4 +1,5 @@
-//! Tests of the libraries that need more than a stream: values, calls, lists that are not legal, devices and sinks that fail.
+//! Tests of the libraries that need more than a stream: values, calls, lists that aren't legal, devices and sinks that
+//! fail.
 #![tactic(auto)]
 
 #[cfg(test)]

@@ -7,7 +7,7 @@ pub use Rattle.nap_reader.specs.Budgets
 pub use Rattle.nap_reader.specs.Bodies
 pub use Rattle.nap_reader.specs.Faults
 pub use Rattle.nap_reader.specs.Laws as ReadingLaws
--- what a reader shows of it, and where one that lacks memory breaks
+-- what a reader has read, and where one breaks that lacks memory
 pub use Rattle.nap_reader.specs.Standing
 pub use Rattle.nap_reader.specs.Feeding
 pub use Rattle.nap_reader.specs.Breaking

@@ -44,30 +44,30 @@ pub mod lines {
     pub use nap_line_reader::{ListFault, make_list, put_lines};
 }
 
-/// What an entry holds.
+/// The attributes and the parts of an entry.
 pub mod entry {
-    /// What it is drawn with.
+    /// The attributes that an entry holds.
     pub use nap_list::{
         Attributes, CharSize, Colour, Hand, Ink, Origin, Pen, Preset, TextLook, Texture,
     };
 
-    /// Where it is, and which of its kind it is.
+    /// The kinds of characters, cursors, masks, sizes and format effectors.
     pub use nap_codes::{CharSet, CursorKind, Mask, Size, TextStep};
     pub use nap_list::{Area, Points};
 
-    /// The numbers in it.
+    /// The numbers of an entry.
     pub use nap_values::{Addr, Grb, Move, Point, Word};
 }
 
-/// What takes the entries of a page.
+/// Sinks for the entries of a page.
 pub mod sink {
-    /// What a sink does, and why it may not.
+    /// A sink, and why it may not take an entry.
     pub use nap_list::{Sink, SinkFault};
 
     /// Entries that a sink takes together.
     pub use nap_list::{Batch, BatchFault};
 
-    /// Arcs and polygons that a sink takes with their points lent.
+    /// Arcs and polygons with borrowed points, for a sink.
     pub use nap_list::{Shape, ShapeKind};
 
     /// Sinks that keep the entries, count them, make their lines, or write their canonical text.
@@ -81,9 +81,9 @@ pub mod sink {
     };
 }
 
-/// Where the bytes of a page come from, and where they go.
+/// Inputs and outputs.
 pub mod device {
-    /// What a device does, and its fault.
+    /// The traits of an input and of an output, and the fault of a device.
     pub use nap_list::{DeviceFault, Inlet, Outlet};
 
     /// Devices over a reader and a writer of std.

@@ -16,12 +16,12 @@ use Rattle.naplps.specs.Text.{text}
 use Rattle.naplps.proofs.ReadingLaws.{more_bytes_keep_refusal}
 use Rattle.naplps_examples.specs.Converting.{Converted, Gets}
 
--- Where nothing is left, all was read.
+-- If no byte is left, all were read.
 all_read : (page p : List ℕ) (left : Option (List ℕ)) → Consumes (Some page) left p → IsAtEnd left → p ≡ page
 all_read page p None read end = absurd read
 all_read page p (Some rest) read end = sym (read ∙ ap (λ (bytes : List ℕ). p ++ bytes) end ∙ append-nil p)
 
--- The end of a page that is refused before it adds nothing.
+-- The end of a page that is refused before it adds no entry.
 refused_means : (budget : ℕ) (p : List ℕ) (r : Refusal) → (begun budget p).refusal ≡ Some r → means budget p ≡ begun budget p
 refused_means budget p r is = ap (λ (q : Option Refusal). ended_by (begun budget p) (length p) q) is
 
@@ -36,7 +36,7 @@ shown_before budget page p (Some rest) r read is =
     ∙ sym (refused_means budget (p ++ rest) r (ap (λ (o : Outcome). o.refusal) more ∙ is))
     ∙ ap (means budget) (sym read)
 
--- Bytes that were read, until all was or the refusal was there, mean what the page does.
+-- Bytes that were read, all of the page or up to its refusal, mean what the page does.
 same_meaning : (page p : List ℕ) (seen : Reading) (r : Refusal) → Consumes (Some page) seen.left p → IsReadWhole seen p ⊎ ((begun usual_budget p).refusal ≡ Some r) →
     means usual_budget p ≡ means usual_budget page
 same_meaning page p seen r read (inl whole) = ap (means usual_budget) (all_read page p seen.left read whole.end)
@@ -55,7 +55,7 @@ refused_by page p q seen before after r count stream is read took number h apart
 refused_by page p q seen before after r count memory is read took number h apart = absurd (not_memory r.fault apart is)
 refused_by page p q seen before after r count device is read took number h apart = absurd h
 
--- What a conversion promises of the bytes that were read, it promises of a page that was all that there was to read.
+-- What a conversion ensures for the bytes read, it ensures for a page that is all of the input.
 pub converted : (page p q : List ℕ) (seen : Reading) (before after : Option (List ℕ)) (failed : Bool) (answer : Result ℕ ConvertFault) →
     Converts usual_budget p seen q failed answer → Consumes (Some page) seen.left p → Appends before after q → Converted page before after answer
 converted page p q seen before after false (Ok n) h read took =

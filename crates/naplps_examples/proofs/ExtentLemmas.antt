@@ -7,7 +7,7 @@ use Rattle.naplps.specs.Shapes.{outline, circle_closed, shape_on}
 use Rattle.naplps_examples.specs.declared.extent.Extent.{Extent}
 use Rattle.naplps_examples.specs.Extents.{with_entry, with_point}
 
--- A point that was taken in changes nothing when it comes again.
+-- A point that is in an extent doesn't change it.
 
 least : (a b c : ℕ) → min (min (min a b) c) b ≡ min (min a b) c
 least a b c = omega arith

@@ -9,11 +9,11 @@ use Rattle.naplps.specs.Stream.{means}
 use Rattle.naplps.specs.Streams.{IsCanonicalOf, list_of}
 use Rattle.naplps.specs.Text.{text}
 
--- a writer got these bytes more, and this is their number
+-- a writer took these bytes, and this is their number
 abbrev pub Gets : Option (List ℕ) → Option (List ℕ) → List ℕ → ℕ → Type 0
 Gets before after bytes count = Appends before after bytes × (count ≡ count_of bytes)
 
--- what the answer tells of a page that was converted from a reader to a writer
+-- what the answer says about a page that was converted from a reader to a writer
 abbrev pub Converted : List ℕ → Option (List ℕ) → Option (List ℕ) → Result ℕ ConvertFault → Type 0
 Converted page before after (Ok count) = (bytes : List ℕ) × IsCanonicalOf usual_budget bytes page × Gets before after bytes count
 Converted page before after (Err (fault.Refused r count)) =

@@ -39,7 +39,7 @@ pub record Reaches (s : ExtentSink) (d : List Entry) (t : ExtentSink) : Type 0 w
   pub extent : t.extent ≡ with_entries s.extent d
   pub state : t.state ≡ walk s.state d
 
--- What the trait asks of it.
+-- The members of the trait for this sink.
 
 pub reaches_none : (s : ExtentSink) → Reaches s [] s
 unfolding walk

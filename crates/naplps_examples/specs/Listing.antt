@@ -10,6 +10,6 @@ abbrev pub listing_by : List Entry → Option Refusal → List ℕ
 listing_by entries None = lines entries
 listing_by entries (Some r) = name_of r.fault ++ codes " at " ++ decimal r.place ++ codes "\n"
 
--- what is told of a page that means this
+-- what is returned for a page with this meaning
 abbrev pub listing : Outcome → List ℕ
 listing o = listing_by o.entries o.refusal

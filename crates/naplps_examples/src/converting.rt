@@ -7,7 +7,7 @@ use naplps::{Budget, ConvertFault, convert};
 use std::alloc::Global;
 use std::io::{Read, Write};
 
-/// Writes the canonical stream of what the reader gives to the writer: the writer again, and how many bytes it took.
+/// Writes the canonical stream of what the reader gives to the writer. Returns the writer, and how many bytes it took.
 pub fn convert_all<R: Read + Drop, W: Write + Drop>(
     alloc: Global,
     reader: R,

@@ -26,7 +26,7 @@ pub struct Extent {
 }
 
 impl Extent {
-    /// The extent of no points.
+    /// Returns the extent of no points.
     pub fn nowhere() -> Extent
         ensures { result ≡ nowhere }
     {
@@ -38,7 +38,7 @@ impl Extent {
         }
     }
 
-    /// The extent with one more point.
+    /// Returns the extent with one more point.
     pub fn with(self, point: Point) -> Extent
         ensures { result ≡ with_point self point }
     {
@@ -50,7 +50,7 @@ impl Extent {
         }
     }
 
-    /// The extent with more points.
+    /// Returns the extent with more points.
     pub fn with_all(self, points: &[Point]) -> Extent
         ensures { result ≡ fold with_point self points.now }
     {
@@ -59,7 +59,7 @@ impl Extent {
             .fold(self, |extent, point| extent.with(*point))
     }
 
-    /// The extent with the points of one more entry.
+    /// Returns the extent with the points of one more entry.
     pub fn with_entry(self, entry: &Entry) -> Extent
         ensures { result ≡ with_entry self entry.now }
     {
@@ -75,7 +75,7 @@ impl Extent {
         }
     }
 
-    /// The extent with the points of one more arc or polygon.
+    /// Returns the extent with the points of one more arc or polygon.
     pub fn with_shape(self, shape: &Shape) -> Extent
         ensures { result ≡ with_entry self (entry_of_shape shape.now) }
     {
@@ -88,12 +88,12 @@ impl Extent {
 pub struct ExtentSink {
     /// The extent of the entries so far.
     pub extent: Extent,
-    /// The state that they leave.
+    /// The state that the entries leave.
     pub state: State,
 }
 
 impl ExtentSink {
-    /// A sink that has taken nothing.
+    /// Returns a sink that has taken nothing.
     pub fn new() -> ExtentSink
         ensures { result ≡ record { extent = nowhere; state = start } }
     {
@@ -136,7 +136,7 @@ impl Sink for ExtentSink {
     ghost took_broke = { λ s t u d e x a b. absurd b };
 }
 
-/// How far the shapes of a page reach, or why it is refused.
+/// Returns how far the shapes of a page reach, or its refusal.
 pub fn extent_of(alloc: Global, page: &[u8]) -> Result<Extent, Refusal>
     ensures accepted { IfOk result (λ extent. IsAccepted usual_budget page.now) }
     ensures extent { IfOk result (λ extent. extent ≡ with_entries nowhere (list_of usual_budget page.now)) }

@@ -7,7 +7,7 @@ ghost use Rattle.naplps_examples.specs.Listing.{listing};
 use naplps::{Budget, Fault, line_of, read_all};
 use std::alloc::{AllocError, Global};
 
-/// What a page draws, a line for each entry; or the name of its refusal, and the place of a byte.
+/// Returns what a page draws, a line for each entry; or the name of its refusal, and the place of a byte.
 pub fn list(alloc: Global, page: &[u8]) -> Result<String, AllocError>
     ensures { IfOk result (λ text. string_bytes text ≡ listing (means usual_budget page.now)) }
 {

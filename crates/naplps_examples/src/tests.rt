@@ -8,7 +8,7 @@ use std::test::Fail;
 /// A point in the middle, a line from it to the corner, and the bell.
 const PAGE: &[u8] = b"\x0E\x26\x52\x40\x40\x28\x40\x40\x40\x07";
 
-/// The same, and then a byte of eight bits.
+/// The page, and then a byte of eight bits.
 const REFUSED: &[u8] = b"\x0E\x26\x52\x40\x40\x28\x40\x40\x40\x07\x80";
 
 const REFUSAL: Refusal = Refusal {

@@ -26,12 +26,12 @@ def pieces(points: Sequence[Place]) -> List[Piece]:
 
 
 def is_large(some: Sequence[Piece]) -> bool:
-    """Whether there is an arc of a circle that goes far out of the square."""
+    """Whether there is an arc of a circle that goes far out of the unit screen."""
     return any(isinstance(piece, Round) and piece.radius > MOST_RADIUS for piece in some)
 
 
 def extent(points: Sequence[Place]) -> Extent:
-    """The extent of an arc through these points. An arc outside of the square costs nothing there."""
+    """The extent of an arc through these points. An arc outside of the unit screen costs nothing there."""
     if len(points) > 3:
         straight = straight_extent(points)
         return Extent(3 * straight.points, 2 * straight.length, 2 * straight.area)
@@ -98,7 +98,7 @@ def _turn(centre: Place, start: Place, to: Place, sweep: bool) -> float:
 
 
 def _on_circle(centre: Place, start: Place, turn: float) -> List[Place]:
-    """Places along the circle, behind the start."""
+    """Places along the circle, after the start."""
     x, y = start[0] - centre[0], start[1] - centre[1]
     out = []
     for piece in range(1, PIECES + 1):
@@ -112,7 +112,7 @@ def _on_circle(centre: Place, start: Place, turn: float) -> List[Place]:
 
 
 def _curve(points: Sequence[Place]) -> List[Piece]:
-    """A smooth curve through all points: at each the direction is that from the one before to the one behind."""
+    """A smooth curve through all points: at each the direction is that from the one before to the one after."""
     out: List[Piece] = []
     last = len(points) - 1
     for i in range(last):

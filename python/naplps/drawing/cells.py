@@ -5,13 +5,13 @@ from typing import NamedTuple, Optional, Tuple
 from ..entry import ONE, Look, Pen, Position, TextMove
 from .measure import HEIGHT, THIN, WIDTH
 
-# Width and height of a cell, as parts of the side of the square.
+# Width and height of a cell, as parts of the side of the unit screen.
 SIZES = {"small": (1 / 80, 5 / 128), "medium": (1 / 32, 3 / 64), "normal": (1 / 40, 5 / 128),
          "tall": (1 / 40, 5 / 64), "double": (1 / 20, 5 / 64)}
 SPACINGS = (1.0, 1.25, 1.5, 1.0)
 RIGHT, LEFT, UP, DOWN = range(4)
 TOP = HEIGHT / WIDTH
-# A cell may go out of its field by so much.
+# How far a cell may go out of its field.
 DOT = THIN / WIDTH
 # Numbers of rows and columns that APS names are offset by this.
 FIRST_OF_APS = 0x20
@@ -49,7 +49,7 @@ class Saved(NamedTuple):
 
 
 class TextCursor:
-    """The place of the next character: the lower left corner of its cell, in sides of the square."""
+    """The place of the next character: the lower left corner of its cell, in sides of the unit screen."""
 
     def __init__(self) -> None:
         self.put_back(Saved())
@@ -63,7 +63,7 @@ class TextCursor:
         self.x, self.y, self.known, self.scrolled, self.field = saved
 
     def enter_glyph(self) -> None:
-        """Goes to the corner of a glyph or a mask, whose square is the field."""
+        """Goes to the corner of a glyph or a mask, whose unit screen is the field."""
         self.put_back(Saved(known=True, field=(0.0, 0.0, 1.0, 1.0)))
 
     def take(self, pen: Pen, size: Cell) -> None:
@@ -85,7 +85,7 @@ class TextCursor:
         self.known = False
 
     def set_field(self, corners: Optional[Tuple[Position, Position]]) -> None:
-        """Takes the field that text is laid out in; None is the whole screen."""
+        """Sets the field in which text is arranged; None is the whole screen."""
         if corners is None:
             self.field = (0.0, 0.0, 1.0, TOP)
         else:
@@ -94,7 +94,7 @@ class TextCursor:
         self.lose()
 
     def fits(self, wide: float) -> bool:
-        """Whether so much still has room in the line."""
+        """Whether the line has space for this width."""
         return self.x + wide <= self.field[2] + DOT
 
     def go_on(self, wide: float, most: int) -> int:
@@ -130,7 +130,7 @@ class TextCursor:
                 self.y = self.field[3] - abs(size.high)
 
     def step(self, size: Cell) -> None:
-        """Goes on by a cell along the path."""
+        """Advances by a cell along the path."""
         wide, high = size.wide * size.spacing, size.high * size.spacing
         if size.path == RIGHT:
             self.x += wide

@@ -60,7 +60,7 @@ class Palette:
         return OWN
 
     def back(self, colour: Colour) -> Optional[str]:
-        """The colour behind a character or a texture, of a pair."""
+        """The background of a character or a texture, of a pair."""
         if colour.kind == "pair":
             return self.at(colour.parts[1])
         return None

@@ -20,7 +20,7 @@ class Straight(NamedTuple):
     end: Place
 
     def path(self) -> str:
-        """The part of a path that goes on from its start."""
+        """The part of a path that continues from its start."""
         return f"L{num(self.end[0])} {num(self.end[1])}"
 
     def moved(self, by: Place) -> "Straight":
@@ -54,7 +54,7 @@ class Round(NamedTuple):
     turn: float
 
     def path(self) -> str:
-        """The part of a path that goes on from its start."""
+        """The part of a path that continues from its start."""
         return "A%s %s 0 %d %d %s %s" % (num(self.radius), num(self.radius), abs(self.turn) > math.pi, self.turn > 0,
                                          num(self.end[0]), num(self.end[1]))
 
@@ -104,7 +104,7 @@ class Cubic(NamedTuple):
     end: Place
 
     def path(self) -> str:
-        """The part of a path that goes on from its start."""
+        """The part of a path that continues from its start."""
         return "C" + " ".join(num(part) for place in self[1:] for part in place)
 
     def moved(self, by: Place) -> "Cubic":

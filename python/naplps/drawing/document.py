@@ -39,7 +39,7 @@ def document(paper: Paper, words: Captions) -> str:
 
 
 def is_tall(paper: Paper) -> bool:
-    """Whether the page draws above the part of the square that screens show."""
+    """Whether the page draws above the part of the unit screen that screens show."""
     return paper.top > HEIGHT / WIDTH + 0.001
 
 

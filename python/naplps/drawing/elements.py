@@ -3,7 +3,7 @@ from typing import Dict, NamedTuple, Tuple
 
 
 def escaped(text: str) -> str:
-    """Text as it stands between elements."""
+    """Text as it is between elements."""
     return text.replace("&", "&amp;").replace("<", "&lt;").replace(">", "&gt;")
 
 

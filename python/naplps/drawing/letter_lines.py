@@ -9,7 +9,7 @@ FRONT = len("CHAR primary 20")
 
 def letters_behind(lines: Sequence[str], number: int, end: int) -> List[str]:
     """The letters of the lines from this one on, up to `end`, that differ in nothing but themselves from the character
-    in the line before, each behind the last."""
+    in the line before, each after the last."""
     before = lines[number - 1]
     rest = AFTER + before[before.find(" ", before.find(PEN) + 1):]
     signs: List[str] = []

@@ -6,7 +6,7 @@ from ..entry import ONE, Position
 
 Place = Tuple[float, float]
 
-# The drawing has 1024 units for the side of the square; 800 of them are the part that screens show.
+# The drawing has 1024 units for the side of the unit screen; 800 of them are the part that screens show.
 WIDTH = 1024
 HEIGHT = 800
 # Steps of points in a unit of the drawing.
@@ -18,14 +18,14 @@ THIN_IN_GLYPH = 64.0
 
 @lru_cache(maxsize=1 << 14)
 def num(value: float) -> str:
-    """The number with at most two digits behind the point."""
+    """The number with at most two digits after the point."""
     text = (f"{value:.2f}").rstrip("0").rstrip(".")
     return "0" if text == "-0" else text
 
 
 @lru_cache(maxsize=1 << 10)
 def fine(value: float) -> str:
-    """The number with at most five digits behind the point, for factors."""
+    """The number with at most five digits after the point, for factors."""
     text = (f"{value:.5f}").rstrip("0").rstrip(".")
     return "0" if text == "-0" else text
 
@@ -41,5 +41,5 @@ def on_page(points: Sequence[Position]) -> List[Place]:
 
 
 def in_glyph(points: Sequence[Position]) -> List[Place]:
-    """Where points of a glyph or a mask are: its square is drawn whole."""
+    """Where points of a glyph or a mask are: its unit screen is drawn whole."""
     return [(x / STEPS, WIDTH - y / STEPS) for x, y in points]

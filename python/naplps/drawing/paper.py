@@ -8,12 +8,12 @@ from .elements import Element
 from .measure import HEIGHT, WIDTH
 from .weight import Weight
 
-# A sketch has so many bytes at most, of which some are for what stands around the drawing.
+# The greatest number of bytes of a sketch, and of these what is kept for the parts around the drawing.
 MOST_BYTES = 16 << 20
 AROUND = 4096
-# So many points at most, uses included, are drawn by a browser.
+# The greatest number of points, uses included, that a browser draws.
 MOST_WEIGHT = 500_000
-# So many bytes of masks are copied into patterns; beyond that, patterns refer to a mask.
+# The number of bytes of masks that are copied into patterns; beyond that, patterns refer to a mask.
 MOST_COPIED = 1 << 20
 
 
@@ -103,12 +103,12 @@ class Paper:
             raise Full
 
     def has_room(self, size: int, weight: Weight) -> bool:
-        """Whether what costs so much can be drawn, and the picture goes on."""
+        """Whether something of this cost can be drawn, and the picture continues."""
         return (not self.full and self.of_page.size + self.of_definitions.size + size <= MOST_BYTES - AROUND
                 and self.of_page.weight + self.of_definitions.weight + weight.total() <= MOST_WEIGHT)
 
     def require(self, weight: Weight) -> None:
-        """Looks whether there is room for something that costs so much at least. Raises Full where there isn't."""
+        """Looks whether there is space for something that costs at least this. Raises Full where there isn't."""
         if not self.full and self.of_page.weight + self.of_definitions.weight + weight.points > MOST_WEIGHT:
             self.full = True
             raise Full
@@ -149,7 +149,7 @@ class Paper:
         self.notes[text] = None
 
     def reach(self, y: float) -> None:
-        """Keeps how high the page draws, in sides of the square."""
+        """Keeps how high the page draws, in sides of the unit screen."""
         if self.open is None and y > self.top:
             self.top = y
 
@@ -169,7 +169,7 @@ class Paper:
         self.open, self.open_size, self.open_weight = [], 0, Weight()
 
     def end_glyph(self, code: int) -> None:
-        """Closes a glyph, which replaces an older one for the characters behind it."""
+        """Closes a glyph, which replaces an older one for the characters after it."""
         glyph = self._ended("g", self.defined_glyphs)
         self.defined_glyphs += 1
         self.glyphs[code] = glyph

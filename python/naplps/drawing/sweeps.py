@@ -27,7 +27,7 @@ def sweep(pieces: Sequence[Piece], pel: Pel) -> Sweep:
         straight = isinstance(each, Straight)
         for piece in each.monotone():
             parts.append(_swept(piece, pel))
-            # (what is outside of the square costs nothing)
+            # (what is outside of the unit screen costs nothing)
             (a, b), (c, d) = piece.start, piece.end
             across, down = min(abs(c - a), WIDTH), min(abs(d - b), WIDTH)
             corners += CORNERS if straight else ROUND_CORNERS
@@ -54,7 +54,7 @@ def _swept(piece: Piece, pel: Pel) -> str:
 @lru_cache(maxsize=1024)
 def _corners(pel: Pel, is_right: bool, is_down: bool) -> List[Place]:
     """The corners of a pel as the hands of a clock go, for a line to the right or left, down or up: from that which is
-    behind all others."""
+    after all others."""
     first = {(True, False): 0, (True, True): 1, (False, True): 2, (False, False): 3}[is_right, is_down]
     corners = pel.corners()
     return corners[first:] + corners[:first]
@@ -74,7 +74,7 @@ def least_of_dashes(length: float, unit: float, dashes: Tuple[int, ...]) -> Weig
 
 
 def dashed(pieces: Sequence[Piece], unit: float, dashes: Tuple[int, ...]) -> Iterator[Straight]:
-    """The parts of the pieces on which the pen is down, for dashes and gaps of so many units."""
+    """The parts of the pieces on which the pen is down, for dashes and gaps of a number of units."""
     number, left = 0, dashes[0] * unit
     for piece in pieces:
         at = piece.start

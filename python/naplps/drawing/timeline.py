@@ -12,7 +12,7 @@ from .paper import AROUND, MOST_BYTES, Cost, Full, LetterCells, Paper
 from .walk import ENDS, Lines, Walk, entries_of
 from .weight import Weight
 
-# What stands in front of an address of the map, where a sketch has the colour.
+# What stands before an address of the map, where a sketch has the colour.
 ADDRESS = "@n"
 
 
@@ -54,7 +54,7 @@ class TimelinePaper(Paper):
             raise Full
 
     def has_room(self, size: int, weight: Weight) -> bool:
-        """Whether what costs so much can be drawn, and the drawing goes on."""
+        """Whether something of this cost can be drawn, and the drawing continues."""
         return super().has_room(size, weight) and self.held + size <= MOST_BYTES - AROUND
 
     def step(self, **members: object) -> None:

@@ -18,7 +18,7 @@ from .word_widths import WordWidths
 from .writing import Writing
 
 Lines = Union[Sequence[str], Entries]
-# So many entries, and points of them, are drawn.
+# The number of entries, and of their points, that are drawn.
 MOST_DRAWN = 20_000
 MOST_POINTS = 200_000
 # A line has no more commas than these outside of its points.
@@ -80,7 +80,7 @@ class Walk:
         return number
 
     def _letters(self, lines: Sequence[str], number: int) -> int:
-        """Draws the letters that go on from the last one at once; how many these are."""
+        """Draws the letters that continue the last one at once; how many these are."""
         end = self.guess_start if number <= self.guess_start else len(lines)
         return self.writing.go_on(lines, number, min(end, len(lines)))
 
@@ -92,7 +92,7 @@ class Walk:
         self.palette.take_from(palette_of(self.entries, len(self.entries)))
 
     def _character_at(self, number: int) -> Optional[Char]:
-        """The character that an entry is; nothing of another entry, and behind those that may be drawn."""
+        """The character that an entry is; nothing of another entry, and after those that may be drawn."""
         is_one = number < min(len(self.entries), MOST_DRAWN) and self.entries.lines[number].startswith("CHAR ")
         entry = self.entries[number] if is_one else None
         return entry if isinstance(entry, Char) else None

@@ -1,4 +1,4 @@
-"""What elements cost a browser, in points: as much as it takes to draw so many corners of a filled polygon.
+"""What elements cost a browser, in points: as much as it takes to draw a number of corners of a filled polygon.
 
 The numbers come from times of Chromium, and are rounded up; docs/measurements/COSTS.md has the times of the worst
 pages.
@@ -11,7 +11,7 @@ from .measure import HEIGHT, WIDTH, Place
 ELEMENT, TEXT, LETTER = 30, 160, 20
 # For a corner or a joint of an outline, and for a dash.
 JOINT, DASH = 4, 10
-# A point for so many units of an edge of an area, and of an outline.
+# The units of an edge of an area, and of an outline, that cost a point.
 EDGE, OUTLINE = 2.5, 5.0
 # Letters around which there are fewer units than this are drawn as pictures that viewers keep.
 SMALL = 300
@@ -33,7 +33,7 @@ class Weight(NamedTuple):
         return Weight(self.points + other.points, self.edges + other.edges, self.area + other.area)
 
     def times(self, number: int) -> "Weight":
-        """So many of it."""
+        """The cost a number of times."""
         return Weight(self.points * number, self.edges * number, self.area * number)
 
     def scaled(self, across: float, down: float) -> "Weight":
@@ -85,12 +85,12 @@ def box(wide: float, high: float) -> Weight:
 
 
 def outlined(shape: Extent, thick: float, dashes: Tuple[int, ...]) -> Weight:
-    """An outline of this thickness, with dashes and gaps of so many thicknesses."""
+    """An outline of this thickness, with dashes and gaps of a number of thicknesses."""
     broken = shape.length / (sum(dashes) * thick) * len(dashes) / 2 * DASH if dashes else 0.0
     return Weight(ELEMENT + shape.points * JOINT + broken, shape.length * EDGE / OUTLINE, shape.length * thick)
 
 
 def letter(wide: float, high: float) -> Weight:
-    """A letter of a text or another sign, in a cell of this size, and what may be behind it."""
+    """A letter of a text or another sign, in a cell of this size, and its background, if it has one."""
     around = 2 * (abs(wide) + abs(high))
     return Weight(LETTER, max(0.0, around - SMALL), 2 * abs(wide * high))

@@ -9,7 +9,7 @@ BLANK = 0x20
 
 
 def is_blank(entry: Char) -> bool:
-    """Whether a character is a blank, behind which another word begins."""
+    """Whether a character is a blank, after which another word begins."""
     return entry.code == BLANK and entry.set in ("primary", "supplementary")
 
 
@@ -20,7 +20,7 @@ class WordWidths:
         self.character_at = character_at
 
     def width(self, number: int, most: float) -> float:
-        """The width of the word that this entry begins, in sides of the square; of a long one some more than `most`."""
+        """The width of the word that this entry begins, in sides of the unit screen; of a long one, above `most`."""
         width = total = 0.0
         at, entry = number, self.character_at(number)
         while entry is not None and total <= most and _goes_on(entry, at > number):

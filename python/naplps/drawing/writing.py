@@ -21,15 +21,15 @@ BASE = 0.22
 BLOCKS = (1, 2, 4, 8, 16, 64)
 Ink = Tuple[str, Optional[str]]
 SCROLLS = "scrolling isn't drawn: the text that makes room for more is seen, and what comes then isn't"
-# So many characters at most are repeated to the end of a line; cells so small that there are more can't be read.
+# The greatest number of characters repeated to the end of a line; cells so small that there are more can't be read.
 MOST_IN_LINE = 1000
-# At most so many bytes for a letter of a run, and for what stands around a run.
+# The greatest number of bytes for a letter of a run, and for what stands around a run.
 A_LETTER, A_RUN = 16, 1024
 
 
 @dataclass
 class LetterRun:
-    """Letters of one look that stand one behind the other."""
+    """Letters of one look that stand one after the other."""
 
     look: Tuple[Ink, Cell, bool]
     text: List[str]
@@ -80,7 +80,7 @@ class Writing:
             self._draw_run(run)
 
     def character(self, entry: Char) -> None:
-        """A character, and the cursor behind it. Raises Full."""
+        """A character, and the cursor after it. Raises Full."""
         self.last = entry
         style = self._style(entry)
         size = style.size
@@ -103,7 +103,7 @@ class Writing:
         self.cursor.step(size)
 
     def go_on(self, lines: Sequence[str], number: int, end: int) -> int:
-        """Draws the letters that go on from the one that was drawn last, in its look and its line; how many these are.
+        """Draws the letters that continue the one that was drawn last, in its look and its line; how many these are.
 
         They are those in the lines from this number on, up to `end`.
         """
@@ -201,7 +201,7 @@ class Writing:
         return self.cursor.x * WIDTH, foot - self.cursor.y * WIDTH
 
     def _end_accent(self) -> None:
-        """An accent with no letter behind it stands alone, where the cursor is."""
+        """An accent with no letter after it stands alone, where the cursor is."""
         accent, self.accent = self.accent, None
         if accent is not None and self.last is not None:
             self._letter(self._style(self.last), letters.ALONE[accent], counted=True)

@@ -1,4 +1,4 @@
-"""Captures, in which pages stand one behind another as they were sent: where each begins."""
+"""Captures, in which pages stand one after another as they were sent: where each begins."""
 import re
 from typing import Iterator, List, NamedTuple, Tuple
 
@@ -56,7 +56,7 @@ def pieces(data: bytes) -> List[Piece]:
 
 
 def seems_a_capture(data: bytes) -> bool:
-    """Whether a page that clears the screen seems to begin behind the first one."""
+    """Whether a page that clears the screen seems to begin after the first one."""
     return any(at and data.startswith(CLEAR, end) for at, end, _ in _cuts(data))
 
 

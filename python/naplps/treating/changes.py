@@ -22,7 +22,7 @@ class NotSure(Exception):
 
 @dataclass(frozen=True)
 class Edit:
-    """So many bytes at an offset, and what is put in their place."""
+    """A number of bytes at an offset, and what is put in their place."""
 
     offset: int
     length: int
@@ -66,14 +66,14 @@ class Change:
 
 @dataclass(frozen=True)
 class Treated:
-    """Bytes behind some treatments. They are made when they are asked for, and not kept."""
+    """Bytes after some treatments. They are made when they are asked for, and not kept."""
 
     source: bytes
     changes: Tuple[Change, ...] = ()
 
     @property
     def data(self) -> bytes:
-        """The bytes behind the treatments."""
+        """The bytes after the treatments."""
         data = self.source
         for change in self.changes:
             data = change.applied(data)

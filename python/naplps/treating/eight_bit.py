@@ -6,7 +6,7 @@ into GL; ESC 7E, ESC 7D and ESC 7C put G1, G2 or G3 into GR.
 
 The seven-bit form has GL alone. So the shift of a register is written before a code of another register than the one
 that GL has there, and nothing else is added. Bodies of macros begin with no register known, and so does what comes
-behind a definition or a call. Where a step isn't sure, the page isn't converted: NotSure says why.
+after a definition or a call. Where a step isn't sure, the page isn't converted: NotSure says why.
 """
 import re
 from typing import Dict, FrozenSet, List, Optional, Tuple
@@ -53,7 +53,7 @@ class EightBitConversion:
         self.sets = list(SETS_AT_START)
         # The half and the register of the last byte, where that is a picture code or an operand of one.
         self.run: Optional[Tuple[bool, int]] = None
-        # Whether the last code is a call, behind which a run may go on that began in the macro's body.
+        # Whether the last code is a call, after which a run may continue that began in the macro's body.
         self.called = False
         self.in_body = self.has_macros = self.has_moved = False
         self.ever = _ever(data)
@@ -78,7 +78,7 @@ class EightBitConversion:
                 self._arguments(2)
 
     def _replace(self, length: int, put: bytes) -> None:
-        """Goes past so many bytes, which are written as these."""
+        """Advances past a number of bytes, which are written as these."""
         at, self.at = self.at, self.at + length
         if self.data[at:self.at] == put:
             return

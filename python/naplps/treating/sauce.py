@@ -1,4 +1,4 @@
-"""SAUCE records, which painting programs put behind a file: a record of 128 bytes, and comments before it."""
+"""SAUCE records, which painting programs put after a file: a record of 128 bytes, and comments before it."""
 from dataclasses import dataclass
 from typing import Dict, Optional
 

@@ -7,10 +7,10 @@ from .captures import LEADING_ON
 from .changes import AROUND, Change, Treated, digest
 from .treatments import TREATMENTS, treated, untreated
 
-# So many treatments are tried together, and the program is asked so often in each of the two rounds.
+# The number of treatments that are tried together, and of questions to the program in each of the two rounds.
 MOST_TOGETHER = 3
 MOST_ASKED = 100
-# So many are looked at in each round, and on so many one more treatment is tried, those first that change least.
+# The number of those looked at in each round, and of those, least changed first, to which a treatment is added.
 MOST_LOOKED_AT = 400
 MOST_EXPANDED = 32
 Ask = Callable[[str, bytes], Answer]
@@ -27,7 +27,7 @@ class Cure:
 
     @property
     def data(self) -> bytes:
-        """The bytes behind the treatments."""
+        """The bytes after the treatments."""
         return self.treated.data
 
     @property

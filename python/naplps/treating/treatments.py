@@ -6,15 +6,15 @@ from . import eight_bit, sauce
 from .captures import BEGINS, CLEAR, END_OF_BODY, LEADING_ON, outside, seems_a_capture, tokens
 from .changes import AROUND, EIGHTH, ODD, PLAIN, WITHIN, Change, Edit, NotSure, Treated
 
-# How many bytes behind a refusal may belong to a header, and how many starts of a page are tried among them.
+# How many bytes after a refusal may belong to a header, and how many starts of a page are tried among them.
 MOST_HEADER = 4096
-# So many bytes may come before the refusal.
+# The number of bytes that may come before the refusal.
 MOST_BEFORE = 1 << 16
 MOST_STARTS = 8
 # How many codes at the front are cut, and among how many bytes.
 MOST_CODES = 16
 MOST_FRONT = 1024
-# So many bytes may stand behind the mark of the end of a file: the rest of a record of CP/M or MS-DOS.
+# The number of bytes that may follow the mark of the end of a file: the rest of a record of CP/M or MS-DOS.
 MOST_BEHIND_END = 1023
 # A page with more codes that a treatment would take isn't treated by it.
 MOST_EDITS = 4096
@@ -27,9 +27,9 @@ IN_THE_MIDDLE: Dict[str, "re.Pattern[bytes]"] = {name: tokens(code) for name, co
                      rb"[\x28-\x2f]\x20?(?![\x42\x57\x7a-\x7d])[\x30-\x7e])"))}
 END_OR_BODY = re.compile(rb"\x1a|" + END_OF_BODY.pattern)
 DEFINITIONS = (b"\x1b\x40", b"\x1b\x41")
-# A picture code with an operand, behind SO.
+# A picture code with an operand, after SO.
 PICTURE = re.compile(rb"\x0e[\x20-\x3f][\x40-\x7f]")
-# Behind such a code text begins at a place of the page's own: CS, APS or APH.
+# After such a code text begins at a place of the page's own: CS, APS or APH.
 PLACED = (b"\x0c", b"\x1c", b"\x1e")
 
 
@@ -70,7 +70,7 @@ def tail(data: bytes, place: int) -> Iterator[Change]:
 
 
 def _end_mark(data: bytes) -> Optional[int]:
-    """Where the first 1A stands behind which at most so many bytes are left, if it is in no macro's body."""
+    """Where the first 1A stands with at most `most` bytes after it, if it is in no macro's body."""
     least = max(0, len(data) - MOST_BEHIND_END - 1)
     in_body = _is_in_body(data, least)
     for found in END_OR_BODY.finditer(data, least):
@@ -82,7 +82,7 @@ def _end_mark(data: bytes) -> Optional[int]:
 
 
 def _is_in_body(data: bytes, at: int) -> bool:
-    """Whether the body of a macro goes on there: the last of the codes that end a body begins one."""
+    """Whether the body of a macro continues there: the last of the codes that end a body begins one."""
     last = max(data.rfind(bytes((0x1B, code)), 0, at) for code in range(0x40, 0x46))
     return last >= 0 and data[last:last + 2] in DEFINITIONS
 
@@ -94,7 +94,7 @@ def _cut(name: str, offset: int, length: int, what: str, grade: str = AROUND) ->
 def front(data: bytes, place: int) -> Iterator[Change]:
     """Cuts NSR, CAN and announcers off the front.
 
-    NSR has a place behind it, two bytes from 40 to 7F as APS has, where such bytes stand there. It is cut only where
+    NSR has a place after it, two bytes from 40 to 7F as APS has, where such bytes stand there. It is cut only where
     the page says itself where its text begins.
     """
     at = 0
@@ -129,7 +129,7 @@ def leading(data: bytes, at: int) -> Optional[Tuple[str, int]]:
 
 
 def header(data: bytes, place: int) -> Iterator[Change]:
-    """Cuts off what stands before the first code of a page, behind the place: CS, or SO with an opcode.
+    """Cuts off what stands before the first code of a page, after the place: CS, or SO with an opcode.
 
     What is left has to have a picture code with an operand, else the end of any file may look like a page. What comes
     before the place has none of such first codes, and what is cut no codes that stand before a page.

@@ -128,5 +128,5 @@ def unknown(name: str) -> Exception:
 
 
 def surplus(word: str, shown: str) -> str:
-    """What is said of a word behind the last that a line has."""
+    """What is said of a word after the last that a line has."""
     return f"{quoted(word)} is too much: the line is {shown}"

@@ -14,7 +14,7 @@ COMMENT, QUOTE, ESCAPE = "#", '"', "\\"
 
 
 class LinePart(NamedTuple):
-    """A word as it stands; or the letters of a text between quotes, each with its column. Columns count from 0."""
+    """A word as it is; or the letters of a text between quotes, each with its column. Columns count from 0."""
 
     column: int
     word: str

@@ -14,7 +14,7 @@ from .mistakes import Mistake, NotUnderstood, expected, quoted
 from .scanning import LinePart, parts_of
 from .values import NO_LOOK_PARTS, NO_TEXTURE_PARTS, LookParts, TextureParts, inner
 
-# So many mistakes are told; and the lines of a list have so many bytes at most.
+# The greatest number of mistakes that are reported, and of bytes of the lines of a list.
 MOST_MISTAKES, MOST_BYTES = 20, 16 << 20
 BYTE_ORDER_MARK = "\ufeff"
 BLANK = ("\n", "\r\n")
@@ -70,7 +70,7 @@ class Translator:
                     return
 
     def _entries(self, line: str) -> Iterator[Tuple[int, Entry]]:
-        """The entries of a line, each behind its column, from 0. Raises NotUnderstood."""
+        """The entries of a line, each after its column, from 0. Raises NotUnderstood."""
         found = parts_of(line)
         if not found:
             return
@@ -110,7 +110,7 @@ class Translator:
         self.presets = self.presets._replace(**{name: getattr(given, name) for name in named}) if named else NO_FIELDS
 
     def _text(self, first: LinePart, rest: List[LinePart]) -> Iterator[Tuple[int, Entry]]:
-        """A character for each letter, and one in front of it for its accent."""
+        """A character for each letter, and one before it for its accent."""
         texts = [part for part in rest if part.is_quoted]
         operands, given = _parted([part for part in rest if not part.is_quoted], HAND, TEXT_FORM)
         if operands:
@@ -191,7 +191,7 @@ class Translation:
     _columns: "array[int]" = field(default_factory=lambda: array("L"))
 
     def add(self, made: MadeEntry) -> None:
-        """Takes the line of an entry. What comes behind a mistake isn't kept."""
+        """Takes the line of an entry. What comes after a mistake isn't kept."""
         if self.mistakes:
             return
         self.text += str(made.entry).encode("ascii") + b"\n"

@@ -33,7 +33,7 @@ Kept = TypeVar("Kept")
 
 
 def _split(text: str, between: str, count: int, what: str) -> List[Tuple[int, str]]:
-    """So many parts, each behind its offset."""
+    """A number of parts, each after its offset."""
     parts, at = [], 0
     for part in text.split(between):
         parts.append((at, part))
@@ -61,7 +61,7 @@ def whole(text: str, most: int) -> int:
 
 @lru_cache(maxsize=1 << 16)
 def _coordinate(text: str, least: int, what: str) -> int:
-    """A coordinate in units, or as a fraction of the square; the greatest fraction, 1, is the last unit."""
+    """A coordinate in units, or as a fraction of the unit screen; the greatest fraction, 1, is the last unit."""
     found = _FRACTION.fullmatch(text) if text.isascii() else None
     if found:
         if len(found[2]) + len(found[3]) > MOST_FRACTION:
@@ -84,7 +84,7 @@ def _position(text: str, least: int, what: str) -> Position:
 
 
 def point(text: str) -> Position:
-    """A point of the square."""
+    """A point of the unit screen."""
     return _position(text, 0, A_POINT)
 
 

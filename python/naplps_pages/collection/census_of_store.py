@@ -1,6 +1,6 @@
 """The census of a store: the codes for which its pages are refused, as the store has them, and what else stops them.
 
-How many pages are refused for each code is exact. What stands behind is read again from a file of each refused page.
+How many pages are refused for each code is exact. What follows is read again from a file of each refused page.
 """
 import sqlite3
 from collections import Counter
@@ -15,7 +15,7 @@ from .places import Place
 from .progress import Progress
 from .store import kept
 
-# So many refused pages are read on at most.
+# The greatest number of refused pages that are read on.
 MOST_READ = 100_000
 STATES = "SELECT p.state, count(*) FROM pages p WHERE EXISTS(SELECT 1 FROM present f WHERE f.page = p.id) GROUP BY 1"
 # What a census calls the states of pages.
@@ -41,7 +41,7 @@ def exact(connection: sqlite3.Connection) -> Census:
 
 
 def read_on(connection: sqlite3.Connection, found: Census, progress: Progress) -> Iterator[Tuple[str, str]]:
-    """Reads on behind the refusals of pages, bounded; tells of files that aren't as they were, and why."""
+    """Reads on after the refusals of pages, bounded; tells of files that aren't as they were, and why."""
     seen: "Counter[str]" = Counter()
     some = progress.through(kept(connection, PAGES, PAGE))
     for own, number, fault, left_out, place, name, *where in some:

@@ -23,7 +23,7 @@ from .tables import UNREADABLE, Chunk, File, Piece
 from .worker import WorkerOptions
 
 WORDS = interpreter("naplps_pages.collection.remote")
-# So many chunks are out at a time; so many files and bytes of names are one.
+# The number of chunks that are out at a time, and of files and bytes of names of a chunk.
 MOST_OUT = 64
 MOST_FILES, MOST_NAMES = 2000, 256 << 10
 # How long is waited at once; for the scheduler; for a first worker; for a result; and for the end, in seconds.

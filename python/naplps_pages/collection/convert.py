@@ -28,7 +28,7 @@ PAGE = "canon canon_size own path name inode?"
 
 
 class ConvertedRow(NamedTuple):
-    """What came of a canonical page, or of a file that might have brought it."""
+    """What came of a canonical page, or of a file that might have given it."""
 
     canon: bytes
     status: str

@@ -46,7 +46,7 @@ class Counts(NamedTuple):
                       self.asked + other.asked, self.packs + other.packs, _sum(self.kinds, other.kinds))
 
     def line(self, known: int) -> str:
-        """The counts of a scan for people, of which so many were known."""
+        """The counts of a scan for people, with the number of those that were known."""
         return self.told(f"{known} known, {numbered(self.asked, 'page')} asked about")
 
     def told(self, how: str) -> str:

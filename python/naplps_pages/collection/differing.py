@@ -34,7 +34,7 @@ class StoredAnswer(NamedTuple):
 
     @property
     def told(self) -> str:
-        """This for people, with the store and a file in front."""
+        """This for people, after the store and a file."""
         state, number, left_out, place, entries, canon, _ = self.said
         if state == tables.ACCEPTED:
             said = f"{Accepted(entries).line}, canonical {canon.hex()}"

@@ -73,7 +73,7 @@ def groups(connection: sqlite3.Connection, copies: bool) -> Iterator[Group]:
 
 
 def grouped(members: Iterable[Tuple[Any, ...]]) -> Iterator[Group]:
-    """The groups of rows of members, which stand in their order. A row may have treatments behind its place."""
+    """The groups of rows of members, which stand in their order. A row may have treatments after its place."""
     for (canon, form), some in groupby(members, key=lambda row: (row[0], row[1])):
         group: Optional[Group] = None
         for _, _, entries, length, own, path, name, at, *treated in some:

@@ -93,7 +93,7 @@ def most_budget(paths: Sequence[str]) -> int:
 
 
 class _Over:
-    """The groups of some sources, of which those behind count more, and a database to work in."""
+    """The groups of some sources, of which later ones count more, and a database to work in."""
 
     def __init__(self, work: sqlite3.Connection, sources: List[Source], copies: bool) -> None:
         self.work, self.sources, self.copies = work, sources, copies
@@ -154,7 +154,7 @@ class _Over:
 
 
 def _several(rows: Iterable[Row]) -> Iterator[Row]:
-    """The rows of runs, in order, whose hash is there twice: each once, behind a number of the hash, in its order."""
+    """The rows of runs, in order, whose hash is there twice: each once, after a number of the hash, in its order."""
     number = 0
     last: Optional[Row] = None
     is_first = False
@@ -172,7 +172,7 @@ def _several(rows: Iterable[Row]) -> Iterator[Row]:
 
 
 def _terms(source: Source) -> Iterator[Tuple[int, Row]]:
-    """The terms of a source by their numbers, those of the last run behind."""
+    """The terms of a source by their numbers, those of the last run at the end."""
     for number, *terms in source.rows("SELECT t.id, t.program_hash, t.form, t.budget FROM terms t LEFT JOIN runs r "
                                       "ON r.terms = t.id GROUP BY t.id ORDER BY max(r.id)",
                                       "terms program_hash form budget"):

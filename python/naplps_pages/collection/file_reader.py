@@ -10,7 +10,7 @@ from .tables import CHANGED, MOST_NUMBER, NOT_A_FILE, READ, TOO_LONG, UNREADABLE
 
 FLAGS = os.O_RDONLY | os.O_NOFOLLOW | os.O_NONBLOCK | os.O_CLOEXEC | os.O_NOCTTY
 PIECE = 1 << 20
-# The clock of a file system may stand for so long: a change within it can't be seen by its times.
+# How long the clock of a file system may stand: a change within that time can't be seen by its times.
 FRESH = 20_000_000
 KINDS = {stat.S_IFLNK: "a symbolic link", stat.S_IFDIR: "a folder", stat.S_IFIFO: "a fifo", stat.S_IFSOCK: "a socket",
          stat.S_IFCHR: "a device", stat.S_IFBLK: "a device"}

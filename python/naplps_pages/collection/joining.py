@@ -62,7 +62,7 @@ class JoinedRun(NamedTuple):
 
 
 class Joining:
-    """Joins sources, of which those behind count more, in the tables of a new store."""
+    """Joins sources, of which later ones count more, in the tables of a new store."""
 
     def __init__(self, connection: sqlite3.Connection, sources: Sequence[Source]) -> None:
         self.connection, self.sources = connection, sources

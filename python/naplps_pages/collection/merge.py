@@ -19,11 +19,11 @@ from .sources import Source, Sources, lacking, require_apart
 from .stopping import Stopping
 from .store import StoreFailed, open_to_write
 
-# Behind the name of the store, while it is made.
+# After the name of the store, while it is made.
 ENDING = ".new"
 # No log is needed: what isn't whole is thrown away.
 FAST = "PRAGMA journal_mode = OFF; PRAGMA synchronous = OFF;"
-# So many steps of SQLite come between two looks at the clock. And so many differences are told one by one.
+# The steps of SQLite between two looks at the clock, and the number of differences that are reported one by one.
 OFTEN, MOST_TOLD = 100_000, 10
 LACKING = "isn't made; with --unfinished it is, of what is there"
 DIFFERENT = "isn't made: %s with two answers under one budget and version"
@@ -49,7 +49,7 @@ def merge(into: str, paths: Sequence[str], unfinished: bool) -> bool:
 
 
 def _looked(into: str, sources: List[Source], unfinished: bool) -> int:
-    """Looks whether the stores can be joined; how many faults were told, with which that is possible."""
+    """Looks whether the stores can be joined; how many faults were reported, with which that is possible."""
     if os.path.lexists(into):
         raise NotWritten(into, "is there already, and isn't written over")
     for source in sources:
@@ -87,7 +87,7 @@ def _made(into: str, sources: List[Source], finished: bool, stopping: Stopping) 
 
 
 def _require_same(into: str, sources: List[Source], stopping: Stopping) -> None:
-    """Raises StoreFailed where the stores answer differently, which is told."""
+    """Raises StoreFailed where the stores answer differently, which is reported."""
     total = sum(source.number("SELECT count(*) FROM pages") for source in sources)
     progress = Progress(sys.stderr, lambda: total, what="pages compared")
     number = 0

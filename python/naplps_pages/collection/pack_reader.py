@@ -35,9 +35,9 @@ def _from(told: bytes) -> Optional[_From]:
 
 
 class PackScan:
-    """One reading of a pack, or of so many members of it.
+    """One reading of a pack, or of a number of its members.
 
-    Behind the members `own` is the row of the pack itself; but where more are left, `left` says so in place of it.
+    After the members `own` is the row of the pack itself; but where more are left, `left` says so in place of it.
     """
 
     def __init__(self, names: Names, limits: PackLimits, members: Optional[int] = None) -> None:

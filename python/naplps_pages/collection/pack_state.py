@@ -30,7 +30,7 @@ def settled(connection: sqlite3.Connection, folder: int, marks: Optional[Marks],
     """What is known of a pack with these marks; None where it has to be read.
 
     Its answers have to be on the terms that are asked for, with treatments and texts if these are, and of all members
-    that have no more than so many bytes.
+    that have no more than a number of bytes.
     """
     row = one(connection.execute(PACK, (folder,)).fetchone(), OWN)
     if row is None or marks is None or row[:4] != marks:

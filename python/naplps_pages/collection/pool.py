@@ -15,14 +15,14 @@ from .worker import MOST_AHEAD
 from .worker_process import ALIVE, DONE, FAILED
 
 MAIN = "naplps_pages.collection.worker_process"
-# A worker has so many chunks at a time, so that it needn't wait for the next. They fit into the buffer of its socket,
+# The number of chunks of a worker at a time, so that it needn't wait for the next. They fit into its socket's buffer,
 # so nobody waits to be read while he waits to be read himself.
 MOST_OUT, BUFFER = 3, 1 << 18
 # How long is waited for a message at once, and for a worker to end.
 TURN, GRACE = 0.25, 2.0
-# So many workers one behind the other that never said anything are a fault of the tool's own.
+# The number of workers in a row that never said anything which is a fault of the tool's own.
 MOST_STILLBORN = 3
-# So many workers are there at most.
+# The greatest number of workers.
 MOST_PROCESSES = 512
 
 
@@ -83,7 +83,7 @@ class WorkerHandle:
         return None
 
     def has_room(self) -> bool:
-        """Whether it should have another chunk: not behind a pack, which may take long."""
+        """Whether it should have another chunk: not after a pack, which may take long."""
         return len(self.chunks) < (1 if any(map(_is_pack, self.chunks)) else MOST_OUT)
 
     def left(self) -> Tuple[Chunk, ...]:
@@ -226,7 +226,7 @@ def count(chunk: Chunk) -> int:
 
 
 def _behind(chunk: Chunk, number: int) -> Chunk:
-    """The chunk without so many files at the front."""
+    """The chunk without its first files."""
     rest = []
     for folder, path, names in chunk:
         if number < len(names):
@@ -242,7 +242,7 @@ def halves(chunk: Chunk) -> List[Chunk]:
 
 
 def _before(chunk: Chunk, number: int) -> Chunk:
-    """So many files from the front of the chunk."""
+    """The first files of the chunk."""
     some = []
     for folder, path, names in chunk:
         if number > 0:
@@ -252,7 +252,7 @@ def _before(chunk: Chunk, number: int) -> Chunk:
 
 
 def _singles(chunk: Chunk, number: int) -> List[Chunk]:
-    """The first files of the chunk, so many, each as a chunk by itself."""
+    """The first files of the chunk, a number of them, each as a chunk by itself."""
     singles: List[Chunk] = [((folder, path, (name,)),) for folder, path, names in chunk for name in names]
     return singles[:number]
 

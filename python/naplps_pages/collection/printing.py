@@ -39,7 +39,7 @@ class Printer:
         self.output.bytes(os.fsencode(place.path) + END)
 
     def end(self) -> None:
-        """NUL alone, behind the names that stand together."""
+        """NUL alone, after the names that stand together."""
         self.output.bytes(END)
 
     def _csv(self, fields: Sequence[str]) -> None:
@@ -70,7 +70,7 @@ def shown_as(place: Place) -> Members:
 
 
 def numbered(number: int, one: str, more: str = "") -> str:
-    """So many of something, in words. The plural has an s, if it isn't given."""
+    """A number of something, in words. The plural has an s, if it isn't given."""
     return "%d %s" % (number, one if number == 1 else more or one + "s")
 
 

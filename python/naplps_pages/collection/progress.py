@@ -10,7 +10,7 @@ from .part import Part, below
 
 # Between two lines, in seconds: on a terminal, in a log.
 OFTEN, SELDOM = 0.25, 60.0
-# The rate is that of about so many seconds.
+# The rate is that of about this number of seconds.
 SPAN = 10.0
 # Between two looks at the clock, in rows.
 PASSED = 4096
@@ -67,7 +67,7 @@ class Progress:
         self.shown = False
 
     def show(self, done: int) -> None:
-        """Tells that so many files are done, if it is time to."""
+        """Tells that a number of files are done, if it is time to."""
         now = self.clock()
         past = now - self.last
         if self.stream is None or past < (OFTEN if self.terminal else SELDOM):
@@ -98,7 +98,7 @@ class Progress:
             self.stream = None  # there is nobody left to tell
 
     def through(self, rows: Iterable[Row]) -> Iterator[Row]:
-        """The rows, each of which is done once the next is asked for; behind those that came through before."""
+        """The rows, each of which is done once the next is asked for; after those that came through before."""
         for row in rows:
             yield row
             self.passed += 1

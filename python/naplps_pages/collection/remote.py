@@ -13,7 +13,7 @@ from .worker_process import limit_memory
 
 # The module and the tool, which stand in one folder.
 PACKAGES = ("naplps", "naplps_pages")
-# So many members of a pack are read at a time, since their rows are held until all are there.
+# The number of members of a pack that are read at a time, since their rows are held until all are there.
 MOST_MEMBERS = 20_000
 PIECE = 1 << 20
 

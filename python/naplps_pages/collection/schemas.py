@@ -52,7 +52,7 @@ ADDED_TO_LISTING = """,
     nullif(lower(hex(c.copy)), '') AS treated_hash, nullif(lower(hex(c.canon)), '') AS treated_canonical,
     c.canon_size AS treated_canonical_size, p.stop AS stops""".format(PAGE, TEXT, BLANK, AROUND, WITHIN)
 CURES_OF_LISTING = "\n    LEFT JOIN cures c ON c.page = p.id AND c.terms = p.terms"
-# They are built behind a first scan, which is faster.
+# They are built after a first scan, which is faster.
 INDICES = """
 CREATE INDEX IF NOT EXISTS pages_by_canon ON pages(canon) WHERE canon IS NOT NULL;
 CREATE INDEX IF NOT EXISTS pages_by_number ON pages(number) WHERE number IS NOT NULL;
@@ -76,7 +76,7 @@ def listing(schema: int = SCHEMA) -> str:
 def renewal() -> str:
     """What makes a store of the schema before one of this schema: nothing that it holds is touched.
 
-    What is added to a table stands behind its other columns, so its words are those of a new store.
+    What is added to a table stands after its other columns, so its words are those of a new store.
     """
     return "".join(f"ALTER TABLE {name} ADD COLUMN {column}; " for name, column in _added()) + (
         f"{TEXTS} UPDATE meta SET value = '{SCHEMA}' WHERE key = 'schema';")

@@ -17,9 +17,9 @@ from .writer import Writer
 
 # The usual sizes of a chunk.
 MOST_FILES, MOST_NAMES = 200, 16 << 10
-# So many rows of the store are looked at together.
+# The number of rows of the store that are looked at together.
 ROWS = 1000
-# A chunk of nothing comes behind so many folders or known files that bring no other, so that nobody waits for long.
+# The number of folders, or of known files, without any other, after which a chunk of nothing comes.
 QUIET_FOLDERS, QUIET_FILES = 64, 1000
 EMPTY = "it is empty, and had files before: is it mounted? Nothing in it is marked as gone"
 KNOWN = f"""SELECT f.name, f.state, f.size, f.mtime_ns, f.ctime_ns, f.inode, f.state = ? AND {SETTLED}
@@ -47,7 +47,7 @@ Found = Tuple[int, bytes, Iterator[Optional[bytes]]]
 class Scope(NamedTuple):
     """What is searched for: files of a part, if it isn't all, and members of packs of no more than `most` bytes.
 
-    A chunk has so many files, and so many bytes of names.
+    A chunk has at most a number of files, and of bytes of names.
     """
 
     wanted: AskAgain

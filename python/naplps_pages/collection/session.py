@@ -68,7 +68,7 @@ class Names:
         raise NotWritten(place.path, NOT_BELOW)
 
     def _front(self, number: int) -> List[bytes]:
-        """What stands in front of the files of a root where there are several: its name, with a number if need be."""
+        """What stands before the files of a root where there are several: its name, with a number if need be."""
         names = [os.path.basename(root) for root in self.roots]
         name = names[number]
         if len(names) == 1 or not name:
@@ -94,7 +94,7 @@ class StoreSession(Session):
     store: str = ""
 
     def front(self, name: str) -> str:
-        """What stands in front of the answer to a page: its name."""
+        """What stands before the answer to a page: its name."""
         return f"{shown(name)}: "
 
     def __post_init__(self) -> None:

@@ -17,7 +17,7 @@ from .store import StoreFailed, open_unchanged, schema_of
 CACHE, LEAST = 64 << 10, 64
 # Files that are open beside those of stores; and how many a store has.
 OTHERS, EACH = 64, 3
-# So many parts that lack are told by their numbers.
+# The greatest number of lacking parts that are told by their numbers.
 MOST_LISTED = 5
 Row = Tuple[Any, ...]
 LAST = "SELECT id, began, ended FROM runs ORDER BY id DESC LIMIT 1"
@@ -59,7 +59,7 @@ class Source:
 
 
 class Sources:
-    """Stores, the one of which the last scan began first in front. They are closed at the end."""
+    """Stores, first the one of which the last scan began first. They are closed at the end."""
 
     def __init__(self, paths: Sequence[str]) -> None:
         _allow(len(paths))
@@ -83,7 +83,7 @@ class Sources:
 
 
 def _allow(number: int) -> None:
-    """Allows this process as many open files as so many stores need, if it may."""
+    """Allows this process as many open files as this number of stores need, if it may."""
     soft, hard = resource.getrlimit(resource.RLIMIT_NOFILE)
     wanted = OTHERS + EACH * number
     if resource.RLIM_INFINITY not in (soft, hard):

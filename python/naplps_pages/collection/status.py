@@ -89,7 +89,7 @@ class Tally:
             _add(self.left, UNKNOWN, row.files)
 
     def told_below(self, name: str) -> List[str]:
-        """What is told of the files of a name, behind how many they are."""
+        """What is told of the files of a name, after their number."""
         some = [f"{many}: {why}" for (of, why), many in sorted(self.reasons.items()) if of == name and why]
         if name == tables.PAGE_STATES[tables.ACCEPTED]:
             some += [f"{self.kinds[kind]}: {kind}" for kind in (*tables.KINDS, UNKNOWN) if kind in self.kinds]

@@ -1,7 +1,7 @@
 """The index of the words of pages, by SQLite's FTS5. Where that isn't compiled in, a store has texts alone.
 
 It stands over the table `texts`, whose texts it doesn't keep once more. So a row of `texts` is taken out of it, by
-`forget`, before it is changed, and put into it, by `note`, behind that.
+`forget`, before it is changed, and put into it, by `note`, after that.
 """
 import re
 import sqlite3

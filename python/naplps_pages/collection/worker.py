@@ -22,9 +22,9 @@ from .folders import is_gone, opened, reason
 from .pack_reader import PackScan
 from .tables import CHANGED, UNREADABLE, VANISHED, Answered, AskAgain, Chunk, Cured, File, Names, Piece, PageText
 
-# So many requests are written ahead, of so many bytes.
+# The number of requests that are written ahead, and of their bytes.
 MOST_AHEAD, MOST_BYTES = 64, 1 << 20
-# So many answers of late are remembered.
+# The number of latest answers that are remembered.
 MOST_REMEMBERED = 4096
 TOO_LONG_TO_CURE = "it is too long for treatments"
 OTHERWISE = "the program answers otherwise when it is asked for its canonical bytes"
@@ -55,7 +55,7 @@ class Described(NamedTuple):
 
 
 class Worker:
-    """Turns chunks into rows; of a pack only those of so many members, and `left` is where it goes on."""
+    """Turns chunks into rows; of a pack only those of a number of members, and `left` is where it continues."""
 
     def __init__(self, how: WorkerOptions, knows: Knows, beat: Callable[[], None] = lambda: None,
                  members: Optional[int] = None) -> None:
@@ -155,7 +155,7 @@ class Worker:
         return row(own, said, Described(looks_like=look or "", stop=stop))
 
     def _is_several(self, data: bytes) -> bool:
-        """Whether an accepted page is perhaps several: whether it has what begins a page behind its first entry."""
+        """Whether an accepted page is perhaps several: whether it has what begins a page after its first entry."""
         last = file_kinds.last_beginning(data)
         if last < 0:
             return False

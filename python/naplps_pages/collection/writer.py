@@ -13,7 +13,7 @@ from . import texts, word_index
 from .folders import is_within, join
 from .tables import ACCEPTED, GONE, READ, UNREADABLE, VANISHED, Answered, File, Piece
 
-# A step is written once it has so many files, or is so old in seconds.
+# The number of files, or the age in seconds, with which a step is written.
 STEP, SECONDS = 2000, 2.0
 
 ANSWER = ("state", "number", "left_out", "place", "entries", "canon", "canon_size", "why", "kind", "looks_like",
@@ -37,7 +37,7 @@ CURE = """INSERT OR REPLACE INTO cures(page, terms, treatments, entries, copy, w
     SELECT id, ?, ?, ?, ?, ?, ?, ?, ? FROM pages WHERE own = ?"""
 FOLDER = """INSERT INTO folders(path, state, why, run) VALUES(?, ?, ?, ?)
     ON CONFLICT(path) DO UPDATE SET state = excluded.state, why = excluded.why, run = excluded.run"""
-# So many members of an answer are columns of `pages`.
+# The number of members of an answer that are columns of `pages`.
 ANSWERED = 1 + len(ANSWER) - 2
 accepted_values = attrgetter("own", *OF_ACCEPTED[:-2])
 
@@ -195,7 +195,7 @@ class Writer:
                     self._pack(file)
 
     def _pack(self, file: File) -> None:
-        """Writes the row of a pack itself, behind those of its members."""
+        """Writes the row of a pack itself, after those of its members."""
         self.connection.execute(FILE, (*file, self.run))
         self.unpacked.append(file.folder)
         if file.state == READ:

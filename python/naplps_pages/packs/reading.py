@@ -15,7 +15,7 @@ from .zips import Zip
 Pack = Union[Tar, Zip]
 FLAGS = os.O_RDONLY | os.O_NONBLOCK | os.O_CLOEXEC | os.O_NOCTTY
 BUFFER = 1 << 16
-# So many packs are held open.
+# The number of packs that are held open.
 MOST_OPEN = 4
 NO_MEMBER = "the pack has no such member"
 SEVERAL = "the pack has several members of this name"

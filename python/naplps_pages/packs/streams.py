@@ -8,9 +8,9 @@ from .member import Damage
 GZIP = b"\x1f\x8b"
 # Bytes that are read and unpacked at a time.
 PIECE, UNPACKED = 1 << 14, 1 << 18
-# What is passed over may be so many times as long as it is packed; this isn't looked at before so many bytes.
+# How many times as long as packed the passed-over bytes may be; this isn't looked at before LEAST bytes.
 MOST_RATIO, LEAST = 100, 1 << 24
-# So many places to go back to are kept, at first so many bytes apart.
+# The greatest number of places to go back to, and the bytes between them at first.
 MOST_KEPT, APART = 128, 1 << 18
 ENDS = "it is cut: it ends at byte %d"
 DAMAGED = "it is damaged behind byte %d: %s"
@@ -34,11 +34,11 @@ class Plain:
         self.file.seek(at)
 
     def pass_over(self, at: int) -> None:
-        """Goes on to a place. Raises Damage."""
+        """Advances to a place. Raises Damage."""
         self.seek(at)
 
     def read(self, most: int) -> bytes:
-        """So many bytes; less at the end."""
+        """A number of bytes; less at the end."""
         return self.file.read(most)
 
 
@@ -66,7 +66,7 @@ class Unpacked:
         return self.come - len(self.held) + self.at
 
     def read(self, most: int) -> bytes:
-        """So many bytes; less at the end. Raises Damage."""
+        """A number of bytes; less at the end. Raises Damage."""
         pieces: List[bytes] = []
         left = most
         while left and (self.at < len(self.held) or self._more()):
@@ -85,7 +85,7 @@ class Unpacked:
             self._step(at)
 
     def pass_over(self, at: int) -> None:
-        """Goes on to a place. Raises Damage where it can't be reached, or what is before it unpacks to too much."""
+        """Advances to a place. Raises Damage where it can't be reached, or what is before it unpacks to too much."""
         start, packed = self.tell(), self._packed()
         while self.tell() < at:
             self._step(at)
@@ -153,7 +153,7 @@ class Unpacked:
         return True
 
     def _keep(self) -> None:
-        """Keeps this place to go back to, if it is far enough behind the last; the fewer, the longer the file is."""
+        """Keeps this place to go back to, if it is far enough after the last; the fewer, the longer the file is."""
         if self.come < self.kept[-1].at + self.apart:
             return
         if len(self.kept) >= MOST_KEPT:

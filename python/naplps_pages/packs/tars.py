@@ -10,7 +10,7 @@ from .naming import named
 from .streams import ENDS, Stream, stream_of
 
 BLOCK = tarfile.BLOCKSIZE
-# What one member has before its bytes may be so long; and what stands behind the end is looked through so far.
+# How long the bytes before a member's may be; and how far what follows the end is looked through.
 MOST_HEAD = MOST_BEHIND = 1 << 20
 # What tarfile raises over headers that are made up.
 FAULTS = (tarfile.TarError, ValueError, LookupError, ArithmeticError, TypeError, struct.error, RecursionError)
@@ -55,7 +55,7 @@ class _Unused(Dict[str, str]):
 
 
 class Tar:
-    """A tar file. Behind its members `why` says what is wrong with it as a whole, if something is."""
+    """A tar file. After its members `why` says what is wrong with it as a whole, if something is."""
 
     def __init__(self, file: IO[bytes], limits: PackLimits, goes_back: bool = False) -> None:
         self.limits = limits
@@ -67,7 +67,7 @@ class Tar:
         self.next = 0
 
     def members(self, start: int = 0, reads: bool = True) -> Iterator[Member]:
-        """The members from a place on, which is 0 or was `next`, that behind the last; also without their bytes."""
+        """The members from a place on, which is 0 or was `next`, that after the last one; also without their bytes."""
         self.why = None
         found = False
         try:
@@ -89,7 +89,7 @@ class Tar:
         return self._member(info, True) if info else None
 
     def _headers(self, position: int) -> Iterator[tarfile.TarInfo]:
-        """The headers. Behind one that is damaged the next is looked for, within the bytes that a member may have."""
+        """The headers. After one that is damaged the next is looked for, within the bytes that a member may have."""
         searched = 0
         while searched <= self.limits.most:
             self.limits.beat()
@@ -120,7 +120,7 @@ class Tar:
         return info if info.size >= 0 and self.tar.offset > position else None
 
     def _end(self) -> None:
-        """Looks at what stands behind the mark of the end, which is zeros where nothing was added."""
+        """Looks at what stands after the mark of the end, which is zeros where nothing was added."""
         if not self.head.first:
             self.why = self.why or NO_END
             return

@@ -11,7 +11,7 @@ from ..collection.tables import READ, UNREADABLE
 from .member import OUTSIDE, Member, PackLimits, other, passed_over, taken
 from .naming import named
 
-# A directory has so many bytes at most: some 400,000 members.
+# The greatest number of bytes of a directory: some 400,000 members.
 MOST_DIRECTORY = 32 << 20
 ENCRYPTED, UTF_8 = 1, 1 << 11
 MOST_SAID = 200
@@ -23,7 +23,7 @@ KINDS = {stat.S_IFLNK: "a symbolic link", stat.S_IFIFO: "a fifo", stat.S_IFSOCK:
 
 
 class _Directory:
-    """A file of which so much is read at once as a directory may have."""
+    """A file of which as much is read at once as a directory may have."""
 
     def __init__(self, file: IO[bytes], limits: PackLimits) -> None:
         self.file, self.limits = file, limits
@@ -38,7 +38,7 @@ class _Directory:
 
 
 class Zip:
-    """A zip file. Behind its members `why` says what is wrong with it as a whole, if something is."""
+    """A zip file. After its members `why` says what is wrong with it as a whole, if something is."""
 
     def __init__(self, file: IO[bytes], limits: PackLimits) -> None:
         self.limits = limits
@@ -57,7 +57,7 @@ class Zip:
             self.why = "it can't be read as a zip file"
 
     def members(self, start: int = 0, reads: bool = True) -> Iterator[Member]:
-        """The members from a place on, which is 0 or was `next`, that behind the last; also without their bytes."""
+        """The members from a place on, which is 0 or was `next`, that after the last one; also without their bytes."""
         for number, info in enumerate(self._ordered()[start:], start + 1):
             self.limits.beat()
             self.next = number

@@ -4,7 +4,7 @@
 const FONT = '"DejaVu Sans Mono", monospace';
 // A letter with the marks that stand on it.
 const LETTER = /\P{M}\p{M}*/gu;
-// Viewers of SVG cut joints that are longer than so many thicknesses.
+// Viewers of SVG cut joints that are longer than this number of thicknesses.
 const MITER = 4;
 // The blocks of a mosaic, as a path has them: left, top, width and height of each.
 const BLOCK = /M(-?[\d.]+) (-?[\d.]+)h(-?[\d.]+)v(-?[\d.]+)h-?[\d.]+z/g;
@@ -57,7 +57,7 @@ class Table {
     this.clears = [-1, ...this.steps.map((step, at) => clear = step.clear ? at : clear)];
   }
 
-  // How many steps are whole once so many entries are there.
+  // How many steps are whole once a number of entries are there.
   wholeBy(done) {
     return upTo(this.steps, (step) => step.last < done);
   }

@@ -2,7 +2,7 @@
 // Holds pictures back that would flash more than three times in a second.
 
 // A flash is two changes, there and back. A change is a tenth of the way from dark to full, of red, green or blue, in
-// more than so many of a hundred parts of the picture.
+// more than this part of the picture.
 const MOST_CHANGES = 6, CHANGE = 26, MOST_PARTS = 0.03;
 const ACROSS = 32, DOWN = 25;
 

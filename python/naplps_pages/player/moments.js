@@ -1,7 +1,7 @@
 
 // When what is there: the line that the page comes down, and the colours as the map and the blinks have them.
 
-// A byte has eight bits on the line, one before and one behind them.
+// A byte has eight bits on the line, one before and one after them.
 const BITS = 10;
 
 // A moment is how many bytes have come, and how many entries with them.
@@ -12,7 +12,7 @@ class Line {
     // (those of earlier pages are there from the start)
     this.before = data.before;
     this.received = data.places.map((place) => Math.min(place + 1, data.length));
-    // What was waited for before each entry, and behind the last one, in seconds.
+    // What was waited for before each entry, and after the last one, in seconds.
     this.waited = [0];
     const waiting = data.steps.filter((step) => "wait" in step && step.entry >= this.before);
     const waits = new Map(waiting.map((step) => [step.entry, step.wait / 10]));
@@ -26,7 +26,7 @@ class Line {
     this.end = this.length / this.second + this.waited[this.number];
   }
 
-  // The moment so many seconds after the first bit.
+  // The moment a number of seconds after the first bit.
   at(seconds) {
     const done = upTo(this.times, (time) => time <= seconds + 1e-9);
     const come = Math.floor((seconds - this.waited[done]) * this.second + 1e-6);
@@ -47,20 +47,20 @@ class Line {
     return this.ofEntries(this.number);
   }
 
-  // The moment at which so many entries are there.
+  // The moment at which a number of entries are there.
   ofEntries(done) {
     const count = Math.max(this.before, Math.min(this.number, done));
     const whole = count === this.number ? this.length : 0;
     return {done: count, bytes: Math.max(whole, count ? this.received[count - 1] : 0)};
   }
 
-  // The moment at which so many bytes have come.
+  // The moment at which a number of bytes have come.
   ofBytes(bytes) {
     const count = Math.max(0, Math.min(this.length, bytes));
     return {done: upTo(this.received, (each) => each <= count), bytes: count};
   }
 
-  // Whether a wait goes on.
+  // Whether a wait continues.
   isWaiting({done, bytes}, seconds) {
     return done > 0 && this.waited[done] > this.waited[done - 1] && bytes === this.received[done - 1]
       && seconds < this.times[done - 1] + this.waited[done] - this.waited[done - 1];
@@ -86,7 +86,7 @@ class Colours {
     this.processes = new Map();
   }
 
-  // Takes the entries up to this number. The clock goes on whatever comes.
+  // Takes the entries up to this number. The clock continues whatever comes.
   move(done) {
     if (done < this.done) this.begin();
     this.done = done;

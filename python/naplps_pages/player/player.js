@@ -1,5 +1,5 @@
 
-// The player: its controls, its keys, and the time that goes on.
+// The player: its controls, its keys, and the time that continues.
 
 const SPEEDS = [300, 1200, 2400, 4800, 9600], USUAL_SPEED = 1200;
 // So long is drawn before a picture is shown, in milliseconds; so long at most a frame moves the time on, in seconds.

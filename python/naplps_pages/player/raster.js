@@ -2,7 +2,7 @@
 // The raster of a terminal: each pel has the number of an ink, and the inks have their colours as the map is now.
 
 const RASTER_WIDE = 256;
-// A pel belongs to what covers so much of it, of 255: lines a little less, so that they have no gaps.
+// A pel belongs to what covers at least this part of it, of 255: lines a little less, so that they have no gaps.
 const COVERED = 118, COVERED_BY_LETTER = 128;
 const NONE = -1;
 
@@ -131,7 +131,7 @@ class RasterView {
     this.at = clear + 1;
   }
 
-  // Draws what is there once so many entries are, up to a time; whether that was all.
+  // Draws what is there once `done` entries are, up to a time; whether that was all.
   advance(done, colours, until) {
     this.colours = colours;
     const end = this.table.wholeBy(done), clear = this.table.clears[end];

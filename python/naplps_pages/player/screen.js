@@ -25,7 +25,7 @@ class Screen {
     this.view = this.views[name];
   }
 
-  // Shows what is there once so many entries are, if it can be drawn up to a time; whether that is done.
+  // Shows what is there once a number of entries are, if it can be drawn up to a time; whether that is done.
   show(done, marked, {until = Infinity, seconds = 0, isGuarded = false} = {}) {
     this.colours.move(done);
     if (!this.view.advance(done, this.colours, until)) return false;
@@ -73,7 +73,7 @@ class Screen {
     }
   }
 
-  // The entry of what is uppermost at a place, once so many are there; undefined where there is only ground.
+  // The entry of what is uppermost at a place, once a number are there; undefined where there is only ground.
   entryAt(x, y, done) {
     const first = this.table.clears[this.table.wholeBy(done)];
     const end = upTo(this.table.steps, (step) => step.entry < done);

@@ -126,7 +126,7 @@ class SmoothView {
     return false;
   }
 
-  // Draws what is there once so many entries are, up to a time; whether that was all. What was begun is ended first,
+  // Draws what is there once `done` entries are, up to a time; whether that was all. What was begun is ended first,
   // with the colours that it has.
   advance(done, colours, until) {
     const end = this.table.wholeBy(done), clear = this.table.clears[end];

@@ -6,7 +6,7 @@ from typing import Callable, Deque, Dict, Iterable, Iterator, List, Optional, Se
 from .blocks import Block, DrawnBlock, DrawnPage, without_drawings
 from .sketch_workers import ENDED, DrawingOptions, SketchWorker
 
-# So many processes one behind the other that drew nothing are no fault of the pages.
+# The number of processes in a row that may draw nothing without a fault of the pages.
 MOST_STILLBORN = 10
 IS_FULL = "the report has no room for more; `naplps-pages serve` shows it"
 
@@ -120,7 +120,7 @@ class BlockQueue:
         return not others
 
     def _ended(self, share: Share, block: Block) -> Iterator[DrawnBlock]:
-        """Another process goes on in place of one that has ended. Where none draws anything, all is lost."""
+        """Another process continues in place of one that has ended. Where none draws anything, all is lost."""
         self.shares.remove(share)
         share.worker.close()
         self.waiting.appendleft(share.left(block))

@@ -5,7 +5,7 @@ from typing import List, Tuple
 from .facts import ReasonRow
 
 WIDE = 300
-# So many treatments are named for a reason.
+# The greatest number of treatments that are named for a reason.
 MOST_TOLD = 4
 HEAD = ('<table class="chart"><thead><tr><th scope="col">Reason<th scope="col" class="bar">'
         '<span class="unseen">Bar</span><th scope="col" class="number">Files<th scope="col" class="number">Of all'

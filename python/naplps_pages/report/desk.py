@@ -13,7 +13,7 @@ class Desk:
     """Takes pages from many threads at the same time. One that takes long keeps one process alone."""
 
     def __init__(self, how: DrawingOptions, most: int) -> None:
-        """Of the processes there are so many at most; those that there aren't start when they are needed."""
+        """Of the processes there are at most a number; those that there aren't start when they are needed."""
         self.how, self.most = how, most
         self._turns = threading.Semaphore(most)
         self._lock = threading.Lock()

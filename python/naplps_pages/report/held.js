@@ -20,7 +20,7 @@ function lengthened(text) {
   });
 }
 
-// Elements that are unpacked when they are needed; so many of them are held at a time.
+// Elements that are unpacked when they are needed, of which `most` are held at a time.
 class Packed {
   constructor(elements, most) {
     Object.assign(this, {elements, most, held: new Map()});
@@ -96,7 +96,7 @@ class Held {
     return keys;
   }
 
-  // Those of a group side by side, by their spellings; behind them those that have no group.
+  // Those of a group side by side, by their spellings; after them those that have no group.
   byGroup(keys) {
     const {group, spelling} = this.columns, last = this.table.groups.length;
     const rank = (key) => group[key] < 0 ? last : group[key];

@@ -12,11 +12,11 @@ MOST_HELD = 1 << 30
 A_LINE = 2000
 # The same as of a report where pages are served one by one.
 SERVED_LINES, SERVED_TEXT, SERVED_SKETCH = 20_000, 200_000, 16 << 20
-# So many pages of a report can be played; and characters of what a player has, in a report and where pages are served.
+# The number of pages of a report that can be played; and characters of a player's data, in a report and served.
 MOST_PLAYED, HELD_PLAYER, SERVED_PLAYER = 1000, 300_000, 32 << 20
 # Sketches that are packed together at most and at least, texts, and pages that can be played.
 A_BLOCK, A_SMALL_BLOCK, SOME_TEXTS, A_PLAYED_BLOCK = 50, 5, 500, 20
-# So many blocks there are before blocks have the most, so that several processes can share them.
+# The number of blocks before blocks have the most, so that several processes can share them.
 SMALL_BLOCKS = 32
 # Folders that can be chosen.
 MOST_FOLDERS = 500
@@ -27,5 +27,5 @@ HASH_DIGITS = 16
 
 
 def in_block(sketches: int) -> int:
-    """How many sketches are packed together where there are so many."""
+    """How many sketches are packed together where there are a number of them."""
     return min(A_BLOCK, max(A_SMALL_BLOCK, sketches // SMALL_BLOCKS))

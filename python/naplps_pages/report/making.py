@@ -34,7 +34,7 @@ BEGINNING = b'<!doctype html>\n<html lang="en">\n<head>\n<meta charset="utf-8">\
 
 
 class ReportOptions(NamedTuple):
-    """What report was asked for: so many sketches, or all; by how many processes, and in how many seconds for each; in
+    """What report was asked for: a number of sketches, or all; by how many processes, in how many seconds each; in
     place of one that is there; with a row for each character."""
 
     store: str
@@ -154,7 +154,7 @@ def _blocks(tasks: List[Task]) -> List[Block]:
 
 
 def _drawn(table: Table, tasks: int, queue: BlockQueue) -> List[DrawnBlock]:
-    """The blocks with so many drawings, in the order of their files. Meanwhile the table is filled."""
+    """The blocks with a number of drawings, in the order of their files. Meanwhile the table is filled."""
     progress = Progress(sys.stderr, lambda: tasks, what="sketches")
     try:
         with ThreadPoolExecutor(1) as beside:

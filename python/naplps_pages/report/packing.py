@@ -1,4 +1,4 @@
-"""Packs what a report holds beside its blocks, by threads. (zlib lets other threads go on.)"""
+"""Packs what a report holds beside its blocks, by threads. (zlib lets other threads run.)"""
 from concurrent.futures import Future, ThreadPoolExecutor
 from typing import Callable, List, Sequence, TypeVar
 
@@ -9,7 +9,7 @@ It = TypeVar("It")
 
 
 class Packing:
-    """Packs by so many threads."""
+    """Packs by a number of threads."""
 
     def __init__(self, threads: int) -> None:
         self.pool = ThreadPoolExecutor(max(1, threads))
@@ -25,11 +25,11 @@ class Packing:
         return self.pool.submit(packed, value)
 
     def texts(self, some: Sequence[str]) -> List[str]:
-        """Texts, so many together."""
+        """Texts, a number of them together."""
         return self._parts(packed, some, SOME_TEXTS)
 
     def played(self, some: Sequence[str]) -> List[str]:
-        """What players have, as JSON, so many together."""
+        """What players have, as JSON, a number of them together."""
         return self._parts(lambda part: packed_json("[%s]" % ",".join(part)), some, A_PLAYED_BLOCK)
 
     def _parts(self, pack: Callable[[Sequence[It]], str], some: Sequence[It], size: int) -> List[str]:

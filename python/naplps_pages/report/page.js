@@ -45,7 +45,7 @@ class PageView {
     if (this.dialog.open) this.dialog.close();
   }
 
-  // Goes on to the next of the files that are found, or back.
+  // Advances to the next of the files that are found, or back.
   async step(by) {
     const position = this.position + by;
     if (this.position === undefined || position < 0) return;

@@ -15,7 +15,7 @@ ROOTS = """SELECT path, max(why IS NOT NULL OR EXISTS(SELECT 1 FROM folders d WH
 
 
 class Roots:
-    """The folders that were scanned. Where there are several, each has a name, which stands in front."""
+    """The folders that were scanned. Where there are several, each has a name, which comes first."""
 
     def __init__(self, paths: List[bytes]) -> None:
         outer = [path for path in sorted(paths) if not any(
@@ -23,7 +23,7 @@ class Roots:
         self.names: List[Tuple[bytes, str]] = list(zip(outer, _different([_leaf(path) for path in outer])))
 
     def relative(self, folder: bytes) -> str:
-        """The folder's name relative to its root; with the root's own in front where there are several."""
+        """The folder's name relative to its root; after the root's own where there are several."""
         for path, name in self.names:
             if folder == inside(path):
                 return name + os.fsdecode(MARK)
@@ -38,7 +38,7 @@ def _leaf(path: bytes) -> str:
 
 
 def _different(names: List[str]) -> List[str]:
-    """The names, with a number behind each that was there before."""
+    """The names, with a number after each that was there before."""
     seen: Dict[str, int] = {}
     made = []
     for name in names:

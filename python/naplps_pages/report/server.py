@@ -28,7 +28,7 @@ NO_ANSWER = "There is no answer to draw"
 # Random bytes of the key in the address.
 KEY_BYTES = 24
 NO_KEY = "the address has a key, which was printed when the server began"
-# So many pages are drawn at the same time, at most.
+# The greatest number of pages that are drawn at the same time.
 MOST_DRAWERS = max(2, min(4, os.cpu_count() or 1))
 HEADERS = {
     "X-Content-Type-Options": "nosniff", "X-Frame-Options": "DENY", "Referrer-Policy": "no-referrer",
@@ -111,7 +111,7 @@ class Handler(BaseHTTPRequestHandler):
             raise BadRequest(403, "another site asked for it")
 
     def _name(self) -> str:
-        """What is asked for, behind the key."""
+        """What is asked for, after the key."""
         return self.path[len(self.server.top):]
 
     def _asked(self) -> Tuple[str, str, bytes]:

@@ -10,7 +10,7 @@ GROUPS, REFUSED = 6, 3
 
 
 def choose(table: Table, most: int) -> List[int]:
-    """The numbers of so many files: one for each page, or for each group of equal pages."""
+    """The numbers of a number of files: one for each page, or for each group of equal pages."""
     groups, refused, others = _groups(table), _refused(table), _others(table)
     first = groups[:most * GROUPS // 10] + refused[:most * REFUSED // 10]
     taken = set(first)

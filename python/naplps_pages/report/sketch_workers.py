@@ -20,7 +20,7 @@ MOST_MEMORY = 1 << 30
 ENDED = "the process that drew it ended"
 # How long is waited for a process that is told to end, in seconds.
 PATIENCE = 2.0
-# So many new objects are made before Python looks for those that nobody needs; a page has hundreds, a file dozens.
+# The number of new objects before Python looks for those that nobody needs; a page has hundreds, a file dozens.
 OBJECTS = 100_000
 
 

@@ -1,7 +1,7 @@
 
 // The wall: thumbnails of all pages that are found. Only those that can be seen have elements.
 const PART = 120, HELD_PARTS = 40, BUSY = 6, NARROW = 150, WIDE = 200, GAP = 10, CAPTION = 46, ROWS_AHEAD = 2;
-// Drawings that are held; for how many ms the wall counts as scrolled behind the last of it, and how many lie between
+// Drawings that are held; for how many ms the wall counts as scrolled after the last of it, and how many lie between
 // two pictures meanwhile.
 const HELD_DRAWINGS = 150, STILL = 120, BETWEEN = 30;
 
@@ -87,7 +87,7 @@ class Wall {
   // Makes the elements that can be seen now, and takes away the others, but the one that has the focus.
   render() {
     if (!this.box.clientWidth) return;
-    // (all is measured before anything is changed, so that the page is laid out once)
+    // (all is measured before anything is changed, so that the browser arranges the page once)
     const top = this.top(), first = this.first(top), last = this.last(top);
     const from = Math.max(0, first - ROWS_AHEAD * this.columns);
     const rows = Math.ceil(innerHeight / this.row) + 2 * ROWS_AHEAD + 1;
@@ -201,7 +201,7 @@ class Wall {
     this.focus(Math.abs(by) === this.columns && (to < 0 || to > last) ? this.at : Math.min(last, Math.max(0, to)));
   }
 
-  // Goes to a tile, and brings it to where it can be seen.
+  // Goes to a tile, and scrolls it to where it can be seen.
   focus(at) {
     if (!(at >= 0 && at < this.total)) return;
     this.at = at;

@@ -1,4 +1,4 @@
-//! Requests one after another, on inputs and outputs that fail and that give and take little at a call.
+//! Requests in sequence, on inputs and outputs that fail and that give and take little at a call.
 use nap_batch::{Question, RequestFront, answer_page, batch, parse_line, request_front_of};
 use nap_fixtures::devices::{End, Giver, Taker};
 use nap_list::{Source, Target};
@@ -12,19 +12,19 @@ const ALL: usize = usize::MAX;
 const REQUESTS: &[u8] =
     b"check 0 5\n\x0E\x26\x52\x40\x40list 0 1\n\x80places 0 6\n\x0E\x26\x52\x40\x40\x0F";
 
-/// Their answers.
+/// The answers to these requests.
 const ANSWERS: &[u8] = b"accepted 1 entries\n0\n\
     refused 1 EighthBit at 0\n0\n\
     accepted 1 entries\n49\n5 POINT 4194304,4194304 pel=0,0 colour=own-start\n";
 
-/// An input, how many bytes a read gives, and which read fails; how much the output has room for; how many bytes of the answers go
-/// out, what is told, and the status.
+/// An input, the number of bytes of a read, and which read fails; the space of the output; the number of answer bytes
+/// written, the report, and the status.
 type Row = (&'static [u8], (usize, u64), usize, usize, &'static [u8], u8);
 
 const WHOLE: usize = ANSWERS.len();
 
 const ROWS: &[Row] = &[
-    // Requests are answered however they come.
+    // Requests are answered in pieces of any size.
     (REQUESTS, (1, 0), ALL, WHOLE, b"", 0),
     (REQUESTS, (2, 0), ALL, WHOLE, b"", 0),
     (REQUESTS, (3, 0), ALL, WHOLE, b"", 0),
@@ -33,11 +33,11 @@ const ROWS: &[Row] = &[
     (REQUESTS, (17, 0), ALL, WHOLE, b"", 0),
     (REQUESTS, (40, 0), ALL, WHOLE, b"", 0),
     (REQUESTS, (ALL, 0), ALL, WHOLE, b"", 0),
-    // A failing read leaves the answers before it. The reads are of one byte: the nth fails behind n - 1 bytes.
+    // A failed read leaves the answers before it. The reads are of one byte: the nth fails after n - 1 bytes.
     (REQUESTS, (1, 1), ALL, 0, b"read fault\n", 3),
     (REQUESTS, (1, 15), ALL, 0, b"read fault\n", 3),
     (REQUESTS, (1, 16), ALL, 21, b"read fault\n", 3),
-    // A failing write tells all bytes that were taken.
+    // A failed write reports how many bytes were taken.
     (REQUESTS, (ALL, 0), 0, 0, b"write fault after 0 bytes\n", 3),
     (REQUESTS, (ALL, 0), 5, 5, b"write fault after 5 bytes\n", 3),
     (
@@ -80,7 +80,7 @@ const ROWS: &[Row] = &[
         b"write fault after 60 bytes\n",
         3,
     ),
-    // What is no request ends the row.
+    // Bytes that are no request end the run.
     (b"check 0\n", (ALL, 0), ALL, 0, b"request fault\n", 3),
     (b"check 0 0", (ALL, 0), ALL, 0, b"request fault\n", 3),
     (b"check 0 2\n\x0E", (ALL, 0), ALL, 0, b"request fault\n", 3),
@@ -103,11 +103,12 @@ const ROWS: &[Row] = &[
     (b"convert 0 0\n", (ALL, 0), ALL, 0, b"request fault\n", 3),
 ];
 
-/// The output and standard error behind requests, and the status. An output without room for all takes three bytes at a write.
-fn run(alloc: Global, input: Giver<'_>, room: usize) -> (Taker, Taker, u8) {
-    let most = if room == ALL { ALL } else { 3 };
+/// Returns the output and standard error after requests, and the status. An output without space for all takes three
+/// bytes at a write.
+fn run(alloc: Global, input: Giver<'_>, space: usize) -> (Taker, Taker, u8) {
+    let most = if space == ALL { ALL } else { 3 };
     let mut input = Source::new(input);
-    let mut output = Target::new(Taker::new(alloc, room, most, End::Fails));
+    let mut output = Target::new(Taker::new(alloc, space, most, End::Fails));
     let mut errors = Target::new(Taker::wide(alloc));
     let status = batch(alloc, &mut input, &mut output, &mut errors);
     (output.into_inner(), errors.into_inner(), status)
@@ -115,14 +116,14 @@ fn run(alloc: Global, input: Giver<'_>, room: usize) -> (Taker, Taker, u8) {
 
 #[test]
 fn requests_are_answered_in_turn(rt: HostRuntime) {
-    for (input, gives, room, out, told, status) in ROWS {
+    for (input, gives, space, out, reported, status) in ROWS {
         let giver = Giver::new(input, gives.0, gives.1);
-        let (output, errors, ended) = run(rt.alloc(), giver, *room);
+        let (output, errors, ended) = run(rt.alloc(), giver, *space);
         let is_sent = ended != 0 || (output.flushes, output.sent) == (3, *out);
         let found = ANSWERS.get(..*out) == Some(output.kept.as_slice())
-            && errors.kept.as_slice() == *told
+            && errors.kept.as_slice() == *reported
             && ended == *status;
-        assert!(rt; found && is_sent, "{input:?} by {gives:?} into {room}");
+        assert!(rt; found && is_sent, "{input:?} by {gives:?} into {space}");
     }
 }
 
@@ -144,7 +145,7 @@ fn a_line_says_a_question_a_budget_and_a_length(rt: HostRuntime) -> Result<(), F
 }
 
 #[test]
-fn places_before_a_refusal_stand(rt: HostRuntime) -> Result<(), Fail> {
+fn places_before_a_refusal_stay(rt: HostRuntime) -> Result<(), Fail> {
     let page = b"\x0E\x26\x52\x28\x7F";
     let answer = answer_page(rt.alloc(), Question::Places, Budget::usual(), page)?;
     let line: &[u8] = b"refused 10 Outside at 3\n";

@@ -6,21 +6,22 @@ use nap_list::{Entry, SinkFault, State, Target};
 use std::alloc::Global;
 use std::test::Fail;
 
-/// Whether a sink over an outlet with so much room, which takes so many bytes at a write, fails at an entry, and then again.
-fn fails_twice(alloc: Global, entry: &Entry, room: usize, most: usize) -> bool {
+/// Whether a sink over an outlet with space for `space` bytes, which takes at most `most` bytes at a write, fails at an
+/// entry, and then again.
+fn fails_twice(alloc: Global, entry: &Entry, space: usize, most: usize) -> bool {
     if !State::start().fits(entry) {
         return false;
     }
-    let mut sink = CanonSink::new(Target::new(Taker::new(alloc, room, most, End::Fails)));
-    let at_once = sink.failed() == (room < 3);
+    let mut sink = CanonSink::new(Target::new(Taker::new(alloc, space, most, End::Fails)));
+    let at_once = sink.failed() == (space < 3);
     let fails = sink.put_ref(entry) == Err(SinkFault::Write);
-    if !fails || !at_once || (sink.failed(), sink.written()) != (true, room as u64) {
+    if !fails || !at_once || (sink.failed(), sink.written()) != (true, space as u64) {
         return false;
     }
     let again = sink.put_ref(entry) == Err(SinkFault::Write);
-    let stays = (sink.failed(), sink.written()) == (true, room as u64);
+    let stays = (sink.failed(), sink.written()) == (true, space as u64);
     let kept = sink.close().into_inner().kept;
-    again && stays && kept.as_slice() == &b"\x0E!_&R"[..room.min(5)]
+    again && stays && kept.as_slice() == &b"\x0E!_&R"[..space.min(5)]
 }
 
 #[test]

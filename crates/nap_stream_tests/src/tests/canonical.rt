@@ -1,34 +1,34 @@
-//! Lists that are not legal, which have no canonical text in either form.
+//! Lists that aren't legal, which have no canonical text in either form.
 use Sample::{Bell, BlinkEnd, Blue, DefEnd, Glyph, Red, Reset};
 use Spot::Start;
 use nap_canon::{CanonFault, canon, canon_form1};
 use nap_fixtures::entries::{DOT, Sample, Shade, Spot, entries_of};
 use std::test::Fail;
 
-/// How light the colours are.
+/// The component of the colours that is set.
 const LIGHT: u16 = 49_152;
 
 /// The address of the word 4 in red.
 const RED: Sample = Red(1_048_576, LIGHT);
 
-/// The same address in blue.
+/// The address of the word 4 in blue.
 const BLUE: Sample = Blue(1_048_576, LIGHT);
 
 /// DEF DRCS.
 const GLYPH: Sample = Glyph(0x41);
 
-/// A list, and the index at which it breaks in both forms.
+/// A list, and the index at which it isn't legal in both forms.
 const ROWS: &[(&[Sample], usize)] = &[
     // Definitions begin before they end.
     (&[DefEnd], 0),
     (&[GLYPH], 1),
     (&[Bell, DefEnd], 1),
-    // A list breaks at its first entry that doesn't fit.
+    // A list is illegal at its first entry that doesn't fit.
     (&[DefEnd, Bell, Bell], 0),
     (&[DOT, BlinkEnd(Shade::AfterReset), DefEnd], 1),
     (&[DOT, Bell, DefEnd], 2),
     (&[DOT, DOT, GLYPH], 3),
-    // A known colour isn't legal.
+    // A known colour of the map isn't legal.
     (&[RED, RED], 1),
     (&[RED, BLUE, BLUE], 2),
     (&[RED, Red(2_097_152, LIGHT), RED], 2),
@@ -37,7 +37,7 @@ const ROWS: &[(&[Sample], usize)] = &[
     (&[RED, GLYPH, RED, DefEnd], 2),
     (&[GLYPH, RED, DefEnd, RED], 3),
     (&[RED, GLYPH, BLUE, DefEnd, BLUE], 4),
-    // Sixteen are known, each at an address of one word.
+    // Sixteen colours are known, each at an address of one word.
     (
         &[
             Red(0, LIGHT),

@@ -22,26 +22,26 @@ struct Row {
     stream: bool,
     budget: Option<u32>,
     input: &'static [u8],
-    /// How many bytes a read gives, and which read fails.
+    /// The number of bytes of a read, and which read fails.
     gives: (usize, u64),
-    /// How much the output has room for, and how many bytes a write takes.
+    /// The space of the output, and the number of bytes of a write.
     takes: (usize, usize),
     end: End,
     good_flushes: u64,
-    /// How much standard error has room for. It takes a byte at a write, unless it takes all.
-    error_room: usize,
-    /// What goes out.
+    /// The space of standard error. It takes a byte at a write, unless it takes all.
+    error_space: usize,
+    /// What is printed.
     out: &'static [u8],
-    /// What is told.
-    told: &'static [u8],
+    /// What is reported.
+    reported: &'static [u8],
     status: u8,
-    /// How many reads there are, where the row says so.
+    /// The number of reads, if the row says so.
     reads: Option<u64>,
-    /// How often the output and standard error are flushed, where the row says so.
+    /// The number of flushes of the output and of standard error, if the row says so.
     flushes: Option<(u64, u64)>,
 }
 
-/// `check_answer` of nothing.
+/// `check` of nothing.
 const USUAL: Row = Row {
     action: Action::Check,
     hex: false,
@@ -52,9 +52,9 @@ const USUAL: Row = Row {
     takes: (ALL, ALL),
     end: End::Fails,
     good_flushes: u64::MAX,
-    error_room: ALL,
+    error_space: ALL,
     out: b"",
-    told: b"",
+    reported: b"",
     status: 0,
     reads: None,
     flushes: None,
@@ -72,16 +72,16 @@ const CANON: Row = Row {
 
 const POINT_LINE: &[u8] = b"POINT 4194304,4194304 pel=0,0 colour=own-start\n";
 
-/// The point, and characters behind it.
+/// The point, and characters after it.
 const PAGE: &[u8] = b"\x0E\x26\x52\x40\x40\x00\x00\x00";
 
 const ROWS: &[Row] = &[
-    // A failing output is a write fault.
+    // A failed output is a write fault.
     Row {
         input: POINT,
         takes: (5, 1),
         out: b"\x0E\x21\x5F\x26\x52",
-        told: b"write fault after 5 bytes\n",
+        reported: b"write fault after 5 bytes\n",
         status: 3,
         ..CANON
     },
@@ -89,7 +89,7 @@ const ROWS: &[Row] = &[
         input: POINT,
         takes: (0, 1),
         end: End::Closes,
-        told: b"write fault after 0 bytes\n",
+        reported: b"write fault after 0 bytes\n",
         status: 3,
         ..CANON
     },
@@ -98,14 +98,14 @@ const ROWS: &[Row] = &[
         takes: (5, 1),
         end: End::Closes,
         out: b"POINT",
-        told: b"write fault after 5 bytes\n",
+        reported: b"write fault after 5 bytes\n",
         status: 3,
         ..LIST
     },
     Row {
         takes: (5, 1),
         good_flushes: 0,
-        told: b"write fault after 0 bytes\n",
+        reported: b"write fault after 0 bytes\n",
         status: 3,
         ..LIST
     },
@@ -113,7 +113,7 @@ const ROWS: &[Row] = &[
         input: POINT,
         takes: (8, 1),
         out: b"accepted",
-        told: b"write fault after 8 bytes\n",
+        reported: b"write fault after 8 bytes\n",
         status: 3,
         ..USUAL
     },
@@ -121,7 +121,7 @@ const ROWS: &[Row] = &[
         input: b"\x80",
         takes: (7, 1),
         out: b"refused",
-        told: b"write fault after 7 bytes\n",
+        reported: b"write fault after 7 bytes\n",
         status: 3,
         ..USUAL
     },
@@ -129,7 +129,7 @@ const ROWS: &[Row] = &[
         input: b"\x80",
         takes: (7, 1),
         good_flushes: 0,
-        told: b"write fault after 0 bytes\n",
+        reported: b"write fault after 0 bytes\n",
         status: 3,
         ..LIST
     },
@@ -137,11 +137,11 @@ const ROWS: &[Row] = &[
         input: b"\x80",
         takes: (7, 1),
         good_flushes: 0,
-        told: b"write fault after 0 bytes\n",
+        reported: b"write fault after 0 bytes\n",
         status: 3,
         ..CANON
     },
-    // One that fails later takes all.
+    // An output that fails only later takes all.
     Row {
         input: POINT,
         takes: (12, 1),
@@ -156,15 +156,15 @@ const ROWS: &[Row] = &[
     Row {
         input: b"\x80",
         takes: (0, 1),
-        told: REFUSED,
+        reported: REFUSED,
         status: 1,
         ..LIST
     },
-    // A read that failed isn't tried again, wherever it comes, although the bytes behind it would make a page.
+    // A failed read isn't repeated, wherever it comes, although the bytes after it would make a page.
     Row {
         input: POINT,
         gives: (1, 1),
-        told: b"read fault\n",
+        reported: b"read fault\n",
         status: 3,
         reads: Some(1),
         ..LIST
@@ -172,7 +172,7 @@ const ROWS: &[Row] = &[
     Row {
         input: POINT,
         gives: (1, 2),
-        told: b"read fault\n",
+        reported: b"read fault\n",
         status: 3,
         reads: Some(2),
         ..LIST
@@ -180,7 +180,7 @@ const ROWS: &[Row] = &[
     Row {
         input: POINT,
         gives: (1, 3),
-        told: b"read fault\n",
+        reported: b"read fault\n",
         status: 3,
         reads: Some(3),
         ..LIST
@@ -188,7 +188,7 @@ const ROWS: &[Row] = &[
     Row {
         input: POINT,
         gives: (1, 4),
-        told: b"read fault\n",
+        reported: b"read fault\n",
         status: 3,
         reads: Some(4),
         ..LIST
@@ -196,7 +196,7 @@ const ROWS: &[Row] = &[
     Row {
         input: POINT,
         gives: (1, 1),
-        told: b"read fault\n",
+        reported: b"read fault\n",
         status: 3,
         reads: Some(1),
         ..USUAL
@@ -204,7 +204,7 @@ const ROWS: &[Row] = &[
     Row {
         input: POINT,
         gives: (1, 2),
-        told: b"read fault\n",
+        reported: b"read fault\n",
         status: 3,
         reads: Some(2),
         ..USUAL
@@ -212,7 +212,7 @@ const ROWS: &[Row] = &[
     Row {
         input: POINT,
         gives: (1, 3),
-        told: b"read fault\n",
+        reported: b"read fault\n",
         status: 3,
         reads: Some(3),
         ..USUAL
@@ -220,7 +220,7 @@ const ROWS: &[Row] = &[
     Row {
         input: POINT,
         gives: (1, 4),
-        told: b"read fault\n",
+        reported: b"read fault\n",
         status: 3,
         reads: Some(4),
         ..USUAL
@@ -228,7 +228,7 @@ const ROWS: &[Row] = &[
     Row {
         input: POINT,
         gives: (1, 1),
-        told: b"read fault\n",
+        reported: b"read fault\n",
         status: 3,
         reads: Some(1),
         ..CANON
@@ -236,7 +236,7 @@ const ROWS: &[Row] = &[
     Row {
         input: POINT,
         gives: (1, 2),
-        told: b"read fault\n",
+        reported: b"read fault\n",
         status: 3,
         reads: Some(2),
         ..CANON
@@ -244,7 +244,7 @@ const ROWS: &[Row] = &[
     Row {
         input: POINT,
         gives: (1, 3),
-        told: b"read fault\n",
+        reported: b"read fault\n",
         status: 3,
         reads: Some(3),
         ..CANON
@@ -252,16 +252,16 @@ const ROWS: &[Row] = &[
     Row {
         input: POINT,
         gives: (1, 4),
-        told: b"read fault\n",
+        reported: b"read fault\n",
         status: 3,
         reads: Some(4),
         ..CANON
     },
-    // Behind a refusal the rest is read all the same, and a read that fails there comes first.
+    // After a refusal the rest is read all the same, and a read that fails there is reported instead.
     Row {
         input: b"\x80\x0E\x26",
         gives: (1, 3),
-        told: b"read fault\n",
+        reported: b"read fault\n",
         status: 3,
         reads: Some(3),
         ..LIST
@@ -269,7 +269,7 @@ const ROWS: &[Row] = &[
     Row {
         input: b"\x80\x0E\x26",
         gives: (1, 4),
-        told: b"read fault\n",
+        reported: b"read fault\n",
         status: 3,
         reads: Some(4),
         ..LIST
@@ -277,7 +277,7 @@ const ROWS: &[Row] = &[
     Row {
         input: b"\x80\x0E\x26",
         gives: (1, 100),
-        told: REFUSED,
+        reported: REFUSED,
         status: 1,
         reads: Some(4),
         ..LIST
@@ -285,7 +285,7 @@ const ROWS: &[Row] = &[
     Row {
         input: b"\x80\x0E\x26",
         gives: (1, 3),
-        told: b"read fault\n",
+        reported: b"read fault\n",
         status: 3,
         reads: Some(3),
         ..USUAL
@@ -293,7 +293,7 @@ const ROWS: &[Row] = &[
     Row {
         input: b"\x80\x0E\x26",
         gives: (1, 4),
-        told: b"read fault\n",
+        reported: b"read fault\n",
         status: 3,
         reads: Some(4),
         ..USUAL
@@ -309,7 +309,7 @@ const ROWS: &[Row] = &[
     Row {
         input: b"\x80\x0E\x26",
         gives: (1, 3),
-        told: b"read fault\n",
+        reported: b"read fault\n",
         status: 3,
         reads: Some(3),
         ..CANON
@@ -317,7 +317,7 @@ const ROWS: &[Row] = &[
     Row {
         input: b"\x80\x0E\x26",
         gives: (1, 4),
-        told: b"read fault\n",
+        reported: b"read fault\n",
         status: 3,
         reads: Some(4),
         ..CANON
@@ -325,16 +325,16 @@ const ROWS: &[Row] = &[
     Row {
         input: b"\x80\x0E\x26",
         gives: (1, 100),
-        told: REFUSED,
+        reported: REFUSED,
         status: 1,
         reads: Some(4),
         ..CANON
     },
-    // A failing standard error changes no status. It takes three bytes. The last input gives a byte and then fails.
+    // A failed standard error changes no status. It takes three bytes. The last input gives a byte and then fails.
     Row {
         hex: true,
         takes: (100, 1),
-        error_room: 3,
+        error_space: 3,
         out: b"accepted 0 entries\n",
         status: 0,
         ..USUAL
@@ -343,7 +343,7 @@ const ROWS: &[Row] = &[
         hex: true,
         input: b"80",
         takes: (100, 1),
-        error_room: 3,
+        error_space: 3,
         out: REFUSED,
         status: 1,
         ..USUAL
@@ -352,8 +352,8 @@ const ROWS: &[Row] = &[
         hex: true,
         input: b"80",
         takes: (100, 1),
-        error_room: 3,
-        told: b"ref",
+        error_space: 3,
+        reported: b"ref",
         status: 1,
         ..LIST
     },
@@ -361,8 +361,8 @@ const ROWS: &[Row] = &[
         hex: true,
         input: b"80",
         takes: (100, 1),
-        error_room: 3,
-        told: b"ref",
+        error_space: 3,
+        reported: b"ref",
         status: 1,
         ..CANON
     },
@@ -370,17 +370,17 @@ const ROWS: &[Row] = &[
         hex: true,
         input: b"8",
         takes: (100, 1),
-        error_room: 3,
-        told: b"hex",
+        error_space: 3,
+        reported: b"hex",
         status: 3,
         ..CANON
     },
     Row {
         hex: true,
         takes: (2, 1),
-        error_room: 3,
+        error_space: 3,
         out: b"0e",
-        told: b"wri",
+        reported: b"wri",
         status: 3,
         ..CANON
     },
@@ -388,12 +388,12 @@ const ROWS: &[Row] = &[
         input: b"\x0E",
         gives: (ALL, 2),
         takes: (100, 1),
-        error_room: 3,
-        told: b"rea",
+        error_space: 3,
+        reported: b"rea",
         status: 3,
         ..LIST
     },
-    // Answers are sent on.
+    // Answers are flushed.
     Row {
         hex: true,
         input: b"0E2652",
@@ -434,11 +434,11 @@ const ROWS: &[Row] = &[
         flushes: Some((1, 0)),
         ..CANON
     },
-    // So are failures, behind nothing.
+    // Reports of failures are flushed, and the empty output.
     Row {
         hex: true,
         input: b"80",
-        told: REFUSED,
+        reported: REFUSED,
         status: 1,
         flushes: Some((1, 1)),
         ..LIST
@@ -446,7 +446,7 @@ const ROWS: &[Row] = &[
     Row {
         hex: true,
         input: b"80",
-        told: REFUSED,
+        reported: REFUSED,
         status: 1,
         flushes: Some((1, 1)),
         ..CANON
@@ -454,7 +454,7 @@ const ROWS: &[Row] = &[
     Row {
         hex: true,
         input: b"8",
-        told: b"hex fault\n",
+        reported: b"hex fault\n",
         status: 3,
         flushes: Some((1, 1)),
         ..LIST
@@ -462,7 +462,7 @@ const ROWS: &[Row] = &[
     Row {
         hex: true,
         input: b"8",
-        told: b"hex fault\n",
+        reported: b"hex fault\n",
         status: 3,
         flushes: Some((1, 1)),
         ..USUAL
@@ -470,17 +470,17 @@ const ROWS: &[Row] = &[
     Row {
         hex: true,
         input: b"8",
-        told: b"hex fault\n",
+        reported: b"hex fault\n",
         status: 3,
         flushes: Some((1, 1)),
         ..CANON
     },
-    // An output that failed to take is not flushed any more; that it failed is sent on.
+    // An output whose write failed isn't flushed any more; the report of that is.
     Row {
         hex: true,
         input: b"0E2652",
         takes: (0, ALL),
-        told: b"write fault after 0 bytes\n",
+        reported: b"write fault after 0 bytes\n",
         status: 3,
         flushes: Some((0, 1)),
         ..LIST
@@ -489,7 +489,7 @@ const ROWS: &[Row] = &[
         hex: true,
         input: b"0E2652",
         takes: (0, ALL),
-        told: b"write fault after 0 bytes\n",
+        reported: b"write fault after 0 bytes\n",
         status: 3,
         flushes: Some((0, 1)),
         ..USUAL
@@ -498,13 +498,13 @@ const ROWS: &[Row] = &[
         hex: true,
         input: b"0E2652",
         takes: (0, ALL),
-        told: b"write fault after 0 bytes\n",
+        reported: b"write fault after 0 bytes\n",
         status: 3,
         flushes: Some((0, 1)),
         ..CANON
     },
-    // Faults leave what went out: of the whole page, of one whose read fails in the open run of the point and behind it,
-    // and of one whose write fails, where nothing more is read.
+    // Failures leave what was printed: of the whole page, of one whose read fails in the open run of the point and
+    // after it, and of one whose write fails, where nothing more is read.
     Row {
         stream: true,
         input: PAGE,
@@ -521,7 +521,7 @@ const ROWS: &[Row] = &[
         gives: (1, 5),
         takes: (100, ALL),
         out: b"\x0E\x21\x5F",
-        told: b"read fault\n",
+        reported: b"read fault\n",
         status: 3,
         reads: Some(5),
         flushes: Some((1, 1)),
@@ -533,7 +533,7 @@ const ROWS: &[Row] = &[
         gives: (1, 8),
         takes: (100, ALL),
         out: POINT_TEXT,
-        told: b"read fault\n",
+        reported: b"read fault\n",
         status: 3,
         reads: Some(8),
         flushes: Some((1, 1)),
@@ -545,7 +545,7 @@ const ROWS: &[Row] = &[
         gives: (1, 0),
         takes: (5, ALL),
         out: b"\x0E\x21\x5F\x26\x52",
-        told: b"write fault after 5 bytes\n",
+        reported: b"write fault after 5 bytes\n",
         status: 3,
         reads: Some(6),
         flushes: Some((0, 1)),
@@ -557,7 +557,7 @@ const ROWS: &[Row] = &[
         gives: (1, 0),
         takes: (3, ALL),
         out: b"\x0E\x21\x5F",
-        told: b"write fault after 3 bytes\n",
+        reported: b"write fault after 3 bytes\n",
         status: 3,
         reads: Some(6),
         flushes: Some((0, 1)),
@@ -569,18 +569,18 @@ const ROWS: &[Row] = &[
         gives: (1, 0),
         takes: (2, ALL),
         out: b"\x0E\x21",
-        told: b"write fault after 2 bytes\n",
+        reported: b"write fault after 2 bytes\n",
         status: 3,
         reads: Some(0),
         flushes: Some((0, 1)),
         ..CANON
     },
-    // Hexadecimal text is not streamed.
+    // Hexadecimal text isn't streamed.
     Row {
         hex: true,
         stream: true,
         input: b"0E",
-        told: b"--hex and --stream exclude each other\n",
+        reported: b"--hex and --stream exclude each other\n",
         status: 2,
         reads: Some(0),
         flushes: Some((0, 1)),
@@ -598,12 +598,12 @@ struct Ended<R> {
 }
 
 impl<R> Ended<R> {
-    /// Whether this went out, was told, and is the status.
+    /// Whether this was printed and reported, with this status.
     fn is(&self, row: &Row) -> bool {
         let Ended { output, errors, .. } = self;
         let flushes = (output.flushes, errors.flushes);
         output.kept.as_slice() == row.out
-            && errors.kept.as_slice() == row.told
+            && errors.kept.as_slice() == row.reported
             && self.status == row.status
             && row.flushes.unwrap_or(flushes) == flushes
     }
@@ -629,8 +629,8 @@ fn run<R: Read + Drop>(alloc: Global, row: &Row, input: R) -> Ended<R> {
         ..Taker::new(alloc, row.takes.0, row.takes.1, row.end)
     };
     let mut input = Source::new(input);
-    let most = if row.error_room == ALL { ALL } else { 1 };
-    let mut errors = Target::new(Taker::new(alloc, row.error_room, most, End::Fails));
+    let most = if row.error_space == ALL { ALL } else { 1 };
+    let mut errors = Target::new(Taker::new(alloc, row.error_space, most, End::Fails));
     let (output, status) = execute(
         alloc,
         &command,
@@ -659,7 +659,7 @@ fn commands_end_as_their_devices_let_them(rt: HostRuntime) {
     }
 }
 
-// The read that finds the end is the last, also of an input of more bytes than a command may make reads.
+// The read that finds the end is the last, also of an input with more bytes than a command may make reads.
 #[test]
 fn a_long_input_is_read_once_past_its_bytes(rt: HostRuntime) {
     let row = Row {
@@ -670,7 +670,8 @@ fn a_long_input_is_read_once_past_its_bytes(rt: HostRuntime) {
     assert!(rt; ended.is(&row) && ended.input.reads == 18);
 }
 
-/// The room of an output, its good flushes, how much is taken, its flushes and what the last found, and the answer.
+/// The space of an output, its good flushes, the number of bytes taken, the number of flushes and what the last found,
+/// and the result.
 const TEXTS: &[(usize, u64, usize, (u64, usize), Option<Failure>)] = &[
     (ALL, 1, 12, (1, 12), None),
     (ALL, 0, 12, (1, 12), Some(Failure::Write(12))),
@@ -678,19 +679,19 @@ const TEXTS: &[(usize, u64, usize, (u64, usize), Option<Failure>)] = &[
     (0, 1, 0, (0, 0), Some(Failure::Write(0))),
 ];
 
-// So help is printed, and so wrong words are told. An output that failed to take is not flushed any more.
+// Help and wrong words are printed and reported in this way. An output whose write failed isn't flushed any more.
 #[test]
 fn a_text_is_taken_whole_and_sent_on(rt: HostRuntime) {
-    for (room, good_flushes, kept, flushed, fault) in TEXTS {
+    for (space, good_flushes, kept, flushed, fault) in TEXTS {
         let mut output = Target::new(Taker {
             good_flushes: *good_flushes,
-            ..Taker::new(rt.alloc(), *room, ALL, End::Fails)
+            ..Taker::new(rt.alloc(), *space, ALL, End::Fails)
         });
         let written = write_whole(&mut output, POINT_TEXT).err();
         let taker = output.into_inner();
         let found = written == *fault
             && taker.kept.as_slice() == &POINT_TEXT[..*kept]
             && (taker.flushes, taker.sent) == *flushed;
-        assert!(rt; found, "with room for {room}");
+        assert!(rt; found, "with space for {space}");
     }
 }

@@ -21,7 +21,7 @@ const LONG: &[u8] = b"\x0E\x26\x52\x40\x40\
 \0\0\0\0\0\0\0\0\0\0\0\0\0\0\0\0\0\0\0\0\0\0\0\0\0\0\0\0\0\0\0\0\0\0\0\0\0\0\0\0\0\0\0\0\0\0\0\0\0\0\
 ";
 
-/// The same behind as many.
+/// The point, with a hundred NULs before it and after it.
 const LATE: &[u8] = b"\
 \0\0\0\0\0\0\0\0\0\0\0\0\0\0\0\0\0\0\0\0\0\0\0\0\0\0\0\0\0\0\0\0\0\0\0\0\0\0\0\0\0\0\0\0\0\0\0\0\0\0\
 \0\0\0\0\0\0\0\0\0\0\0\0\0\0\0\0\0\0\0\0\0\0\0\0\0\0\0\0\0\0\0\0\0\0\0\0\0\0\0\0\0\0\0\0\0\0\0\0\0\0\
@@ -54,23 +54,23 @@ const TOO_MUCH: ConvertFault = ConvertFault::Refused {
 struct Row {
     input: &'static [u8],
     budget: u32,
-    /// How many bytes a read gives, and which read fails.
+    /// The number of bytes of a read, and which read fails.
     gives: (usize, u64),
-    /// How much the output has room for, and how many bytes a write takes.
+    /// The space of the output, and the number of bytes of a write.
     takes: (usize, usize),
     end: End,
-    /// How many flushes are done.
+    /// The number of flushes that are done.
     good_flushes: u64,
     answer: Result<u64, ConvertFault>,
-    /// How many bytes of the canonical stream go out.
+    /// The number of bytes of the canonical stream that are written.
     kept: usize,
     flushes: u64,
-    /// How many reads and writes there are, where the row says so.
+    /// The number of reads and of writes, if the row says so.
     calls: Option<u64>,
     writes: Option<u64>,
 }
 
-/// The point, whole.
+/// The conversion of the point.
 const USUAL: Row = Row {
     input: POINT,
     budget: Budget::USUAL,
@@ -147,7 +147,7 @@ const ROWS: &[Row] = &[
         takes: (64, 5),
         ..USUAL
     },
-    // What stands before a refusal is written.
+    // The entries before a refusal are written.
     Row {
         input: MISSING,
         gives: (64, 0),
@@ -192,7 +192,7 @@ const ROWS: &[Row] = &[
         kept: 3,
         ..USUAL
     },
-    // What was read is written before more is read, and nothing is read or flushed behind a failed write.
+    // What was read is written before more is read, and nothing is read or flushed after a failed write.
     Row {
         input: LONG,
         gives: (1, 0),
@@ -253,7 +253,7 @@ const ROWS: &[Row] = &[
         calls: Some(2),
         ..USUAL
     },
-    // Any read may fail. An opcode whose operands go on doesn't act then.
+    // Any read may fail. An opcode whose operands may continue isn't executed then.
     Row {
         input: POINT,
         gives: (1, 1),
@@ -319,7 +319,7 @@ const ROWS: &[Row] = &[
     },
 ];
 
-/// Whether a conversion from this reader leaves what the row has.
+/// Whether a conversion from this reader leaves what the row says.
 fn leaves<R: Read + Drop>(alloc: Global, row: &Row, reader: R) -> bool {
     let budget = Budget::new(row.budget).unwrap_or(Budget::usual());
     let taker = Taker {
@@ -346,7 +346,7 @@ fn conversions_end_as_their_devices_let_them(rt: HostRuntime) {
     }
 }
 
-// Nothing is written or flushed behind a failed write.
+// After a failed write, no more is written or flushed.
 #[test]
 fn any_write_may_fail(rt: HostRuntime) {
     for (input, end) in [
@@ -355,19 +355,19 @@ fn any_write_may_fail(rt: HostRuntime) {
         (MISSING, End::Fails),
         (MISSING, End::Closes),
     ] {
-        for room in 0..12_u8 {
-            let written = u64::from(room);
+        for space in 0..12_u8 {
+            let written = u64::from(space);
             let row = Row {
-                takes: (usize::from(room), 1),
+                takes: (usize::from(space), 1),
                 end,
                 answer: Err(ConvertFault::Write { written }),
-                kept: usize::from(room),
+                kept: usize::from(space),
                 flushes: 0,
                 writes: Some(written.saturating_add(1)),
                 ..USUAL
             };
             let giver = Giver::new(input, 64, 0);
-            assert!(rt; leaves(rt.alloc(), &row, giver), "with room for {room}");
+            assert!(rt; leaves(rt.alloc(), &row, giver), "with space for {space}");
         }
     }
 }
@@ -392,14 +392,14 @@ fn an_endless_input_is_a_read_fault(rt: HostRuntime) {
     assert!(rt; ends && fails);
 }
 
-/// The bytes, and then a piece so many times.
+/// Returns the bytes, and then `count` copies of a piece.
 fn repeated(
     alloc: Global,
-    front: &[u8],
+    prefix: &[u8],
     piece: &[u8],
     count: usize,
 ) -> Result<Vec<u8>, AllocError> {
-    let mut bytes = Vec::from_slice(alloc, front)?;
+    let mut bytes = Vec::from_slice(alloc, prefix)?;
     for _ in 0..count {
         bytes.extend_from_slice(piece)?;
     }

@@ -1,4 +1,4 @@
-//! Pages of each kind, where any growth of memory may be refused: who runs this test refuses one after another.
+//! Pages of each kind, where any growth of memory may be refused: a run of this test refuses one after another.
 use nap_canon::{CanonFault, ConvertFault, canon, convert, normalise};
 use nap_list::{ListSink, Source, Target};
 use nap_reader::{Budget, Fault, Reader, Refusal, read_all};
@@ -10,7 +10,7 @@ const POINT: &[u8] = b"\x0E!_&R@@@@@@@";
 
 const CIRCLE: &[u8] = b"\x0E!_.@@@@@@@@I@@@@@@@\x7F@@@@@@@";
 
-// Takes the bytes that are expected, and no others. It asks for no memory.
+// Takes the bytes that are expected, and no others, without memory.
 #[derive(Drop)]
 struct Expecting<'a> {
     rest: &'a [u8],
@@ -32,12 +32,12 @@ impl Write for Expecting<'_> {
     }
 }
 
-// Whether memory was wanting, at a byte of the page or at its end.
+// Whether the refusal is lack of memory, at a byte of the page or at its end.
 fn lacks(bytes: &[u8], refusal: Refusal) -> bool {
     refusal.fault == Fault::Memory && refusal.place <= bytes.len() as u64
 }
 
-// Whether the page has so many entries, or is refused.
+// Whether the page has `entries` entries, or lacks memory.
 fn reads_whole(alloc: Global, bytes: &[u8], entries: usize) -> bool {
     match read_all(alloc, Budget::usual(), bytes) {
         Ok(list) => list.len() == entries,
@@ -45,7 +45,7 @@ fn reads_whole(alloc: Global, bytes: &[u8], entries: usize) -> bool {
     }
 }
 
-// Whether the page has so many entries, or the first of them and a refusal that stays.
+// Whether the page has `entries` entries, or the first of them and a lasting refusal.
 #[tactic(auto, unfolding(nap_list::specs::State::walk))]
 fn reads(alloc: Global, bytes: &[u8], entries: usize) -> bool {
     if bytes.len() >= 1 << 32 {
@@ -65,7 +65,7 @@ fn reads(alloc: Global, bytes: &[u8], entries: usize) -> bool {
     is_front && kept.len() <= entries && reads_whole(alloc, bytes, entries)
 }
 
-// Whether the page has this canonical stream, or there is no memory for it.
+// Whether the page has this canonical stream, or memory runs out for it.
 fn writes(alloc: Global, bytes: &[u8], want: &[u8]) -> bool {
     match normalise(alloc, Budget::usual(), bytes) {
         Ok(text) if text.as_slice() == want => {}
@@ -81,7 +81,7 @@ fn writes(alloc: Global, bytes: &[u8], want: &[u8]) -> bool {
     }
 }
 
-// Whether what goes out is the canonical stream, or a first part of it where the page is refused for want of memory.
+// Whether the canonical stream is written, or a prefix of it if memory runs out.
 fn streams(alloc: Global, bytes: &[u8], want: &[u8]) -> bool {
     let output = Target::new(Expecting { rest: want });
     let (output, answer) = convert(alloc, &mut Source::new(bytes), output, Budget::usual());
@@ -98,7 +98,7 @@ fn survives(alloc: Global, bytes: &[u8], want: &[u8], entries: usize) -> bool {
     reads(alloc, bytes, entries) && writes(alloc, bytes, want) && streams(alloc, bytes, want)
 }
 
-// Pages, with their canonical streams and how many entries they have.
+// Pages, with their canonical streams and numbers of entries.
 const PAGES: &[(&[u8], &[u8], usize)] = &[
     (b"\x0E&R@@", POINT, 1),
     (b"\x0E.@@@I@@\x7F@@", CIRCLE, 1),
@@ -117,14 +117,14 @@ const PAGES: &[(&[u8], &[u8], usize)] = &[
 ];
 
 #[test]
-fn short_pages_survive_want_of_memory(rt: HostRuntime) {
+fn short_pages_survive_lack_of_memory(rt: HostRuntime) {
     for (bytes, want, entries) in PAGES {
         assert!(rt; survives(rt.alloc(), bytes, want, *entries), "{bytes:?}");
     }
 }
 
 #[test]
-fn a_large_shape_survives_want_of_memory(rt: HostRuntime) {
+fn a_large_shape_survives_lack_of_memory(rt: HostRuntime) {
     let mut page = [0x40; 2_004];
     let mut want = [0x40; 16_012];
     page[..4].copy_from_slice(b"\x0E!@4");
@@ -133,7 +133,7 @@ fn a_large_shape_survives_want_of_memory(rt: HostRuntime) {
 }
 
 #[test]
-fn a_full_store_survives_want_of_memory(rt: HostRuntime) {
+fn a_full_store_survives_lack_of_memory(rt: HostRuntime) {
     let alloc = rt.alloc();
     let Ok(mut page) = Vec::with_capacity(alloc, 1_048_581) else {
         return;

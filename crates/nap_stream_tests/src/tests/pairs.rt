@@ -1,4 +1,4 @@
-//! The answers of readers to all pairs of bytes, alone and behind `0E`, as another reading of the profile gives them.
+//! The answers of readers to all pairs of bytes, alone and after `0E`, by another reading of the profile.
 use super::reading::{end, feed};
 use nap_list::{Entry, ListSink};
 use nap_reader::{Budget, Reader, Refusal, read_all};
@@ -6,7 +6,7 @@ use std::alloc::{AllocError, Global};
 use std::process::Abort;
 use std::test::Fail;
 
-/// What a reader says of a stream: its entries, why it is refused, and how many bytes were taken and turned.
+/// The answer of a reader about a stream: its entries, its refusal, and the numbers of bytes read and of turns.
 #[derive(PartialEq, Drop)]
 struct Answer {
     list: Vec<Entry>,
@@ -15,7 +15,7 @@ struct Answer {
     turns: u64,
 }
 
-/// What a reader says of a stream that comes in these pieces. Once it is refused, each further piece is.
+/// Returns the answer about a stream in these pieces, and checks that a refused stream stays so.
 #[tactic(auto, unfolding(nap_list::specs::State::walk))]
 fn answer_in(rt: &impl Abort, alloc: Global, pieces: &[&[u8]]) -> Answer {
     let mut reader = Reader::new(alloc, Budget::usual(), ListSink::new(alloc));
@@ -37,12 +37,12 @@ fn answer_in(rt: &impl Abort, alloc: Global, pieces: &[&[u8]]) -> Answer {
 }
 
 impl Answer {
-    /// The same for the stream in these pieces.
+    /// Checks that the stream in these pieces has this answer.
     fn agrees_in(&self, rt: &impl Abort, alloc: Global, pieces: &[&[u8]]) {
         assert!(rt; *self == answer_in(rt, alloc, pieces), "of {pieces:?}");
     }
 
-    /// The same for the stream that is read in one call.
+    /// Checks that reading the stream in one call has this answer.
     fn agrees_whole(&self, rt: &impl Abort, alloc: Global, bytes: &[u8]) {
         assert!(rt; bytes.len() < 1 << 32);
         let same = match read_all(alloc, Budget::usual(), bytes) {
@@ -53,7 +53,8 @@ impl Answer {
     }
 }
 
-/// How many pairs are refused so, or not at all, how many entries they have, and the sum of the pairs as numbers.
+/// The number of pairs with this refusal, or accepted, the number of their entries, and the sum of the pairs as
+/// numbers.
 #[derive(Drop)]
 struct Tally {
     refusal: Option<Refusal>,
@@ -109,7 +110,7 @@ fn has(alloc: Global, tallies: &[Tally], row: &str) -> Result<bool, AllocError> 
     Ok(false)
 }
 
-/// The rows have all tallies, and no others.
+/// Checks that the rows have all tallies, and no others.
 fn are_all(
     rt: &impl Abort,
     alloc: Global,
@@ -142,7 +143,7 @@ fn pairs_of_bytes_alone(rt: HostRuntime) -> Result<(), Fail> {
 }
 
 #[test]
-fn pairs_of_bytes_behind_so(rt: HostRuntime) -> Result<(), Fail> {
+fn pairs_of_bytes_after_so(rt: HostRuntime) -> Result<(), Fail> {
     let alloc = rt.alloc();
     let mut tallies = Vec::new(alloc);
     for pair in 0..=u16::MAX {
@@ -154,11 +155,11 @@ fn pairs_of_bytes_behind_so(rt: HostRuntime) -> Result<(), Fail> {
         answer.agrees_in(&rt, alloc, &[&[0x0E, first], &[second]]);
         count(&mut tallies, pair, &answer)?;
     }
-    are_all(&rt, alloc, &tallies, BEHIND)?;
+    are_all(&rt, alloc, &tallies, AFTER_SO)?;
     Ok(())
 }
 
-/// Why pairs are refused, and where; how many are, how many entries they have, and their sum.
+/// The refusals of pairs with their places; the number of pairs, of their entries, and their sum.
 const ALONE: &str = "\
 accepted | 14766 25272 248018022\n\
 EighthBit at 0 | 32768 0 1610596352\n\
@@ -186,8 +187,8 @@ NothingToRepeat at 1 | 1 0 6983\n\
 Stray at 1 | 64 0 235488\n\
 Cut at 2 | 593 416 8927999";
 
-/// The same of pairs behind `0E`.
-const BEHIND: &str = "\
+/// The refusals of pairs after `0E`, as above.
+const AFTER_SO: &str = "\
 accepted | 2015 1362 15567246\n\
 EighthBit at 1 | 32768 0 1610596352\n\
 EighthBit at 2 | 4608 1408 25720576\n\

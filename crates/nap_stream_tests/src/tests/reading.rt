@@ -8,14 +8,14 @@ use std::alloc::Global;
 use std::process::Abort;
 use std::test::Fail;
 
-/// Feeds a piece, where few bytes came before it.
+/// Feeds a piece, with few bytes before it.
 pub fn feed<S: Sink>(rt: &impl Abort, reader: &mut Reader<S>, piece: &[u8]) -> Result<(), Refusal> {
     assert!(rt; reader.fed() < 1 << 32);
     assert!(rt; piece.len() < 1 << 32);
     reader.feed(piece)
 }
 
-/// The sink at the end of the stream, and why it is refused.
+/// Ends the stream, and returns the sink and the refusal.
 pub fn end<S: Sink>(reader: Reader<S>) -> (S, Option<Refusal>) {
     match reader.finish() {
         Ok(sink) => (sink, None),
@@ -23,7 +23,7 @@ pub fn end<S: Sink>(reader: Reader<S>) -> (S, Option<Refusal>) {
     }
 }
 
-/// Whether the bytes are taken, and these are their entries before the end comes.
+/// Whether the bytes are accepted so far, and these are their entries before the end comes.
 #[tactic(auto, unfolding(nap_list::specs::State::walk))]
 fn begins(rt: &impl Abort, alloc: Global, bytes: &[u8], list: &[Entry]) -> bool {
     let mut reader = Reader::new(alloc, Budget::usual(), ListSink::new(alloc));

@@ -1,11 +1,12 @@
-//! Which bytes are characters by themselves: those of the set in GL, and none amid a code.
+//! The bytes that are characters by themselves: those of the set in GL, and none inside a code.
 use super::rows::{bytes_of, parted};
 use nap_codes::Lexer;
 use std::test::Fail;
 
-/// Bytes; and behind them the set in GL, whether no code is open, and the set of the characters.
+/// Bytes; and after them the set in GL, whether no code is open, and the set of the characters.
 ///
-/// `-` is no byte. First a set in G0, then one in G2 that is shifted into GL. A single shift leaves GL as it was. Last, bytes amid a code.
+/// `-` is no byte. First come sets in G0, and sets in G2 that are shifted into GL. A single shift leaves GL unchanged. Bytes
+/// inside a code come last.
 const ROWS: &str = "\
 1b2842 | Primary true Some(Primary)\n\
 1b287c | Supplementary true Some(Supplementary)\n\
@@ -37,8 +38,8 @@ const ROWS: &str = "\
 1c | Primary false None\n\
 1c40 | Primary false None";
 
-/// A lexer that has read these bytes.
-fn behind(bytes: &[u8]) -> Lexer {
+/// Returns a lexer that has read these bytes.
+fn lexer_after(bytes: &[u8]) -> Lexer {
     let mut lexer = Lexer::new();
     for byte in bytes {
         lexer.step(*byte);
@@ -46,7 +47,7 @@ fn behind(bytes: &[u8]) -> Lexer {
     lexer
 }
 
-/// Each byte of a G set is a character of this set, or of none, and no other byte is one.
+/// Whether each byte of a G set is a character of the lexer's set, or of none, and no other byte is one.
 fn are_characters(lexer: &Lexer) -> bool {
     for byte in 0x00..=0xFF_u8 {
         let set = if matches!(byte, 0x20..0x80) {
@@ -66,7 +67,7 @@ fn characters_are_those_of_the_set_in_gl(rt: HostRuntime) -> Result<(), Fail> {
     let alloc = rt.alloc();
     for row in ROWS.lines() {
         let (bytes, want) = parted(row);
-        let lexer = behind(&bytes_of(alloc, bytes));
+        let lexer = lexer_after(&bytes_of(alloc, bytes));
         let sets = lexer.sets();
         let (set, rest, characters) = (sets.set_at(sets.gl), lexer.at_rest(), lexer.char_set());
         let came = format!(in alloc; "{set:?} {rest} {characters:?}")?;

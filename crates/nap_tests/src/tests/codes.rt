@@ -1,4 +1,4 @@
-//! A lexer behind a fault, the texts of faults, and the ends of the tables.
+//! A lexer after a fault, the texts of faults, and the ends of the tables.
 use nap_codes::{
     Code, CodeFault, CodeSet, FIRST_OPCODE, Left, Lexer, Opcode, Row, Step, control0, control1,
     designate, opcode_of,
@@ -6,7 +6,7 @@ use nap_codes::{
 use std::test::Fail;
 
 #[test]
-fn a_lexer_goes_on_after_a_fault(rt: HostRuntime) {
+fn a_lexer_continues_after_a_fault(rt: HostRuntime) {
     let mut lexer = Lexer::default();
     let answers = [
         lexer.step(0x1B) == Step::More && !lexer.at_rest(),

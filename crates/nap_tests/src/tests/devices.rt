@@ -5,15 +5,15 @@ use std::alloc::Global;
 use std::io::{ErrorKind, Read, Write};
 use std::process::Abort;
 
-/// Any fault is told in the same way.
+/// Two faults, which are reported in the same way.
 const FAULTS: [ErrorKind; 2] = [ErrorKind::Other, ErrorKind::Interrupted];
 
 const FAILED: Result<usize, DeviceFault> = Err(DeviceFault);
 
-/// What a read answers, the room behind it, and how often the source was read and whether it has failed.
+/// The result of a read, the room afterwards, the number of reads of the source, and whether it has failed.
 type ReadRow = (Result<usize, DeviceFault>, [u8; 4], u64, bool);
 
-/// Each read in turn is as its row has it. Gives the reader back.
+/// Checks that each read in turn is as its row says, and returns the reader.
 fn reads<R: Read + Drop>(rt: &impl Abort, reader: R, rows: &[ReadRow]) -> R {
     let mut room = [0; 4];
     let mut source = Source::new(reader);
@@ -53,10 +53,10 @@ fn a_source_counts_its_reads_and_tells_a_failure(rt: HostRuntime) {
     }
 }
 
-/// A piece that is written, or none for a flush, what the call answers, and whether the target has failed behind it.
+/// A piece to write, or none for a flush; the result of the call, and whether the target has failed afterwards.
 type CallRow = (Option<&'static [u8]>, Result<usize, DeviceFault>, bool);
 
-/// Each call in turn is as its row has it. Gives the writer back.
+/// Checks that each call in turn is as its row says, and returns the writer.
 fn takes<W: Write + Drop>(rt: &impl Abort, writer: W, rows: &[CallRow]) -> W {
     let mut target = Target::new(writer);
     for (piece, answer, failed) in rows {
@@ -93,7 +93,7 @@ fn taker(alloc: Global, fault: ErrorKind) -> Taker {
     }
 }
 
-/// A target that takes nothing has failed.
+/// A target that took nothing has failed.
 const CLOSED: &[CallRow] = &[
     (Some(b"\x0E\x26"), Ok(1), false),
     (Some(b"\x26"), FAILED, true),

@@ -1,4 +1,4 @@
-//! Calls that draw, with the answers that no stream shows.
+//! Calls that draw, with answers that no stream shows.
 ghost use Rattle.std.specs.Prelude.{IsTrue};
 ghost use Rattle.nap_list.specs.Entry.{IsCode};
 ghost use Rattle.nap_draw.specs.Codes.{IsMade};
@@ -12,7 +12,7 @@ use nap_list::{Entry, ListSink, Pen};
 use std::alloc::{AllocError, Global};
 use std::test::Fail;
 
-/// Whether the profile has a rule of the opcode.
+/// Whether the profile has a rule for the opcode.
 pub fn has_rule(op: Opcode) -> bool
     ensures { IsTrue result → IsDrawn op }
 {
@@ -42,22 +42,22 @@ pub fn is_made(code: &Code) -> bool
     }
 }
 
-/// The lengths of operands that stand, and those that are saved, behind a RESET of these bytes; none where it is refused.
+/// Returns the current lengths of operands and the saved ones, after a RESET of these bytes; zeros if it is refused.
 ///
 /// DOMAIN sets the longest ones before it.
 #[tactic(auto, unfolding(nap_list::specs::State::walk))]
 fn lengths_after_a_reset(alloc: Global, reset: &[u8]) -> [u8; 4] {
     let domain = b"_".as_slice();
-    let mut room = Vec::new(alloc);
+    let mut scratch = Vec::new(alloc);
     let mut sink = ListSink::new(alloc);
     let mut work = Work::start();
     if domain.len() > RUN_LIMIT || reset.len() > RUN_LIMIT {
         return [0; 4];
     }
-    let Ok(_) = work.act(alloc, &mut room, Opcode::Domain, domain, &mut sink) else {
+    let Ok(_) = work.act(alloc, &mut scratch, Opcode::Domain, domain, &mut sink) else {
         return [0; 4];
     };
-    let Ok(_) = work.act(alloc, &mut room, Opcode::Reset, reset, &mut sink) else {
+    let Ok(_) = work.act(alloc, &mut scratch, Opcode::Reset, reset, &mut sink) else {
         return [0; 4];
     };
     let Work { domain, saved, .. } = work;
@@ -69,14 +69,14 @@ fn lengths_after_a_reset(alloc: Global, reset: &[u8]) -> [u8; 4] {
     ]
 }
 
-/// The bytes of a RESET, and the lengths behind it.
+/// The bytes of a RESET, and the lengths after it.
 const LENGTHS: &[(&[u8], [u8; 4])] = &[
     (b"", [8, 4, 3, 1]),
     (b"@", [8, 4, 3, 1]),
     (b"~\x7f", [8, 4, 3, 1]),
     (b"A", [3, 1, 3, 1]),
     (b"\x7f", [3, 1, 3, 1]),
-    // Of each byte the low six bits count.
+    // Only the low six bits of a byte count.
     (b"\x01", [3, 1, 3, 1]),
     (b"\xc0", [8, 4, 3, 1]),
 ];
@@ -89,7 +89,7 @@ fn a_reset_chooses_lengths(rt: HostRuntime) {
     }
 }
 
-/// Whether a RESET does the same to a work and to a copy, which leaves the work as it was.
+/// Whether a RESET has one effect on a work and on a copy, which leaves the work unchanged.
 #[tactic(auto, unfolding(nap_list::specs::State::walk))]
 fn does_the_same_to_a_copy(alloc: Global) -> Result<bool, AllocError> {
     let bytes = b"AP".as_slice();
@@ -102,10 +102,10 @@ fn does_the_same_to_a_copy(alloc: Global) -> Result<bool, AllocError> {
     let Ok(effects) = apply(alloc, &start, Opcode::Reset, &run, &mut sink) else {
         return Ok(false);
     };
-    let mut room = Vec::new(alloc);
+    let mut scratch = Vec::new(alloc);
     let mut other_sink = ListSink::new(alloc);
     let mut work = Work::start();
-    let Ok(clears) = work.act(alloc, &mut room, Opcode::Reset, bytes, &mut other_sink) else {
+    let Ok(clears) = work.act(alloc, &mut scratch, Opcode::Reset, bytes, &mut other_sink) else {
         return Ok(false);
     };
     Ok(
@@ -134,7 +134,7 @@ fn keeps_the_work(alloc: Global, want: &[Entry]) -> bool {
         && sink.into_list().as_slice() == want
 }
 
-/// Whether a code that is no control is taken behind a letter, leaves the work as it was, and has no entry.
+/// Whether a code that is no control is accepted after a letter, leaves the work unchanged, and has no entry.
 #[tactic(auto, unfolding(nap_list::specs::State::walk))]
 fn does_nothing(alloc: Global, code: &Code, want: &[Entry]) -> bool {
     if !is_made(code) {

@@ -11,7 +11,7 @@ use nap_list::{Entry, SinkFault};
 use std::alloc::{AllocError, Global};
 use std::test::Fail;
 
-/// How a sink fails, and what is answered then.
+/// How a sink fails, and the fault that is returned then.
 type Why = (SinkFault, DrawFault);
 
 const FAULTS: [Why; 2] = [
@@ -19,7 +19,7 @@ const FAULTS: [Why; 2] = [
     (SinkFault::Write, DrawFault::Sink),
 ];
 
-/// Whether an opcode from the start on gives the first of the entries, and then its sink fails. The work stays as it was.
+/// Whether an opcode at the start gives the first of these entries, and then its sink fails, with the work unchanged.
 #[tactic(auto, unfolding(nap_list::specs::State::walk))]
 fn falters(
     alloc: Global,
@@ -43,7 +43,7 @@ fn falters(
     )
 }
 
-/// An opcode with its operands, and the entries that it gives at least before its last.
+/// An opcode with its operands, and entries that it gives before its last one.
 const OPCODES: &[(Opcode, &[u8], &[Sample])] = &[
     (
         Opcode::PointAbs,
@@ -70,21 +70,21 @@ const OPCODES: &[(Opcode, &[u8], &[Sample])] = &[
 ];
 
 #[test]
-fn sinks_fail_behind_any_entry_of_an_opcode(rt: HostRuntime) -> Result<(), Fail> {
+fn sinks_fail_after_any_entry_of_an_opcode(rt: HostRuntime) -> Result<(), Fail> {
     let alloc = rt.alloc();
     for (op, bytes, samples) in OPCODES {
         let list = entries_of(alloc, samples)?;
         for why in FAULTS {
             for count in 0..=list.len() {
                 let falters = falters(alloc, (*op, bytes), &list[..count], why)?;
-                assert!(rt; falters, "{op:?} behind {count}");
+                assert!(rt; falters, "{op:?} after {count}");
             }
         }
     }
     Ok(())
 }
 
-/// Whether two codes give these entries, and the sink fails amid those of the second. It leaves the work as the first did.
+/// Whether two codes give these entries, the sink fails during those of the second, and the work is as after the first.
 #[tactic(auto, unfolding(nap_list::specs::State::walk))]
 fn second_falters(alloc: Global, first: &Code, second: &Code, want: &[Entry], why: Why) -> bool {
     if !is_made(first) || !is_made(second) {
@@ -103,7 +103,7 @@ fn second_falters(alloc: Global, first: &Code, second: &Code, want: &[Entry], wh
         && sink.list.into_list().as_slice() == want
 }
 
-/// A letter, and a repeat of it.
+/// A letter, and a repetition of it.
 const REPEATED: &[Sample] = &[
     Letter(Spot::Start),
     Letter(Spot::After),
@@ -113,10 +113,10 @@ const REPEATED: &[Sample] = &[
 /// A definition that ends.
 const DEFINED: &[Sample] = &[Glyph(0x41), DefEnd];
 
-/// One that doesn't.
+/// A definition that doesn't end.
 const OPEN: &[Sample] = &[Glyph(0x41)];
 
-/// Two codes give these entries, and sinks fail behind any of them but the first.
+/// Checks that two codes give these entries, and that sinks fail after any of them but the first.
 fn falters_amid(
     alloc: Global,
     first: Code,

@@ -1,11 +1,11 @@
-//! The colours of the map that are known.
+//! The known colours of the map.
 use Sample::{Red, Reset};
 use nap_fixtures::entries::{Sample, Spot, entry_of};
 use nap_list::{KNOWN, Known, State};
 use std::alloc::{AllocError, Global};
 use std::test::Fail;
 
-/// The state behind a colour at each address below this.
+/// Returns the state after a colour at each address below this.
 fn with_colours(alloc: Global, count: u32) -> Result<State, AllocError> {
     let mut state = State::start();
     for number in 0..count {
@@ -14,7 +14,7 @@ fn with_colours(alloc: Global, count: u32) -> Result<State, AllocError> {
     Ok(state)
 }
 
-/// How many of these entries fit one after another.
+/// Returns how many of these entries fit in sequence.
 fn fitting(state: State, alloc: Global, samples: &[Sample]) -> Result<usize, AllocError> {
     let mut state = state;
     let mut count: usize = 0;
@@ -27,7 +27,7 @@ fn fitting(state: State, alloc: Global, samples: &[Sample]) -> Result<usize, All
     Ok(count)
 }
 
-/// Goes on by the entry where it fits, and says whether it does.
+/// Advances past the entry if it fits, and returns whether it does.
 fn take(state: &mut State, alloc: Global, sample: Sample) -> Result<bool, AllocError> {
     let entry = entry_of(alloc, sample)?;
     let fits = state.fits(&entry);
@@ -37,14 +37,14 @@ fn take(state: &mut State, alloc: Global, sample: Sample) -> Result<bool, AllocE
     Ok(fits)
 }
 
-/// How many colours are known, the entries behind them, and how many of these fit.
+/// The number of known colours, entries after them, and how many of these fit.
 const ROWS: &[(u32, &[Sample], usize)] = &[
-    // Sixteen are known, and the oldest goes.
+    // Sixteen colours are known, and the oldest is forgotten.
     (16, &[Red(0, 9)], 0),
     (17, &[Red(0, 9)], 1),
     (17, &[Red(1, 9)], 0),
     (17, &[Red(16, 9)], 0),
-    // One that is set anew comes first.
+    // A colour that is set again is the newest.
     (16, &[Red(0, 8), Red(16, 9), Red(0, 8)], 2),
     (16, &[Red(0, 8), Red(16, 9), Red(1, 9)], 3),
     // A RESET that chooses colours forgets all.
@@ -61,7 +61,7 @@ fn colours_are_known_until_they_are_forgotten(rt: HostRuntime) -> Result<(), Fai
     let alloc = rt.alloc();
     for (colours, samples, want) in ROWS {
         let count = fitting(with_colours(alloc, *colours)?, alloc, samples)?;
-        assert!(rt; count == *want, "{count} of {want} behind {colours}");
+        assert!(rt; count == *want, "{count} of {want} after {colours}");
     }
     Ok(())
 }

@@ -1,4 +1,4 @@
-//! Lists that are legal, and others with the index at which they are not.
+//! Legal lists, and others with the index at which they aren't legal.
 use Sample::{
     Arc, Bell, Blink, BlinkEnd, BlinkMark, Clear, Cursor, DefEnd, Dot, Field, Glyph, Letter, Line,
     MaskStart, MaskedLine, Mosaic, Poly, Rect, Red, Reset, Step, ToEol, Wait,
@@ -22,7 +22,7 @@ const ROWS: &[Row] = &[
     (&[Glyph(0x41), DefEnd], Ok(())),
     (&[Glyph(0x41), MaskStart(Mask::A)], Err(1)),
     (&[MaskStart(Mask::D), DefEnd, DefEnd], Err(2)),
-    // A definition holds what needs no value.
+    // A definition may have entries that hold no attributes.
     (
         &[
             MaskStart(Mask::A),
@@ -59,7 +59,7 @@ const ROWS: &[Row] = &[
     (&[Poly(3)], Ok(())),
     (&[Poly(2_001)], Ok(())),
     (&[Poly(2_002)], Err(0)),
-    // Only a character can be repeated. Nothing has moved the pen at the start, and one that is held stands.
+    // Only a character can be repeated. At the start the pen wasn't moved, and the pen of an entry is then current.
     (&[ToEol], Err(0)),
     (&[Letter(Start), ToEol], Ok(())),
     (&[Letter(Start), Bell, ToEol], Err(2)),
@@ -77,7 +77,7 @@ const ROWS: &[Row] = &[
     (&[DOT, Field(After)], Err(1)),
     (&[DOT, Letter(At(QUARTER))], Ok(())),
     (&[Clear(Start), Field(After)], Ok(())),
-    // No RESET has been at the start. A colour that is held stands, also one by a RESET.
+    // No RESET was before the start. The colour of an entry, also after a RESET, is then current.
     (&[DOT], Ok(())),
     (&[LINE], Ok(())),
     (&[Rect(false, QUARTER, MIDDLE, AtStart)], Ok(())),
@@ -98,7 +98,7 @@ const ROWS: &[Row] = &[
     (&[Reset(4, 0, Start), DOT, Dot(MIDDLE, ByTwo)], Err(2)),
     (&[Reset(4, 0, Start), Dot(MIDDLE, ByThree)], Err(1)),
     (&[Reset(6, 0, Start), Dot(MIDDLE, ByThree)], Ok(())),
-    // A mask that was given stays, until a RESET puts it back.
+    // A mask that was given stays, until a RESET restores it.
     (&[MaskedLine, LINE], Err(1)),
     (&[LINE, MaskedLine, MaskedLine], Ok(())),
     (&[MaskedLine, Reset(0, 0, At(MIDDLE)), LINE], Err(2)),

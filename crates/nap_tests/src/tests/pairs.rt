@@ -1,13 +1,13 @@
-//! How often each code and each fault comes on all pairs of bytes, as another reading of the standard has it.
+//! How often each code and each fault comes on all pairs of bytes, by another reading of the standard.
 use nap_codes::{Code, CodeFault, Lexer, Step};
 use nap_values::Word;
 use std::alloc::{AllocError, Global};
 use std::test::Fail;
 
-/// A code or a fault, or none where the bytes end within a code.
+/// A code or a fault, or none if the bytes end inside a code.
 type Answer = Option<Result<Code, CodeFault>>;
 
-/// How often an answer comes on pairs alone, behind `0E` and behind `1B`, and the sum of the bytes that spell it.
+/// How often an answer comes on pairs alone, after `0E` and after `1B`, and the sum of the bytes that spell it.
 #[derive(Drop)]
 struct Tally {
     answer: Answer,
@@ -28,7 +28,7 @@ impl Tally {
     }
 }
 
-/// Counts the answer once more.
+/// Counts an answer.
 fn take(
     tallies: &mut Vec<Tally>,
     answer: Answer,
@@ -51,7 +51,7 @@ fn take(
     Ok(())
 }
 
-/// The code that this one is counted as: one byte stands for all of its range.
+/// Returns the code as which this one is counted: one byte stands for all of its range.
 fn kind(code: Code) -> Code {
     match code {
         Code::Char(set, _) => Code::Char(set, 0),
@@ -84,7 +84,7 @@ fn count(tallies: &mut Vec<Tally>, column: usize, bytes: &[u8]) -> Result<(), Al
     Ok(())
 }
 
-/// The columns of a tally, the byte before the pair, and where the bytes begin that are read.
+/// The columns of a tally, the byte before the pair, and the index of the first byte that is read.
 const COLUMNS: [(usize, u8, usize); 3] = [(0, 0, 1), (1, 0x0E, 0), (2, 0x1B, 0)];
 
 #[test]
@@ -116,7 +116,7 @@ fn has(alloc: Global, tallies: &[Tally], row: &str) -> Result<bool, AllocError> 
     Ok(false)
 }
 
-/// An answer, how often it comes on pairs alone, behind `0E` and behind `1B`, and the sum of the bytes that spell it.
+/// An answer, how often it comes on pairs alone, after `0E` and after `1B`, and the sum of the bytes that spell it.
 const ROWS: &str = "\
 Some(Ok(Char(Primary, 0))) | [36096, 96, 2016] | 3037536\n\
 Some(Ok(Char(Supplementary, 0))) | [96, 96, 96] | 27696\n\

@@ -1,4 +1,4 @@
-//! Lines that are read back: each form with each field at its ends, and one beyond.
+//! Lines that are read back: each form with the ends of each field, and one beyond.
 use nap_lines::line_of;
 use nap_make::{LineFault, entry_of_line};
 use std::alloc::{AllocError, Global};
@@ -68,7 +68,7 @@ const LINES: &[&str] = &[
     "END",
 ];
 
-/// Lines that are none, and the column from which on.
+/// Lines of no entry, each with the column of its fault.
 const WRONG: &str = "\
 | 1
   | 1
@@ -153,7 +153,7 @@ GLYPH 80 | 7
 MASK E | 6
 END x | 4";
 
-/// The entry's line, or the column from which on there is none.
+/// Returns the line of the entry that was read, or the column of the fault.
 fn answer(alloc: Global, line: &[u8]) -> Result<String, AllocError> {
     match entry_of_line(alloc, line) {
         Ok(entry) => line_of(alloc, &entry),
@@ -172,7 +172,7 @@ fn lines_are_read_back(rt: HostRuntime) -> Result<(), Fail> {
 }
 
 #[test]
-fn other_lines_are_told_by_a_column(rt: HostRuntime) -> Result<(), Fail> {
+fn other_lines_have_a_column(rt: HostRuntime) -> Result<(), Fail> {
     for row in WRONG.lines() {
         let Some((line, column)) = row.rsplit_once("| ") else {
             assert!(rt; false, "{row}");
@@ -185,7 +185,7 @@ fn other_lines_are_told_by_a_column(rt: HostRuntime) -> Result<(), Fail> {
     Ok(())
 }
 
-/// The line of a polygon of so many points.
+/// Returns the line of a polygon with `count` points.
 fn polygon(alloc: Global, count: usize) -> Result<Vec<u8>, AllocError> {
     let mut line = Vec::new(alloc);
     line.extend_from_slice(b"POLY-OUTLINED ")?;

@@ -15,21 +15,21 @@ use nap_values::{Grb, Move, Word};
 use std::alloc::{AllocError, Global};
 use std::test::Fail;
 
-/// The pen that an entry leaves, from the start on.
+/// The pen that an entry leaves at the start.
 const PENS: &[(Sample, Spot)] = &[
-    // On a shape.
+    // A shape's.
     (DOT, At(MIDDLE)),
     (LINE, At(MIDDLE)),
     (Arc(3), At(MIDDLE)),
     (Rect(false, QUARTER, MIDDLE, AtStart), At((4, 1))),
     (Poly(3), At(QUARTER)),
-    // Where only a terminal knows.
+    // Known to a terminal alone.
     (Letter(Start), After),
     (Step(TextStep::Apr, At(MIDDLE)), After),
     (Field(At(QUARTER)), After),
     (Reset(0, 0, Start), After),
     (Clear(Start), After),
-    // Where it was, by what isn't drawn.
+    // Unchanged, since nothing is drawn.
     (Red(1_048_576, 49_152), Start),
     (Blink(1, AtStart), Start),
     (BlinkEnd(AtStart), Start),
@@ -40,7 +40,7 @@ const PENS: &[(Sample, Spot)] = &[
     (MaskStart(Mask::B), Start),
 ];
 
-/// The state behind these entries, if each fits.
+/// Returns the state after these entries, if each fits.
 fn left_by(alloc: Global, samples: &[Sample]) -> Result<Option<State>, AllocError> {
     let mut state = State::start();
     for entry in &entries_of(alloc, samples)? {
@@ -66,7 +66,7 @@ fn entries_leave_the_pen(rt: HostRuntime) -> Result<(), Fail> {
     Ok(())
 }
 
-/// Nothing but the drawing and the colours that are known differs from the start.
+/// Returns the state at the start with this drawing and these known colours.
 fn state(drawing: Drawing, known: Known) -> State {
     State {
         drawing,
@@ -76,7 +76,7 @@ fn state(drawing: Drawing, known: Known) -> State {
     }
 }
 
-// The end of a definition puts the values back. A new colour of the map is selected.
+// The end of a definition restores the attributes. A new colour of the map is selected.
 #[test]
 fn entries_leave_a_state(rt: HostRuntime) -> Result<(), Fail> {
     let alloc = rt.alloc();
@@ -110,7 +110,7 @@ fn entries_leave_a_state(rt: HostRuntime) -> Result<(), Fail> {
     Ok(())
 }
 
-/// No value is that of the start.
+/// Returns attributes none of which is that of the start.
 fn changed() -> Drawing {
     Drawing {
         pen: Pen::At(at(MIDDLE)),
@@ -133,7 +133,7 @@ fn changed() -> Drawing {
     }
 }
 
-/// What a RESET leaves of these values.
+/// Returns what a RESET leaves of these attributes.
 fn after_reset(first: u8, second: u8) -> Option<Drawing> {
     let state = state(changed(), Known::new());
     let entry = reset(first, second, Pen::At(at(MIDDLE)));
@@ -143,7 +143,7 @@ fn after_reset(first: u8, second: u8) -> Option<Drawing> {
     Some(state.after(&entry).drawing)
 }
 
-/// Only the pen has moved.
+/// Returns the attributes with the pen moved.
 fn moved() -> Drawing {
     Drawing {
         pen: Pen::After,
@@ -151,7 +151,7 @@ fn moved() -> Drawing {
     }
 }
 
-/// The colour has changed, too.
+/// Returns the attributes with the pen moved, and this colour.
 fn chosen(colour: Colour) -> Drawing {
     Drawing { colour, ..moved() }
 }
@@ -192,8 +192,8 @@ fn a_reset_chooses_colours_by_its_code(rt: HostRuntime) {
     assert!(rt; left == [Some(own), Some(two), Some(three)]);
 }
 
-/// Whether an entry needs no other value than those of the start.
-const STANDING: &[(Sample, bool)] = &[
+/// Whether the attributes of an entry are those of the start.
+const CURRENT: &[(Sample, bool)] = &[
     (DOT, true),
     (LINE, true),
     (Letter(Start), true),
@@ -205,8 +205,8 @@ const STANDING: &[(Sample, bool)] = &[
 ];
 
 #[test]
-fn values_stand_where_each_is_the_same(rt: HostRuntime) -> Result<(), Fail> {
-    for (sample, want) in STANDING {
+fn attributes_are_current_if_each_is_equal(rt: HostRuntime) -> Result<(), Fail> {
+    for (sample, want) in CURRENT {
         let entry = entry_of(rt.alloc(), *sample)?;
         assert!(rt; Drawing::start().is_current(&entry) == *want, "{entry:?}");
     }

@@ -1,4 +1,4 @@
-//! The ways between points, and the ends of the ranges of values.
+//! The displacements between points, and the ends of the ranges of values.
 use nap_fixtures::entries::MIDDLE;
 use nap_fixtures::samples::{at, point, size, word};
 use nap_values::{

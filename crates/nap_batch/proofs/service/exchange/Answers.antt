@@ -6,7 +6,7 @@ use Rattle.nap_batch.specs.Waiting.{Finds}
 use Rattle.nap_batch.proofs.ExchangeLemmas.{answered, dropped_exchange, exchange_of, is_dropped, is_exchange, parts_of, unasked}
 use Rattle.nap_batch.proofs.service.exchange.Goals as goal
 
--- the request in front is answered
+-- the request that the buffer begins with is answered
 pub returns-in-Ok-Whole-clause-exchanged : goal.returns-in-Ok-Whole-clause-exchanged
 returns-in-Ok-Whole-clause-exchanged g c =
     let I = g.I.Inlet in
@@ -25,7 +25,7 @@ returns-in-Ok-Whole-clause-exchanged g c =
     answered I O c.args.written c.args.buffer.now new h.bytes c.args.input.now c.wait.new.input c.args.output.now c.answer_front.new.output h.read works
     (exchange_of buffer w.line w.start front _ refl text is) (is_exchange buffer w.line w.start front _ refl text is) parts c.answer_front.result sends.sends
 
--- its page was dropped
+-- the page of the request was dropped
 pub returns-in-Ok-Dropped-clause-exchanged : goal.returns-in-Ok-Dropped-clause-exchanged
 returns-in-Ok-Dropped-clause-exchanged g c =
     let I = g.I.Inlet in
@@ -39,7 +39,7 @@ returns-in-Ok-Dropped-clause-exchanged g c =
     answered I O c.args.written c.args.buffer.now buffer h.bytes c.args.input.now c.wait.new.input c.args.output.now c.send.new.output h.read works (dropped_exchange all asked)
     (is_dropped all asked) parts c.send.result c.send.ensures.sends
 
--- none was read
+-- no request was read
 pub returns-in-Err-clause-exchanged : goal.returns-in-Err-clause-exchanged
 returns-in-Err-clause-exchanged g c =
     let h = c.in-Err.ensures.found in

@@ -20,7 +20,7 @@ returns-in-Ok c =
       subst (λ (b : ℕ). IsAnswered b page (LacksForText b page) (places b page) (places b page) old new a) c.in-Some.ensures.value answered,
     )
 
--- there was no memory for the places
+-- memory ran out for the places
 pub returns-in-Err : goal.returns-in-Err
 returns-in-Err c =
     let page = c.args.page.now in

@@ -4,7 +4,7 @@ use Rattle.nap_c.specs.Checks.{HasChecked}
 use Rattle.nap_c.specs.Pieces.{Feeds}
 use Rattle.nap_c.proofs.pieces.naplps_check_feed.Goals as goal
 
--- a piece came
+-- a piece of the page was read
 pub returns : goal.returns
 returns c =
     let piece = c.args.piece.now in

@@ -4,7 +4,7 @@ use Rattle.nap_list.proofs.PublicLaws.{legal_never_breaks}
 use Rattle.nap_reader.proofs.PublicLaws.{accepted_is_legal}
 use Rattle.nap_c.proofs.text.form1_text.Goals as goal
 
--- what was read is legal
+-- the list of an accepted page is legal
 pub unreachable-requires : goal.unreachable-requires
 unreachable-requires c =
     let same = c.deref.ensures.value ∙ c.in_ok-list.ensures.list in

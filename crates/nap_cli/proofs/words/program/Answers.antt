@@ -6,7 +6,7 @@ use Rattle.clap.specs.declared.builder.command.Command.TheViews.{out-Command as 
 use Rattle.nap_cli.specs.CommandLine.{command_app, make_app, page_commands, program_app}
 use Rattle.nap_cli.proofs.words.program.Goals as goal
 
--- there is a version, a command is required, and the words begin with it
+-- there is a version, a command is required, and its name comes first
 abbrev with_version : App → App
 with_version a = record a { top = record a.top { has_version = true } }
 

@@ -5,14 +5,14 @@ use Rattle.std.proofs.Math.Bool.{or-false, or-true}
 use Rattle.std.proofs.lemmas.Result.{err_from_is_err_and}
 use Rattle.nap_line_reader.proofs.making.feed_from.Goals as goal
 
--- a call that doesn't fail leaves the flag
+-- a call that doesn't fail keeps the flag
 flag_stays : (first before after : Bool) → before ≡ first → after ≡ (before || false) → after ≡ first
 flag_stays first before after h k = k ∙ or-false before ∙ h
 
 -- a read failed
 pub returns-in_default-clause-feeds : goal.returns-in_default-clause-feeds
 returns-in_default-clause-feeds g c =
-    let (p, read, gave, stands) = c.loop.invariant.read in (
+    let (p, read, gave, has_read) = c.loop.invariant.read in (
       p,
       Consumes-kept _ _ _ p read c.in_default.ensures.bytes,
       λ s h. (
@@ -22,14 +22,14 @@ returns-in_default-clause-feeds g c =
           gave = omega (arith, c.in_default.ensures.calls, c.loop.invariant.calls, c.requires.calls, gave);
         }),
         c.loop.invariant.ready,
-        stands s h,
+        has_read s h,
       ),
     )
 
 -- the input ended
 pub returns-then-count-eq0-clause-feeds : goal.returns-then-count-eq0-clause-feeds
 returns-then-count-eq0-clause-feeds g c =
-    let (p, read, gave, stands) = c.loop.invariant.read in
+    let (p, read, gave, has_read) = c.loop.invariant.read in
     let piece = take c.in-Ok.count c.read.new.room in
     let none : piece ≡ [] = ap (λ (n : ℕ). take n c.read.new.room) c.if-count-eq0.true in
     let same : p ++ piece ≡ p = ap (λ (bytes : List ℕ). p ++ bytes) none ∙ append-nil p in (
@@ -41,14 +41,14 @@ returns-then-count-eq0-clause-feeds g c =
           end = c.in-Ok.ensures.bytes.1 c.if-count-eq0.true (omega (arith, c.read.auto.room, c.loop.invariant.buffer));
           gave = omega (arith, c.in-Ok.ensures.calls, c.loop.invariant.calls, c.requires.calls, gave);
         },
-        stands s h,
+        has_read s h,
       ),
     )
 
 -- the lines make no list
 pub returns-in_err-feed-clause-feeds : goal.returns-in_err-feed-clause-feeds
 returns-in_err-feed-clause-feeds g c =
-    let (p, read, gave, stands) = c.loop.invariant.read in
+    let (p, read, gave, has_read) = c.loop.invariant.read in
     let piece = take c.in-Ok.count c.read.new.room in
     let few : c.in-Ok.count ≡ length piece = c.in-Ok.ensures.bound.1 in
     let fault = err_from_is_err_and c.from_residual.result c.from_residual.ensures.1 in (
@@ -57,13 +57,13 @@ returns-in_err-feed-clause-feeds g c =
       λ s h. rw (fault.1, fault.2) (
         flag_stays _ _ _ c.loop.invariant.flag c.in-Ok.ensures.failed,
         omega (arith, length-append p piece, few, c.in-Ok.ensures.calls, c.loop.invariant.calls, c.requires.calls, gave, c.if-count-eq0.false),
-        c.in_err-feed.ensures.feeds s p (stands s h),
+        c.in_err-feed.ensures.feeds s p (has_read s h),
       ),
     )
 
 pub loop-preserved : goal.loop-preserved
 loop-preserved g c =
-    let (p, read, gave, stands) = c.loop.invariant.read in
+    let (p, read, gave, has_read) = c.loop.invariant.read in
     let piece = take c.in-Ok.count c.read.new.room in
     let few : c.in-Ok.count ≡ length piece = c.in-Ok.ensures.bound.1 in
     record {
@@ -75,14 +75,14 @@ loop-preserved g c =
         p ++ piece,
         Consumes-trans _ _ _ p piece read c.in-Ok.ensures.bytes.0,
         omega (arith, length-append p piece, few, gave, c.if-count-eq0.false),
-        λ s h. c.in_ok-feed.ensures.feeds s p (stands s h),
+        λ s h. c.in_ok-feed.ensures.feeds s p (has_read s h),
       );
     }
 
 -- there were too many reads
 pub returns-clause-feeds : goal.returns-clause-feeds
 returns-clause-feeds g c =
-    let (p, read, gave, stands) = c.loop.invariant.read in (
+    let (p, read, gave, has_read) = c.loop.invariant.read in (
       p,
       read,
       λ s h. (
@@ -92,6 +92,6 @@ returns-clause-feeds g c =
           gave = omega (arith, gave, c.loop-test.false);
         }),
         c.loop.invariant.ready,
-        stands s h,
+        has_read s h,
       ),
     )

@@ -12,13 +12,13 @@ returns-in-Err-clause-makes g c =
       p,
       read,
       subst (λ t. Makes g.S.Sink c.args.sink p seen t (Err f)) (sym c.into_sink.ensures)
-          (makes_none g.S.Sink c.args.sink p seen c.feed_from.new.reader f (feeds c.args.sink c.new-reader.ensures.stands)),
+          (makes_none g.S.Sink c.args.sink p seen c.feed_from.new.reader f (feeds c.args.sink c.new-reader.ensures.has_read)),
     )
 
 pub returns-in-Ok-clause-makes : goal.returns-in-Ok-clause-makes
 returns-in-Ok-clause-makes g c =
     let (p, read, feeds) = c.in_default.ensures.feeds in
-    let h = feeds c.args.sink c.new-reader.ensures.stands in (
+    let h = feeds c.args.sink c.new-reader.ensures.has_read in (
       p,
       read,
       (h.0, subst (λ t. MakesList g.S.Sink c.args.sink p t) (sym c.into_sink-sink.ensures) (c.in-Ok.ensures c.args.sink p h.1).0),

@@ -2,10 +2,10 @@ use Rattle.std.proofs.Common.{ℕ, ◌≡◌, ◌+◌, List, ◌++◌, codes, ap
 use Rattle.nap_values.specs.Coordinates.{Coordinates}
 use Rattle.nap_lines.specs.Lines.{point_text}
 use Rattle.nap_lines.specs.Batches.{line_front, lines_with}
-use Rattle.nap_lines.proofs.BatchLemmas.{appended, kept, text_goes, goes_first, goes_line, goes_on}
+use Rattle.nap_lines.proofs.BatchLemmas.{appended, kept, text_goes, goes_first, goes_line, continues}
 use Rattle.nap_lines.proofs.batch.write_line_lines.Goals as goal
 
--- the front of a line, made from the back
+-- the beginning of a Line's line, pushed part by part
 made_front : (from to : Coordinates) (end pointed spaced started named kept : List ℕ) → pointed ≡ point_text to ++ end → spaced ≡ codes " " ++ pointed → started ≡ kept ++ spaced →
     named ≡ codes "LINE " ++ started → kept ≡ point_text from → named ≡ line_front from to ++ end
 made_front from to end pointed spaced started named kept point space start name is =
@@ -52,5 +52,5 @@ loop-to-preserved c =
           (appended c.extend_from_slice.result c.is_err.result c.extend_from_slice.new.self.items c.loop-to.text.items c.as_slice.result.now c.extend_from_slice.ensures.items c.is_err.ensures.value c.if-is_err.false
           ∙ ap (λ (bytes : List ℕ). c.loop-to.text.items ++ bytes) line)
           (goes_line end c.args.from at to points i (omega arith) c.to-item.is invariant.goes);
-      goes = goes_on end c.args.from at to points i (omega arith) c.to-item.is invariant.goes;
+      goes = continues end c.args.from at to points i (omega arith) c.to-item.is invariant.goes;
     }

@@ -1,7 +1,7 @@
 use Rattle.std.proofs.Common.{ℕ, List, ◌≡◌, ◌≤◌, ◌++◌, length, take}
 use Rattle.nap_values.specs.Coordinates.{Coordinates}
 use Rattle.nap_lines.specs.Lines.{point_text}
-use Rattle.nap_lines.specs.Batches.{lines_with, LinesGoOn}
+use Rattle.nap_lines.specs.Batches.{lines_with, LinesContinue}
 use Rattle.nap_lines.proofs.batch.write_line_lines.Given as goal
 
 abbrev pub invariant-loop-to : goal.invariant-loop-to
@@ -13,5 +13,5 @@ invariant-loop-to l = record {
   kept : l.kept ≡ point_text at;
   few : length l.kept ≤ 15;
   text : l.text.items ≡ l.fn.text.items ++ lines_with l.fn.buffer l.fn.from (take l.to-index l.points);
-  goes : LinesGoOn l.fn.buffer l.fn.from (take l.to-index l.points) at;
+  goes : LinesContinue l.fn.buffer l.fn.from (take l.to-index l.points) at;
 }

@@ -2,6 +2,6 @@ use Rattle.std.proofs.Common.{◌≡◌, ◌*◌, ◌++◌, length, drop}
 use Rattle.nap_lines.specs.Blocks.{repeated}
 use Rattle.nap_lines.proofs.block.fill_lines.Given as goal
 
--- the lines so far
+-- i copies of the line
 abbrev pub invariant-loop-i : goal.invariant-loop-i
 invariant-loop-i l = l.block ≡ repeated l.i l.line ++ drop (l.i * length l.line) l.fn.block

@@ -3,7 +3,7 @@ use Rattle.std.specs.Prelude.{All}
 use Rattle.nap_lines.specs.Blocks.{recoded}
 use Rattle.nap_lines.proofs.block.recode_lines.Given as goal
 
--- the codes so far
+-- the digits of the first i codes
 abbrev pub invariant-loop-i : goal.invariant-loop-i
 invariant-loop-i l = record {
   characters : All (λ code. 0x20 ≤ code) (take l.i l.codes);

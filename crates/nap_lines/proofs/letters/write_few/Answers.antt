@@ -5,7 +5,7 @@ use Rattle.nap_lines.proofs.BatchLemmas.{appended, worked, around, kept, char_st
 use Rattle.nap_lines.proofs.letters.write_few.Goals as goal
 use Rattle.nap_lines.proofs.letters.write_few.Goals.{then-code-lt32+else-is_err, else-code-lt32+else-is_err-2}
 
--- the digits stand behind the name of the set, and the end of a line behind them
+-- the digits of a code are after the name of the set, and before the end of the line
 recoded : (start end old buffer : List ℕ) (last all rest place : ℕ) → old ≡ (start ++ code_text 0) ++ end → all ≡ length old → rest ≡ length end → place ≡ all - rest - 2 →
     buffer ≡ (start ++ code_text last) ++ end → (place + 2 ≤ length buffer) × (take place buffer ≡ start) × (drop (place + 2) buffer ≡ end)
 recoded start end old buffer last all rest place is count ends at now =

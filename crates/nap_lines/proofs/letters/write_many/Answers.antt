@@ -16,7 +16,7 @@ loop-written-init c =
     let (digits, (rest, (ready, block))) = filled start end c.as_slice.result.now _ c.fill_lines.new.block c.min-ready.result c.fill_lines.ensures line in
     record { within = omega arith; buffer = c.push_char_front.ensures; digits = digits; rest = rest; ready = ready; block = block; text = sym (append-nil c.args.text.now.items) }
 
--- no line of the block was asked for
+-- the next byte is no character's code
 pub loop-written-preserved-then-count-eq0 : goal.loop-written-preserved-then-count-eq0
 unfolding recoded
 loop-written-preserved-then-count-eq0 c =
@@ -44,7 +44,7 @@ loop-written-preserved-then-count-eq0 c =
           (one_more f all i code 0 c.loop-written-test.true refl);
     }
 
--- the first lines of the block were written
+-- the first lines of the block were appended
 pub loop-written-preserved : goal.loop-written-preserved
 loop-written-preserved c =
     let at = c.loop-written.invariant in

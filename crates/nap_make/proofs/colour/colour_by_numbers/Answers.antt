@@ -13,8 +13,8 @@ returns-in_err-kind c = rw (c.from_residual-in_err-kind.ensures) (no_kind c.args
 pub returns-in_err-grb-in-Direct : goal.returns-in_err-grb-in-Direct
 returns-in_err-grb-in-Direct c = rw (c.from_residual-in_err-grb-in-Direct.ensures) (no_numbers c.args.bytes.now _ _ kinds.Direct c.in_ok-name.ensures (c.in_ok-kind.ensures ∙ ap kind_name c.in-Direct.is) c.in_err-grb-in-Direct.ensures)
 
-pub returns-in_err-front-in-Front : goal.returns-in_err-front-in-Front
-returns-in_err-front-in-Front c = rw (c.from_residual-in_err-front-in-Front.ensures) (no_numbers c.args.bytes.now _ _ kinds.Front c.in_ok-name.ensures (c.in_ok-kind.ensures ∙ ap kind_name c.in-Front.is) c.in_err-front-in-Front.ensures)
+pub returns-in_err-foreground-in-Front : goal.returns-in_err-foreground-in-Front
+returns-in_err-foreground-in-Front c = rw (c.from_residual-in_err-foreground-in-Front.ensures) (no_numbers c.args.bytes.now _ _ kinds.Front c.in_ok-name.ensures (c.in_ok-kind.ensures ∙ ap kind_name c.in-Front.is) c.in_err-foreground-in-Front.ensures)
 
-pub returns-in_err-front-in-Pair : goal.returns-in_err-front-in-Pair
-returns-in_err-front-in-Pair c = rw (c.from_residual-in_err-front-in-Pair.ensures) (no_numbers c.args.bytes.now _ _ kinds.Pair c.in_ok-name.ensures (c.in_ok-kind.ensures ∙ ap kind_name c.in-Pair.is) c.in_err-front-in-Pair.ensures)
+pub returns-in_err-foreground-in-Pair : goal.returns-in_err-foreground-in-Pair
+returns-in_err-foreground-in-Pair c = rw (c.from_residual-in_err-foreground-in-Pair.ensures) (no_numbers c.args.bytes.now _ _ kinds.Pair c.in_ok-name.ensures (c.in_ok-kind.ensures ∙ ap kind_name c.in-Pair.is) c.in_err-foreground-in-Pair.ensures)

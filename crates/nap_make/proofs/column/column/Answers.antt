@@ -2,7 +2,7 @@ use Rattle.std.proofs.Common.{arith, codes, refl}
 use Rattle.nap_list.specs.declared.entry.Entry.TheVariants as entry
 use Rattle.nap_make.proofs.column.column.Goals as goal
 
--- a bell's line begins with nothing
+-- an empty prefix begins the line of a Bell
 pub returns : goal.returns
 returns c = record {
   low = omega arith;

@@ -22,5 +22,5 @@ returns-in_err-colour c = rw (c.from_residual-in_err-colour.ensures) (none_named
 
 pub returns : goal.returns
 returns c =
-    let told = both_written blink_parts c.in_ok-number.ensures c.in_ok-addr.ensures (both_written blink_end c.in_ok-times.ensures c.in_ok-on.ensures c.in_ok-colour.ensures) in
-    written_named (entry.Blink _ _ _ _ _) _ (record { in_range = (told.fitting.0, told.fitting.1.0.0, told.fitting.1.0.1.0, told.fitting.1.0.1.1, told.fitting.1.1); well_made = tt }) tt told.written
+    let ensured = both_written blink_parts c.in_ok-number.ensures c.in_ok-addr.ensures (both_written blink_end c.in_ok-times.ensures c.in_ok-on.ensures c.in_ok-colour.ensures) in
+    written_named (entry.Blink _ _ _ _ _) _ (record { in_range = (ensured.fitting.0, ensured.fitting.1.0.0, ensured.fitting.1.0.1.0, ensured.fitting.1.0.1.1, ensured.fitting.1.1); well_made = tt }) tt ensured.written

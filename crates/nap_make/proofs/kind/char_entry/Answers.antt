@@ -23,5 +23,5 @@ returns-in_err-hand c = rw (c.from_residual-in_err-hand.ensures) (none_named nam
 
 pub returns : goal.returns
 returns c =
-    let told = both_written letter_parts c.in_ok-set.ensures c.in_ok-set-2.ensures (both_written letter_end c.in_ok-digits.ensures c.in_ok-code.ensures c.in_ok-hand.ensures) in
-    written_named (entry.Char _ _ _) _ (record { in_range = (omega (arith, told.fitting.1.0), told.fitting.1.1); well_made = told.fitting.1.0 }) tt told.written
+    let ensured = both_written letter_parts c.in_ok-set.ensures c.in_ok-set-2.ensures (both_written letter_end c.in_ok-digits.ensures c.in_ok-code.ensures c.in_ok-hand.ensures) in
+    written_named (entry.Char _ _ _) _ (record { in_range = (omega (arith, ensured.fitting.1.0), ensured.fitting.1.1); well_made = ensured.fitting.1.0 }) tt ensured.written

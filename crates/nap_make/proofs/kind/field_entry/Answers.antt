@@ -15,10 +15,10 @@ returns-in_err-from-in-None c = rw (c.from_residual-in_err-from-in-None.ensures)
 
 pub returns-in_ok-pen-in-Some : goal.returns-in_ok-pen-in-Some
 returns-in_ok-pen-in-Some c =
-    let told = c.in_ok-pen-in-Some.ensures in
-    written_named (entry.Field areas.Whole _) _ (record { in_range = (tt, told.fitting); well_made = tt }) tt (c.in-Some.ensures ∙ ap (λ (s : List ℕ). codes "whole " ++ s) told.written)
+    let ensured = c.in_ok-pen-in-Some.ensures in
+    written_named (entry.Field areas.Whole _) _ (record { in_range = (tt, ensured.fitting); well_made = tt }) tt (c.in-Some.ensures ∙ ap (λ (s : List ℕ). codes "whole " ++ s) ensured.written)
 
 pub returns-in_ok-from-in-None : goal.returns-in_ok-from-in-None
 returns-in_ok-from-in-None c =
-    let told = c.in_ok-from-in-None.ensures in
-    written_named (entry.Field (areas.Part _ _) _) _ (record { in_range = ((told.fitting.0, told.fitting.1.0), told.fitting.1.1); well_made = tt }) tt (corners_is _ _ _ (pen_field _) told.written)
+    let ensured = c.in_ok-from-in-None.ensures in
+    written_named (entry.Field (areas.Part _ _) _) _ (record { in_range = ((ensured.fitting.0, ensured.fitting.1.0), ensured.fitting.1.1); well_made = tt }) tt (corners_is _ _ _ (pen_field _) ensured.written)

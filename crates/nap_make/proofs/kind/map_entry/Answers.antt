@@ -16,5 +16,5 @@ returns-in_err-grb c = rw (c.from_residual-in_err-grb.ensures) (none_named names
 
 pub returns : goal.returns
 returns c =
-    let told = both_written map_parts c.in_ok-number.ensures c.in_ok-addr.ensures c.in_ok-grb.ensures in
-    written_named (entry.Map _ _) _ (record { in_range = told.fitting; well_made = tt }) tt told.written
+    let ensured = both_written map_parts c.in_ok-number.ensures c.in_ok-addr.ensures c.in_ok-grb.ensures in
+    written_named (entry.Map _ _) _ (record { in_range = ensured.fitting; well_made = tt }) tt ensured.written

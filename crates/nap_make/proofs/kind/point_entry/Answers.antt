@@ -22,5 +22,5 @@ returns-in_err-colour c = rw (c.from_residual-in_err-colour.ensures) (none_named
 
 pub returns : goal.returns
 returns c =
-    let told = both_written dot_parts c.in_ok-at.ensures c.in_ok-at-2.ensures (both_written dot_end c.in_ok-pel.ensures c.in_ok-pel-2.ensures c.in_ok-colour.ensures) in
-    written_named (entry.Point _ _ _) _ (record { in_range = (told.fitting.0, told.fitting.1.0, told.fitting.1.1); well_made = tt }) tt told.written
+    let ensured = both_written dot_parts c.in_ok-at.ensures c.in_ok-at-2.ensures (both_written dot_end c.in_ok-pel.ensures c.in_ok-pel-2.ensures c.in_ok-colour.ensures) in
+    written_named (entry.Point _ _ _) _ (record { in_range = (ensured.fitting.0, ensured.fitting.1.0, ensured.fitting.1.1); well_made = tt }) tt ensured.written

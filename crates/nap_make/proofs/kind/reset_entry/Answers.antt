@@ -22,5 +22,5 @@ returns-in_err-pen c = rw (c.from_residual-in_err-pen.ensures) (none_named names
 
 pub returns : goal.returns
 returns c =
-    let told = both_written reset_parts c.in_ok-first.ensures c.in_ok-first-2.ensures (both_written reset_end c.in_ok-second.ensures c.in_ok-second-2.ensures c.in_ok-pen.ensures) in
-    written_named (entry.Reset _ _ _) _ (record { in_range = (told.fitting.0, told.fitting.1.0, told.fitting.1.1); well_made = tt }) tt told.written
+    let ensured = both_written reset_parts c.in_ok-first.ensures c.in_ok-first-2.ensures (both_written reset_end c.in_ok-second.ensures c.in_ok-second-2.ensures c.in_ok-pen.ensures) in
+    written_named (entry.Reset _ _ _) _ (record { in_range = (ensured.fitting.0, ensured.fitting.1.0, ensured.fitting.1.1); well_made = tt }) tt ensured.written

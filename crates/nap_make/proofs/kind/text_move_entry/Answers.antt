@@ -15,12 +15,12 @@ returns-in_err-step-in-None c = rw (c.from_residual-in_err-step-in-None.ensures)
 
 pub returns-in_ok-row-in-Some : goal.returns-in_ok-row-in-Some
 returns-in_ok-row-in-Some c =
-    let told = c.in_ok-row-in-Some.ensures in
+    let ensured = c.in_ok-row-in-Some.ensures in
     written_named (entry.TextMove (steps.Aps _ _) _) _
-    (record { in_range = ((omega (arith, told.fitting.0), omega (arith, told.fitting.1.0)), told.fitting.1.1); well_made = (told.fitting.0, told.fitting.1.0) }) tt
-    (position_is _ _ _ _ (hand_text _) c.in-Some.ensures told.written)
+    (record { in_range = ((omega (arith, ensured.fitting.0), omega (arith, ensured.fitting.1.0)), ensured.fitting.1.1); well_made = (ensured.fitting.0, ensured.fitting.1.0) }) tt
+    (position_is _ _ _ _ (hand_text _) c.in-Some.ensures ensured.written)
 
 pub returns-in_ok-step-in-None : goal.returns-in_ok-step-in-None
 returns-in_ok-step-in-None c =
-    let told = c.in_ok-step-in-None.ensures in
-    written_named (entry.TextMove _ _) _ (record { in_range = (plain_range _ told.fitting.0, told.fitting.1); well_made = plain_made _ told.fitting.0 }) tt told.written
+    let ensured = c.in_ok-step-in-None.ensures in
+    written_named (entry.TextMove _ _) _ (record { in_range = (plain_range _ ensured.fitting.0, ensured.fitting.1); well_made = plain_made _ ensured.fitting.0 }) tt ensured.written

@@ -7,16 +7,16 @@ use Rattle.nap_make.proofs.shape.arc_entry.Goals as goal
 
 pub returns-then-as_slice-lt3 : goal.returns-then-as_slice-lt3
 returns-then-as_slice-lt3 c =
-    let told = rw c.in-Some.is at c.in_ok-points.ensures in
+    let ensured = rw c.in-Some.is at c.in_ok-points.ensures in
     let same = ap (λ (ps : List Coordinates). length ps) c.as_slice.ensures in
-    none_arc c.args.filled c.args.rest.now (other_count 3 c.args.rest.now _ _ told (omega (arith, same, c.if-as_slice-lt3.true)))
+    none_arc c.args.filled c.args.rest.now (other_count 3 c.args.rest.now _ _ ensured (omega (arith, same, c.if-as_slice-lt3.true)))
 
 pub returns-else-as_slice-lt3 : goal.returns-else-as_slice-lt3
 returns-else-as_slice-lt3 c =
-    let told = rw c.in-Some.is at c.in_ok-points.ensures in
+    let ensured = rw c.in-Some.is at c.in_ok-points.ensures in
     let same = ap (λ (ps : List Coordinates). length ps) c.as_slice.ensures in
     written_named (entry.Arc c.args.filled _ _) c.args.rest.now
-    (record { in_range = (told.fitting.points, told.fitting.ink); well_made = (omega (arith, same, c.if-as_slice-lt3.false), told.fitting.few) }) tt told.written
+    (record { in_range = (ensured.fitting.points, ensured.fitting.ink); well_made = (omega (arith, same, c.if-as_slice-lt3.false), ensured.fitting.few) }) tt ensured.written
 
 pub returns-in-None : goal.returns-in-None
-returns-in-None c = let told = rw c.in-None.is at c.in_ok-points.ensures in none_arc c.args.filled c.args.rest.now (no_more 3 c.args.rest.now told)
+returns-in-None c = let ensured = rw c.in-None.is at c.in_ok-points.ensures in none_arc c.args.filled c.args.rest.now (no_more 3 c.args.rest.now ensured)

@@ -1,4 +1,4 @@
--- `into_raw_box` tests the pointer, and has the box that lies there.
+-- `into_raw_box` tests the pointer, and returns the box at it.
 use Rattle.std.proofs.Common.{◌≡◌, List, [], ◌∷◌, ◌++◌, refl, sym, ap, ◌∙◌, subst, lit<}
 use mir.Val.{Val, vptr, vcons, vnil}
 use base.Logic.{SProp, ent, emp, id⊢}

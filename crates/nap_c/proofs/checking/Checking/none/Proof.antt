@@ -1,4 +1,4 @@
--- `none` keeps nothing at null.
+-- `none` owns nothing at null.
 use Rattle.std.proofs.Common.{◌≡◌, [], ◌∷◌, refl, lit<}
 use mir.Val.{Val}
 use base.Logic.{SProp, emp}

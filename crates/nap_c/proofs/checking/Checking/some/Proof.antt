@@ -1,4 +1,4 @@
--- `some` moves the pointer, and what is owned there goes with it.
+-- `some` moves the pointer, with what is owned at it.
 use Rattle.std.proofs.Common.{◌≡◌, List, [], ◌∷◌, ◌++◌, refl, sym, subst}
 use mir.Val.{Val, vptr}
 use base.Logic.{SProp, ent, emp, id⊢}

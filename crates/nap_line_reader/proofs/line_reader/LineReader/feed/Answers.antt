@@ -5,31 +5,31 @@ use Rattle.nap_line_reader.proofs.FeedLemmas.{fed_last, line_stops, line_taken, 
 use Rattle.nap_line_reader.proofs.line_reader.LineReader.feed.Goals as goal
 
 pub returns-in_err-end_line-clause-feeds : goal.returns-in_err-end_line-clause-feeds
-returns-in_err-end_line-clause-feeds g c s p stands =
+returns-in_err-end_line-clause-feeds g c s p has_read =
     let (done, is, reads) = c.loop-next.invariant.read in
     let f = c.in_err-end_line.field-0.0 in
     let e = err_from_is_err_and c.from_residual.result c.from_residual.ensures.1 in
-    let front = c.in-Some.next.0.now in
+    let prefix = c.in-Some.next.0.now in
     let more = c.in-Some.next.1.now in
-    let here = reads s p stands in
+    let here = reads s p has_read in
     let whole = is ∙ ap (λ (xs : List ℕ). done ++ xs) c.in-Some.ensures.joins in
     rw (e.1, e.2) (subst (λ (xs : List ℕ). Stops g.S.Sink s (p ++ xs) c.end_line.new.self.maker.sink f) (sym whole)
-    (line_stops g.S.Sink s p done front more c.loop-next.self c.end_line.new.self.maker f here (c.in_err-end_line.ensures.ends s here.entries here.holds)))
+    (line_stops g.S.Sink s p done prefix more c.loop-next.self c.end_line.new.self.maker f here (c.in_err-end_line.ensures.ends s here.entries here.holds)))
 
 pub loop-next-preserved : goal.loop-next-preserved
 loop-next-preserved g c =
     let (done, is, reads) = c.loop-next.invariant.read in
-    let front = c.in-Some.next.0.now in
+    let prefix = c.in-Some.next.0.now in
     let more = c.in-Some.next.1.now in
     record {
       ready = c.in_ok-end_line.ensures.ready;
       read = (
-        done ++ (front ++ 10 ∷ []),
+        done ++ (prefix ++ 10 ∷ []),
         is ∙ ap (λ (xs : List ℕ). done ++ xs) c.in-Some.ensures.joins
-            ∙ sym (append_assoc done (front ++ 10 ∷ []) more ∙ ap (λ (xs : List ℕ). done ++ xs) (append_assoc front (10 ∷ []) more)),
-        λ s p stands.
-            let here = reads s p stands in
-            line_taken g.S.Sink s p done front c.loop-next.self c.end_line.new.self here (c.in_ok-end_line.ensures.ends s here.entries here.holds) c.in_ok-end_line.ensures.part,
+            ∙ sym (append_assoc done (prefix ++ 10 ∷ []) more ∙ ap (λ (xs : List ℕ). done ++ xs) (append_assoc prefix (10 ∷ []) more)),
+        λ s p has_read.
+            let here = reads s p has_read in
+            line_taken g.S.Sink s p done prefix c.loop-next.self c.end_line.new.self here (c.in_ok-end_line.ensures.ends s here.entries here.holds) c.in_ok-end_line.ensures.part,
       );
     }
 
@@ -42,7 +42,7 @@ returns-clause-ready g c =
     c.keep_part.ensures.part c.keep_part.ensures.maker c.keep_part.ensures.short
 
 pub returns-clause-feeds : goal.returns-clause-feeds
-returns-clause-feeds g c s p stands =
+returns-clause-feeds g c s p has_read =
     let (done, is, reads) = c.loop-next.invariant.read in
     subst (λ (xs : List ℕ). Feeds g.S.Sink s (p ++ xs) c.keep_part.new.self c.keep_part.result) (sym is)
-    (fed_last g.S.Sink s p done c.loop-next.rest.now c.loop-next.self c.keep_part.new.self c.keep_part.result (reads s p stands) c.keep_part.ensures.part c.keep_part.ensures.maker c.keep_part.ensures.keeps)
+    (fed_last g.S.Sink s p done c.loop-next.rest.now c.loop-next.self c.keep_part.new.self c.keep_part.result (reads s p has_read) c.keep_part.ensures.part c.keep_part.ensures.maker c.keep_part.ensures.keeps)

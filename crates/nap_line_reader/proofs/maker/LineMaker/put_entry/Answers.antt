@@ -2,12 +2,12 @@ use Rattle.std.proofs.Common.{List, [], Err, ap, append-nil, subst}
 use Rattle.nap_list.specs.declared.entry.Entry.{Entry}
 use Rattle.nap_list.specs.declared.state.State.{State}
 use Rattle.nap_list.specs.State.{Fits}
-use Rattle.nap_line_reader.proofs.HoldLemmas.{holds_more}
+use Rattle.nap_line_reader.proofs.MakerLemmas.{put_more}
 use Rattle.nap_line_reader.proofs.maker.LineMaker.put_entry.Goals as goal
 
 pub returns-in-Ok-clause-puts : goal.returns-in-Ok-clause-puts
 returns-in-Ok-clause-puts g c s es holds proper =
-    holds_more g.S.Sink s es c.args.entry c.args.self.now (record { sink = c.put.new.self; state = c.step.new.self; lines = c.args.line; opening = c.opening_after-self.result }) holds proper
+    put_more g.S.Sink s es c.args.entry c.args.self.now (record { sink = c.put.new.self; state = c.step.new.self; lines = c.args.line; opening = c.opening_after-self.result }) holds proper
     (c.fits.ensures.0 c.if-not-fits.false) g.met.S.Sink.took_more c.in-Ok.ensures.took (λ fails. let bad = c.in-Ok.ensures.only_write fails in cc) c.step.ensures c.requires.line
     c.opening_after-self.ensures.open c.opening_after-self.ensures.closed
 

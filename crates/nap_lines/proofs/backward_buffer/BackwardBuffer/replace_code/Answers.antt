@@ -8,17 +8,17 @@ use Rattle.std.proofs.lemmas.Str.Ascii.{IsAscii-nil, IsAscii-cons}
 use borrow.Rule.Slice.PartMut.{put_mid}
 use Rattle.nap_lines.proofs.backward_buffer.BackwardBuffer.replace_code.Goals as goal
 
--- what stands behind a place once two bytes were put there
+-- the bytes before and after two replaced ones
 made : (bytes two : List ℕ) (a place p k : ℕ) → p ≡ a + place → k ≡ 2 → p + 2 ≤ length bytes →
     drop a (put_mid p k bytes two) ≡ take place (drop a bytes) ++ (two ++ drop (place + 2) (drop a bytes))
 made bytes two a place p k at size within =
     let long : length (take p bytes) ≡ p = length-take-le p bytes (omega arith) in
     let front : drop a (take p bytes) ≡ take place (drop a bytes) = ap (λ n. drop a (take n bytes)) at ∙ drop-take a place bytes in
     let places : p + k ≡ a + (place + 2) = omega arith in
-    let behind : drop k (drop p bytes) ≡ drop (place + 2) (drop a bytes) = drop-drop k p bytes ∙ ap (λ n. drop n bytes) places ∙ sym (drop-drop (place + 2) a bytes) in
+    let rest_is : drop k (drop p bytes) ≡ drop (place + 2) (drop a bytes) = drop-drop k p bytes ∙ ap (λ n. drop n bytes) places ∙ sym (drop-drop (place + 2) a bytes) in
     drop-append-le a (take p bytes) (two ++ drop k (drop p bytes)) (omega arith)
     ∙ ap (λ (here : List ℕ). here ++ (two ++ drop k (drop p bytes))) front
-    ∙ ap (λ (rest : List ℕ). take place (drop a bytes) ++ (two ++ rest)) behind
+    ∙ ap (λ (rest : List ℕ). take place (drop a bytes) ++ (two ++ rest)) rest_is
 
 pub copy_from_slice-requires : goal.copy_from_slice-requires
 copy_from_slice-requires c =

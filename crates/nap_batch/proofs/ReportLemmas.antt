@@ -11,9 +11,9 @@ use Rattle.nap_batch.specs.declared.service.Ended.{Ended}
 use Rattle.nap_batch.specs.declared.service.Ended.TheVariants as ended
 use Rattle.nap_batch.specs.Sessions.{Reports, ended_text}
 
--- How an end is told on standard error.
+-- The report of an end on standard error.
 
--- A failure stands for an end: its line is told, with the status 3.
+-- A failure has the report of an end, and the status 3.
 pub record StandsFor (end : Ended) (f : Failure) : Type 0 where
   pub text : reported_text (Err f) ≡ ended_text end
   pub status : exit_status (Err f) ≡ 3
@@ -27,7 +27,7 @@ write_stands n = record { text = refl; status = refl }
 pub memory_stands : StandsFor ended.Memory failure.Memory
 memory_stands = record { text = refl; status = refl }
 
--- what was told of the failure was told of the end
+-- the report of the failure is that of the end
 pub tells_of : (e : List ℕ) (failed : Bool) (end : Ended) (f : Failure) (status : ℕ) → StandsFor end f → commands.Reports e failed (Err f) status → Reports e failed end × (status ≡ 3)
 tells_of e failed end f status h k = (
   record {

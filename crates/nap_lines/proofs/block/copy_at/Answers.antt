@@ -1,7 +1,7 @@
 use Rattle.std.proofs.Common.{◌+◌, ◌-◌, ◌≡◌, ◌++◌, ℕ, List, arith, ◌∙◌, ap, length, take}
 use Rattle.std.proofs.lemmas.List.{drop-drop}
 use borrow.Rule.Slice.PartMut.{put_mid}
-use Rattle.nap_lines.proofs.block.lay.Goals as goal
+use Rattle.nap_lines.proofs.block.copy_at.Goals as goal
 
 pub returns : goal.returns
 returns c =

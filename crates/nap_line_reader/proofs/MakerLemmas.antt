@@ -1,4 +1,4 @@
--- A maker that puts one entry more.
+-- A maker that puts one more entry.
 
 use Rattle.std.proofs.Common.{ℕ, ◌≡◌, ◌+◌, ◌∙◌, Bool, true, false, List, [], ◌∷◌, ◌++◌, IsSome, length, refl, ap, sym, subst}
 use Rattle.std.proofs.lemmas.Bool.{false≢true}
@@ -17,9 +17,9 @@ not_true false fails = refl
 not_true true fails = absurd (fails refl)
 
 module _ {S : Type 0} (g : Ghosts S) where
-  pub holds_none : (s : S) (state : State) (opening : ℕ) → g.took s [] s → g.failed s ≡ false → state ≡ start → MakerHasPut g s [] (record { sink = s; state = state; lines = 0; opening = opening })
+  pub put_none : (s : S) (state : State) (opening : ℕ) → g.took s [] s → g.failed s ≡ false → state ≡ start → MakerHasPut g s [] (record { sink = s; state = state; lines = 0; opening = opening })
   unfolding walk AllFit
-  holds_none s state opening took works is = record {
+  put_none s state opening took works is = record {
     proper = All-nil IsProper;
     fit = tt;
     kept = record { took = took; works = works };
@@ -28,10 +28,10 @@ module _ {S : Type 0} (g : Ghosts S) where
     opened = λ some. absurd (false≢true some);
   }
 
-  pub holds_more : (s : S) (es : List Entry) (e : Entry) (old new : LineMaker S) → MakerHasPut g s es old → IsProper e → Fits old.state e →
+  pub put_more : (s : S) (es : List Entry) (e : Entry) (old new : LineMaker S) → MakerHasPut g s es old → IsProper e → Fits old.state e →
       ((s t u : S) (d e : List Entry) → g.took s d t → g.took t e u → g.took s (d ++ e) u) → g.took old.sink (e ∷ []) new.sink → (g.failed new.sink ≡ true → ⊥) → new.state ≡ after old.state e →
       new.lines ≡ old.lines + 1 → (IsSome old.state.definition → new.opening ≡ old.opening) → ((IsSome old.state.definition → ⊥) → new.opening ≡ new.lines) → MakerHasPut g s (es ++ e ∷ []) new
-  holds_more s es e old new holds proper fits more took fails state lines same other =
+  put_more s es e old new holds proper fits more took fails state lines same other =
       let counted : new.lines ≡ length es + 1 = lines ∙ ap (λ (n : ℕ). n + 1) holds.count in
       record {
         proper = All-push IsProper es e holds.proper proper;
