@@ -10,10 +10,11 @@ use Rattle.nap_reader.specs.Stream.{means}
 use Rattle.nap_canon.specs.declared.page.PageText.{PageText}
 use Rattle.nap_canon.specs.PageTexts.{IsPageText, RefusesPage}
 use Rattle.nap_canon.specs.Streams.{IsAccepted, list_of}
+use Rattle.nap_maker.specs.Making.{IsMadeOf}
 use Rattle.nap_command.specs.Commands.{count_line}
 use Rattle.nap_batch.specs.declared.request.Question.{Question}
 use Rattle.nap_batch.specs.declared.request.Question.TheVariants as question
-use Rattle.nap_batch.specs.Answers.{AnswersPage, IsAnswer, IsPlaced, ShowsText, body_of, ended_line, refused_body_of, refused_line}
+use Rattle.nap_batch.specs.Answers.{AnswersLines, AnswersPage, IsAnswer, IsPlaced, ShowsText, body_of, ended_line, refused_body_of, refused_line}
 
 -- What was read of a page gives the answer to its request.
 
@@ -66,3 +67,7 @@ module _ (q : Question) (apart : q ≢ question.Check) (budget : ℕ) (p : List 
 pub answers_spelled : (budget : ℕ) (p line body : List ℕ) (found : Result PageText Refusal) → IsPageText budget p found → ShowsText found line body → IsAnswer question.Canon budget p line body
 answers_spelled budget p line body (Ok found) h is = answers_accepted question.Canon budget p line body found.count h.0.accepted h.1 (is.0, is.1) (is.2 ∙ h.0.text_is)
 answers_spelled budget p line body (Err r) h is = answers_unspelled question.Canon (λ h. cc) budget p refl r h line body is
+
+-- lines make the page that is the body
+pub answers_made : (p line text body : List ℕ) (made : IsMadeOf text p) → body ≡ text → line ≡ count_line (length made.entries) → AnswersLines p line body
+answers_made p line text body made is shows = subst (λ (b : List ℕ). AnswersLines p line b) (sym is) (inl (record { made = made; line_is = shows }))

@@ -1,6 +1,8 @@
 mod RequestLemmas
 mod FrontLemmas
 pub mod PlaceLemmas
+mod LineLemmas
+pub mod WriteLemmas
 mod AnswerLemmas
 mod SessionLemmas
 mod WaitLemmas

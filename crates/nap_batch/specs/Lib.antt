@@ -1,6 +1,7 @@
 pub mod Limits
 pub mod Requests
 pub mod Answers
+pub mod Placing
 pub mod Waiting
 pub mod Sessions
 pub mod Laws

@@ -4,6 +4,7 @@ ghost use Rattle.nap_command.specs.declared.command.Action.TheVariants.{Check};
 ghost use Rattle.nap_command.specs.Commands.{PrintsBy, count_line};
 ghost use Rattle.nap_batch.specs.Answers.{AnswersLines, IsAnswer, ShowsText, answer_text, ended_line, page_command, refused_line, unmade_line};
 
+use crate::body::{Body, text_with_space};
 use crate::places::read_places;
 use crate::request::Question;
 use itoa::Buffer;
@@ -23,19 +24,23 @@ pub struct BatchAnswer {
     /// Whether the page is accepted, as `check` prints it, with LF.
     pub line: Vec<u8>,
     /// What was asked for.
-    pub body: Vec<u8>,
+    pub body: Body,
 }
 
 impl BatchAnswer {
     /// Returns the bytes of the answer in two parts: the line with the number of bytes of the body, and the body.
-    pub fn into_parts(self) -> Result<(Vec<u8>, Vec<u8>), AllocError>
-        ensures { IfOk result (λ parts. parts.0.items ++ parts.1.items ≡ answer_text self.line.items self.body.items) }
+    /// The first part is empty if the body had space for it.
+    pub fn into_parts(self) -> Result<(Vec<u8>, Body), AllocError>
+        ensures { IfOk result (λ parts. parts.0.items ++ parts.1 ≡ answer_text self.line.items self.body) }
     {
-        let BatchAnswer { line, body } = self;
+        let BatchAnswer { line, mut body } = self;
         let mut head = line;
         let mut digits = Buffer::new();
-        head.extend_from_slice(digits.format(body.len()).as_bytes())?;
+        head.extend_from_slice(digits.format(body.as_slice().len()).as_bytes())?;
         head.push(b'\n')?;
+        if body.prepend(head.as_slice()) {
+            head.clear();
+        }
         Ok((head, body))
     }
 }
@@ -59,21 +64,17 @@ fn check_answer(alloc: Global, budget: Budget, page: &[u8]) -> Result<Printout, 
 
 /// Returns the answer for a refused page, without a body.
 fn refused_answer(alloc: Global, refusal: Refusal) -> Result<BatchAnswer, AllocError>
-    ensures { IfOk result (λ a. (a.line.items ≡ refused_line refusal) × (a.body.items ≡ [])) }
+    ensures { IfOk result (λ a. (a.line.items ≡ refused_line refusal) × (a.body ≡ [])) }
 {
     Ok(BatchAnswer {
         line: refusal_line(alloc, refusal)?,
-        body: Vec::new(alloc),
+        body: Body::new(Vec::new(alloc)),
     })
 }
 
 /// Returns the answer for an accepted page: the line of its number of entries, and a body.
-fn accepted_answer(
-    alloc: Global,
-    count: Option<u64>,
-    body: Vec<u8>,
-) -> Result<BatchAnswer, AllocError>
-    ensures { IfOk result (λ a. IfSome count (λ n. a.line.items ≡ count_line n) × IsSome count × (a.body.items ≡ body.items)) }
+fn accepted_answer(alloc: Global, count: Option<u64>, body: Body) -> Result<BatchAnswer, AllocError>
+    ensures { IfOk result (λ a. IfSome count (λ n. a.line.items ≡ count_line n) × IsSome count × (a.body ≡ body)) }
 {
     match count {
         Some(count) => Ok(BatchAnswer {
@@ -87,27 +88,28 @@ fn accepted_answer(
 
 /// Returns the answer with the lines of a page's entries.
 fn list_answer(alloc: Global, budget: Budget, page: &[u8]) -> Result<BatchAnswer, AllocError>
-    ensures { IfOk result (λ a. IsAnswer Question.List budget page.now a.line.items a.body.items) }
+    ensures { IfOk result (λ a. IsAnswer Question.List budget page.now a.line.items a.body) }
 {
-    match read_counted(alloc, budget, page, LineSink::new(alloc)) {
-        Ok((sink, count)) => accepted_answer(alloc, count, sink.into_text()),
+    let text = text_with_space(alloc)?;
+    match read_counted(alloc, budget, page, LineSink::over(text)) {
+        Ok((sink, count)) => accepted_answer(alloc, count, Body::after_space(sink.into_text())),
         Err(refusal) => refused_answer(alloc, refusal),
     }
 }
 
 /// Returns the answer with the canonical text that was made of a page, or with its refusal.
 fn text_answer(alloc: Global, found: Result<PageText, Refusal>) -> Result<BatchAnswer, AllocError>
-    ensures { IfOk result (λ a. ShowsText found a.line.items a.body.items) }
+    ensures { IfOk result (λ a. ShowsText found a.line.items a.body) }
 {
     match found {
-        Ok(found) => accepted_answer(alloc, found.count, found.text),
+        Ok(found) => accepted_answer(alloc, found.count, Body::new(found.text)),
         Err(refusal) => refused_answer(alloc, refusal),
     }
 }
 
 /// Returns the answer with the canonical text of a page.
 fn canon_answer(alloc: Global, budget: Budget, page: &[u8]) -> Result<BatchAnswer, AllocError>
-    ensures { IfOk result (λ a. IsAnswer Question.Canon budget page.now a.line.items a.body.items) }
+    ensures { IfOk result (λ a. IsAnswer Question.Canon budget page.now a.line.items a.body) }
 {
     match page_text(alloc, budget, page) {
         Ok(found) => text_answer(alloc, found),
@@ -127,35 +129,35 @@ fn ended_line(alloc: Global, ended: Result<usize, Refusal>) -> Result<Vec<u8>, A
 
 /// Returns the answer with the places of a page's entries.
 fn places_answer(alloc: Global, budget: Budget, page: &[u8]) -> Result<BatchAnswer, AllocError>
-    ensures { IfOk result (λ a. IsAnswer Question.Places budget page.now a.line.items a.body.items) }
+    ensures { IfOk result (λ a. IsAnswer Question.Places budget page.now a.line.items a.body) }
 {
     let placed = read_places(alloc, budget, page)?;
     let line = ended_line(alloc, placed.ended)?;
     Ok(BatchAnswer {
         line,
-        body: placed.text,
+        body: Body::new(placed.text),
     })
 }
 
 /// Returns the answer with the reason why lines make no page.
 fn unmade_answer(alloc: Global, fault: MakeFault) -> Result<BatchAnswer, AllocError>
-    ensures { IfOk result (λ a. (a.line.items ≡ unmade_line fault) × (a.body.items ≡ [])) }
+    ensures { IfOk result (λ a. (a.line.items ≡ unmade_line fault) × (a.body ≡ [])) }
 {
     let line = lines_failure(fault).line();
     Ok(BatchAnswer {
         line: Vec::from_slice(alloc, line.as_bytes())?,
-        body: Vec::new(alloc),
+        body: Body::new(Vec::new(alloc)),
     })
 }
 
 /// Returns the answer with the page that lines make.
 fn make_answer(alloc: Global, lines: &[u8]) -> Result<BatchAnswer, AllocError>
-    ensures { IfOk result (λ a. AnswersLines lines.now a.line.items a.body.items) }
+    ensures { IfOk result (λ a. AnswersLines lines.now a.line.items a.body) }
 {
     match page_of_lines(alloc, lines) {
         Ok(page) => Ok(BatchAnswer {
             line: count_line(alloc, page.count as u64)?,
-            body: page.text,
+            body: Body::new(page.text),
         }),
         Err(fault) => unmade_answer(alloc, fault),
     }
@@ -168,14 +170,14 @@ pub fn answer_page(
     budget: Budget,
     page: &[u8],
 ) -> Result<BatchAnswer, AllocError>
-    ensures { IfOk result (λ a. IsAnswer question budget page.now a.line.items a.body.items) }
+    ensures { IfOk result (λ a. IsAnswer question budget page.now a.line.items a.body) }
 {
     match question {
         Question::Check => {
             let checked = check_answer(alloc, budget, page)?;
             Ok(BatchAnswer {
                 line: checked.text,
-                body: Vec::new(alloc),
+                body: Body::new(Vec::new(alloc)),
             })
         }
         Question::List => list_answer(alloc, budget, page),

@@ -1,12 +1,13 @@
 //! The places of the entries of a page.
-ghost use Rattle.std.specs.Prelude.{◌≡◌, ◌≢◌, ◌++◌, ◌≤◌, [], Err, IfOk, drop, length};
+ghost use Rattle.std.specs.Prelude.{◌≡◌, ◌≢◌, ◌++◌, ◌+◌, ◌^◌, ◌<◌, ◌≤◌, ℕ, List, [], Err, IfOk, length};
 ghost use Rattle.nap_list.specs.declared.entry.Entry.{Entry};
-ghost use Rattle.nap_batch.specs.Answers.{IsPlaced, lines_at};
+ghost use Rattle.nap_reader.specs.Looking.{bytes_ahead};
+ghost use Rattle.nap_batch.specs.Answers.{IsPlaced};
+ghost use Rattle.nap_batch.specs.Placing.{AreNew, lines_on, step_of};
 
-use itoa::Buffer;
-use nap_lines::append_line;
-use nap_list::{Entry, ListSink};
-use nap_reader::{Budget, Fault, Reader, Refusal};
+use crate::written::Written;
+use nap_lines::LineSink;
+use nap_reader::{Ahead, Budget, Fault, Reader, Refusal};
 use std::alloc::{AllocError, Global};
 
 /// The lines of a page's entries, each after its place, and the number of entries or the refusal.
@@ -18,46 +19,21 @@ pub struct PlacesText {
     pub ended: Result<usize, Refusal>,
 }
 
-/// Appends the lines of entries to the text, each after this place.
-fn write_places(text: &mut Vec<u8>, place: usize, entries: &[Entry]) -> Result<(), AllocError>
-    ensures { IfOk result (λ done. text.new.items ≡ text.old.items ++ lines_at place entries.now) }
-{
-    for entry in entries {
-        let mut digits = Buffer::new();
-        text.extend_from_slice(digits.format(place).as_bytes())?;
-        text.push(b' ')?;
-        append_line(text, entry)?;
-    }
-    Ok(())
-}
-
-/// Appends the lines of the entries from index `known` on, and returns the number of entries.
-fn write_new(
-    text: &mut Vec<u8>,
-    place: usize,
-    known: usize,
-    entries: &[Entry],
-) -> Result<usize, AllocError>
-    requires { known ≤ length entries.now }
-    ensures { IfOk result (λ n. (n ≡ length entries.now) × (text.new.items ≡ text.old.items ++ lines_at place (drop known entries.now))) }
-{
-    write_places(text, place, &entries[known..])?;
-    Ok(entries.len())
-}
-
-/// Returns the places of a page that is refused at a byte or at its end. They are empty if memory ran out.
+/// Returns what comes of a page that is refused, given the lines of its entries. If memory ran out, nothing is written.
 fn stopped_places(
     alloc: Global,
-    text: Vec<u8>,
+    written: Written,
     place: usize,
-    known: usize,
-    entries: &[Entry],
+    step: usize,
+    lines: &[u8],
     refusal: Refusal,
 ) -> Result<PlacesText, AllocError>
-    requires { refusal.fault ≢ Fault.Memory → known ≤ length entries.now }
+    requires near { step ≤ 1 }
+    requires small { place + length lines.now < 2 ^ 64 }
     ensures ended { IfOk result (λ r. r.ended ≡ Err refusal) }
     ensures memory { IfOk result (λ r. refusal.fault ≡ Fault.Memory → r.text.items ≡ []) }
-    ensures own { IfOk result (λ r. refusal.fault ≢ Fault.Memory → r.text.items ≡ text.items ++ lines_at place (drop known entries.now)) }
+    ensures own { IfOk result (λ r. refusal.fault ≢ Fault.Memory → (es : List Entry) → AreNew written.known lines.now es →
+        r.text.items ≡ written.text.items ++ lines_on place step es) }
 {
     if refusal.fault == Fault::Memory {
         return Ok(PlacesText {
@@ -65,37 +41,53 @@ fn stopped_places(
             ended: Err(refusal),
         });
     }
-    let mut text = text;
-    write_new(&mut text, place, known, entries)?;
+    let mut written = written;
+    written.write_new(place, step, lines)?;
     Ok(PlacesText {
-        text,
+        text: written.text,
         ended: Err(refusal),
     })
 }
 
-/// Reads a page byte by byte, and returns the lines of each byte's entries after its place.
+/// Returns the number of bytes ahead that bring their entries alike, and the distance from the place of one entry to that
+/// of the next.
+#[inline(always)]
+fn stride_of(ahead: Ahead) -> (usize, usize)
+    ensures count { result.0 ≡ bytes_ahead ahead }
+    ensures step { result.1 ≡ step_of ahead }
+    ensures near { result.1 ≤ 1 }
+{
+    match ahead {
+        Ahead::First(count) => (count, 0),
+        Ahead::Each(count) => (count, 1),
+    }
+}
+
+/// Reads a page, and writes the lines of each byte's entries after its place.
 pub fn read_places(alloc: Global, budget: Budget, page: &[u8]) -> Result<PlacesText, AllocError>
     ensures { IfOk result (λ r. IsPlaced budget page.now r.text.items r.ended) }
 {
-    let mut text = Vec::new(alloc);
-    let mut reader = Reader::new(alloc, budget, ListSink::new(alloc));
-    let mut known = 0;
+    let mut written = Written::new(alloc)?;
+    let mut reader = Reader::new(alloc, budget, LineSink::new(alloc));
     let mut place = 0;
-    for byte in page {
-        if let Err(refusal) = reader.feed(&[*byte]) {
-            return stopped_places(alloc, text, place, known, reader.sink().entries(), refusal);
+    while place < page.len() {
+        let rest = &page[place..];
+        let (count, step) = stride_of(reader.ahead(rest));
+        if let Err(refusal) = reader.feed(&rest[..count]) {
+            let lines = reader.sink().text();
+            return stopped_places(alloc, written, place, step, lines, refusal);
         }
-        known = write_new(&mut text, place, known, reader.sink().entries())?;
-        place += 1;
+        written.write_new(place, step, reader.sink().text())?;
+        place += count;
     }
     match reader.finish() {
         Ok(sink) => {
-            let count = write_new(&mut text, place, known, sink.entries())?;
+            written.write_new(place, 0, sink.text())?;
             Ok(PlacesText {
-                text,
-                ended: Ok(count),
+                ended: Ok(written.count),
+                text: written.text,
             })
         }
-        Err(end) => stopped_places(alloc, text, place, known, end.sink.entries(), end.refusal),
+        Err(end) => stopped_places(alloc, written, place, 0, end.sink.text(), end.refusal),
     }
 }

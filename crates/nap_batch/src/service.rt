@@ -6,6 +6,7 @@ ghost use Rattle.nap_batch.specs.Requests.{IsWhole};
 ghost use Rattle.nap_batch.specs.Sessions.{IsAnswered, IsExchanged, IsHeadSent, IsSent, Replies, Served, Session, pipes};
 
 use crate::answer::answer_page;
+use crate::body::Body;
 use crate::input_buffer::{InputBuffer, READ_SIZE};
 use crate::request::RequestLine;
 use crate::waiting::{FoundRequest, wait};
@@ -39,8 +40,8 @@ fn answer_parts(
     alloc: Global,
     line: RequestLine,
     page: &[u8],
-) -> Result<(Vec<u8>, Vec<u8>), AllocError>
-    ensures { IfOk result (λ parts. IsAnswered line.question line.budget page.now (parts.0.items ++ parts.1.items)) }
+) -> Result<(Vec<u8>, Body), AllocError>
+    ensures { IfOk result (λ parts. IsAnswered line.question line.budget page.now (parts.0.items ++ parts.1)) }
 {
     let answer = answer_page(alloc, line.question, line.budget, page)?;
     answer.into_parts()

@@ -39,14 +39,25 @@ impl LineSink {
         }
     }
 
-    /// Returns the lines of the entries taken so far.
+    /// Makes a sink that has taken nothing, and appends its lines to this text.
+    pub fn over(text: Vec<u8>) -> LineSink
+        ensures { result ≡ record { text = text.items; state = start } }
+    {
+        LineSink {
+            buffer: BackwardBuffer::new(),
+            text,
+            state: State::start(),
+        }
+    }
+
+    /// Returns the lines of the entries taken so far, with the text before them.
     pub fn text(&self) -> &[u8]
         ensures { result.now ≡ self.now.text }
     {
         self.text.as_slice()
     }
 
-    /// Returns the lines of the entries taken.
+    /// Returns the lines of the entries taken, with the text before them.
     pub fn into_text(self) -> Vec<u8>
         ensures { result.items ≡ self.text }
     {

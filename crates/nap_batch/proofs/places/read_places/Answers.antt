@@ -1,144 +1,159 @@
-use Rattle.std.proofs.Common.{ℕ, ◌+◌, ◌≡◌, List, [], length, take, drop, sym, ap, subst, ◌∙◌, refl, arith}
-use Rattle.std.proofs.lemmas.List.{take-append-drop, take_all}
-use Rattle.nap_list.specs.State.{start, walk}
+use Rattle.std.proofs.Common.{ℕ, ◌+◌, ◌-◌, ◌≡◌, ◌≢◌, ◌≤◌, List, [], ◌++◌, length, take, drop, sym, ap, subst, ◌∙◌, refl, arith, length-drop}
+use Rattle.std.proofs.lemmas.List.{length-take-le, take-append-drop}
+use Rattle.std.proofs.lemmas.Result.{IfOk-weaker}
+use Rattle.nap_list.specs.declared.entry.Entry.{Entry}
+use Rattle.nap_lines.specs.Listing.{LineSinkState, lines}
+use Rattle.nap_reader.specs.declared.fault.Fault.TheVariants as fault
 use Rattle.nap_reader.specs.Breaking.{BreaksWithin}
 use Rattle.nap_reader.specs.ReaderAnswers.{HasRead, budget_of}
 use Rattle.nap_reader.specs.Stream.{begun, means}
-use Rattle.nap_batch.proofs.PlaceLemmas.{all_places, breaks_at, breaks_last, broke_apart, ends_longer, grows, kept, kept_refused, next_bytes, none_before, own_cause, still_refused, stops_so, true_isnt, walks_nothing, written_last, written_more}
+use Rattle.nap_batch.specs.Placing.{lines_on}
+use Rattle.nap_batch.proofs.PlaceLemmas.{Behind, IsFed, all_places, breaks_at, breaks_last, broke_apart, came, came_last, kept, kept_refused, last_count, last_new, lines_taken, next_count, next_new, next_same, next_stands, next_written, no_entries, no_lines, none_before, own_cause, rest_is, still_refused, stops_so, true_isnt, whole_page, written_last}
 use Rattle.nap_batch.proofs.places.read_places.Goals as goal
 
-pub new-reader-requires : goal.new-reader-requires
-new-reader-requires c = ap (walk start) c.new.ensures ∙ walks_nothing
-
-pub loop-byte-init : goal.loop-byte-init
-loop-byte-init c =
+pub loop-place-init : goal.loop-place-init
+loop-place-init c =
     let new = c.new-reader.ensures in
-    let has_read = subst (λ (s : List _). HasRead c.new-reader.result s []) c.new.ensures new.has_read in
+    let has_read = subst (λ (s : LineSinkState). HasRead c.new-reader.result s []) c.new-2.ensures new.has_read in
+    let empty = ap (λ (s : LineSinkState). s.text) (new.sink ∙ c.new-2.ensures) in
+    let none = no_entries (begun c.args.budget []).entries (sym (kept lines_taken c.new-reader.result c.args.budget [] has_read new.budget new.unrefused) ∙ empty) in
     record {
-      at = refl;
+      within = omega arith;
       fed = new.fed;
       budget = new.budget;
       live = new.unrefused;
       has_read = has_read;
-      known = ap length (sym (new.sink ∙ c.new.ensures) ∙ kept (λ s t d h. h) c.new-reader.result c.args.budget [] has_read new.budget new.unrefused);
-      written = c.new-text.ensures.items ∙ sym (none_before c.args.budget c.args.page.now);
+      count = c.in_ok-written.ensures.1 ∙ sym (ap length none);
+      size = c.in_ok-written.ensures.2 ∙ sym (ap (λ (es : List Entry). length (lines es)) none);
+      text = c.in_ok-written.ensures.0 ∙ sym (none_before c.args.budget c.args.page.now);
     }
-
-pub stopped_places-requires : goal.stopped_places-requires
-stopped_places-requires c apart =
-    let page = c.args.page.now in
-    let i = c.loop-byte.place in
-    let inv = c.loop-byte.invariant in
-    let new = c.feed.new.self in
-    let q = c.in-Err.refusal in
-    let next = next_bytes page i c.loop-byte.byte-index inv.at (omega (arith, c.loop-byte-test.true)) in
-    let has_read = subst (λ (bytes : List ℕ). HasRead new [] bytes) next (c.feed.ensures.has_read [] (take i page) inv.has_read) in
-    let own = own_cause q.fault apart (λ is. true_isnt (c.in-Err.ensures.failed inv.live is)) in
-    let k = kept_refused (λ s t d h. h) new c.args.budget (take (i + 1) page) has_read (c.feed.ensures.budget ∙ inv.budget) q c.in-Err.ensures.answered own in
-    let more = grows c.args.budget page i (omega (arith, inv.at, c.loop-byte-test.true)) in
-    let size = ap length (c.entries.ensures ∙ (c.sink.ensures.now ∙ k.0)) in
-    omega (arith, more, size, inv.known)
 
 pub returns-in-Err : goal.returns-in-Err
 returns-in-Err c =
     let budget = c.args.budget in
     let page = c.args.page.now in
-    let i = c.loop-byte.place in
-    let j = c.loop-byte.byte-index in
-    let inv = c.loop-byte.invariant in
+    let i = c.loop-place.place in
+    let inv = c.loop-place.invariant in
+    let old = c.loop-place.reader in
     let new = c.feed.new.self in
+    let found = c.ahead.result in
+    let rest = take (length page - i) (drop i page) in
+    let n = c.stride_of-count.result.0 in
+    let step = c.stride_of-count.result.1 in
     let q = c.in-Err.refusal in
-    let next = next_bytes page i j inv.at (omega (arith, c.loop-byte-test.true)) in
-    let fed = c.feed.ensures.has_read [] (take i page) inv.has_read in
-    let has_read = subst (λ (bytes : List ℕ). HasRead new [] bytes) next fed in
-    let fails = c.in-Err.ensures.failed inv.live in
-    let same = c.feed.ensures.budget ∙ inv.budget in
-    let (n, stops) = c.in-Err.ensures.stops inv.live in
-    stops_so budget page c.stopped_places.result q _ c.stopped_places.ensures.ended c.stopped_places.ensures.memory c.stopped_places.ensures.own
-    (λ apart.
-    let own = own_cause q.fault apart (λ is. true_isnt (fails is)) in
-    let k = kept_refused (λ s t d h. h) new budget (take (i + 1) page) has_read same q c.in-Err.ensures.answered own in (
-      ap (λ (bytes : List ℕ). (means budget bytes).refusal) (sym (take-append-drop (i + 1) page)) ∙ still_refused budget (take (i + 1) page) (drop (i + 1) page) q k.1,
-      written_more budget page i c.loop-byte.known c.loop-byte.text.items c.entries.result.now inv.written inv.known (c.entries.ensures ∙ (c.sink.ensures.now ∙ k.0))
-          ∙ sym (all_places budget page (i + 1) q k.1 (omega (arith, inv.at, c.loop-byte-test.true))),
-    ))
-    (breaks_at c.loop-byte.reader new budget page i j q inv.at (omega (arith, c.loop-byte-test.true)) inv.budget inv.has_read n stops)
-
-pub write_new-requires : goal.write_new-requires
-write_new-requires c =
-    let page = c.args.page.now in
-    let i = c.loop-byte.place in
-    let inv = c.loop-byte.invariant in
-    let new = c.feed.new.self in
-    let next = next_bytes page i c.loop-byte.byte-index inv.at (omega (arith, c.loop-byte-test.true)) in
-    let has_read = subst (λ (bytes : List ℕ). HasRead new [] bytes) next (c.feed.ensures.has_read [] (take i page) inv.has_read) in
-    let k = kept (λ s t d h. h) new c.args.budget (take (i + 1) page) has_read (c.feed.ensures.budget ∙ inv.budget) c.in_default.ensures.answered in
-    let more = grows c.args.budget page i (omega (arith, inv.at, c.loop-byte-test.true)) in
-    let size = ap length (c.entries-in-loop-byte.ensures ∙ (c.sink-in-loop-byte.ensures.now ∙ k)) in
-    omega (arith, more, size, inv.known)
-
-pub loop-byte-preserved : goal.loop-byte-preserved
-loop-byte-preserved c =
-    let page = c.args.page.now in
-    let i = c.loop-byte.place in
-    let inv = c.loop-byte.invariant in
-    let new = c.feed.new.self in
-    let next = next_bytes page i c.loop-byte.byte-index inv.at (omega (arith, c.loop-byte-test.true)) in
-    let has_read = subst (λ (bytes : List ℕ). HasRead new [] bytes) next (c.feed.ensures.has_read [] (take i page) inv.has_read) in
-    let same = c.feed.ensures.budget ∙ inv.budget in
-    let all = c.entries-in-loop-byte.ensures ∙ (c.sink-in-loop-byte.ensures.now ∙ kept (λ s t d h. h) new c.args.budget (take (i + 1) page) has_read same c.in_default.ensures.answered) in
+    let text = c.loop-place.written.text.items in
+    let f : IsFed old new budget page rest i found n step =
     record {
-      at = ap (λ (k : ℕ). k + 1) inv.at;
-      fed = omega (arith, c.in_default.ensures.fed, inv.fed);
-      budget = same;
+      within = c.loop-place-test.true;
+      rest_is = rest_is page i;
+      count = c.stride_of-count.ensures.count;
+      pace = c.stride_of-count.ensures.step;
+      some = c.ahead.ensures.some;
+      brings = c.ahead.ensures.brings;
+      live = inv.live;
+      was = inv.budget;
+      before = inv.has_read;
+      has_read = c.feed.ensures.has_read;
+      still = c.feed.ensures.budget;
+    } in
+    let within : i + n ≤ length page =
+    omega (arith, c.loop-place-test.true, c.stride_of-count.ensures.count, c.ahead.ensures.within, ap (λ (bs : List ℕ). length bs) (rest_is page i), length-drop i page) in
+    let (m, stops) = c.in-Err.ensures.stops inv.live in
+    let k = λ (apart : q.fault ≢ fault.Memory).
+    kept_refused lines_taken new budget (take (i + n) page) (next_stands lines_taken f) (next_same lines_taken f) q c.in-Err.ensures.answered
+    (own_cause q.fault apart (λ is. true_isnt (c.in-Err.ensures.failed inv.live is))) in
+    let fresh = λ (apart : q.fault ≢ fault.Memory).
+    next_new lines_taken f c.loop-place.written.known c.text-lines.result.now inv.size (c.text-lines.ensures ∙ (ap (λ (s : LineSinkState). s.text) c.sink.ensures.now ∙ (k apart).0)) in
+    stops_so budget page c.stopped_places.result q (text ++ lines_on i step (came lines_taken f)) c.stopped_places.ensures.ended c.stopped_places.ensures.memory
+    (IfOk-weaker c.stopped_places.result (Behind q.fault c.loop-place.written.known c.text-lines.result.now text i step) (λ r. q.fault ≢ fault.Memory → r.text.items ≡ text ++ lines_on i step (came lines_taken f))
+    (λ r h apart. h apart (came lines_taken f) (fresh apart)) c.stopped_places.ensures.own)
+    (λ apart. (
+      ap (λ (bs : List ℕ). (means budget bs).refusal) (sym (take-append-drop (i + n) page)) ∙ still_refused budget (take (i + n) page) (drop (i + n) page) q (k apart).1,
+      next_written lines_taken f text inv.text ∙ sym (all_places budget page (i + n) q (k apart).1 within),
+    ))
+    (breaks_at no_lines old new budget page (take n rest) i n q (ap (take n) (rest_is page i)) inv.budget inv.has_read m stops)
+
+pub loop-place-preserved : goal.loop-place-preserved
+loop-place-preserved c =
+    let budget = c.args.budget in
+    let page = c.args.page.now in
+    let i = c.loop-place.place in
+    let inv = c.loop-place.invariant in
+    let old = c.loop-place.reader in
+    let new = c.feed.new.self in
+    let found = c.ahead.result in
+    let rest = take (length page - i) (drop i page) in
+    let n = c.stride_of-count.result.0 in
+    let step = c.stride_of-count.result.1 in
+    let f : IsFed old new budget page rest i found n step =
+    record {
+      within = c.loop-place-test.true;
+      rest_is = rest_is page i;
+      count = c.stride_of-count.ensures.count;
+      pace = c.stride_of-count.ensures.step;
+      some = c.ahead.ensures.some;
+      brings = c.ahead.ensures.brings;
+      live = inv.live;
+      was = inv.budget;
+      before = inv.has_read;
+      has_read = c.feed.ensures.has_read;
+      still = c.feed.ensures.budget;
+    } in
+    let few : n ≤ length rest = omega (arith, c.stride_of-count.ensures.count, c.ahead.ensures.within) in
+    let within : i + n ≤ length page = omega (arith, c.loop-place-test.true, few, ap (λ (bs : List ℕ). length bs) (rest_is page i), length-drop i page) in
+    let all = c.text.ensures ∙ (ap (λ (s : LineSinkState). s.text) c.sink-in-loop-place.ensures.now
+    ∙ kept lines_taken new budget (take (i + n) page) (next_stands lines_taken f) (next_same lines_taken f) c.in_default.ensures.answered) in
+    let w = c.in_ok-write_new.ensures (came lines_taken f) (next_new lines_taken f c.loop-place.written.known c.text.result.now inv.size all) in
+    record {
+      within = within;
+      fed = omega (arith, c.in_default.ensures.fed, inv.fed, length-take-le n rest few);
+      budget = next_same lines_taken f;
       live = c.in_default.ensures.answered;
-      has_read = has_read;
-      known = c.in_ok-known.ensures.0 ∙ ap length all;
-      written = c.in_ok-known.ensures.1 ∙ written_more c.args.budget page i c.loop-byte.known c.loop-byte.text.items _ inv.written inv.known all;
+      has_read = next_stands lines_taken f;
+      count = w.count ∙ next_count lines_taken f c.loop-place.written.count inv.count;
+      size = w.known ∙ ap length all;
+      text = w.text ∙ next_written lines_taken f c.loop-place.written.text.items inv.text;
     }
 
-pub write_new-requires-in-Ok : goal.write_new-requires-in-Ok
-write_new-requires-in-Ok c =
+pub returns-in_ok-write_new-in-Ok : goal.returns-in_ok-write_new-in-Ok
+returns-in_ok-write_new-in-Ok c =
+    let budget = c.args.budget in
     let page = c.args.page.now in
-    let inv = c.loop-byte.invariant in
-    let whole = take_all c.loop-byte.place page (omega (arith, inv.at, c.loop-byte-test.false)) in
-    let has_read = subst (λ (bytes : List ℕ). HasRead c.loop-byte.reader [] bytes) whole inv.has_read in
-    let taken = c.in-Ok.ensures.ok [] page has_read in
-    let all = c.entries-in-Ok.ensures ∙ (taken.1 ∙ ap (λ (b : ℕ). (means b page).entries) inv.budget) in
-    let count = inv.known ∙ ap (λ (bytes : List ℕ). length (begun c.args.budget bytes).entries) whole in
-    omega (arith, count, ap length all, ends_longer c.args.budget page)
-
-pub stopped_places-requires-in-Err-finish : goal.stopped_places-requires-in-Err-finish
-stopped_places-requires-in-Err-finish c apart =
-    let page = c.args.page.now in
-    let inv = c.loop-byte.invariant in
-    let q = c.in-Err-finish.end.refusal in
-    let whole = take_all c.loop-byte.place page (omega (arith, inv.at, c.loop-byte-test.false)) in
-    let has_read = subst (λ (bytes : List ℕ). HasRead c.loop-byte.reader [] bytes) whole inv.has_read in
-    let own = own_cause q.fault apart (λ is. true_isnt (c.in-Err-finish.ensures.failed inv.live is)) in
-    let taken = c.in-Err-finish.ensures.err own [] page has_read in
-    let all = c.entries-in-Err-finish.ensures ∙ (taken.1 ∙ ap (λ (b : ℕ). (means b page).entries) inv.budget) in
-    let count = inv.known ∙ ap (λ (bytes : List ℕ). length (begun c.args.budget bytes).entries) whole in
-    omega (arith, count, ap length all, ends_longer c.args.budget page)
+    let i = c.loop-place.place in
+    let inv = c.loop-place.invariant in
+    let end : i ≡ length page = omega (arith, inv.within, c.loop-place-test.false) in
+    let has_read = subst (λ (bs : List ℕ). HasRead c.loop-place.reader no_lines bs) (whole_page budget page i end) inv.has_read in
+    let taken = c.in-Ok.ensures.ok no_lines page has_read in
+    let all = c.text-in-Ok.ensures ∙ (taken.1.text ∙ ap (λ (b : ℕ). lines (means b page).entries) inv.budget) in
+    let w = c.in_ok-write_new-in-Ok.ensures (came_last budget page i end) (last_new budget page i end c.loop-place.written.known c.text-in-Ok.result.now inv.size all) in
+    record {
+      accepted = ap (λ (b : ℕ). (means b page).refusal) (sym inv.budget) ∙ taken.0;
+      count = w.count ∙ last_count budget page i end c.loop-place.written.count inv.count;
+      text_is = w.text ∙ (ap (λ (bs : List ℕ). bs ++ lines_on i 0 (came_last budget page i end)) inv.text ∙ written_last budget page i end);
+    }
 
 pub returns-in-Err-finish : goal.returns-in-Err-finish
 returns-in-Err-finish c =
     let budget = c.args.budget in
     let page = c.args.page.now in
-    let i = c.loop-byte.place in
-    let inv = c.loop-byte.invariant in
+    let i = c.loop-place.place in
+    let inv = c.loop-place.invariant in
+    let reader = c.loop-place.reader in
     let q = c.in-Err-finish.end.refusal in
-    let whole = take_all i page (omega (arith, inv.at, c.loop-byte-test.false)) in
-    let has_read = subst (λ (bytes : List ℕ). HasRead c.loop-byte.reader [] bytes) whole inv.has_read in
-    let fails = c.in-Err-finish.ensures.failed inv.live in
-    let count = inv.known ∙ ap (λ (bytes : List ℕ). length (begun budget bytes).entries) whole in
-    stops_so budget page c.stopped_places-in-Err-finish.result q _ c.stopped_places-in-Err-finish.ensures.ended c.stopped_places-in-Err-finish.ensures.memory c.stopped_places-in-Err-finish.ensures.own
-    (λ apart.
-    let own = own_cause q.fault apart (λ is. true_isnt (fails is)) in
-    let taken = c.in-Err-finish.ensures.err own [] page has_read in
-    let all = c.entries-in-Err-finish.ensures ∙ (taken.1 ∙ ap (λ (b : ℕ). (means b page).entries) inv.budget) in
-    let end : i ≡ length page = omega (arith, inv.at, c.loop-byte-test.false) in (
-      ap (λ (b : ℕ). (means b page).refusal) (sym inv.budget) ∙ taken.0,
-      written_last budget page i c.loop-byte.known c.loop-byte.text.items _ end inv.written count all,
+    let text = c.loop-place.written.text.items in
+    let end : i ≡ length page = omega (arith, inv.within, c.loop-place-test.false) in
+    let has_read = subst (λ (bs : List ℕ). HasRead reader no_lines bs) (whole_page budget page i end) inv.has_read in
+    let last = came_last budget page i end in
+    let taken = λ (apart : q.fault ≢ fault.Memory).
+    c.in-Err-finish.ensures.err (own_cause q.fault apart (λ is. true_isnt (c.in-Err-finish.ensures.failed inv.live is))) no_lines page has_read in
+    let fresh = λ (apart : q.fault ≢ fault.Memory).
+    last_new budget page i end c.loop-place.written.known c.text-in-Err-finish.result.now inv.size
+    (c.text-in-Err-finish.ensures ∙ ((taken apart).1.text ∙ ap (λ (b : ℕ). lines (means b page).entries) inv.budget)) in
+    stops_so budget page c.stopped_places-in-Err-finish.result q (text ++ lines_on i 0 last) c.stopped_places-in-Err-finish.ensures.ended c.stopped_places-in-Err-finish.ensures.memory
+    (IfOk-weaker c.stopped_places-in-Err-finish.result (Behind q.fault c.loop-place.written.known c.text-in-Err-finish.result.now text i 0) (λ r. q.fault ≢ fault.Memory → r.text.items ≡ text ++ lines_on i 0 last)
+    (λ r h apart. h apart last (fresh apart)) c.stopped_places-in-Err-finish.ensures.own)
+    (λ apart. (
+      ap (λ (b : ℕ). (means b page).refusal) (sym inv.budget) ∙ (taken apart).0,
+      ap (λ (bs : List ℕ). bs ++ lines_on i 0 last) inv.text ∙ written_last budget page i end,
     ))
-    (λ is. subst (λ (b : ℕ). BreaksWithin b page q.place) inv.budget (breaks_last (budget_of c.loop-byte.reader) page _ q (c.in-Err-finish.ensures.breaks inv.live (λ own. broke_apart is own) [] page has_read)))
+    (λ is. subst (λ (b : ℕ). BreaksWithin b page q.place) inv.budget (breaks_last no_lines (budget_of reader) page _ q (c.in-Err-finish.ensures.breaks inv.live (λ own. broke_apart is own) no_lines page has_read)))
