@@ -14,7 +14,7 @@ use Rattle.std.specs.Prelude.{IfOk}
 use Rattle.std.specs.declared.alloc.AllocError.{AllocError}
 use Rattle.nap_reader.specs.declared.reader.ahead.Ahead.{Ahead}
 use Rattle.nap_reader.specs.declared.reader.ahead.Ahead.TheVariants as ahead
-use Rattle.nap_reader.specs.Looking.{BringsAhead, bytes_ahead}
+use Rattle.nap_reader.specs.Looking.{AddsAhead, bytes_ahead}
 use Rattle.nap_reader.specs.Breaking.{BreaksInRun, BreaksWithin, cause_of}
 use Rattle.nap_reader.specs.ReaderAnswers.{Answers, AnswersBy, HasRead, StopsAt, StopsBy, budget_of, left_of, refusal_of, sink_of}
 use Rattle.nap_reader.specs.Stream.{Outcome, begun, ended_by, means}
@@ -77,7 +77,7 @@ alone (e ∷ []) one = (e, refl)
 alone (e ∷ f ∷ es) one = absurd (omega (arith, one))
 
 module _ (budget : ℕ) (p : List ℕ) where
-  -- what is known once so many bytes were read
+  -- what is known once this many bytes were read
   abbrev pub known : ℕ → List Entry
   known j = (begun budget (take j p)).entries
 
@@ -97,7 +97,7 @@ module _ (budget : ℕ) (p : List ℕ) where
       let (more, is) = more_bytes_keep_entries budget (take i p) (take k (drop i p)) in
       (more, sym (following i k) ∙ is)
 
-  -- the first of some bytes brings all that they bring
+  -- the first of some bytes gives all entries that they give
   firsts : (i n : ℕ) → ((k : ℕ) → 1 ≤ k → k ≤ n → known (i + k) ≡ known (i + 1)) → (k : ℕ) → suc k ≤ n →
       places_before budget p (i + suc k) ≡ places_before budget p i ++ lines_at i (entries_added (known i) (known (i + 1)))
   firsts i n same zero few = one_more i
@@ -111,7 +111,7 @@ module _ (budget : ℕ) (p : List ℕ) where
       ∙ append-nil (places_before budget p (i + suc k))
       ∙ firsts i n same k (omega (arith, few))
 
-  -- each of them brings one entry
+  -- each of them gives one entry
   eachs : (i n : ℕ) → ((k : ℕ) → k ≤ n → length (known (i + k)) ≡ length (known i) + k) → (k : ℕ) → k ≤ n →
       places_before budget p (i + k) ≡ places_before budget p i ++ lines_on i 1 (entries_added (known i) (known (i + k)))
   eachs i n sized zero few =
@@ -139,14 +139,14 @@ module _ (budget : ℕ) (p : List ℕ) where
       ∙ ap (λ (bs : List ℕ). places_before budget p i ++ bs) (one ∙ ap (lines_on i 1) (sym all))
 
   -- the bytes that a reader has looked at
-  pub written_more : (i : ℕ) (found : Ahead) → 0 < bytes_ahead found → BringsAhead budget (take i p) (drop i p) found →
+  pub written_more : (i : ℕ) (found : Ahead) → 0 < bytes_ahead found → AddsAhead budget (take i p) (drop i p) found →
       places_before budget p i ++ lines_on i (step_of found) (entries_added (known i) (known (i + bytes_ahead found))) ≡ places_before budget p (i + bytes_ahead found)
-  written_more i (ahead.First zero) some brings = absurd (omega (arith, some))
-  written_more i (ahead.First (suc k)) some brings =
-      let same : (j : ℕ) → 1 ≤ j → j ≤ suc k → known (i + j) ≡ known (i + 1) = λ j least most. sym (following i j) ∙ brings j least most ∙ following i 1 in
+  written_more i (ahead.First zero) some adds = absurd (omega (arith, some))
+  written_more i (ahead.First (suc k)) some adds =
+      let same : (j : ℕ) → 1 ≤ j → j ≤ suc k → known (i + j) ≡ known (i + 1) = λ j least most. sym (following i j) ∙ adds j least most ∙ following i 1 in
       ap (λ (bs : List ℕ). places_before budget p i ++ bs) (all_alike i (entries_added (known i) (known (i + suc k))) ∙ ap (λ (es : List Entry). lines_at i (entries_added (known i) es)) (same (suc k) (omega arith) (omega arith)))
       ∙ sym (firsts i (suc k) same k (omega arith))
-  written_more i (ahead.Each n) some brings = let sized : (j : ℕ) → j ≤ n → length (known (i + j)) ≡ length (known i) + j = λ j few. ap length (sym (following i j)) ∙ brings j few in
+  written_more i (ahead.Each n) some adds = let sized : (j : ℕ) → j ≤ n → length (known (i + j)) ≡ length (known i) + j = λ j few. ap length (sym (following i j)) ∙ adds j few in
       sym (eachs i n sized n (omega arith))
 
   pub written_last : (i : ℕ) → i ≡ length p → places_before budget p i ++ lines_on i 0 (entries_added (begun budget p).entries (means budget p).entries) ≡ places budget p
@@ -196,7 +196,7 @@ module _ (budget : ℕ) (p : List ℕ) where
 pub broke_apart : {f : Fault} → f ≡ fault.Memory → cause_of f ≡ stream → ⊥
 broke_apart is own = let other = ap cause_of (sym is) ∙ own in let bad : ⊥ = cc in bad
 
--- A reader broke at a byte of the page: one of a piece behind this place.
+-- A reader broke at a byte of the page: one of a piece after this place.
 module _ {S : Type 0} {g : Ghosts S} (s : S) (old new : Reader S g) (budget : ℕ) (page piece : List ℕ) (i m : ℕ) (q : Refusal) (cut : piece ≡ take m (drop i page))
     (was : budget_of old ≡ budget) (before : HasRead old s (take i page)) (n : ℕ) (stops : StopsAt old new piece q n) where
   pub breaks_at : q.fault ≡ fault.Memory → BreaksWithin budget page q.place
@@ -215,7 +215,7 @@ module _ {S : Type 0} {g : Ghosts S} (s : S) (old new : Reader S g) (budget : �
 pub breaks_last : {S : Type 0} {g : Ghosts S} (s : S) (budget : ℕ) (p : List ℕ) (t : S) (q : Refusal) → BreaksInRun g s budget p t q → BreaksWithin budget p q.place
 breaks_last s budget p t q h = inr (h.place, h.part.unrefused)
 
--- what is behind a place, and some of it
+-- what is after a place, and some of it
 pub rest_is : (page : List ℕ) (i : ℕ) → take (length page - i) (drop i page) ≡ drop i page
 rest_is page i = take_all (length page - i) (drop i page) (omega (arith, length-drop i page))
 
@@ -234,7 +234,7 @@ pub record IsFed {g : Ghosts LineSinkState} (old new : Reader LineSinkState g) (
   pub count : n ≡ bytes_ahead found
   pub pace : step ≡ step_of found
   pub some : 0 < length rest → 0 < bytes_ahead found
-  pub brings : refusal_of old ≡ None → (s : LineSinkState) (p : List ℕ) → HasRead old s p → BringsAhead (budget_of old) p rest found
+  pub adds : refusal_of old ≡ None → (s : LineSinkState) (p : List ℕ) → HasRead old s p → AddsAhead (budget_of old) p rest found
   pub live : refusal_of old ≡ None
   pub was : budget_of old ≡ budget
   pub before : HasRead old no_lines (take i page)
@@ -243,8 +243,8 @@ pub record IsFed {g : Ghosts LineSinkState} (old new : Reader LineSinkState g) (
 
 module _ {g : Ghosts LineSinkState} (makes : (s : LineSinkState) (d : List Entry) (t : LineSinkState) → g.took s d t → t.text ≡ s.text ++ lines d) {old new : Reader LineSinkState g} {budget : ℕ} {page rest : List ℕ} {i : ℕ} {found : Ahead} {n step : ℕ}
     (f : IsFed old new budget page rest i found n step) where
-  pub next_stands : HasRead new no_lines (take (i + n) page)
-  next_stands = subst (λ (bytes : List ℕ). HasRead new no_lines bytes) (next_bytes page rest i n n f.rest_is refl) (f.has_read no_lines (take i page) f.before)
+  pub next_has_read : HasRead new no_lines (take (i + n) page)
+  next_has_read = subst (λ (bytes : List ℕ). HasRead new no_lines bytes) (next_bytes page rest i n n f.rest_is refl) (f.has_read no_lines (take i page) f.before)
 
   pub next_same : budget_of new ≡ budget
   next_same = f.still ∙ f.was
@@ -259,12 +259,12 @@ module _ {g : Ghosts LineSinkState} (makes : (s : LineSinkState) (d : List Entry
   pub next_count : (count : ℕ) → count ≡ length (known budget page i) → count + length came ≡ length (known budget page (i + n))
   next_count count is = let (more, grown) = more_known budget page i n in rw is (counted (known budget page i) (known budget page (i + n)) more grown)
 
-  -- and are written behind their places
+  -- and are written after their places
   pub next_written : (text : List ℕ) → text ≡ places_before budget page i → text ++ lines_on i step came ≡ places_before budget page (i + n)
   next_written text is =
-      let brings = subst (λ (bytes : List ℕ). BringsAhead budget (take i page) bytes found) f.rest_is (subst (λ (b : ℕ). BringsAhead b (take i page) rest found) f.was (f.brings f.live no_lines (take i page) f.before)) in
+      let adds = subst (λ (bytes : List ℕ). AddsAhead budget (take i page) bytes found) f.rest_is (subst (λ (b : ℕ). AddsAhead b (take i page) rest found) f.was (f.adds f.live no_lines (take i page) f.before)) in
       let some = f.some (omega (arith, f.within, ap length f.rest_is, length-drop i page)) in
-      rw (is, f.pace, f.count) (written_more budget page i found some brings)
+      rw (is, f.pace, f.count) (written_more budget page i found some adds)
 
 -- what comes at the end of a page
 module _ (budget : ℕ) (p : List ℕ) (i : ℕ) (end : i ≡ length p) where
@@ -287,6 +287,6 @@ module _ (budget : ℕ) (p : List ℕ) (i : ℕ) (end : i ≡ length p) where
       let (more, grown) = begun_comes_first budget p in
       rw (is ∙ ap length all_known_last) (counted (begun budget p).entries (means budget p).entries more grown)
 
--- the lines that a refused page leaves, behind those before
-abbrev pub Behind : Fault → ℕ → List ℕ → List ℕ → ℕ → ℕ → PlacesText → Type 0
-Behind f size all text place step r = f ≢ fault.Memory → (es : List Entry) → AreNew size all es → r.text.items ≡ text ++ lines_on place step es
+-- the lines that a refused page leaves, after those before
+abbrev pub BrokenAfter : Fault → ℕ → List ℕ → List ℕ → ℕ → ℕ → PlacesText → Type 0
+BrokenAfter f size all text place step r = f ≢ fault.Memory → (es : List Entry) → AreNew size all es → r.text.items ≡ text ++ lines_on place step es

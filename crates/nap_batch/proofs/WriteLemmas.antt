@@ -11,7 +11,7 @@ use Rattle.nap_batch.specs.Answers.{line_at, lines_at}
 use Rattle.nap_batch.specs.Placing.{AreNew, lines_on}
 use Rattle.nap_batch.proofs.LineLemmas.{line_plain, plain}
 
--- How lines are written behind their places.
+-- How lines are written after their places.
 
 -- the first line ends at the first byte that ends one
 

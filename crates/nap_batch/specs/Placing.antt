@@ -8,17 +8,17 @@ use Rattle.nap_batch.specs.Answers.{line_at}
 
 -- How places are written. No one sees this.
 
--- how far the place of each entry is behind that of the one before it
+-- how far the place of each entry is after that of the one before it
 abbrev pub step_of : Ahead → ℕ
 step_of (ahead.First n) = 0
 step_of (ahead.Each n) = 1
 
--- the lines of entries, the first behind this place, and each further one so far on
+-- the lines of entries, the first after this place, and each further one `step` after the one before
 abbrev pub lines_on : ℕ → ℕ → List Entry → List ℕ
 lines_on place step [] = []
 lines_on place step (e ∷ es) = line_at place e ++ lines_on (place + step) step es
 
--- All are the lines of entries that are known, so many bytes, and of these.
+-- All are the lines of the known entries, which have `known` bytes, and of the entries es.
 pub record AreNew (known : ℕ) (all : List ℕ) (es : List Entry) : Type 0 where
   pub before : List Entry
   pub is : all ≡ lines (before ++ es)

@@ -49,8 +49,8 @@ fn stopped_places(
     })
 }
 
-/// Returns the number of bytes ahead that bring their entries alike, and the distance from the place of one entry to that
-/// of the next.
+/// Returns the number of bytes ahead whose entries come alike, and the distance from the place of one entry to that of
+/// the next.
 #[inline(always)]
 fn stride_of(ahead: Ahead) -> (usize, usize)
     ensures count { result.0 ≡ bytes_ahead ahead }

@@ -8,7 +8,7 @@ use Rattle.nap_reader.specs.Breaking.{BreaksWithin}
 use Rattle.nap_reader.specs.ReaderAnswers.{HasRead, budget_of}
 use Rattle.nap_reader.specs.Stream.{begun, means}
 use Rattle.nap_batch.specs.Placing.{lines_on}
-use Rattle.nap_batch.proofs.PlaceLemmas.{Behind, IsFed, all_places, breaks_at, breaks_last, broke_apart, came, came_last, kept, kept_refused, last_count, last_new, lines_taken, next_count, next_new, next_same, next_stands, next_written, no_entries, no_lines, none_before, own_cause, rest_is, still_refused, stops_so, true_isnt, whole_page, written_last}
+use Rattle.nap_batch.proofs.PlaceLemmas.{BrokenAfter, IsFed, all_places, breaks_at, breaks_last, broke_apart, came, came_last, kept, kept_refused, last_count, last_new, lines_taken, next_count, next_new, next_same, next_has_read, next_written, no_entries, no_lines, none_before, own_cause, rest_is, still_refused, stops_so, true_isnt, whole_page, written_last}
 use Rattle.nap_batch.proofs.places.read_places.Goals as goal
 
 pub loop-place-init : goal.loop-place-init
@@ -49,7 +49,7 @@ returns-in-Err c =
       count = c.stride_of-count.ensures.count;
       pace = c.stride_of-count.ensures.step;
       some = c.ahead.ensures.some;
-      brings = c.ahead.ensures.brings;
+      adds = c.ahead.ensures.adds_entries;
       live = inv.live;
       was = inv.budget;
       before = inv.has_read;
@@ -60,12 +60,12 @@ returns-in-Err c =
     omega (arith, c.loop-place-test.true, c.stride_of-count.ensures.count, c.ahead.ensures.within, ap (λ (bs : List ℕ). length bs) (rest_is page i), length-drop i page) in
     let (m, stops) = c.in-Err.ensures.stops inv.live in
     let k = λ (apart : q.fault ≢ fault.Memory).
-    kept_refused lines_taken new budget (take (i + n) page) (next_stands lines_taken f) (next_same lines_taken f) q c.in-Err.ensures.answered
+    kept_refused lines_taken new budget (take (i + n) page) (next_has_read lines_taken f) (next_same lines_taken f) q c.in-Err.ensures.answered
     (own_cause q.fault apart (λ is. true_isnt (c.in-Err.ensures.failed inv.live is))) in
     let fresh = λ (apart : q.fault ≢ fault.Memory).
     next_new lines_taken f c.loop-place.written.known c.text-lines.result.now inv.size (c.text-lines.ensures ∙ (ap (λ (s : LineSinkState). s.text) c.sink.ensures.now ∙ (k apart).0)) in
     stops_so budget page c.stopped_places.result q (text ++ lines_on i step (came lines_taken f)) c.stopped_places.ensures.ended c.stopped_places.ensures.memory
-    (IfOk-weaker c.stopped_places.result (Behind q.fault c.loop-place.written.known c.text-lines.result.now text i step) (λ r. q.fault ≢ fault.Memory → r.text.items ≡ text ++ lines_on i step (came lines_taken f))
+    (IfOk-weaker c.stopped_places.result (BrokenAfter q.fault c.loop-place.written.known c.text-lines.result.now text i step) (λ r. q.fault ≢ fault.Memory → r.text.items ≡ text ++ lines_on i step (came lines_taken f))
     (λ r h apart. h apart (came lines_taken f) (fresh apart)) c.stopped_places.ensures.own)
     (λ apart. (
       ap (λ (bs : List ℕ). (means budget bs).refusal) (sym (take-append-drop (i + n) page)) ∙ still_refused budget (take (i + n) page) (drop (i + n) page) q (k apart).1,
@@ -92,7 +92,7 @@ loop-place-preserved c =
       count = c.stride_of-count.ensures.count;
       pace = c.stride_of-count.ensures.step;
       some = c.ahead.ensures.some;
-      brings = c.ahead.ensures.brings;
+      adds = c.ahead.ensures.adds_entries;
       live = inv.live;
       was = inv.budget;
       before = inv.has_read;
@@ -102,14 +102,14 @@ loop-place-preserved c =
     let few : n ≤ length rest = omega (arith, c.stride_of-count.ensures.count, c.ahead.ensures.within) in
     let within : i + n ≤ length page = omega (arith, c.loop-place-test.true, few, ap (λ (bs : List ℕ). length bs) (rest_is page i), length-drop i page) in
     let all = c.text.ensures ∙ (ap (λ (s : LineSinkState). s.text) c.sink-in-loop-place.ensures.now
-    ∙ kept lines_taken new budget (take (i + n) page) (next_stands lines_taken f) (next_same lines_taken f) c.in_default.ensures.answered) in
+    ∙ kept lines_taken new budget (take (i + n) page) (next_has_read lines_taken f) (next_same lines_taken f) c.in_default.ensures.answered) in
     let w = c.in_ok-write_new.ensures (came lines_taken f) (next_new lines_taken f c.loop-place.written.known c.text.result.now inv.size all) in
     record {
       within = within;
       fed = omega (arith, c.in_default.ensures.fed, inv.fed, length-take-le n rest few);
       budget = next_same lines_taken f;
       live = c.in_default.ensures.answered;
-      has_read = next_stands lines_taken f;
+      has_read = next_has_read lines_taken f;
       count = w.count ∙ next_count lines_taken f c.loop-place.written.count inv.count;
       size = w.known ∙ ap length all;
       text = w.text ∙ next_written lines_taken f c.loop-place.written.text.items inv.text;
@@ -150,7 +150,7 @@ returns-in-Err-finish c =
     last_new budget page i end c.loop-place.written.known c.text-in-Err-finish.result.now inv.size
     (c.text-in-Err-finish.ensures ∙ ((taken apart).1.text ∙ ap (λ (b : ℕ). lines (means b page).entries) inv.budget)) in
     stops_so budget page c.stopped_places-in-Err-finish.result q (text ++ lines_on i 0 last) c.stopped_places-in-Err-finish.ensures.ended c.stopped_places-in-Err-finish.ensures.memory
-    (IfOk-weaker c.stopped_places-in-Err-finish.result (Behind q.fault c.loop-place.written.known c.text-in-Err-finish.result.now text i 0) (λ r. q.fault ≢ fault.Memory → r.text.items ≡ text ++ lines_on i 0 last)
+    (IfOk-weaker c.stopped_places-in-Err-finish.result (BrokenAfter q.fault c.loop-place.written.known c.text-in-Err-finish.result.now text i 0) (λ r. q.fault ≢ fault.Memory → r.text.items ≡ text ++ lines_on i 0 last)
     (λ r h apart. h apart last (fresh apart)) c.stopped_places-in-Err-finish.ensures.own)
     (λ apart. (
       ap (λ (b : ℕ). (means b page).refusal) (sym inv.budget) ∙ (taken apart).0,
