@@ -1,13 +1,11 @@
 //! naplps: reads NAPLPS pages and rewrites them in one canonical spelling.
 #![tactic(auto)]
 
-mod output;
 mod program;
 mod words;
 mod wrong;
 
 use nap_list::{Source, Target};
-use output::Output;
 pub use program::run;
 use std::io::BufWriter;
 use std::process::ExitCode;
@@ -37,7 +35,7 @@ fn main(rt: HostRuntime) -> io::Result<ExitCode> {
         alloc,
         words.as_slice(),
         &mut input,
-        Target::new(Output::new(output)),
+        Target::new(output),
         &mut errors,
     );
     Ok(ExitCode::from(status))
