@@ -1,20 +1,17 @@
-use Rattle.nap_reader.proofs.Common.{ActsRun, BeginsAll, Bool, Breaks, BreaksAt, BreaksBetween, BreaksFrom, BreaksInBody, BreaksInRun, BreaksNext, BreaksPast, BreaksSome, BreaksWith, CanBreakAt, CanLackAt, Cause, ClosesInto, Continues, ContinuesPast, DrawFault, RuleResult, Ends, Entry, Err, Executes, Ghosts, ReadingState, Input, IsCharged, ArePendingIn, IsLive, IsOpenBody, IsSome, IsTaken, List, Machine, Memory, None, Ok, OpenBody, OpenRun, Option, Outcome, Placed, Refusal, Result, RunAt, Some, StopsRun, TookPart, Unended, Unfinished, WantsMemory, Works, [], act, after_drawing, ap, append-nil, append_assoc, arith, state_after_request, clear_request_if, at_word, begun, after_run, body_broke, cause_of, charged_broke, closed_by, cond, draw_fault, ended_by, false, half_read, reading_state_by, in_code, in_run, inl, inr, is_operand_byte, length, length-append, means, memory, next_broke, open_place, outcome_from, placed_at, placed_from, refl, refusal, rule, run_broke, run_limit, run_place, run_refused, some_broke, stream, subst, sym, true, unfinished_by, with_code, with_drawn, with_run, ℕ, ◌++◌, ◌<◌, ◌∙◌, ◌∷◌, ◌≡◌, ◌≢◌, ◌≤◌, ◌⊎◌}
+use Rattle.nap_reader.proofs.Common.{ActsRun, Bool, Breaks, BreaksAt, BreaksAtByte, BreaksBetween, BreaksFrom, BreaksHere, BreaksInRun, BreaksWith, CanBreakAt, CanLackAt, Continues, DrawFault, Ends, EndsRun, Entry, Err, Executes, Ghosts, Grows, Input, IsCharged, IsLive, IsTaken, LacksOwn, Leads, List, Machine, None, Ok, OpenBody, OpenRun, Option, Outcome, Owes, Placed, ReadingState, Refusal, Result, RuleResult, RunAt, Some, StopsRun, TookPart, Unended, Unfinished, WantsMemory, Work, [], after_run, ap, append-nil, append_assoc, arith, at_byte, begun, cause_of, clear_request_if, closed_by, cond, ended_by, false, half_read, in_run, inl, inr, is_operand_byte, length, length-append, means, memory, open_place, placed_at, placed_from, reading_state_by, refl, refusal, rule, run_place, state_after_request, stream, subst, sym, true, unfinished_by, with_code, with_drawn, with_run, ℕ, ◌++◌, ◌<◌, ◌∙◌, ◌∷◌, ◌≡◌, ◌≢◌, ◌⊎◌}
 use Rattle.nap_draw.specs.Draws as draws
-use Rattle.nap_draw.specs.declared.fault.DrawFault.TheVariants as draw_faults
 use Rattle.nap_reader.specs.Stream as model
 use Rattle.nap_reader.specs.declared.machine.Machine as struct
-use Rattle.nap_reader.specs.Steps.{in_body}
-use Rattle.nap_reader.proofs.ReadingLemmas.{Lawful, TookMore, by_front, is_open_run, leads_entries, leads_machine, leads_more, leads_on, leads_taken, leads_unfinished, leads_unrefused, none_pending, over, rule_part, word_joins}
-use Rattle.nap_reader.proofs.LawLemmas.{more_bytes_keep_entries}
-use Rattle.nap_reader.proofs.PartLemmas.{body_breaks_from, breaks_longer, rule_breaks, some_in_body, wants_from}
-use Rattle.nap_reader.proofs.StepLemmas.{passes_run}
+use Rattle.nap_reader.proofs.ReadingLemmas.{Lawful, as_list, is_open_run, leads_entries, leads_left, leads_machine, leads_more, leads_paused, leads_taken, leads_unrefused, list_more, pays, refused_by, rule_part, run_past}
+use Rattle.nap_reader.proofs.PartLemmas.{Known, breaks_longer, known_first, part_from, part_known}
+use Rattle.nap_reader.proofs.StepLemmas.{no_some, passes_run}
 
 -- what is unfinished after p is what the reading state has
 module _ {S : Type 0} {g : Ghosts S} {s : S} {o : Outcome} {t : S} {h : ReadingState} (k : Continues g s o t h []) where
   pub unfinished_is : (body : Option OpenBody) (open_run : Option OpenRun) → h.open_body ≡ body → h.open_run ≡ open_run →
       o.unfinished ≡ Some (unfinished_by body open_run h.half h.run)
   unfinished_is body open_run opened is =
-      leads_unfinished k
+      ap (λ (x : Outcome). x.unfinished) (leads_paused k)
       ∙ ap (λ (b : Option OpenBody). Some (unfinished_by b h.open_run h.half h.run)) opened
       ∙ ap (λ (r : Option OpenRun). Some (unfinished_by body r h.half h.run)) is
 
@@ -23,101 +20,67 @@ module _ {S : Type 0} {g : Ghosts S} {s : S} {o : Outcome} {t : S} {h : ReadingS
   open_place_is open_run no_body is = ap run_place (unfinished_is None (Some open_run) no_body is)
 
   -- no run is open, so the outcome with the run is the outcome
-  pub run_still : h.open_run ≡ None → with_run o ≡ o
-  run_still is = ap (model.with_run_by o) (unfinished_is h.open_body None refl is) ∙ in_mode h.open_body
+  pub run_still : (h.open_body ≡ None → h.open_run ≡ None) → with_run o ≡ o
+  run_still closed = in_mode h.open_body refl
     where
       still : (half : List ℕ) → model.with_run_by o (Some (half_read half)) ≡ o
       still [] = refl
       still (b ∷ bs) = refl
 
-      in_mode : (body : Option OpenBody) → model.with_run_by o (Some (unfinished_by body None h.half h.run)) ≡ o
-      in_mode None = still h.half
-      in_mode (Some body) = refl
-
-  -- a body is open, so no run is
-  pub still_run : (body : OpenBody) → h.open_body ≡ Some body → h.open_run ≡ None
-  still_run body opened = let retained : IsOpenBody k.rest body h = subst (ArePendingIn k.rest h) opened k.retained in retained.at.still
-
-  pub body_still : (body : OpenBody) → h.open_body ≡ Some body → with_run o ≡ o
-  body_still body opened = run_still (still_run body opened)
-
-  pub body_open : (body : OpenBody) → h.open_body ≡ Some body → o.unfinished ≡ Some model.open_body
-  body_open body opened = unfinished_is (Some body) h.open_run opened refl
+      in_mode : (body : Option OpenBody) → h.open_body ≡ body → with_run o ≡ o
+      in_mode None no_body = ap (model.with_run_by o) (unfinished_is None None no_body (closed no_body)) ∙ still h.half
+      in_mode (Some body) opened = ap (model.with_run_by o) (unfinished_is (Some body) h.open_run opened refl)
 
   -- the reading state at the end, if no body and no run is open
-  pub ends_still : h.open_body ≡ None → h.open_run ≡ None → Ends g s (with_run o) t h
-  ends_still no_body is = subst (λ (x : Outcome). Ends g s x t h) (sym (run_still is)) here
-    where
-      here : Ends g s o t h
-      here = record {
-        refusal = leads_unrefused k;
-        taken = leads_taken k;
-        work = ap (λ (m : Machine). m.work) (leads_machine k);
-        half = unfinished_is None None no_body is;
-      }
+  pub ends_still : h.open_body ≡ None → h.open_run ≡ None → Ends g s (with_run o) t h.machine.work h.half
+  ends_still no_body is =
+      subst (λ (x : Outcome). Ends g s x t h.machine.work h.half) (sym (run_still (λ _. is)))
+      (record { refusal = leads_unrefused k; taken = leads_taken k; work = ap (λ (m : Machine). m.work) (leads_machine k); half = unfinished_is None None no_body is })
 
--- an open run acts after p
+-- The opcode of an open run acts after p, or stops.
 module _ {S : Type 0} {g : Ghosts S} {s : S} {t : S} {h : ReadingState} {open_run : OpenRun} (budget : ℕ) (p : List ℕ) (no_body : h.open_body ≡ None) (is : h.open_run ≡ Some open_run) (k : Continues g s (begun budget p) t h []) where
-  abbrev o : Outcome
-  o = begun budget p
+  run_at_end : {by : Result RuleResult DrawFault} → rule h.machine.work open_run.op h.run ≡ by → with_run (begun budget p) ≡ with_drawn (begun budget p) open_run.place by
+  run_at_end e =
+      ap (model.with_run_by (begun budget p)) (unfinished_is k None (Some open_run) no_body is)
+      ∙ ap (λ (m : Machine). with_drawn (begun budget p) open_run.place (rule m.work open_run.op h.run)) (leads_machine k)
+      ∙ ap (with_drawn (begun budget p) open_run.place) e
 
-  run_at_end : with_run o ≡ with_drawn o open_run.place (rule h.machine.work open_run.op h.run)
-  run_at_end =
-      ap (model.with_run_by o) (unfinished_is k None (Some open_run) no_body is)
-      ∙ ap (λ (m : Machine). with_drawn o open_run.place (rule m.work open_run.op h.run)) (leads_machine k)
+  -- the run's entries are a prefix of those with a byte that ends the run
+  run_begins : {drawn : RuleResult} (b : ℕ) → is_operand_byte b ≡ false → rule h.machine.work open_run.op h.run ≡ Ok drawn → (more : List Entry) × ((begun budget (p ++ b ∷ [])).entries ≡ (with_run (begun budget p)).entries ++ more)
+  unfolding placed_from
+  run_begins {drawn} b other by =
+      let known = (begun budget p).entries in
+      let list : Leads (begun budget p) known h [] = subst (λ (es : List Entry). Leads (begun budget p) es h []) (sym (leads_entries (as_list k))) (as_list k) in
+      let (more, all) = known_first (pays (run_past no_body is (leads_more budget p (b ∷ []) list) other drawn by) list_more refl (λ clear. clear)) in
+      (more, all ∙ ap (λ (o : Outcome). o.entries ++ more) (sym (run_at_end by)))
 
-  run_entries : (drawn : RuleResult) → rule h.machine.work open_run.op h.run ≡ Ok drawn → (with_run o).entries ≡ k.done ++ drawn.entries
-  run_entries drawn by =
-      ap (λ (y : Outcome). y.entries) (run_at_end ∙ ap (with_drawn o open_run.place) by)
-      ∙ ap (λ (es : List Entry). es ++ drawn.entries) (leads_entries k)
+-- The open run after p, as a caller sees it.
+module _ {S : Type 0} {g : Ghosts S} {s : S} {t : S} {h : ReadingState} (budget : ℕ) (p : List ℕ) (k : Continues g s (begun budget p) t h []) where
+  pub run_breaks : {u : S} {r : Refusal} → Lawful g → StopsRun g t h u r → cause_of r.fault ≢ stream → BreaksInRun g s budget p u r
+  run_breaks {u} laws stops broke =
+      let (drawn, by, part) = rule_part g t u _ stops.fault stops.drew (λ own. broke (ap (λ (r : Refusal). cause_of r.fault) stops.why ∙ own)) in
+      let at = run_at_end budget p stops.between stops.is k by in
+      subst (BreaksInRun g s budget p u) (sym stops.why) (record {
+        place = open_place_is k stops.open_run stops.between stops.is;
+        part = record {
+          more = drawn.entries;
+          adds = ap (λ (o : Outcome). o.entries) at;
+          unrefused = ap (λ (o : Outcome). o.refusal) at;
+          part = part_known u [] drawn.entries _ laws (record { taken = leads_taken k; clear = k.clear }) (sym (append-nil (begun budget p).entries)) part;
+        };
+      })
 
-  -- the open run's entries are a prefix of those with a byte that ends the run
-  begins_all : (drawn : RuleResult) → rule h.machine.work open_run.op h.run ≡ Ok drawn → BeginsAll budget p
-  unfolding placed_from leads_more
-  begins_all drawn by b other =
-      let x : Placed = record { byte = b; place = length p } in
-      let m' : Machine = after_drawing h.machine drawn in
-      let all = by_front (leads_more budget p (b ∷ []) k) (act drawn.entries m' (x ∷ [])) (over no_body is (leads_more budget p (b ∷ []) k) other _ by) in
-      let more : List Entry = (outcome_from m' (x ∷ [])).entries in
-      (more, ap (λ (y : Outcome). y.entries) all ∙ (sym (append_assoc k.done drawn.entries more) ∙ ap (λ (es : List Entry). es ++ more) (sym (run_entries drawn by))))
+  pub run_refused : {u : S} {r : Refusal} → StopsRun g t h u r → cause_of r.fault ≡ stream → IsTaken g s (means budget p) u (Some r)
+  run_refused {u} {r} stops own =
+      let (by, same) = refused_by g t u _ stops.fault stops.drew (ap (λ (r : Refusal). cause_of r.fault) (sym stops.why) ∙ own) in
+      let at = run_at_end budget p stops.between stops.is k by in
+      let ended : means budget p ≡ with_run (begun budget p) =
+      ap (ended_by (begun budget p) (length p)) (leads_unrefused k) ∙ ap (model.with_end (with_run (begun budget p)) (length p)) (ap (λ (o : Outcome). o.refusal) at) in
+      subst (λ (o : Outcome). IsTaken g s o u (Some r)) (sym (ended ∙ at)) (ap Some (sym stops.why), rw same (leads_taken k))
 
-  -- not all of the open run's entries could be put
-  ends_broken : (u : S) → Lawful g → (fault : DrawFault) → draws.DrawsBy g.took g.broke g.failed (rule h.machine.work open_run.op h.run) t u fault (draws.cause_of fault) → cause_of (draw_fault fault) ≢ stream →
-      ClosesInto g s budget p u (refusal (draw_fault fault) open_run.place)
-  ends_broken u laws fault drew broke =
-      let (drawn, by, part) = rule_part u _ laws (record { taken = leads_taken k; clear = k.clear }) fault drew broke in
-      let at = run_at_end ∙ ap (with_drawn o open_run.place) by in
-      run_broke (begins_all drawn by) (record {
-        place = open_place_is k open_run no_body is;
-        part = record { more = drawn.entries; adds = ap (λ (x : Outcome). x.entries) at; unrefused = ap (λ (x : Outcome). x.refusal) at; part = part };
-      }) broke
-
-  -- the opcode of the open run is refused
-  ends_refused : (u : S) → Lawful g → (fault : DrawFault) → draws.DrawsBy g.took g.broke g.failed (rule h.machine.work open_run.op h.run) t u fault (draws.cause_of fault) → ClosesInto g s budget p u (refusal (draw_fault fault) open_run.place)
-  ends_refused u laws draw_faults.Memory drew = ends_broken u laws draw_faults.Memory drew (λ own. cc)
-  ends_refused u laws draw_faults.Sink drew = ends_broken u laws draw_faults.Sink drew (λ own. cc)
-  ends_refused u laws fault (by, same) =
-      let at = run_at_end ∙ ap (with_drawn o open_run.place) by in
-      run_refused (ap (λ (x : Outcome). x.refusal) at) (subst (λ (es : List Entry). g.took s es u) (sym (ap (λ (x : Outcome). x.entries) at)) (subst (g.took s o.entries) (sym same) (leads_taken k))) refl
-
--- once the run's entries are taken, the byte that ends the run is still to be read
-pub past_run : {S : Type 0} {g : Ghosts S} {s t u : S} {h h' : ReadingState} (budget : ℕ) (p : List ℕ) (k : Continues g s (begun budget p) t h []) → TookMore g → (acts : ActsRun g t h u h') → (b : ℕ) → is_operand_byte b ≡ false →
-    ContinuesPast g s (with_run (begun budget p)).entries (begun budget (p ++ b ∷ [])) u h' (record { byte = b; place = length p } ∷ [])
-unfolding placed_from leads_more leads_on
-past_run {g = g} {s = s} {t = t} {u = u} {h = h} {h' = h'} budget p k more acts b other =
-    let x : Placed = record { byte = b; place = length p } in
-    let m = after_drawing h.machine acts.drawn in
-    let k' : Continues g s (begun budget (p ++ b ∷ [])) t h (x ∷ []) = leads_more budget p (b ∷ []) k in
-    subst (λ (h' : ReadingState). ContinuesPast g s (with_run (begun budget p)).entries (begun budget (p ++ b ∷ [])) u h' (x ∷ [])) (sym acts.holds) (record {
-      continues = leads_on k' u acts.drawn.entries (record h { machine = m; open_run = None; run = [] }) (x ∷ []) more (none_pending acts.between acts.is k' m refl) (over acts.between acts.is k' other _ acts.by) acts.took acts.clear;
-      done = sym (run_entries budget p acts.between acts.is k acts.drawn acts.by);
-    })
-
--- the opcode of an open run acts at the end, or doesn't
-module _ {S : Type 0} {g : Ghosts S} {s : S} {t : S} {h : ReadingState} (budget : ℕ) (p : List ℕ) (k : Continues g s (begun budget p) t h []) (laws : Lawful g) where
-  pub acts_at_end : {u : S} {h' : ReadingState} → ActsRun g t h u h' → Ends g s (with_run (begun budget p)) u h'
-  acts_at_end {u} {h'} acts =
-      let at = run_at_end budget p acts.between acts.is k ∙ ap (with_drawn (begun budget p) acts.open_run.place) acts.by in
+  pub acts_at_end : {u : S} {h' : ReadingState} → Lawful g → ActsRun g t h u h' → Ends g s (with_run (begun budget p)) u h'.machine.work h'.half
+  acts_at_end {u} {h'} laws acts =
+      let at = run_at_end budget p acts.between acts.is k acts.by in
       let none = ap (λ (h : ReadingState). h.half) acts.holds ∙ (is_open_run h k.rest acts.open_run acts.between acts.is k.retained).1 in
       record {
         refusal = ap (λ (x : Outcome). x.refusal) at;
@@ -126,71 +89,34 @@ module _ {S : Type 0} {g : Ghosts S} {s : S} {t : S} {h : ReadingState} (budget 
         half = ap (λ (x : Outcome). x.unfinished) at ∙ ap (λ (half : List ℕ). Some (half_read half)) (sym none);
       }
 
-  pub stops_at_end : {u : S} {r : Refusal} → StopsRun g t h u r → ClosesInto g s budget p u r
-  stops_at_end {u} stops = subst (ClosesInto g s budget p u) (sym stops.why) (ends_refused budget p stops.between stops.is k u laws stops.fault stops.drew)
-
 -- a stream that is refused only at its end, or not at all
 module _ (budget : ℕ) (p : List ℕ) (live : (begun budget p).refusal ≡ None) where
   pub means_settled : (with_run (begun budget p)).refusal ≡ None →
       means budget p ≡ with_code (with_run (begun budget p)) (length p) (with_run (begun budget p)).unfinished
-  means_settled none =
-      ap (ended_by (begun budget p) (length p)) live ∙ ap (model.with_end (with_run (begun budget p)) (length p)) none
+  means_settled none = search (arith) steps 100000
 
 -- at the end, once nothing is unfinished but a code or a definition
-pub ended_is : {S : Type 0} {g : Ghosts S} {s t : S} {h : ReadingState} (budget : ℕ) (p : List ℕ) (fed : ℕ) → (begun budget p).refusal ≡ None → Ends g s (with_run (begun budget p)) t h → fed ≡ length p →
+pub ended_is : {S : Type 0} {g : Ghosts S} {s t : S} {work : Work} {half : List ℕ} (budget : ℕ) (p : List ℕ) (fed : ℕ) → (begun budget p).refusal ≡ None → Ends g s (with_run (begun budget p)) t work half → fed ≡ length p →
     with_code (with_run (begun budget p)) fed (with_run (begun budget p)).unfinished ≡ means budget p
 ended_is budget p fed live k all = ap (λ (n : ℕ). with_code (with_run (begun budget p)) n (with_run (begun budget p)).unfinished) all ∙ sym (means_settled budget p live k.refusal)
 
--- if the opcode that acts at the end is refused, the stream is
-pub refused_at_end : {S : Type 0} {g : Ghosts S} {s : S} (budget : ℕ) (p : List ℕ) {u : S} {r : Refusal} → cause_of r.fault ≡ stream → (begun budget p).refusal ≡ None → ClosesInto g s budget p u r → IsTaken g s (means budget p) u (Some r)
-refused_at_end budget p own live (run_broke all breaks broke) = absurd (broke own)
-refused_at_end {g = g} {s = s} budget p {u} {r} own live (run_refused refused took is) =
-    let same : means budget p ≡ with_run (begun budget p) =
-    ap (ended_by (begun budget p) (length p)) live ∙ ap (model.with_end (with_run (begun budget p)) (length p)) refused in
-    subst (λ (o : Outcome). IsTaken g s o u (Some r)) (sym same) (refused, took)
-
 -- an open body is refused at the end
 pub body_ended : {S : Type 0} {g : Ghosts S} {s : S} (budget : ℕ) (p : List ℕ) {t : S} {h : ReadingState} {body : OpenBody} (fed : ℕ) → Continues g s (begun budget p) t h [] → h.open_body ≡ Some body → fed ≡ length p → IsTaken g s (means budget p) t (Some (refusal Unended fed))
-body_ended {g = g} {s = s} budget p {t} fed k opened all =
+body_ended {g = g} {s = s} budget p {t} {body = body} fed k opened all =
     let o : Outcome = begun budget p in
     let live = leads_unrefused k in
-    let still = body_still k _ opened in
+    let still = run_still k (λ none. let bad : Some body ≡ None = sym opened ∙ none in cc) in
     let is : means budget p ≡ record o { refusal = Some (refusal Unended (length p)) } =
     means_settled budget p live (ap (λ (x : Outcome). x.refusal) still ∙ live)
     ∙ ap (λ (x : Outcome). with_code x (length p) x.unfinished) still
-    ∙ ap (with_code o (length p)) (body_open k _ opened) in
+    ∙ ap (with_code o (length p)) (unfinished_is k (Some body) _ opened refl) in
     subst (λ (x : Outcome). IsTaken g s x t (Some (refusal Unended fed))) (sym is)
     (ap (λ (n : ℕ). Some (refusal Unended n)) (sym all), leads_taken k)
 
--- an opcode's request doesn't change how a stream ends
-ends_asked : {S : Type 0} (g : Ghosts S) (s : S) (o : Outcome) (t : S) (h : ReadingState) (clears : Bool) → Ends g s o t (state_after_request h (clear_request_if clears)) → Ends g s o t h
-ends_asked g s o t h true e = record { refusal = e.refusal; taken = e.taken; work = e.work; half = e.half }
-ends_asked g s o t h false e = e
-
--- The opcode of the open run, if there is one, has acted at the end.
-pub record EndsRun {S : Type 0} {g : Ghosts S} (m new : struct.Machine S g) : Type 0 where
-  pub live : IsLive m
-  pub still : m.open_run ≡ None → new ≡ m
-  pub acts : m.open_run ≢ None → (clears : Bool) × Executes m new clears
-
-pub ends_run : {S : Type 0} {g : Ghosts S} {m new : struct.Machine S g} (input : Input) → input.body ≡ None → Lawful g → EndsRun m new → (s : S) (budget : ℕ) (p : List ℕ) → Continues g s (begun budget p) m.sink (reading_state_by m input) [] →
-    Ends g s (with_run (begun budget p)) new.sink (reading_state_by new input)
-ends_run {S} {g} {m} {new} input between laws e s budget p k = by m.open_run refl
-  where
-    by : (open_run : Option OpenRun) → m.open_run ≡ open_run → Ends g s (with_run (begun budget p)) new.sink (reading_state_by new input)
-    by None closed =
-        subst (λ (n : struct.Machine S g). Ends g s (with_run (begun budget p)) n.sink (reading_state_by n input)) (sym (e.still closed)) (ends_still k between closed)
-    by (Some open_run) opened =
-        let acted = e.acts (λ closed. let bad : Some open_run ≡ None = sym opened ∙ closed in cc) in
-        ends_asked g s (with_run (begun budget p)) new.sink (reading_state_by new input) acted.0 (acts_at_end budget p k laws (acted.1.2 (reading_state_by m input) between))
-
--- The sink works if it did before.
-pub ends_works : {S : Type 0} {g : Ghosts S} {m new : struct.Machine S g} → EndsRun m new → Works m new
-ends_works {S} {g} {m} {new} e = by m.open_run refl
-  where
-    by : (open_run : Option OpenRun) → m.open_run ≡ open_run → Works m new
-    by None closed = subst (Works m) (sym (e.still closed)) (record { live = e.live; clear = λ working. working })
-    by (Some open_run) opened = (e.acts (λ closed. let bad : Some open_run ≡ None = sym opened ∙ closed in cc)).1.0
+-- The opcode of the open run has acted at the end, and may request that all names are unbound.
+pub ends_run : {S : Type 0} {g : Ghosts S} {old new : struct.Machine S g} (clears : Bool) → Lawful g → Executes old new clears → EndsRun old new
+ends_run true laws (works, closed, acted) h between s budget p k = acts_at_end budget p k laws (acted h between)
+ends_run false laws (works, closed, acted) h between s budget p k = acts_at_end budget p k laws (acted h between)
 
 nothing_more : (xs ys : List Entry) → xs ++ ys ≡ xs → ys ≡ []
 nothing_more xs [] e = refl
@@ -214,141 +140,120 @@ run_first o (Some (model.open_run op place run)) = drawn (rule o.machine.work op
     drawn (Ok d) = (d.entries, refl)
     drawn (Err fault) = same_first o
 
+pub closed_first : (o : Outcome) (b : ℕ) → First o (closed_by o b)
+closed_first o b = at (is_operand_byte b)
+  where
+    at : (word : Bool) → First o (cond word o (with_run o))
+    at true = same_first o
+    at false = run_first o o.unfinished
+
 -- What breaks with the byte after p, as a caller sees it.
-module _ {S : Type 0} {g : Ghosts S} {s : S} {u : S} (budget : ℕ) (p : List ℕ) (b : ℕ) where
-  -- the next bytes break after the entries known once the byte shows whether a run is over
-  between : {cause : Cause} {known : List Entry} → known ≡ (closed_by (begun budget p) b).entries → BreaksNext g s known (begun budget (p ++ b ∷ [])) u cause → BreaksBetween g s (closed_by (begun budget p) b) (begun budget (p ++ b ∷ [])) u cause
-  between {cause} same next = record {
-    more = next.more;
-    adds = next.adds ∙ ap (λ (es : List Entry). es ++ next.more) same;
-    unrefused = next.unrefused;
-    part = subst (λ (es : List Entry). TookPart g s es next.more u cause) same next.part;
-  }
 
-  -- the byte adds entries itself
-  pub adding_breaks : {known : List Entry} (r : Refusal) → known ≡ (closed_by (begun budget p) b).entries → r.place ≡ length p → BreaksPast g s known (begun budget (p ++ b ∷ [])) u (cause_of r.fault) → BreaksAt g s budget p b u r
-  adding_breaks {known} r same place h =
-      inr (record {
-        place = place;
-        adds_entries = inr (inl (λ none. h.some (nothing_more known h.next.more (sym h.next.adds ∙ none ∙ sym same))));
-        wants = λ is. inr (subst (g.wants s) (sym h.next.adds) (h.wants is));
-        part = inl (between same h.next);
-      })
+-- a byte needs memory of the reader's own
+pub own_breaks : {S : Type 0} {g : Ghosts S} {s u : S} {r : Refusal} (budget : ℕ) (p : List ℕ) (b : ℕ) → r.place ≡ length p → WantsMemory budget p b → BreaksWith g s budget p b u (cause_of r.fault) → BreaksAtByte g s budget p b u r
+own_breaks budget p b place needs part = grind arith
 
-  -- a body is charged
-  pub uses_breaks : (r : Refusal) → r.place ≡ length p → IsCharged budget p b → BreaksFrom g s (begun budget p).entries (begun budget (p ++ b ∷ [])) u (cause_of r.fault) → BreaksAt g s budget p b u r
-  uses_breaks r place after_charge h = inr (record { place = place; adds_entries = inr (inr (inr after_charge)); wants = λ _. inl (inr (inr after_charge)); part = inr (after_charge, h) })
+-- nothing that is open grows
+grows_none : (h : ReadingState) (x : Placed) → h.open_body ≡ None → h.open_run ≡ None → Grows h x → ⊥
+grows_none h x no_body closed grows = grind arith
 
-  -- the opcode whose run the byte ends breaks
-  pub run_breaks : {r : Refusal} → is_operand_byte b ≡ false → cause_of r.fault ≢ stream → ClosesInto g s budget p u r → BreaksAt g s budget p b u r
-  run_breaks other broke (run_refused is took own) = absurd (broke own)
-  run_breaks other broke (run_broke all breaks is) = inl (other, all b other, breaks)
+-- a byte breaks at its own place, where a sink has the entries known once the byte shows whether a run is over
+breaks_at_byte : {S : Type 0} {g : Ghosts S} {s t u : S} {h : ReadingState} {done owed known : List Entry} {r : Refusal} {budget : ℕ} {p : List ℕ} (b : ℕ) → Lawful g → Known g s done t → known ≡ done ++ owed → Leads (begun budget (p ++ b ∷ [])) known h (placed_at b (length p) ∷ []) →
+    known ≡ (closed_by (begun budget p) b).entries → h.machine.left ≡ (begun budget p).machine.left → (Grows h (placed_at b (length p)) → WantsMemory budget p b) → BreaksHere g t owed h (placed_at b (length p)) u r → BreaksAtByte g s budget p b u r
+breaks_at_byte {S} {g} {s} {t} {u} {h} {done} {owed} {known} {r} {budget} {p} b laws has is more same left grows breaks = by breaks.why
+  where
+    after : Leads (begun budget (p ++ b ∷ [])) (known ++ breaks.adds) breaks.after (breaks.came ++ [])
+    after = breaks.passes known [] (begun budget (p ++ b ∷ [])) [] more
 
-  -- a run that was open is over
-  pub past_breaks : {left : ℕ} (r : Refusal) → is_operand_byte b ≡ false → r.place ≡ length p → left ≤ (begun budget p).machine.left → BreaksSome g s (with_run (begun budget p)).entries (begun budget (p ++ b ∷ [])) u left (cause_of r.fault) → BreaksAt g s budget p b u r
-  past_breaks r other place few (some_broke past) = adding_breaks r (rw other refl) place past
-  past_breaks r other place few (charged_broke less from) =
-      let more = run_first (begun budget p) (begun budget p).unfinished in
-      uses_breaks r place (omega arith) (breaks_longer (begun budget p).entries more.0 (subst (λ (es : List Entry). BreaksFrom g s es (begun budget (p ++ b ∷ [])) u (cause_of r.fault)) more.1 from))
+    part : TookPart g s known breaks.adds u (cause_of r.fault)
+    part = part_known u owed breaks.adds _ laws has is breaks.part
 
--- the reading state before the byte
-module _ {S : Type 0} {g : Ghosts S} {s : S} {t : S} {h : ReadingState} (budget : ℕ) (p : List ℕ) (b : ℕ) (k : Continues g s (begun budget p) t h []) where
-  after_charge : (begun budget (p ++ b ∷ [])).machine.left < h.machine.left → IsCharged budget p b
-  after_charge less = let same = ap (λ (m : Machine). m.left) (leads_machine k) in omega (arith, less, same)
+    between : breaks.came ≡ [] → BreaksBetween g s (closed_by (begun budget p) b) (begun budget (p ++ b ∷ [])) u (cause_of r.fault)
+    between none =
+        let last = subst (λ (came : List Placed). Leads (begun budget (p ++ b ∷ [])) (known ++ breaks.adds) breaks.after (came ++ [])) none after in
+        record {
+          more = breaks.adds;
+          adds = leads_entries last ∙ sym last.taken ∙ ap (λ (es : List Entry). es ++ breaks.adds) same;
+          unrefused = leads_unrefused last;
+          part = subst (λ (es : List Entry). TookPart g s es breaks.adds u (cause_of r.fault)) same part;
+        }
 
-  -- the byte comes after the known entries
-  pub past_still : ContinuesPast g s (begun budget p).entries (begun budget (p ++ b ∷ [])) t h (record { byte = b; place = length p } ∷ [])
-  unfolding placed_from leads_more
-  past_still = record { continues = leads_more budget p (b ∷ []) k; done = sym (leads_entries k) }
+    charged : breaks.after.machine.left < h.machine.left → IsCharged budget p b
+    charged few = let falls = leads_left after in omega (arith, falls, few, left)
 
-  -- no run is open, so the outcome with the run is the outcome
-  still_same : h.open_run ≡ None → (begun budget p).entries ≡ (closed_by (begun budget p) b).entries
-  still_same is = ap (λ (o : Outcome). o.entries) (at (is_operand_byte b))
-    where
-      at : (test : Bool) → begun budget p ≡ cond test (begun budget p) (with_run (begun budget p))
-      at true = refl
-      at false = sym (run_still k is)
+    from : BreaksFrom g s (begun budget p).entries (begun budget (p ++ b ∷ [])) u (cause_of r.fault)
+    from =
+        let first = closed_first (begun budget p) b in
+        breaks_longer (begun budget p).entries first.0 (subst (λ (es : List Entry). BreaksFrom g s es (begun budget (p ++ b ∷ [])) u (cause_of r.fault)) (same ∙ first.1) (part_from g s u known breaks.adds _ after part))
 
-  pub still_breaks : {u : S} (r : Refusal) → h.open_run ≡ None → r.place ≡ length p → BreaksSome g s (begun budget p).entries (begun budget (p ++ b ∷ [])) u h.machine.left (cause_of r.fault) → BreaksAt g s budget p b u r
-  still_breaks r is place (some_broke past) = adding_breaks budget p b r (still_same is) place past
-  still_breaks r is place (charged_broke less from) = uses_breaks budget p b r place (after_charge less) from
+    by : LacksOwn h (placed_at b (length p)) breaks.after breaks.came ⊎ ((breaks.came ≡ []) × (breaks.adds ≢ []) × (cause_of r.fault ≡ memory → g.wants t (owed ++ breaks.adds))) → BreaksAtByte g s budget p b u r
+    by (inl (inl few)) = own_breaks budget p b breaks.place (inr (inr (charged few))) (inr (charged few, from))
+    by (inl (inr (none, grow))) = own_breaks budget p b breaks.place (grows grow) (inl (between none))
+    by (inr (none, some, wants)) =
+        let adds = (between none).adds in
+        let joined = ap (λ (es : List Entry). done ++ es) (append-nil (owed ++ breaks.adds)) ∙ sym (append_assoc done owed breaks.adds) ∙ ap (λ (es : List Entry). es ++ breaks.adds) (sym is ∙ same) in
+        record {
+          place = breaks.place;
+          adds_entries = inr (inl (λ e. some (nothing_more (closed_by (begun budget p) b).entries breaks.adds (sym adds ∙ e))));
+          wants = λ memory. inr (subst (g.wants s) (joined ∙ sym adds) (laws.wants s t done (owed ++ breaks.adds) [] has.taken (wants memory)));
+          part = inl (between none);
+        }
 
-  -- a body is open, so no run is
-  pub in_body_breaks : {u : S} {body : OpenBody} (r : Refusal) → h.open_body ≡ Some body → r.place ≡ length p → BreaksInBody g s (begun budget p).entries (begun budget (p ++ b ∷ [])) u h.machine.left (cause_of r.fault) → BreaksAt g s budget p b u r
-  in_body_breaks r opened place (next_broke next) =
-      let uses = body_open k _ opened in
-      inr (record { place = place; adds_entries = inr (inr (inl uses)); wants = λ _. inl (inr (inl uses)); part = inl (between budget p b (still_same (still_run k _ opened)) next) })
-  in_body_breaks r opened place (body_broke less from) = uses_breaks budget p b r place (after_charge less) from
-
-  -- the run that the byte joins couldn't grow
-  pub growth_breaks : {open_run : OpenRun} → h.open_body ≡ None → h.open_run ≡ Some open_run → is_operand_byte b ≡ true → length h.run < run_limit → BreaksAt g s budget p b t (refusal Memory (length p))
+-- the byte of the input after p breaks
+module _ {S : Type 0} {g : Ghosts S} {s : S} {t : S} {owed : List Entry} {h : ReadingState} (budget : ℕ) (p : List ℕ) (b : ℕ) (laws : Lawful g) (k : Owes g s (begun budget p) t owed h []) where
+  further : Leads (begun budget (p ++ b ∷ [])) (k.done ++ owed) h (placed_at b (length p) ∷ [])
   unfolding placed_from
-  growth_breaks {open_run} no_body is word few =
-      let joined = word_joins {x = record { byte = b; place = length p }} no_body is (leads_more budget p (b ∷ []) k) word few in
-      let more = more_bytes_keep_entries budget p (b ∷ []) in
-      let there : IsSome (open_place (begun budget p)) = rw (open_place_is k open_run no_body is) refl in
-      inr (record {
-        place = refl;
-        adds_entries = inl (word, there);
-        wants = λ _. inl (inl (word, there));
-        part = inl (between budget p b (ap (λ (o : Outcome). o.entries) (let same : begun budget p ≡ closed_by (begun budget p) b = rw word refl in same)) (record { more = more.0; adds = more.1; unrefused = leads_unrefused joined; part = inl (leads_taken k) }));
-      })
+  further = leads_more budget p (b ∷ []) (as_list k)
+
+  still : (test : Bool) → (test ≡ true) ⊎ (h.open_body ≡ None → h.open_run ≡ None) → begun budget p ≡ cond test (begun budget p) (with_run (begun budget p))
+  still true closing = refl
+  still false (inl word) = let bad : ⊥ = cc in absurd bad
+  still false (inr closed) = sym (run_still (as_list k) closed)
+
+  grows : Grows h (placed_at b (length p)) → WantsMemory budget p b
+  grows (inl (open_run, no_body, is, word)) = inl (word, rw (open_place_is (as_list k) open_run no_body is) refl)
+  grows (inr (body, opened)) = inr (inl (unfinished_is (as_list k) (Some body) _ opened refl))
+
+  pub breaks_byte : {u : S} {r : Refusal} → cause_of r.fault ≢ stream → Breaks g t owed h (placed_at b (length p)) u r → BreaksAt g s budget p b u r
+  breaks_byte {u} broke (in_run none other stops) =
+      let paid = subst (λ (es : List Entry). Owes g s (begun budget p) t es h []) none k in
+      let (drawn, by, part) = rule_part g t _ _ stops.fault stops.drew (λ own. broke (ap (λ (r : Refusal). cause_of r.fault) stops.why ∙ own)) in
+      inl (other, run_begins budget p stops.between stops.is paid b other by, run_breaks budget p paid laws stops broke)
+  breaks_byte broke (at_byte closing breaks) =
+      inr (breaks_at_byte b laws (record { taken = k.taken; clear = k.clear }) refl further (sym (leads_entries (as_list k)) ∙ ap (λ (o : Outcome). o.entries) (still (is_operand_byte b) closing)) (sym (ap (λ (m : Machine). m.left) (leads_machine k))) grows breaks)
+  breaks_byte broke (after_run none v h' other acts breaks) =
+      let es = acts.drawn.entries in
+      let ended : (with_run (begun budget p)).entries ≡ (closed_by (begun budget p) b).entries = rw other refl in
+      inr (breaks_at_byte {done = k.done ++ es} {owed = []} b laws (record { taken = laws.more s t v k.done es k.taken acts.took; clear = λ clear. acts.clear (k.clear clear) }) (simp (none, append-nil)) (passes_run list_more acts other refl (λ clear. clear) further)
+      (ap (λ (known : List Entry). known ++ es) (sym (leads_entries (as_list k))) ∙ sym (ap (λ (o : Outcome). o.entries) (run_at_end budget p acts.between acts.is (as_list k) acts.by)) ∙ ended)
+      (ap (λ (h : ReadingState). h.machine.left) acts.holds ∙ sym (ap (λ (m : Machine). m.left) (leads_machine k)))
+      (λ grow. absurd (grows_none h' (placed_at b (length p)) (ap (λ (h : ReadingState). h.open_body) acts.holds ∙ acts.between) (ap (λ (h : ReadingState). h.open_run) acts.holds) grow)) breaks)
+
+-- a byte of a body breaks
+
+breaks_here_inside : {S : Type 0} {g : Ghosts S} {s t u : S} {o : Outcome} {owed : List Entry} {h : ReadingState} {x : Placed} {pending : List Placed} {r : Refusal} → Lawful g → Owes g s o t owed h (x ∷ pending) → BreaksHere g t owed h x u r → BreaksFrom g s [] o u (cause_of r.fault)
+breaks_here_inside {g = g} {s = s} {u = u} {o = o} {owed = owed} {pending = pending} laws k breaks =
+    breaks_longer [] (k.done ++ owed) (part_from g s u (k.done ++ owed) breaks.adds _ (breaks.passes (k.done ++ owed) [] o pending (as_list k)) (part_known u owed breaks.adds _ laws (record { taken = k.taken; clear = k.clear }) refl breaks.part))
+
+pub breaks_inside : {S : Type 0} {g : Ghosts S} {s t u : S} {o : Outcome} {owed : List Entry} {h : ReadingState} {x : Placed} {pending : List Placed} {r : Refusal} → Lawful g → Owes g s o t owed h (x ∷ pending) → cause_of r.fault ≢ stream → Breaks g t owed h x u r → BreaksFrom g s [] o u (cause_of r.fault)
+breaks_inside {g = g} {s = s} {t = t} {u = u} {o = o} {owed = owed} laws k broke (in_run none other stops) =
+    let (drawn, by, part) = rule_part g t u _ stops.fault stops.drew (λ own. broke (ap (λ (r : Refusal). cause_of r.fault) stops.why ∙ own)) in
+    let past = pays (run_past stops.between stops.is (as_list k) other drawn by) list_more refl (λ clear. clear) in
+    subst (λ (r : Refusal). BreaksFrom g s [] o u (cause_of r.fault)) (sym stops.why)
+    (breaks_longer [] (k.done ++ owed) (part_from g s u (k.done ++ owed) drawn.entries _ past (part_known u [] drawn.entries _ laws (record { taken = k.taken; clear = k.clear }) (ap (λ (es : List Entry). k.done ++ es) none) part)))
+breaks_inside laws k broke (at_byte closing breaks) = breaks_here_inside laws k breaks
+breaks_inside {g = g} {s = s} {t = t} {o = o} {h = h} {x = x} {pending = pending} laws k broke (after_run none v h' other acts breaks) =
+    breaks_here_inside laws (passes_run laws.more acts other acts.took acts.clear (subst (λ (es : List Entry). Owes g s o t es h (x ∷ pending)) none k)) breaks
+
+-- the place where reading breaks
+pub breaks_place : {S : Type 0} {g : Ghosts S} {t : S} {owed : List Entry} {h : ReadingState} {x : Placed} {u : S} {r : Refusal} (n : ℕ) → x.place ≡ n → RunAt n h.open_run → Breaks g t owed h x u r → r.place ≡ n
+breaks_place n here run breaks = grind arith
 
 -- The place where reading breaks: a body is charged there, or the stream refuses nothing.
 module _ {S : Type 0} (g : Ghosts S) (s : S) (budget : ℕ) (p : List ℕ) (b : ℕ) (t : S) (r : Refusal) where
-  charged_or : BreaksWith g s budget p b t (cause_of r.fault) → IsCharged budget p b ⊎ ((begun budget (p ++ b ∷ [])).refusal ≡ None)
-  charged_or (inl between) = inr between.unrefused
-  charged_or (inr (after_charge, from)) = inl after_charge
-
   pub breaks_there : BreaksAt g s budget p b t r → CanBreakAt budget p b r.place
-  breaks_there (inl (other, first, h)) = inl (other, h.place, h.part.unrefused)
-  breaks_there (inr h) = inr (h.place, h.adds_entries, charged_or h.part)
+  breaks_there breaks = grind arith
 
   -- whether the reader itself lacked memory, and where, or its sink did
   pub lacks_there : BreaksAt g s budget p b t r → cause_of r.fault ≡ memory → CanLackAt budget p b r.place ⊎ g.wants s (begun budget (p ++ b ∷ [])).entries
-  lacks_there (inl (other, first, h)) is = inl (inl (other, h.place, h.part.unrefused))
-  lacks_there (inr h) is = at (h.wants is)
-    where
-      at : WantsMemory budget p b ⊎ g.wants s (begun budget (p ++ b ∷ [])).entries → CanLackAt budget p b r.place ⊎ g.wants s (begun budget (p ++ b ∷ [])).entries
-      at (inl own) = inl (inr (h.place, own, charged_or h.part))
-      at (inr sink) = inr sink
-
-pub broke_in_run : {S : Type 0} {g : Ghosts S} {s t : S} {r : Refusal} (budget : ℕ) (p : List ℕ) → cause_of r.fault ≢ stream → ClosesInto g s budget p t r → BreaksInRun g s budget p t r
-broke_in_run budget p broke (run_refused is took own) = absurd (broke own)
-broke_in_run budget p broke (run_broke all breaks is) = breaks
-
--- What breaks with a byte, as a caller sees it.
-
--- the byte of the input after p breaks
-module _ {S : Type 0} {g : Ghosts S} {s : S} {t : S} {h : ReadingState} (budget : ℕ) (p : List ℕ) (b : ℕ) (laws : Lawful g) (k : Continues g s (begun budget p) t h []) where
-  pub breaks_byte : {u : S} {r : Refusal} → cause_of r.fault ≢ stream → Breaks g t h (placed_at b (length p)) u r → BreaksAt g s budget p b u r
-  breaks_byte broke (at_word lacks) = rw (lacks.sink, lacks.why) (growth_breaks budget p b k lacks.between lacks.is lacks.word lacks.few)
-  breaks_byte broke (in_run other stops) = run_breaks budget p b other broke (stops_at_end budget p k laws stops)
-  breaks_byte {u} {r} broke (in_code closed code) = still_breaks budget p b k r closed code.place (code.part s _ _ (past_still budget p b k))
-  breaks_byte {u} {r} broke (after_run v h' other acts code) =
-      let before = ap (λ (m : Machine). m.left) (leads_machine k) in
-      past_breaks budget p b r other code.place (omega (arith, before, ap (λ (h : ReadingState). h.machine.left) acts.holds))
-      (code.part s (with_run (begun budget p)).entries (begun budget (p ++ b ∷ [])) (past_run budget p k laws.more acts b other))
-  breaks_byte {u} {r} broke (in_body body) = in_body_breaks budget p b k r body.is body.place (body.part s _ _ (past_still budget p b k))
-
--- a byte of a body breaks
-module _ {S : Type 0} {g : Ghosts S} {s : S} {o : Outcome} {t : S} {h : ReadingState} {x : Placed} (laws : Lawful g) (k : Continues g s o t h (x ∷ [])) where
-  pub breaks_inside : {u : S} {r : Refusal} → cause_of r.fault ≢ stream → Breaks g t h x u r → BreaksFrom g s [] o u (cause_of r.fault)
-  breaks_inside broke (at_word lacks) = rw (lacks.sink, lacks.why) (breaks_longer [] k.done (wants_from (record { continues = k; done = refl })))
-  breaks_inside {u} {r} broke (in_run other stops) =
-      subst (λ (r : Refusal). BreaksFrom g s [] o u (cause_of r.fault)) (sym stops.why)
-      (rule_breaks k h.machine stops.open_run.place (x ∷ []) (rule h.machine.work stops.open_run.op h.run)
-      (over stops.between stops.is k other _ refl) laws stops.fault stops.drew (λ own. broke (ap (λ (r : Refusal). cause_of r.fault) stops.why ∙ own)))
-  breaks_inside broke (in_code closed code) = breaks_longer [] k.done (body_breaks_from (some_in_body (code.part s k.done o (record { continues = k; done = refl }))))
-  breaks_inside broke (after_run v h' other acts code) =
-      let k' = passes_run laws.more acts other k in
-      breaks_longer [] k'.done (body_breaks_from (some_in_body (code.part s k'.done o (record { continues = k'; done = refl }))))
-  breaks_inside broke (in_body body) = breaks_longer [] k.done (body_breaks_from (body.part s k.done o (record { continues = k; done = refl })))
-
--- the place where reading breaks
-pub breaks_place : {S : Type 0} {g : Ghosts S} {t : S} {h : ReadingState} {x : Placed} {u : S} {r : Refusal} (n : ℕ) → x.place ≡ n → RunAt n h.open_run → Breaks g t h x u r → r.place ≡ n
-breaks_place n here run (at_word lacks) = ap (λ (r : Refusal). r.place) lacks.why ∙ here
-breaks_place n here run (in_run other stops) = ap (λ (r : Refusal). r.place) stops.why ∙ subst (RunAt n) stops.is run
-breaks_place n here run (in_code closed code) = code.place ∙ here
-breaks_place n here run (after_run v h' other acts code) = code.place ∙ here
-breaks_place n here run (in_body body) = body.place ∙ here
+  lacks_there breaks is = grind arith

@@ -6,7 +6,7 @@ pub use Rattle.std.proofs.Math.ListN.{drop_of_length-le}
 pub use Rattle.std.proofs.Math.Seq.{drop-append_seam, get_or-append_seam, take-append-add, take-append_seam}
 pub use Rattle.std.proofs.lemmas.Bool.{and_parts, cond-false, cond-true, eqb-false, eqb-true, false≢true, le-leb, le-ltb, leb-false, leb-true, lt-leb, lt-ltb, ltb-false, ltb-true, ne_eqb}
 pub use Rattle.std.proofs.lemmas.Bool.Decides.{nat_tests}
-pub use Rattle.std.proofs.lemmas.List.{drop-append-le, drop-drop, drop-map, drop_all, drop_at, drop_more, get_or-append-add, get_or-drop, get_or-take, get_or_append_left, length-drop, length-map, length-take-le, map-append, map-set, nil_from_length, take-append-drop, take-append-le, take-map, take-take, take_all, take_at, take_more}
+pub use Rattle.std.proofs.lemmas.List.{drop-append-le, drop-drop, drop-map, drop-take, drop_all, drop_at, drop_more, get_or-append-add, get_or-drop, get_or-take, get_or_append_left, length-drop, length-map, length-take-le, map-append, map-set, nil_from_length, take-append-drop, take-append-le, take-map, take-take, take_all, take_at, take_more}
 pub use Rattle.std.proofs.lemmas.List.Elements.{All-append, All-cons, All-head, All-map, All-nil, All-pop, All-replicate, All-tail}
 pub use Rattle.std.proofs.lemmas.List.Folds.{length-prefix_len, prefix_len-append}
 pub use Rattle.std.proofs.lemmas.List.Sums.{prefix_len-drop_yes, prefix_len-le-length, prefix_len_passes, prefix_len_stops}
@@ -14,7 +14,7 @@ pub use Rattle.std.proofs.lemmas.Result.{err_from_is_err_and}
 pub use Rattle.std.specs.Io.KnownBytes.{Consumes}
 pub use Rattle.std.specs.List.{prefix_len}
 pub use Rattle.std.specs.Prelude.{IfSome, IsTrue, slice_get, slice_index, ⊤}
-pub use Rattle.nap_codes.proofs.PublicLaws.{code_ranges, format_effector_front, one_byte_opcode, refused_index, refused_stays, code_is_spelled, code_length, code_stays}
+pub use Rattle.nap_codes.proofs.PublicLaws.{code_ranges, earlier_unfinished, format_effector_front, one_byte_opcode, refused_index, refused_stays, code_is_spelled, code_length, code_stays}
 pub use Rattle.nap_codes.specs.CodeSets.{start_sets}
 pub use Rattle.nap_codes.specs.Laws.{IsInRange}
 pub use Rattle.nap_codes.specs.Lexer.{Steps}
@@ -37,15 +37,15 @@ pub use Rattle.nap_values.specs.Laws.{IsOperandByte, IsWord}
 pub use lib.Count.{count_trailing_zeros}
 pub use Rattle.nap_reader.specs.Carried.{AllCharacters, HasName, NoCharacters}
 pub use Rattle.nap_reader.specs.Collecting.{Collects, CountsAll, IsCount, IsDrained, LacksMemoryFor, RefusedBy}
-pub use Rattle.nap_reader.specs.NextBytes.{Advances, CanAdvance, CannotShow, HasReadOn, IsNext, IsNextByte, Keeps, Passed, Reads, StoresBody, Shows, KeepsNextBytes, next_bytes}
-pub use Rattle.nap_reader.specs.Counting.{CountedSink, GrowsBy, Took, counting_sink_model, grows_none}
+pub use Rattle.nap_reader.specs.NextBytes.{Advances, AfterEscape, CanAdvance, CannotShow, HasReadOn, IsNext, IsNextByte, Keeps, Passed, Reads, SameComes, StoresBody, Shows, KeepsNextBytes, next_bytes, CanPass}
+pub use Rattle.nap_reader.specs.Counting.{CountedSink, GrowsBy, Took, counting}
 pub use Rattle.nap_reader.specs.Feeding.{EndsBy, FailsBy, Feeds, StopsInLast}
 pub use Rattle.nap_reader.specs.Kinds.{kind_of}
 pub use Rattle.nap_reader.specs.Laws.{AcceptedIsLegal, BegunComesFirst, BreaksAmong, CodeActs, EndBreaksAmong, FedBreaksAmong, FrontAfterFront, IsAlone, IsRun, MoreBytesKeepEntries, MoreBytesKeepRefusal, PiecesAgree, ReadValuesAreInRange, RunActs, RunWaits, WantsSome, in_pieces, joined}
-pub use Rattle.nap_reader.specs.Pieces.{AmidCall, Goes, ReadsFurther, LeadsTo, Reaches, ReadsPiece, ReadsTo, RefusesPiece, StopsFrom, StopsPiece, TakesPiece, TakesSlice}
+pub use Rattle.nap_reader.specs.Pieces.{AmidCall, Goes, ReadsFurther, LeadsTo, Reaches, ReadsTo, RefusesPiece, StopsFrom, TakesPiece, TakesSlice}
 pub use Rattle.nap_reader.specs.Prefix.{is_from, is_of_body, is_of_text}
 pub use Rattle.nap_reader.specs.ReaderAnswers.{Answers, AnswersBy, IsBroken, IsKnown, IsTaken, HasRead, StopsAt, StopsBy, budget_of, fed_of, left_of, refusal_of, sink_of}
-pub use Rattle.nap_reader.specs.Steps.{Acted, ActsRun, AreCharacters, Binds, Breaks, BreaksCode, Calls, CallsBy, Came, CodeTakes, Codes, LeadsThrough, Executes, FailsRun, IsLive, IsOpcodeByte, IsOver, IsText, IsWholeRun, Latches, LeadsOn, Leaves, Passes, Progresses, Refuses, Stops, StopsByte, StopsRun, StopsText, Takes, TakesBy, FaultMatchesSink, Works, ahead, as_it_was, state_after_request, clear_request_if, at_byte, at_word, after_run, bound, in_body as breaks_in_body, in_code, in_run, in_text, of_body, of_piece, with_machine}
+pub use Rattle.nap_reader.specs.Steps.{Acted, ActsRun, AreCharacters, Breaks, Calls, CallsBy, Came, CodeTakes, Codes, LeadsThrough, Executes, FailsRun, IsLive, IsOpcodeByte, IsOver, IsText, IsWholeRun, Latches, LeadsOn, Leaves, Passes, Progresses, Refuses, Stops, StopsByte, StopsRun, Takes, TakesBy, FaultMatchesSink, Works, state_after_request, clear_request_if, at_byte, after_run, in_run, of_body, of_piece, with_machine, EndsRun, BreaksHere, Grows, LacksOwn, TakesSome}
 pub use Rattle.nap_reader.specs.Stored.{IsBefore, StoreState, store_bound, store_grown, sublist, sublist_at, store_shown}
 pub use Rattle.nap_reader.specs.declared.feeding.FeedFault.{FeedFault}
 pub use Rattle.nap_reader.specs.declared.frames.Frame.{Frame}
@@ -54,7 +54,6 @@ pub use Rattle.nap_reader.specs.declared.machine.Request.{Request}
 pub use Rattle.nap_reader.specs.declared.store.Span.{Span}
 pub use Rattle.nap_reader.specs.Below.{Cause, CharSet, Code, CodeFault, CodeSets, DrawFault, RuleResult, DrawsBy, Entry, Ghosts, HaltsAfter, IsDrawn, IsGraphic, IsTextByte, LexerState, Opcode, SinkFault, StepsBy, TextStep, Work, operand_words, code_rule, device, fault_of, format_effector, memory, rule, run_limit, set_at, sink_model_of, stream}
 unfoldable pub use Rattle.nap_reader.specs.Below.{control0_rows, row_of, walk}
-pub use Rattle.nap_reader.specs.Shared.{AreOfBody, AtBody, BeginsAll, BodyFront, BreaksAt, BreaksBetween, BreaksFrom, BreaksInBody, BreaksInRun, BreaksNext, BreaksPast, BreaksSome, BreaksWith, BreaksWithin, CanBreakAt, CanLackAt, ClosesInto, AreNextBytes, Continues, ContinuesPast, Ends, Fault, FramesIn, Front, ReadingState, Innermost, Input, IsCharged, IsFrame, ArePendingBetweenCodes, ArePending, ArePendingBy, ArePendingIn, IsOpenBody, IsOpenRun, IsOwn, IsRefused, LacksWithin, Lessens, Machine, Mode, OpenBody, OpenRun, Outcome, Placed, Reader, ReadsOn, Refusal, RunAt, TakesPart, TookPrefix, TookPart, Unfinished, WantsMemory, act, after_body, after_drawing, all_at, all_next, at_escape, begun, bytes_after, between, body_broke, body_front_by, body_of, bound_front, bytes_of, cause_of, after_charge, charged_broke, closed_by, code_fault, code_front, continue, continue_by, draw_fault, drawn_front, ended, ended_by, ends_body, ends_of, frame_bytes, front_by, front_in, half_code, half_read, reading_state_by, pending_escape, reading_state, in_body, is_operand, is_operand_byte, machine_of, means, mode_of, next_broke, no_names, nothing, one_byte_later, outcome_by_front, opcode_front, open_body, open_place, open_run, outcome_from, body_front_after, pause, paused, place_at, placed_at, prepend, refusal, refuse, refused, run_broke, run_by, run_front, run_length, run_place, run_refused, shown_front, some_broke, start_machine, store_limit, stores, unfinished, unfinished_by, unfinished_of, unread, unread_of, with_code, with_definition, with_drawn, with_end, with_run, with_run_by, words_of}
+pub use Rattle.nap_reader.specs.Shared.{AreOfBody, BodyFront, BreaksAt, BreaksBetween, BreaksFrom, BreaksInRun, BreaksWith, BreaksWithin, Budget, CanBreakAt, CanLackAt, AreNextBytes, Continues, EighthBit, Ends, Fault, FramesIn, Front, ReadingState, Innermost, Input, IsCharged, IsFrame, ArePendingBetweenCodes, ArePending, ArePendingBy, ArePendingIn, IsOpenBody, IsOpenRun, IsOwn, IsRefused, LacksWithin, LongRun, Machine, Memory, Mode, OpenBody, OpenRun, Outcome, Placed, Reader, Refusal, RunAt, Sink, Store, Stray, TakesPart, TookPrefix, TookPart, Unended, Unfinished, WantsMemory, act, after_body, after_drawing, all_at, all_next, at_escape, begun, bytes_after, between, body_front_by, body_of, bound_front, bytes_of, cause_of, after_charge, closed_by, code_fault, code_front, continue, continue_by, draw_fault, drawn_front, ended, ended_by, ends_body, ends_of, frame_bytes, front_by, front_in, half_code, half_read, reading_state_by, pending_escape, reading_state, in_body, is_operand, is_operand_byte, machine_of, means, mode_of, no_names, nothing, one_byte_later, outcome_by_front, opcode_front, open_body, open_place, open_run, outcome_from, body_front_after, pause, paused, place_at, placed_at, prepend, refusal, refuse, refused, run_by, run_front, run_length, run_place, shown_front, start_machine, store_limit, stores, unfinished, unfinished_by, unfinished_of, unread, unread_of, with_code, with_definition, with_drawn, with_end, with_run, with_run_by, words_of, BreaksAtByte, Owes, Leads, kept_list}
 unfoldable pub use Rattle.nap_reader.specs.Shared.{body_front, front, outcome_within, outcome, placed_from, placed_by_step}
-pub use Rattle.nap_reader.specs.declared.fault.Fault.TheVariants.{Budget, EighthBit, LongRun, Memory, Sink, Store, Stray, Unended}
 pub use Rattle.nap_reader.specs.declared.machine.Request.TheVariants.{Call, Clear, Define, Nothing, Stop}

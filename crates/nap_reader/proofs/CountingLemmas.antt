@@ -1,5 +1,5 @@
-use Rattle.nap_reader.proofs.Common.{Cause, Collects, CountedSink, CountsAll, Entry, Err, Ghosts, GrowsBy, HaltsAfter, IsCount, List, None, Ok, Option, Put, PutSome, Refusal, RefusedBy, Result, SinkFault, SinkModel, Some, FaultMatchesDevice, Took, [], ap, arith, cause_of, counting_sink_model, device, grows_none, inl, inr, length, length-append, means, memory, refl, sink_model_of, stream, subst, sym, ℕ, ◌++◌, ◌∙◌, ◌∷◌, ◌≡◌}
-use Rattle.std.specs.Result.{IsErrAnd}
+use Rattle.nap_reader.proofs.Common.{Cause, CountedSink, Entry, Err, FaultMatchesDevice, Ghosts, GrowsBy, HaltsAfter, List, Ok, Option, Put, PutSome, Refusal, RefusedBy, Result, SinkFault, [], ap, arith, counting, device, inl, inr, length, length-append, memory, refl, sink_model_of, stream, ℕ, ◌∙◌, ◌∷◌, ◌≡◌}
+use Rattle.std.proofs.Math.Nat.{add-zero}
 use Rattle.nap_list.specs.declared.sink.BatchFault.{BatchFault}
 use Rattle.nap_list.specs.declared.sink.SinkFault.TheVariants as faults
 
@@ -16,90 +16,37 @@ abbrev pub taken_of : ℕ → Result (Unit {0}) BatchFault → ℕ
 taken_of all (Ok x) = all
 taken_of all (Err stop) = stop.taken
 
--- if a single entry wasn't taken, none was
-module _ {S : Type 0} (h : SinkModel S) (x : Entry) (s t : S) where
-  only_one : (prefix rest : List Entry) (next : Entry) (n : ℕ) → x ∷ [] ≡ prefix ++ next ∷ rest → length prefix ≡ n → n ≡ 0
-  only_one prefix rest next n parts count = omega (arith, count, ap length parts, length-append prefix (next ∷ rest))
-
-  none_first : (n : ℕ) (f : SinkFault) → HaltsAfter h (x ∷ []) s t n f → n ≡ 0
-  none_first n faults.Memory stops = only_one stops.prefix stops.rest stops.next n stops.parts stops.count
-  none_first n faults.Write (inl (set, same, zero)) = zero
-  none_first n faults.Write (inr breaks) = only_one breaks.prefix breaks.rest breaks.next n breaks.parts breaks.count
-
 -- The entries that another sink took are counted.
 module _ {S : Type 0} (g : Ghosts S) (list : List Entry) (s t : CountedSink S) where
-  halts : (n : ℕ) (f : SinkFault) → GrowsBy n s.count t.count → (n ≡ 0 → t.count ≡ s.count) → HaltsAfter (sink_model_of g) list s.sink t.sink n f → HaltsAfter (counting_sink_model g) list s t n f
-  halts n faults.Memory grows still h = record {
-    prefix = h.prefix;
-    next = h.next;
-    rest = h.rest;
-    parts = h.parts;
-    count = h.count;
-    taken = record { took = h.taken; count = subst (λ (k : ℕ). GrowsBy k s.count t.count) (sym h.count) grows };
-    wants = h.wants;
-  }
+  halts : (n : ℕ) (f : SinkFault) → GrowsBy n s.count t.count → (n ≡ 0 → t.count ≡ s.count) → HaltsAfter (sink_model_of g) list s.sink t.sink n f → HaltsAfter (sink_model_of (counting g)) list s t n f
+  halts n faults.Memory grows still h = search (arith)
   halts n faults.Write grows still (inl (set, sink, zero)) = inl (set, same s t sink (still zero), zero)
   halts n faults.Write grows still (inr h) = inr (record { prefix = h.prefix; next = h.next; rest = h.rest; parts = h.parts; count = h.count; broken = h.broken })
 
-  tells : (n : ℕ) (f : SinkFault) → (n ≡ 0 → t.count ≡ s.count) → FaultMatchesDevice (sink_model_of g) s.sink t.sink n f → FaultMatchesDevice (counting_sink_model g) s t n f
+  tells : (n : ℕ) (f : SinkFault) → (n ≡ 0 → t.count ≡ s.count) → FaultMatchesDevice (sink_model_of g) s.sink t.sink n f → FaultMatchesDevice (sink_model_of (counting g)) s t n f
   tells n f still h = record { write = h.write; memory = h.memory; none = λ set. let k = h.none set in (k.0, same s t k.1 (still k.2), k.2) }
 
   pub puts : (r : Result (Unit {0}) BatchFault) (n : ℕ) → n ≡ taken_of (length list) r → GrowsBy n s.count t.count → (n ≡ 0 → t.count ≡ s.count) → Put (sink_model_of g) list s.sink t.sink r →
-      Put (counting_sink_model g) list s t r
-  puts (Ok x) n is grows still h = record {
-    took = record { took = h.took; count = subst (λ (k : ℕ). GrowsBy k s.count t.count) is grows };
-    state = h.state;
-    works = h.works;
-    none = λ set. let k = h.none set in (k.0, same s t k.1 (still (is ∙ ap length k.0)));
-  }
-  puts (Err stop) n is grows still h =
-      let more = subst (λ (k : ℕ). GrowsBy k s.count t.count) is grows in
-      let stays : stop.taken ≡ 0 → t.count ≡ s.count = λ zero. still (is ∙ zero) in
-      (halts stop.taken stop.fault more stays h.0, tells stop.taken stop.fault stays h.1)
+      Put (sink_model_of (counting g)) list s t r
+  puts (Ok x) n is grows still h = search (arith, same)
+  puts (Err stop) n is grows still h = search (arith, halts, tells)
 
 -- An entry that another sink didn't take isn't counted.
-module _ {S : Type 0} (g : Ghosts S) (x : Entry) (s : CountedSink S) (t : S) (f : SinkFault) (h : PutSome {A = Unit {0}} (sink_model_of g) (x ∷ []) s.sink t (Err f)) where
-  none_counted : PutSome {A = Unit {0}} (counting_sink_model g) (x ∷ []) s (made t s.count) (Err f)
-  none_counted =
-      let none = none_first (sink_model_of g) x s.sink t h.0 f h.1 in
-      let grows : GrowsBy h.0 s.count s.count = subst (λ (k : ℕ). GrowsBy k s.count s.count) (sym none) (grows_none s.count) in
-      (h.0, halts g (x ∷ []) s (made t s.count) h.0 f grows (λ zero. refl) h.1, tells g (x ∷ []) s (made t s.count) h.0 f (λ zero. refl) h.2)
-
-  pub puts_none : (r : Result (Unit {0}) SinkFault) → IsErrAnd r (λ fault. fault ≡ f) → PutSome (counting_sink_model g) (x ∷ []) s (made t s.count) r
-  puts_none (Ok _) is = absurd is
-  puts_none (Err fault) is = subst (λ (fault : SinkFault). PutSome {A = Unit {0}} (counting_sink_model g) (x ∷ []) s (made t s.count) (Err fault)) (sym is) none_counted
-
--- A page was read into a sink that counts the entries of another sink.
-
--- the model of the counting sink over the other sink
-abbrev pub over : {S : Type 0} → Ghosts S → Ghosts (CountedSink S)
-over g = record {
-  state = λ s. g.state s.sink;
-  wants = λ s d. g.wants s.sink d;
-  failed = λ s. g.failed s.sink;
-  took = λ s d t. Took g s d t;
-  broke = λ s d e t. g.broke s.sink d e t.sink;
-}
-
-known : (n : ℕ) (before after : Option ℕ) → before ≡ Some 0 → GrowsBy n before after → IsCount after n
-known n before after none h = count n after (subst (λ (b : Option ℕ). GrowsBy n b after) none h)
+pub puts_none : {S : Type 0} (g : Ghosts S) (x : Entry) (s : CountedSink S) (t : S) (f : SinkFault) → PutSome {A = Unit {0}} (sink_model_of g) (x ∷ []) s.sink t (Err f) →
+    PutSome {A = Unit {0}} (sink_model_of (counting g)) (x ∷ []) s (made t s.count) (Err f)
+puts_none g x s t f (n, h, said) = (
+  n,
+  halts g (x ∷ []) s (made t s.count) n f (record { grows = λ m is. rw (none f h, add-zero) is }) (λ zero. refl) h,
+  tells g (x ∷ []) s (made t s.count) n f (λ zero. refl) said,
+)
   where
-    count : (n : ℕ) (after : Option ℕ) → GrowsBy n (Some 0) after → IsCount after n
-    count n None past = omega (arith, past)
-    count n (Some k) sum = omega (arith, sum)
+    none : (f : SinkFault) → HaltsAfter (sink_model_of g) (x ∷ []) s.sink t n f → n ≡ 0
+    none faults.Memory h = omega (arith, h.count, ap length h.parts, length-append h.prefix (h.next ∷ h.rest))
+    none faults.Write (inl (set, same, zero)) = zero
+    none faults.Write (inr h) = omega (arith, h.count, ap length h.parts, length-append h.prefix (h.next ∷ h.rest))
 
-module _ {S : Type 0} (g : Ghosts S) {s : CountedSink S} (first : S) (is : s ≡ made first (Some 0)) (budget : ℕ) (p : List ℕ) where
-  pub counted_all : (t : CountedSink S) {last : S} {n : Option ℕ} → last ≡ t.sink → n ≡ t.count → Collects (over g) s budget p (Ok t) → CountsAll g first budget p (Ok (last, n))
-  counted_all t {last} {n} sink count (accepted, took) = (
-    accepted,
-    subst (g.took first (means budget p).entries) (sym sink) (subst (λ (x : S). g.took x (means budget p).entries t.sink) (ap (λ (x : CountedSink S). x.sink) is) took.took),
-    subst (λ (k : Option ℕ). IsCount k (length (means budget p).entries)) (sym count) (known (length (means budget p).entries) s.count t.count (ap (λ (x : CountedSink S). x.count) is) took.count),
-  )
-
-  pub counted_refused : (r : Refusal) → Collects (over g) s budget p (Err r) → CountsAll g first budget p (Err r)
-  counted_refused r refused = subst (λ (x : S). RefusedBy g x budget p r (cause_of r.fault)) (ap (λ (x : CountedSink S). x.sink) is) (at (cause_of r.fault) refused)
-    where
-      at : (cause : Cause) → RefusedBy (over g) s budget p r cause → RefusedBy g s.sink budget p r cause
-      at stream is = is
-      at memory is = is
-      at device (breaks, (t, failed)) = (breaks, (t.sink, failed))
+-- the refusal of a page that was read into a counting sink is the page's
+pub refused_alike : {S : Type 0} (g : Ghosts S) (s : CountedSink S) (budget : ℕ) (p : List ℕ) (r : Refusal) (cause : Cause) → RefusedBy (counting g) s budget p r cause → RefusedBy g s.sink budget p r cause
+refused_alike g s budget p r stream is = is
+refused_alike g s budget p r memory is = is
+refused_alike g s budget p r device (breaks, (t, failed)) = (breaks, (t.sink, failed))

@@ -1,104 +1,92 @@
-use Rattle.nap_reader.proofs.Common.{AcceptedIsLegal, All, All-append, All-nil, AllFit, BegunComesFirst, Bool, BreaksAmong, BreaksAt, BreaksBetween, BreaksFrom, BreaksWith, CanLackAt, Cause, DrawFault, RuleResult, EndBreaksAmong, Entry, Err, FedBreaksAmong, Front, Ghosts, IfSome, IsBroken, IsWord, LacksWithin, Legal, List, Machine, None, Ok, Opcode, Option, Outcome, Placed, ReadValuesAreInRange, Refusal, Result, Some, State, StopsBy, Unfinished, WantsSome, Work, [], act, ap, append-nil, arith, begun, cause_of, closed_by, code_fits, code_values_are_in_range, device, drawn_values_are_in_range, drop, ended_by, false, front, get_or, get_or-append-add, outcome_within, half_code, if◌then◌else◌, inl, inr, is_operand_byte, length, length-append, means, memory, nothing, outcome_by_front, open_body, open_run, outcome, pause, placed_from, refl, refuse, rule, rule_fits, start, start_machine, stream, subst, suc, sym, take, take-append-add, true, walk, with_code, with_definition, with_drawn, with_end, with_run, with_run_by, zero, ℕ, ◌++◌, ◌+◌, ◌<◌, ◌∙◌, ◌∷◌, ◌≡◌, ◌≢◌, ◌⊎◌}
-use Rattle.nap_reader.proofs.Base.{First, Fronts, IsOfWords, Puts, acts, breaks_longer, breaks_more, breaks_there, by_code, by_rule, front_fronts, lacks_there, more_bytes_keep_entries, pauses, puts_nothing, refuses, run_first, same_first, taken_all, took_prefix}
+use Rattle.nap_reader.proofs.Common.{AcceptedIsLegal, All-append, All-nil, AllFit, BegunComesFirst, Bool, BreaksAmong, BreaksAt, BreaksBetween, BreaksFrom, BreaksWith, CanLackAt, Cause, DrawFault, EndBreaksAmong, Entry, Err, FedBreaksAmong, Ghosts, IfSome, IsBroken, LacksWithin, Legal, List, None, Ok, Option, Outcome, ReadValuesAreInRange, Refusal, Result, RuleResult, Some, StopsBy, Unfinished, WantsMemory, WantsSome, Work, [], ap, append-nil, append_assoc, arith, begun, cause_of, closed_by, code_fits, code_values_are_in_range, device, drawn_values_are_in_range, drop, ended_by, false, get_or, get_or-append_seam, half_code, if◌then◌else◌, inl, inr, is_operand_byte, length, length-append, means, memory, open_body, open_run, placed_from, refl, rule, rule_fits, start, start_machine, stream, sym, take, take-append_seam, true, walk, with_code, with_definition, with_drawn, with_end, with_run, with_run_by, ℕ, ◌++◌, ◌+◌, ◌∙◌, ◌∷◌, ◌≡◌, ◌≢◌, ◌⊎◌}
+use Rattle.nap_reader.proofs.Base.{First, IsOfWords, Puts, breaks_longer, breaks_more, breaks_there, by_code, by_rule, lacks_there, more_bytes_keep_entries, puts_nothing, run_first, same_first, taken_all, took_prefix, closed_first}
+use Rattle.nap_reader.proofs.StreamLemmas.{outcome_holds}
+use Rattle.nap_reader.specs.Breaking.{AddsEntries, PlacedWith, PlacedWithin}
 use Rattle.nap_list.specs.declared.state.OpenDefinition.{OpenDefinition}
 use Rattle.nap_list.specs.Agreement.{DefinitionsAgree, StatesAgree}
-use Rattle.nap_list.specs.Range.{AllInRange, InRange, MapColourInRange, StateInRange}
+use Rattle.nap_list.specs.Range.{AllInRange, InRange, StateInRange}
 use Rattle.nap_list.proofs.PublicLaws.{fits_join, start_agrees, walks_join}
 
--- The end of a stream keeps the entries before it.
+-- The end of a stream keeps the entries before it. It is accepted only where nothing was refused before and no definition
+-- is open.
 
-definition_keeps : (o : Outcome) (n : ℕ) (opened : Option OpenDefinition) → (with_definition o n opened).entries ≡ o.entries
-definition_keeps o n None = refl
-definition_keeps o n (Some opened) = refl
+definition_keeps : (o : Outcome) (n : ℕ) (opened : Option OpenDefinition) → o.machine.work.state.definition ≡ opened →
+    ((with_definition o n opened).entries ≡ o.entries) × ((with_definition o n opened).refusal ≡ None → o.machine.work.state.definition ≡ None)
+definition_keeps o n None is = (refl, λ accepted. is)
+definition_keeps o n (Some opened) is = (refl, λ accepted. cc)
 
-code_keeps : (o : Outcome) (n : ℕ) (u : Option Unfinished) → (with_code o n u).entries ≡ o.entries
-code_keeps o n None = definition_keeps o n o.machine.work.state.definition
-code_keeps o n (Some nothing) = definition_keeps o n o.machine.work.state.definition
-code_keeps o n (Some (half_code bytes)) = refl
-code_keeps o n (Some (open_run op place run)) = definition_keeps o n o.machine.work.state.definition
-code_keeps o n (Some open_body) = refl
+code_keeps : (o : Outcome) (n : ℕ) (u : Option Unfinished) → ((with_code o n u).entries ≡ o.entries) × ((with_code o n u).refusal ≡ None → o.machine.work.state.definition ≡ None)
+code_keeps o n (Some (half_code bytes)) = (refl, λ accepted. cc)
+code_keeps o n (Some open_body) = (refl, λ accepted. cc)
+code_keeps o n _ = definition_keeps o n o.machine.work.state.definition refl
 
-pub end_keeps : (o : Outcome) (n : ℕ) (r : Option Refusal) → (with_end o n r).entries ≡ o.entries
-end_keeps o n None = code_keeps o n o.unfinished
-end_keeps o n (Some r) = refl
+end_keeps : (o : Outcome) (n : ℕ) (r : Option Refusal) → ((with_end o n r).entries ≡ o.entries) × (o.refusal ≡ r → (with_end o n r).refusal ≡ None → o.machine.work.state.definition ≡ None)
+end_keeps o n None = let k = code_keeps o n o.unfinished in (k.0, λ is. k.1)
+end_keeps o n (Some r) = (refl, λ is accepted. cc)
 
 ended_first : (o : Outcome) (n : ℕ) (r : Option Refusal) → First o (ended_by o n r)
 ended_first o n (Some r) = same_first o
 ended_first o n None =
     let k = run_first o o.unfinished in
-    (k.0, end_keeps (with_run o) n (with_run o).refusal ∙ k.1)
+    (k.0, (end_keeps (with_run o) n (with_run o).refusal).0 ∙ k.1)
 
 pub begun_comes_first : BegunComesFirst
 begun_comes_first budget p = ended_first (begun budget p) (length p) (begun budget p).refusal
 
+-- Reading breaks, and the sink has a part of the entries.
+
 between_from : {S : Type 0} {g : Ghosts S} {s : S} {before after : Outcome} {t : S} {cause : Cause} → BreaksBetween g s before after t cause → BreaksFrom g s before.entries after t cause
 between_from {g = g} {s = s} {before = before} {t = t} {cause = cause} h = record { more = h.more; adds = h.adds; part = took_prefix g s before.entries h.more t cause h.part }
 
-closed_first : (o : Outcome) (b : ℕ) → First o (closed_by o b)
-closed_first o b = at (is_operand_byte b)
-  where
-    at : (word : Bool) → First o (if word then o else with_run o)
-    at true = same_first o
-    at false = run_first o o.unfinished
-
+-- at the byte b after p
 module _ {S : Type 0} (g : Ghosts S) (s : S) (budget : ℕ) (p : List ℕ) (b : ℕ) (t : S) (r : Refusal) where
   with_byte : BreaksWith g s budget p b t (cause_of r.fault) → BreaksFrom g s (begun budget p).entries (begun budget (p ++ b ∷ [])) t (cause_of r.fault)
-  with_byte (inl between) =
-      let known = closed_first (begun budget p) b in
-      breaks_longer (begun budget p).entries known.0 (subst (λ (es : List Entry). BreaksFrom g s es (begun budget (p ++ b ∷ [])) t (cause_of r.fault)) known.1 (between_from between))
+  with_byte (inl between) = let known = closed_first (begun budget p) b in breaks_longer (begun budget p).entries known.0 (rw known.1 at (between_from between))
   with_byte (inr (charged, from)) = from
 
   at_byte : BreaksAt g s budget p b t r → BreaksFrom g s (begun budget p).entries (begun budget (p ++ b ∷ [])) t (cause_of r.fault)
   at_byte (inl (other, first, in_run)) = breaks_more first.0 first.1 (between_from in_run.part)
   at_byte (inr h) = with_byte h.part
 
-module _ (budget : ℕ) (before last : List ℕ) (i : ℕ) (within : i < length last) where
-  -- the bytes up to the one that broke, and that one
-  abbrev p : List ℕ
-  p = before ++ take i last
+-- a place at that byte is within the bytes with the rest after them
+placed_within : (Can : ℕ → List ℕ → ℕ → Type 0) (budget : ℕ) (p : List ℕ) (b : ℕ) (rest : List ℕ) (place : ℕ) → PlacedWith Can budget p b place → PlacedWithin Can budget ((p ++ b ∷ []) ++ rest) place
+placed_within Can budget p b rest place h =
+    inl (length p, omega (arith, length-append (p ++ b ∷ []) rest, length-append p (b ∷ [])), rw (append_assoc p (b ∷ []) rest, take-append_seam p (b ∷ rest), get_or-append_seam p b rest 0) h)
 
-  abbrev b : ℕ
-  b = get_or last i 0
+pub broken_among : {S : Type 0} {g : Ghosts S} {s t : S} {left : ℕ} {r : Refusal} (budget : ℕ) (p : List ℕ) (b : ℕ) (rest : List ℕ) → IsBroken g s budget p b t left r →
+    BreaksAmong g s budget ((p ++ b ∷ []) ++ rest) (begun budget p).entries (begun budget ((p ++ b ∷ []) ++ rest)) t r
+broken_among {g = g} {s} {t} {left} {r} budget p b rest h = record {
+  place = placed_within AddsEntries budget p b rest r.place (breaks_there g s budget p b t r h.breaks);
+  wants = λ is. lacking (lacks_there g s budget p b t r h.breaks is);
+  from = breaks_more all.0 all.1 (at_byte g s budget p b t r h.breaks);
+}
+  where
+    all : First (begun budget (p ++ b ∷ [])) (begun budget ((p ++ b ∷ []) ++ rest))
+    all = more_bytes_keep_entries budget (p ++ b ∷ []) rest
 
-  up_to : take (length before + i) (before ++ last) ≡ p
-  up_to = take-append-add before last i
-
-  there : get_or (before ++ last) (length before + i) 0 ≡ b
-  there = get_or-append-add before last i 0
-
-  abbrev more : List Entry
-  more = (more_bytes_keep_entries budget (p ++ b ∷ []) (drop (i + 1) last)).0
-
-  all : (begun budget (before ++ last)).entries ≡ (begun budget (p ++ b ∷ [])).entries ++ more
-  all = ap (λ (q : List ℕ). (begun budget q).entries) (sym (taken_all before last i within)) ∙ (more_bytes_keep_entries budget (p ++ b ∷ []) (drop (i + 1) last)).1
-
-  broken_among : {S : Type 0} {g : Ghosts S} {s t : S} {left : ℕ} {r : Refusal} → IsBroken g s budget (before ++ take i last) (get_or last i 0) t left r → BreaksAmong g s budget (before ++ last) (begun budget before).entries (begun budget (before ++ last)) t r
-  broken_among {S} {g} {s} {t} {left} {r} h =
-      let known = more_bytes_keep_entries budget before (take i last) in
-      let from = subst (λ (es : List Entry). BreaksFrom g s es (begun budget (p ++ b ∷ [])) t (cause_of r.fault)) known.1 (at_byte g s budget p b t r h.breaks) in
-      record {
-        place = inl (length before + i, omega (arith, within, length-append before last), rw (up_to, there) (breaks_there g s budget p b t r h.breaks));
-        wants = λ is. lacking (lacks_there g s budget p b t r h.breaks is);
-        from = breaks_more more all (breaks_longer (begun budget before).entries known.0 from);
-      }
-    where
-      lacking : CanLackAt budget p b r.place ⊎ g.wants s (begun budget (p ++ b ∷ [])).entries → LacksWithin budget (before ++ last) r.place ⊎ WantsSome g s (begun budget (before ++ last)).entries
-      lacking (inl own) = inl (inl (length before + i, omega (arith, within, length-append before last), rw (up_to, there) own))
-      lacking (inr sink) = inr ((begun budget (p ++ b ∷ [])).entries, more, all, sink)
+    lacking : CanLackAt budget p b r.place ⊎ g.wants s (begun budget (p ++ b ∷ [])).entries → LacksWithin budget ((p ++ b ∷ []) ++ rest) r.place ⊎ WantsSome g s (begun budget ((p ++ b ∷ []) ++ rest)).entries
+    lacking (inl own) = inl (placed_within WantsMemory budget p b rest r.place own)
+    lacking (inr sink) = inr ((begun budget (p ++ b ∷ [])).entries, all.0, all.1, sink)
 
 pub fed_breaks_among : {S : Type 0} (g : Ghosts S) → FedBreaksAmong g
 fed_breaks_among {S} g s budget before last i t left r within = at (cause_of r.fault)
   where
+    among : IsBroken g s budget (before ++ take i last) (get_or last i 0) t left r → BreaksAmong g s budget (before ++ last) (begun budget before).entries (begun budget (before ++ last)) t r
+    among h =
+        let known = more_bytes_keep_entries budget before (take i last) in
+        let k = rw (taken_all before last i within) at (broken_among budget (before ++ take i last) (get_or last i 0) (drop (i + 1) last) h) in
+        record { place = k.place; wants = k.wants; from = breaks_longer (begun budget before).entries known.0 (rw known.1 at k.from) }
+
     at : (cause : Cause) → cause ≢ stream → StopsBy g s budget (before ++ take i last) (get_or last i 0) t left r cause → BreaksAmong g s budget (before ++ last) (begun budget before).entries (begun budget (before ++ last)) t r
     at stream own h = absurd (own refl)
-    at memory own h = broken_among budget before last i within h
-    at device own h = broken_among budget before last i within h
+    at memory own h = among h
+    at device own h = among h
 
 pub end_breaks_among : {S : Type 0} (g : Ghosts S) → EndBreaksAmong g
 end_breaks_among g s budget p t r live h =
     let last = with_run (begun budget p) in
     let same : (means budget p).entries ≡ last.entries =
-    ap (λ (q : Option Refusal). (ended_by (begun budget p) (length p) q).entries) live ∙ end_keeps last (length p) last.refusal in
+    ap (λ (q : Option Refusal). (ended_by (begun budget p) (length p) q).entries) live ∙ (end_keeps last (length p) last.refusal).0 in
     record {
       place = inr (h.place, h.part.unrefused);
       wants = λ _. inl (inr (h.place, h.part.unrefused));
@@ -107,124 +95,65 @@ end_breaks_among g s budget p t r live h =
 
 -- The entries that are read fit, and are in range.
 
--- a drawing state agrees with the state that the entries left, and its values are in range
-record HasRead (work : Work) (shown : State) : Type 0 where
-  pub agrees : StatesAgree work.state shown
-  pub ranged : StateInRange work.state
+-- entries from the start on fit and are in range, the drawing state agrees with the one that they leave, and its values
+-- are in range
+record Reads (es : List Entry) (work : Work) : Type 0 where
+  pub fit : AllFit start es
+  pub ranged : AllInRange es
+  pub agrees : StatesAgree work.state (walk start es)
+  pub state : StateInRange work.state
 
--- the entries that a front puts fit and are in range
-puts_fit : {work after : Work} {es : List Entry} (shown : State) → Puts work es after → HasRead work shown → AllFit shown es × AllInRange es × HasRead after (walk shown es)
-unfolding walk AllFit
-puts_fit shown puts_nothing so = (tt, All-nil InRange, so)
-puts_fit {work} shown (by_rule op run d words is) so =
-    let fits = rule_fits work op run shown d is so.agrees in
-    let ranged = drawn_values_are_in_range work op run d is so.ranged words in
-    (fits.0, ranged.0, record { agrees = fits.1; ranged = ranged.1 })
-puts_fit {work} shown (by_code c d made is) so =
-    let fits = code_fits work c shown d is made so.agrees in
-    let ranged = code_values_are_in_range work c d is made so.ranged in
-    (fits.0, ranged.0, record { agrees = fits.1; ranged = ranged.1 })
-
--- An outcome's entries fit and are in range, and so is what is unfinished; its state agrees with the one that they
--- leave.
-record Sound (shown : State) (o : Outcome) : Type 0 where
-  pub fit : AllFit shown o.entries
-  pub entries : AllInRange o.entries
-  pub unfinished : IfSome o.unfinished IsOfWords
-  pub has_read : o.refusal ≡ None → HasRead o.machine.work (walk shown o.entries)
-
-further_sound : (next : Machine → List Placed → Outcome) → ((m : Machine) (xs : List Placed) (shown : State) → HasRead m.work shown → Sound shown (next m xs)) →
-    (m : Machine) (xs : List Placed) (shown : State) (f : Front) {k : ℕ} {f' : Front} → HasRead m.work shown → Fronts [] m.work m.left k f f' → Sound shown (outcome_by_front next m xs f)
-unfolding walk AllFit
-further_sound next ih m xs shown (pause u) so (pauses words) = record { fit = tt; entries = All-nil InRange; unfinished = words; has_read = λ _. so }
-further_sound next ih m xs shown (refuse r) so refuses = record { fit = tt; entries = All-nil InRange; unfinished = tt; has_read = λ e. cc }
-further_sound next ih m xs shown (act es m' ys) so (acts same less few puts) =
-    let (fit, ranged, after) = puts_fit shown puts so in
-    let rest = ih m' ys (walk shown es) after in
-    record {
-      fit = (fits_join shown es (next m' ys).entries).1 (fit, rest.fit);
-      entries = All-append InRange es (next m' ys).entries ranged rest.entries;
-      unfinished = rest.unfinished;
-      has_read = λ e. subst (HasRead (next m' ys).machine.work) (sym (walks_join shown es (next m' ys).entries)) (rest.has_read e);
-    }
-
-go_sound : (fuel : ℕ) (m : Machine) (xs : List Placed) (shown : State) → HasRead m.work shown → Sound shown (outcome_within front fuel m xs)
-unfolding outcome_within walk AllFit
-go_sound zero m xs shown so = record { fit = tt; entries = All-nil InRange; unfinished = tt; has_read = λ _. so }
-go_sound (suc fuel) m xs shown so = further_sound (outcome_within front fuel) (go_sound fuel) m xs shown (front m xs) so (front_fronts m xs [])
-
-start_ranged : StateInRange start
-start_ranged = record {
-  drawing = record {
-    pen = tt;
-    pel = (omega arith, omega arith, omega arith, omega arith);
-    base = tt;
-    colour = tt;
-    texture = record { word = omega arith; mask = tt };
-    text = record { first = omega arith; second = omega arith; size = tt };
-  };
-  definition = tt;
-  last = tt;
-  known = All-nil MapColourInRange;
+-- more entries fit the state that the first leave
+joined : {work after : Work} (ds es : List Entry) → Reads ds work → AllFit (walk start ds) es × StatesAgree after.state (walk (walk start ds) es) → AllInRange es × StateInRange after.state → Reads (ds ++ es) after
+joined ds es so fits ranged = record {
+  fit = (fits_join start ds es).1 (so.fit, fits.0);
+  ranged = All-append InRange ds es so.ranged ranged.0;
+  agrees = rw (walks_join start ds es) fits.1;
+  state = ranged.1;
 }
 
-begun_sound : (budget : ℕ) (p : List ℕ) → Sound start (begun budget p)
-unfolding outcome
-begun_sound budget p = go_sound _ (start_machine budget) (placed_from 0 p) start (record { agrees = start_agrees; ranged = start_ranged })
+-- so do those that a front puts
+puts_more : {work after : Work} {es : List Entry} (ds : List Entry) → Puts work es after → Reads ds work → Reads (ds ++ es) after
+puts_more ds puts_nothing so = rw append-nil so
+puts_more {work} ds (by_rule op run d words is) so =
+    joined ds d.entries so (rule_fits work op run (walk start ds) d is so.agrees) (drawn_values_are_in_range work op run d is so.state words)
+puts_more {work} ds (by_code c d made is) so = joined ds d.entries so (code_fits work c (walk start ds) d is made so.agrees) (code_values_are_in_range work c d is made so.state)
 
--- the end of a stream
+start_ranged : StateInRange start
+start_ranged = search (arith, All-nil)
 
-with_drawn_sound : (o : Outcome) (place : ℕ) (op : Opcode) (run : List ℕ) (by : Result RuleResult DrawFault) → rule o.machine.work op run ≡ by → All IsWord run → o.refusal ≡ None → Sound start o → Sound start (with_drawn o place by)
-with_drawn_sound o place op run (Ok drawn) e words none h =
-    let (fit, ranged, after) = puts_fit (walk start o.entries) (by_rule op run drawn words e) (h.has_read none) in
-    record {
-      fit = (fits_join start o.entries drawn.entries).1 (h.fit, fit);
-      entries = All-append InRange o.entries drawn.entries h.entries ranged;
-      unfinished = tt;
-      has_read = λ _. subst (HasRead drawn.work) (sym (walks_join start o.entries drawn.entries)) after;
-    }
-with_drawn_sound o place op run (Err fault) e words none h = record { fit = h.fit; entries = h.entries; unfinished = tt; has_read = λ e. cc }
+begun_reads : (budget : ℕ) (p : List ℕ) → Reads (begun budget p).entries (begun budget p).machine.work × IfSome (begun budget p).unfinished IsOfWords
+unfolding walk AllFit
+begun_reads budget p =
+    outcome_holds (λ m xs o. (ds : List Entry) → Reads ds m.work → Reads (ds ++ o.entries) o.machine.work × IfSome o.unfinished IsOfWords)
+    (λ m xs u words ds so. (rw append-nil so, words)) (λ m xs r is ds so. (rw append-nil so, tt))
+    (λ m m' xs ys es o is puts few ih ds so. (let k = ih (ds ++ es) (puts_more ds puts so) in (rw append_assoc at k.0, k.1))) (start_machine budget) (placed_from 0 p) []
+    (record { fit = tt; ranged = All-nil InRange; agrees = start_agrees; state = start_ranged })
 
-with_run_sound : (o : Outcome) (u : Option Unfinished) → IfSome u IsOfWords → o.refusal ≡ None → Sound start o → Sound start (with_run_by o u)
-with_run_sound o (Some (open_run op place run)) words none h = with_drawn_sound o place op run _ refl words none h
-with_run_sound o _ words none h = h
+-- the opcode of an open run acts at the end of a stream
+run_reads : (o : Outcome) (u : Option Unfinished) → IfSome u IsOfWords → Reads o.entries o.machine.work → Reads (with_run_by o u).entries (with_run_by o u).machine.work
+run_reads o (Some (open_run op place run)) words so = at (rule o.machine.work op run) refl
+  where
+    at : (by : Result RuleResult DrawFault) → rule o.machine.work op run ≡ by → Reads (with_drawn o place by).entries (with_drawn o place by).machine.work
+    at (Ok drawn) e = puts_more o.entries (by_rule op run drawn words e) so
+    at (Err fault) e = so
+run_reads o _ words so = so
 
 nothing_shown : (opened shown : Option OpenDefinition) → opened ≡ None → DefinitionsAgree opened shown → shown ≡ None
 nothing_shown None None e h = refl
 nothing_shown None (Some shown) e h = absurd h
 nothing_shown (Some opened) shown e h = cc
 
-legal_at_end : (o : Outcome) (n : ℕ) (opened : Option OpenDefinition) → o.machine.work.state.definition ≡ opened → o.refusal ≡ None → Sound start o →
-    (with_definition o n opened).refusal ≡ None → Legal (with_definition o n opened).entries
-legal_at_end o n None e none h accepted = record {
-  fit = h.fit;
-  ended = nothing_shown o.machine.work.state.definition (walk start o.entries).definition e (h.has_read none).agrees.definition;
-}
-legal_at_end o n (Some opened) e none h accepted = cc
-
-legal_with_code : (o : Outcome) (n : ℕ) (u : Option Unfinished) → o.refusal ≡ None → Sound start o → (with_code o n u).refusal ≡ None →
-    Legal (with_code o n u).entries
-legal_with_code o n (Some (half_code bytes)) none h accepted = cc
-legal_with_code o n (Some open_body) none h accepted = cc
-legal_with_code o n _ none h accepted = legal_at_end o n o.machine.work.state.definition refl none h accepted
-
-legal_with_end : (o : Outcome) (n : ℕ) (r : Option Refusal) → o.refusal ≡ r → Sound start o → (with_end o n r).refusal ≡ None →
-    Legal (with_end o n r).entries
-legal_with_end o n (Some r) e h accepted = cc
-legal_with_end o n None e h accepted = legal_with_code o n o.unfinished e h accepted
-
-legal_ended : (o : Outcome) (n : ℕ) (r : Option Refusal) → o.refusal ≡ r → Sound start o → (ended_by o n r).refusal ≡ None → Legal (ended_by o n r).entries
-legal_ended o n (Some r) e h accepted = cc
-legal_ended o n None e h accepted =
-    legal_with_end (with_run o) n (with_run o).refusal refl (with_run_sound o o.unfinished h.unfinished e h) accepted
+ended_reads : (o : Outcome) (n : ℕ) (r : Option Refusal) → Reads o.entries o.machine.work → IfSome o.unfinished IsOfWords → AllInRange (ended_by o n r).entries × (o.refusal ≡ r → (ended_by o n r).refusal ≡ None → Legal (ended_by o n r).entries)
+ended_reads o n (Some r) so words = (so.ranged, λ is accepted. cc)
+ended_reads o n None so words =
+    let last = with_run o in
+    let k = run_reads o o.unfinished words so in
+    let (same, closed) = end_keeps last n last.refusal in
+    rw same (k.ranged, λ is accepted. record { fit = k.fit; ended = nothing_shown last.machine.work.state.definition (walk start last.entries).definition (closed refl accepted) k.agrees.definition })
 
 pub accepted_is_legal : AcceptedIsLegal
-accepted_is_legal budget p accepted = legal_ended (begun budget p) (length p) (begun budget p).refusal refl (begun_sound budget p) accepted
-
-ranged_ended : (o : Outcome) (n : ℕ) (r : Option Refusal) → o.refusal ≡ r → Sound start o → AllInRange (ended_by o n r).entries
-ranged_ended o n (Some r) is h = h.entries
-ranged_ended o n None is h = subst AllInRange (sym (end_keeps (with_run o) n (with_run o).refusal)) (with_run_sound o o.unfinished h.unfinished is h).entries
+accepted_is_legal budget p = let k = begun_reads budget p in (ended_reads (begun budget p) (length p) (begun budget p).refusal k.0 k.1).1 refl
 
 pub read_values_are_in_range : ReadValuesAreInRange
-read_values_are_in_range budget p =
-    let h = begun_sound budget p in (h.entries, ranged_ended (begun budget p) (length p) (begun budget p).refusal refl h)
+read_values_are_in_range budget p = let k = begun_reads budget p in (k.0.ranged, (ended_reads (begun budget p) (length p) (begun budget p).refusal k.0 k.1).0)

@@ -12,7 +12,6 @@ pub mod PartLemmas
 pub mod HasReadLemmas
 pub mod CountingLemmas
 pub mod PublicLaws
-pub mod TwiceLemmas
 pub mod PieceLemmas
 pub mod StepLemmas
 pub mod StopLemmas

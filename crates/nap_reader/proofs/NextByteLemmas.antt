@@ -1,11 +1,11 @@
-use Rattle.nap_reader.proofs.Common.{All, All-append, All-cons, All-head, All-nil, All-pop, All-tail, Came, CanAdvance, AreNextBytes, Err, Frame, FramesIn, Innermost, Input, IsBefore, IsFrame, IsNextByte, List, None, Ok, OnErr, OnOk, Passed, Placed, Result, Some, Span, StoreState, [], all_at, ap, append-nil, append_assoc, ap₂, arith, bytes_after, bytes_of, store_bound, next_bytes, drop, drop-append-le, drop-append_seam, drop-drop, drop-map, drop_all, drop_at, drop_more, drop_of_length-le, frame_bytes, get_or, get_or-append_seam, store_grown, inl, inr, length, length-append, length-drop, length-map, length-take, length-take-le, map, map-append, map-set, nil_from_length, of_body, of_piece, sublist, sublist_at, place_at, placed_at, placed_from, refl, set, store_shown, slice_get, placed_by_step, store_limit, subst, suc, sym, take, take-add, take-append-drop, take-append-le, take-append_seam, take-map, take-take, take_all, unread, unread_of, zero, ℕ, ◌*◌, ◌++◌, ◌+◌, ◌-◌, ◌<◌, ◌∙◌, ◌∷◌, ◌≡◌, ◌≢◌, ◌≤◌, ◌⊎◌}
+use Rattle.nap_reader.proofs.Common.{All, All-append, All-cons, All-head, All-nil, All-pop, All-replicate, All-tail, Came, CanAdvance, CanPass, AreNextBytes, Err, Frame, FramesIn, Innermost, Input, IsBefore, IsFrame, IsNextByte, List, None, Ok, OnErr, OnOk, Placed, Reads, Result, Some, Span, StoreState, [], all_at, ap, append-nil, append_assoc, ap₂, arith, bytes_after, bytes_of, store_bound, next_bytes, drop, drop-append-le, drop-append_seam, drop-drop, drop-map, drop-take, drop_all, drop_at, drop_more, drop_of_length-le, frame_bytes, get_or, get_or-append_seam, store_grown, inl, inr, length, length-append, length-drop, length-map, length-take, length-take-le, map, map-set, nil_from_length, of_body, of_piece, sublist, sublist_at, place_at, placed_at, placed_from, refl, replicate, set, store_shown, slice_get, placed_by_step, store_limit, subst, suc, sym, take, take-append-drop, take-append-le, take-append_seam, take-map, take-take, take_all, unread, unread_of, zero, ℕ, ◌*◌, ◌++◌, ◌+◌, ◌-◌, ◌<◌, ◌∙◌, ◌∷◌, ◌≡◌, ◌≢◌, ◌≤◌, ◌⊎◌}
+use Rattle.nap_reader.specs.Stored.{IsStore}
 use Rattle.nap_reader.proofs.StreamLemmas.{bytes_of-all_at, bytes_of-append, length-all_at, placed_from-append}
 
 -- a part of a list is unchanged by more bytes at the end of the list
 pub sublist-store_grown : (bytes more : List ℕ) (start end : ℕ) → start ≤ end → end ≤ length bytes → sublist (bytes ++ more) start end ≡ sublist bytes start end
 sublist-store_grown bytes more start end h within =
-    ap (take (end - start)) (drop-append-le start bytes more (omega arith))
-    ∙ take-append-le (end - start) (drop start bytes) more (omega (arith, length-drop start bytes))
+    search (arith, drop-append-le, take-append-le, length-drop) steps 100000
 
 -- a part up to the end
 pub sublist-all : (bytes : List ℕ) (start : ℕ) → start ≤ length bytes → sublist bytes start (length bytes) ≡ drop start bytes
@@ -24,32 +24,23 @@ bodies-store_grown bytes more n (span ∷ spans) h all =
 abbrev pub state_of : List ℕ → List Span → ℕ → ℕ → StoreState
 state_of bytes spans from stored = record { names = map (sublist_at bytes) spans; bytes = bytes; body = drop from bytes; stored = stored }
 
-pub grown_by : (bytes more : List ℕ) (spans : List Span) (from stored : ℕ) → All (IsBefore from) spans → from ≤ length bytes →
-    state_of (bytes ++ more) spans from stored ≡ store_grown (state_of bytes spans from stored) more
-grown_by bytes more spans from stored all h =
-    rw (bodies-store_grown bytes more from spans h all, drop-append-le from bytes more h) refl
+-- no name is bound
+pub none_bound : {bytes : List ℕ} {from stored : ℕ} → from ≤ length bytes → stored + (length bytes - from) ≤ store_limit → IsStore bytes (replicate 96 (record { start = 0; end = 0 })) from stored
+none_bound {from = from} begun few = record { bound = All-replicate (IsBefore from) 96 _ (omega arith, omega arith); all = refl; begun = begun; few = few }
+
+pub grown_by : (more : List ℕ) {bytes new : List ℕ} {spans : List Span} {from stored : ℕ} {old : StoreState} → IsStore bytes spans from stored → state_of bytes spans from stored ≡ old → new ≡ bytes ++ more → state_of new spans from stored ≡ store_grown old more
+grown_by more {bytes} {spans = spans} {from} store view is = search (arith, bodies-store_grown, drop-append-le) steps 100000
 
 pub bound : (bytes : List ℕ) (spans : List Span) (from stored name end : ℕ) → from ≤ length bytes → end ≡ length bytes →
     state_of bytes (set spans (name - 32) (record { start = from; end = end })) end (stored + (end - from))
     ≡ store_bound (state_of bytes spans from stored) name
-bound bytes spans from stored name end h all =
-    rw (all, map-set (sublist_at bytes) spans (name - 32) (record { start = from; end = length bytes }), sublist-all bytes from h, drop_of_length-le bytes {i = length bytes} (omega arith), length-drop) refl
+bound bytes spans from stored name end h all = search (arith, map-set, sublist-all, drop_of_length-le, length-drop) steps 100000
 
 pub bound_grown : (bytes : List ℕ) (spans : List Span) (from stored name ender end : ℕ) → All (IsBefore from) spans → from ≤ length bytes → end ≡ length bytes →
     state_of (bytes ++ 0x1B ∷ ender ∷ []) (set spans (name - 32) (record { start = from; end = end })) (length (bytes ++ 0x1B ∷ ender ∷ [])) (stored + (end - from))
     ≡ store_shown (state_of bytes spans from stored) name ender
 bound_grown bytes spans from stored name ender end all h same =
-    let more : List ℕ = 0x1B ∷ ender ∷ [] in
-    let store_grown = bodies-store_grown bytes more from spans h all in
-    let body = sublist-store_grown bytes more from (length bytes) h (omega arith) ∙ sublist-all bytes from h in
-    rw (
-      same,
-      map-set (sublist_at (bytes ++ more)) spans (name - 32) (record { start = from; end = length bytes }),
-      store_grown,
-      body,
-      drop_of_length-le (bytes ++ more) {i = length (bytes ++ more)} (omega arith),
-      length-drop,
-    ) refl
+    search (arith, bodies-store_grown, sublist-store_grown, sublist-all, map-set, drop_of_length-le, length-drop) steps 100000
 
 -- one more body is read
 pub unread-push : (bytes : List ℕ) (frames : List Frame) (frame : Frame) →
@@ -59,35 +50,20 @@ unread-push bytes (first ∷ frames) frame =
     ap (λ (xs : List Placed). xs ++ frame_bytes bytes first) (unread-push bytes frames frame)
     ∙ append_assoc (frame_bytes bytes frame) (unread bytes frames) (frame_bytes bytes first)
 
--- the first bytes of a part, and the others
-sublist-split : (bytes : List ℕ) (next end count : ℕ) → count ≤ end - next → sublist bytes next end ≡ take count (sublist bytes next end) ++ sublist bytes (next + count) end
-sublist-split bytes next end count less =
+-- a part without its first bytes
+drop-sublist : (bytes : List ℕ) (next end count : ℕ) → count ≤ end - next → drop count (sublist bytes next end) ≡ sublist bytes (next + count) end
+drop-sublist bytes next end count less =
     let all : end - next ≡ count + (end - (next + count)) = omega (arith, less) in
-    let first : take count (sublist bytes next end) ≡ take count (drop next bytes) = take-take count (end - next) (drop next bytes) less in
-    ap (λ (n : ℕ). take n (drop next bytes)) all
-    ∙ take-add count (end - (next + count)) (drop next bytes)
-    ∙ ap₂ (λ (xs ys : List ℕ). xs ++ take (end - (next + count)) ys) (sym first) (drop-drop count next bytes)
+    ap (λ (n : ℕ). drop count (take n (drop next bytes))) all ∙ drop-take count (end - (next + count)) (drop next bytes) ∙ ap (take (end - (next + count))) (drop-drop count next bytes)
 
--- the innermost body gives some of its bytes, and keeps others
-pub gives-some : (bytes : List ℕ) (frames : List Frame) (next end place count : ℕ) → count ≤ end - next →
-    unread bytes (frames ++ record { next = next; end = end; place = place } ∷ [])
-    ≡ all_at place (take count (sublist bytes next end)) ++ unread bytes (frames ++ record { next = next + count; end = end; place = place } ∷ [])
-gives-some bytes frames next end place count less =
-    let front = take count (sublist bytes next end) in
-    let rest = sublist bytes (next + count) end in
-    unread-push bytes frames (record { next = next; end = end; place = place })
-    ∙ ap (λ (xs : List ℕ). all_at place xs ++ unread bytes frames) (sublist-split bytes next end count less)
-    ∙ ap (λ (xs : List Placed). xs ++ unread bytes frames) (map-append (λ (b : ℕ). placed_at b place) front rest)
-    ∙ append_assoc (all_at place front) (all_at place rest) (unread bytes frames)
-    ∙ ap (λ (xs : List Placed). all_at place front ++ xs) (sym (unread-push bytes frames (record { next = next + count; end = end; place = place })))
+-- the innermost body has given this number of bytes, and has more
+pub gives-some : (bytes : List ℕ) (frames : List Frame) (frame : Frame) (count : ℕ) → count ≤ frame.end - frame.next → frame.end ≤ length bytes →
+    drop count (unread bytes (frames ++ frame ∷ [])) ≡ unread bytes (frames ++ record frame { next = frame.next + count } ∷ [])
+gives-some bytes frames frame count less within = search (arith, unread-push, drop-append-le, length-all_at, length-take, length-drop, drop-map, drop-sublist) steps 100000
 
--- the innermost body gives all of its bytes
-pub gives-all : (bytes : List ℕ) (frames : List Frame) (next end place count : ℕ) → end ≤ length bytes → end - next ≤ count →
-    unread bytes (frames ++ record { next = next; end = end; place = place } ∷ []) ≡ all_at place (take count (sublist bytes next end)) ++ unread bytes frames
-gives-all bytes frames next end place count within all =
-    unread-push bytes frames (record { next = next; end = end; place = place })
-    ∙ ap (λ (xs : List ℕ). all_at place xs ++ unread bytes frames)
-    (sym (take_all count (sublist bytes next end) (omega (arith, all, within, length-take (end - next) (drop next bytes), length-drop next bytes))))
+-- it has given all
+pub gives-all : (bytes : List ℕ) (frames : List Frame) (frame : Frame) (count : ℕ) → length (sublist bytes frame.next frame.end) ≡ count → drop count (unread bytes (frames ++ frame ∷ [])) ≡ unread bytes frames
+gives-all bytes frames frame count all = search (arith, unread-push, drop_at, length-all_at) steps 100000
 
 -- there is one innermost body
 pub same-frame : (frames before before' : List Frame) (frame frame' : Frame) → frames ≡ before ++ frame ∷ [] → frames ≡ before' ++ frame' ∷ [] → frame ≡ frame'
@@ -98,14 +74,6 @@ same-frame frames before before' frame frame' is is' =
     ∙ ap (λ (xs : List Frame). get_or xs (length before) frame) (sym is ∙ is')
     ∙ ap (λ (i : ℕ). get_or (before' ++ frame' ∷ []) i frame) same
     ∙ get_or-append_seam before' frame' [] frame
-
--- the bytes that the innermost body gives are a prefix of its bytes
-pub same-prefix : (bytes : List ℕ) (frames before : List Frame) (frame : Frame) (text : List ℕ) (place count : ℕ) → frames ≡ before ++ frame ∷ [] → Innermost bytes frames text place →
-    all_at frame.place (take count (sublist bytes frame.next frame.end)) ≡ all_at place (take count text)
-same-prefix bytes frames before frame text place count is inner =
-    let same = same-frame frames before inner.before frame inner.frame is inner.last in
-    ap (λ (f : Frame). all_at f.place (take count (sublist bytes f.next f.end))) same
-    ∙ ap₂ (λ (n : ℕ) (xs : List ℕ). all_at n (take count xs)) (sym inner.place_is) (sym inner.text_is)
 
 -- the unread bytes are unchanged when bytes are added to the store
 pub unread-store_grown : (bytes more : List ℕ) (frames : List Frame) → FramesIn (length bytes) frames → unread (bytes ++ more) frames ≡ unread bytes frames
@@ -125,10 +93,7 @@ length-sublist bytes start end h within = length-take (end - start) (drop start 
 -- the number of unread bytes with one more body
 pub length-unread-push : (bytes : List ℕ) (frames : List Frame) (frame : Frame) → IsFrame (length bytes) frame →
     length (unread bytes (frames ++ frame ∷ [])) ≡ length (unread bytes frames) + (frame.end - frame.next)
-length-unread-push bytes frames frame h =
-    let pushed = ap length (unread-push bytes frames frame) ∙ length-append (frame_bytes bytes frame) (unread bytes frames) in
-    let count = length-all_at frame.place (sublist bytes frame.next frame.end) ∙ length-sublist bytes frame.next frame.end (omega (arith, h.0)) h.1 in
-    omega (arith, pushed, count)
+length-unread-push bytes frames frame h = search (arith, unread-push, length-append, length-all_at, length-sublist) steps 100000
 
 -- each body that is read has an unread byte
 pub frames-unread : (bytes : List ℕ) (frames : List Frame) → FramesIn (length bytes) frames → length frames ≤ length (unread bytes frames)
@@ -139,9 +104,6 @@ frames-unread bytes (frame ∷ frames) h =
     let count = length-all_at frame.place (sublist bytes frame.next frame.end) ∙ length-sublist bytes frame.next frame.end (omega (arith, first.0)) first.1 in
     omega (arith, rest, first.0, count, length-append (unread bytes frames) (frame_bytes bytes frame))
 
-pub frames-within : (n m : ℕ) (frames : List Frame) → n ≤ m → FramesIn n frames → FramesIn m frames
-frames-within n m frames h all k d within = let one = all k d within in (one.0, omega (arith, one.1))
-
 -- the unread bytes are unchanged when the open body grows
 pub unread-store : (old new : StoreState) (more : List ℕ) (frames : List Frame) → new.bytes ≡ old.bytes ++ more → FramesIn (length old.bytes) frames →
     unread new.bytes frames ≡ unread old.bytes frames
@@ -149,8 +111,7 @@ unread-store old new more frames e h = ap (λ (bytes : List ℕ). unread bytes f
 
 pub frames-store : (old new : StoreState) (more : List ℕ) (frames : List Frame) → new.bytes ≡ old.bytes ++ more → FramesIn (length old.bytes) frames →
     FramesIn (length new.bytes) frames
-frames-store old new more frames e h =
-    frames-within (length old.bytes) (length new.bytes) frames (omega (arith, ap length e, length-append old.bytes more)) h
+frames-store old new more frames e h = λ k d within. let one = h k d within in (one.0, omega (arith, one.1, ap length e, length-append old.bytes more))
 
 -- one more body is within the store
 pub frames-push : (n : ℕ) (frames : List Frame) (frame : Frame) → FramesIn n frames → IsFrame n frame → FramesIn n (frames ++ frame ∷ [])
@@ -167,9 +128,7 @@ drop-placed_by_step place step (b ∷ bs) (suc n) = drop-placed_by_step (place +
 -- the byte of a slice at an index, and those after it
 pub byte-placed_by_step : (place step : ℕ) (bs : List ℕ) (n : ℕ) → n < length bs → drop n (placed_by_step place step bs) ≡ placed_at (get_or bs n 0) (place + step * n) ∷ placed_by_step (place + step * (n + 1)) step (drop (n + 1) bs)
 unfolding placed_by_step
-byte-placed_by_step place step bs n less =
-    drop-placed_by_step place step bs n ∙ ap (placed_by_step (place + step * n) step) (drop_more bs n 0 less)
-    ∙ ap (λ (p : ℕ). placed_at (get_or bs n 0) (place + step * n) ∷ placed_by_step p step (drop (n + 1) bs)) (let e : place + step * n + step ≡ place + step * (n + 1) = grind arith in e)
+byte-placed_by_step place step bs n less = search (arith, drop-placed_by_step, drop_more) steps 100000
 
 -- the first of some bytes
 pub first_of : (xs : List Placed) (b : ℕ) (bs : List ℕ) → bytes_of xs ≡ b ∷ bs → (x : Placed) × (ys : List Placed) × (xs ≡ x ∷ ys) × (x.byte ≡ b) × (bytes_of ys ≡ bs)
@@ -224,28 +183,13 @@ pub none_or_some : (frames : List Frame) → (frames ≡ []) ⊎ (frames ≢ [])
 none_or_some [] = inl refl
 none_or_some (first ∷ others) = inr (λ none. let bad : ⊥ = cc in bad)
 
-some_unread : (stored : List ℕ) (frames : List Frame) → FramesIn (length stored) frames → frames ≢ [] → 0 < length (unread stored frames)
+pub some_unread : (stored : List ℕ) (frames : List Frame) → FramesIn (length stored) frames → frames ≢ [] → 0 < length (unread stored frames)
 some_unread stored [] framed some = absurd (some refl)
 some_unread stored (first ∷ others) framed some = omega (arith, frames-unread stored (first ∷ others) framed)
 
--- The number of bytes that were passed, and the index after them.
-pub passed_to : {input input' : Input} {count : ℕ} → Passed input input' count → (0 < length (unread_of input) → count ≤ length (unread_of input)) →
-    (input'.at ≡ input.at + (count - length (unread_of input))) × (input'.fed ≡ input.fed + (count - length (unread_of input)))
-passed_to {input} passed inside = elim (none_or_some input.frames.stack.items) [
-  | inl none ↦
-      let moved = passed.moves.of_piece none in
-      let empty = ap (λ (frames : List Frame). length (unread input.store.bytes frames)) none in
-      (omega (arith, moved.1, empty), omega (arith, moved.2, empty))
-  | inr some ↦
-      let moved = passed.moves.of_body some in
-      let few = inside (some_unread input.store.bytes input.frames.stack.items input.framed some) in
-      (omega (arith, moved.0, few), omega (arith, moved.1, few))
-]
-
 -- the bytes of the innermost body are a prefix of the unread bytes
 body_next : {stored : List ℕ} {frames : List Frame} {text : List ℕ} {place : ℕ} (inner : Innermost stored frames text place) → unread stored frames ≡ all_at place text ++ unread stored inner.before
-body_next {stored} inner =
-    ap (unread stored) inner.last ∙ unread-push stored inner.before inner.frame ∙ ap₂ (λ (m : ℕ) (bs : List ℕ). all_at m bs ++ unread stored inner.before) (sym inner.place_is) (sym inner.text_is)
+body_next {stored} inner = search (arith, unread-push) steps 100000
 
 -- If the next slice is empty, no byte comes next.
 pub none_comes : {stored : List ℕ} {frames : List Frame} {piece text : List ℕ} {at fed place : ℕ} → FramesIn (length stored) frames → at ≤ length piece → AreNextBytes stored frames piece at fed text place →
@@ -281,16 +225,16 @@ module _ (input : Input) (piece text : List ℕ) (place : ℕ) (comes : AreNextB
   ]
 
   -- the first bytes of the slice are the first of the next bytes
-  pub taken_next : (n : ℕ) → n ≤ length text → take n (bytes_of (next_bytes input piece)) ≡ take n text
+  pub taken_next : (n : ℕ) → n ≤ length text → bytes_of (take n (next_bytes input piece)) ≡ take n text
   taken_next n few = elim (none_or_some input.frames.stack.items) [
     | inl none ↦ at_step 1 (λ _. refl) (λ some. absurd (some none))
     | inr some ↦ at_step 0 (λ none. absurd (some none)) (λ _. refl)
   ]
     where
-      at_step : (step : ℕ) → (input.frames.stack.items ≡ [] → step ≡ 1) → (input.frames.stack.items ≢ [] → step ≡ 0) → take n (bytes_of (next_bytes input piece)) ≡ take n text
+      at_step : (step : ℕ) → (input.frames.stack.items ≡ [] → step ≡ 1) → (input.frames.stack.items ≢ [] → step ≡ 0) → bytes_of (take n (next_bytes input piece)) ≡ take n text
       at_step step of_one of_none =
           let next = text_next step of_one of_none in
-          ap (λ (xs : List Placed). take n (bytes_of xs)) next.1
+          sym (take-map (λ (x : Placed). x.byte) n (next_bytes input piece)) ∙ ap (λ (xs : List Placed). take n (bytes_of xs)) next.1
           ∙ ap (take n) (bytes_of-append (placed_by_step place step text) next.0 ∙ ap (λ (bs : List ℕ). bs ++ bytes_of next.0) (bytes_of-placed_by_step place step text))
           ∙ take-append-le n text (bytes_of next.0) few
 
@@ -305,15 +249,6 @@ module _ (input : Input) (piece text : List ℕ) (place : ℕ) (comes : AreNextB
         let inner = comes.of_body some in
         let size = ap length (body_next inner) ∙ length-append (all_at place text) (unread input.store.bytes inner.before) in
         (λ none. absurd (omega (arith, none, some_unread input.store.bytes input.frames.stack.items input.framed some)), λ _. omega (arith, size, length-all_at place text))
-  ]
-
-  -- the unread bytes after `count` were passed
-  pub passed_rest : {input' : Input} {count : ℕ} → Passed input input' count → count ≤ length text → unread input.store.bytes input'.frames.stack.items ≡ drop count (unread_of input)
-  passed_rest {input'} {count} passed few = elim (none_or_some input.frames.stack.items) [
-    | inl none ↦ ap (unread input.store.bytes) (passed.moves.of_piece none).0 ∙ sym (ap (λ (frames : List Frame). drop count (unread input.store.bytes frames)) none ∙ drop_all count [] (omega arith))
-    | inr some ↦
-        sym (ap (drop count) ((passed.moves.of_body some).2 text place (comes.of_body some) few)
-        ∙ drop_at (all_at place (take count text)) (unread input.store.bytes input'.frames.stack.items) count (length-all_at place (take count text) ∙ length-take-le count text few))
   ]
 
 -- a list of frames that isn't empty has a last one
@@ -334,9 +269,7 @@ following_body stored frames piece text at place inner =
 
 -- the bytes of a part, by the first
 first_of_part : (stored : List ℕ) (next end : ℕ) → next < end → end ≤ length stored → sublist stored next end ≡ get_or stored next 0 ∷ take (end - next - 1) (drop (next + 1) stored)
-first_of_part stored next end some within =
-    let one_more : end - next ≡ suc (end - next - 1) = omega (arith, some) in
-    ap (λ (n : ℕ). take n (drop next stored)) one_more ∙ ap (take (suc (end - next - 1))) (drop_more stored next 0 (omega (arith, some, within)))
+first_of_part stored next end some within = search (arith, drop_more) steps 100000
 
 -- the byte after the innermost body is the next byte of the body outside it
 pub following_in_body : (stored : List ℕ) (frames : List Frame) → FramesIn (length stored) frames → (piece text : List ℕ) (at place : ℕ) → Innermost stored frames text place → (d : Frame) → 1 < length frames →
@@ -375,9 +308,7 @@ following_in_piece stored frames piece text at place inner one within =
 -- no byte comes after the innermost body
 pub none_following : (stored : List ℕ) (frames : List Frame) (piece text : List ℕ) (at fed place : ℕ) → length frames ≤ 1 → (frames ≡ []) ⊎ (length piece ≤ at) → AreNextBytes stored frames piece at fed text place →
     bytes_after stored frames piece at text ≡ []
-none_following stored [] piece text at fed place one none comes =
-    let front = (comes.of_piece refl).0 in
-    ap (λ (bs : List ℕ). drop (length bs) (drop at piece)) front ∙ drop_all (length (drop at piece)) (drop at piece) (omega arith)
+none_following stored [] piece text at fed place one none comes = search (arith, drop_all) steps 100000
 none_following stored (first ∷ others) piece text at fed place one (inl none) comes = let bad : ⊥ = cc in absurd bad
 none_following stored (first ∷ others) piece text at fed place one (inr all) comes =
     let frames = first ∷ others in
@@ -388,10 +319,7 @@ none_following stored (first ∷ others) piece text at fed place one (inr all) c
 -- The bytes that came, and the next bytes then.
 pub came_coming : (frames rest : List Placed) (piece : List ℕ) (at until fed counted : ℕ) (xs : List Placed) → Came frames rest piece at until fed xs → counted + at ≡ fed + until →
     frames ++ placed_from fed (drop at piece) ≡ xs ++ (rest ++ placed_from counted (drop until piece))
-came_coming frames rest piece at until fed counted xs (of_body some split still) counts =
-    ap₂ (λ (zs : List Placed) (n : ℕ). zs ++ placed_from n (drop at piece)) split (let e : fed ≡ counted = omega (arith, still, counts) in e)
-    ∙ append_assoc xs rest (placed_from counted (drop at piece))
-    ∙ ap (λ (n : ℕ). xs ++ (rest ++ placed_from counted (drop n piece))) (sym still)
+came_coming frames rest piece at until fed counted xs (of_body some split still) counts = search (arith, append_assoc) steps 100000
 came_coming frames rest piece at until fed counted xs (of_piece empty none is further within) counts =
     let n = length xs in
     ap (λ (zs : List Placed). zs ++ placed_from fed (drop at piece)) empty
@@ -426,23 +354,24 @@ some_come stored frames framed piece at fed = by frames refl
           record { of_piece = λ none. absurd (some none); of_body = λ _. record { before = parts.0; frame = parts.1; last = is ∙ parts.2; text_is = refl; place_is = refl } },
         )
 
--- The next byte is in some slice.
-pub byte_comes : {input : Input} {piece : List ℕ} {byte place : ℕ} → IsNextByte input piece byte place →
-    (text : List ℕ) × (first : ℕ) × AreNextBytes input.store.bytes input.frames.stack.items piece input.at input.fed text first × (1 ≤ length text)
-byte_comes {input} {piece} {byte} {place} next = by there.0 refl
+-- If a byte comes next, it can be passed.
+pub some_pass : {input : Input} {piece : List ℕ} → Reads input piece → 0 < length (unread_of input) + (length piece - input.at) → CanPass input piece 1
+some_pass {input} {piece} reads more = by there.0 refl
   where
     there : (text : List ℕ) × (first : ℕ) × AreNextBytes input.store.bytes input.frames.stack.items piece input.at input.fed text first
     there = some_come input.store.bytes input.frames.stack.items input.framed piece input.at input.fed
 
-    by : (bytes : List ℕ) → there.0 ≡ bytes → (text : List ℕ) × (first : ℕ) × AreNextBytes input.store.bytes input.frames.stack.items piece input.at input.fed text first × (1 ≤ length text)
-    by [] none =
-        let nothing = none_comes input.framed next.reads.within there.2 none in
-        absurd (omega (arith, ap length (sym next.is ∙ ap (λ (zs : List Placed). zs ++ placed_from input.fed (drop input.at piece)) nothing.0), length-placed input.fed (drop input.at piece), length-drop input.at piece, nothing.1))
-    by (b ∷ bs) some = (there.0, there.1, there.2, omega (arith, ap length some))
+    by : (bytes : List ℕ) → there.0 ≡ bytes → CanPass input piece 1
+    by [] none = let nothing = none_comes input.framed reads.within there.2 none in absurd (omega (arith, more, ap length nothing.0, nothing.1))
+    by (b ∷ bs) some = record { reads = reads; place = there.1; text = there.0; comes = there.2; few = omega (arith, ap length some) }
 
--- The next byte can be passed.
+pub byte_comes : {input : Input} {piece : List ℕ} {byte place : ℕ} → IsNextByte input piece byte place → CanPass input piece 1
+byte_comes {input} {piece} next =
+    some_pass next.reads
+    (omega (arith, ap length next.is, length-append (unread_of input) (placed_from input.fed (drop input.at piece)), length-placed input.fed (drop input.at piece), length-drop input.at piece))
+
 pub can_pass : {input : Input} {piece : List ℕ} {byte place : ℕ} → IsNextByte input piece byte place → CanAdvance input 1
-can_pass {input} {piece} next = let c = byte_comes next in record { piece = piece; reads = next.reads; place = c.1; text = c.0; comes = c.2; few = c.3 }
+can_pass {piece = piece} next = (piece, byte_comes next)
 
 -- the place of a byte of a slice
 pub place_at-placed_by_step : (place step : ℕ) (bs : List ℕ) (i : ℕ) → i < length bs → place_at (placed_by_step place step bs) i ≡ place + step * i
@@ -455,9 +384,6 @@ place_at-placed_by_step place step (b ∷ bs) (suc i) less = place_at-placed_by_
 module _ (stored : List ℕ) (frames : List Frame) (text : List ℕ) (place : ℕ) (inner : Innermost stored frames text place) where
   pub some_inside : frames ≢ []
   some_inside none = omega (arith, ap length (sym none ∙ inner.last), length-append inner.before (inner.frame ∷ []))
-
-  pub comes_inside : (piece : List ℕ) (at fed : ℕ) → AreNextBytes stored frames piece at fed text place
-  comes_inside piece at fed = record { of_piece = λ none. absurd (some_inside none); of_body = λ _. inner }
 
   -- a body that is being read has an unread byte
   pub text_inside : FramesIn (length stored) frames → 0 < length text
@@ -480,32 +406,13 @@ module _ (stored : List ℕ) (frames : List Frame) (text : List ℕ) (place : �
 -- No bytes of bodies are left, nor of the piece.
 pub none_left : (input : Input) (piece : List ℕ) → input.frames.stack.items ≡ [] → length piece ≤ input.at → next_bytes input piece ≡ []
 unfolding placed_from
-none_left input piece none all =
-    ap (λ (frames : List Frame). unread input.store.bytes frames ++ placed_from input.fed (drop input.at piece)) none ∙ ap (placed_from input.fed) (drop_all input.at piece all)
+none_left input piece none all = search (arith, drop_all) steps 100000
 
--- The open body has grown.
-module _ (input : Input) (new : StoreState) (more : List ℕ) (is : new ≡ store_grown input.store more) where
-  pub grown_unread : unread new.bytes input.frames.stack.items ≡ unread_of input
-  grown_unread = unread-store input.store new more input.frames.stack.items (ap (λ (t : StoreState). t.bytes) is) input.framed
-
-  pub grown_framed : FramesIn (length new.bytes) input.frames.stack.items
-  grown_framed = frames-store input.store new more input.frames.stack.items (ap (λ (t : StoreState). t.bytes) is) input.framed
-
-  pub grown_turned : input.turns + length (unread new.bytes input.frames.stack.items) ≡ input.fed + input.charged
-  grown_turned = omega (arith, input.turned, ap (λ (xs : List Placed). length xs) grown_unread)
-
-  pub grown_few : input.store.stored + length input.store.body + length more ≤ store_limit → new.stored + length new.body ≤ store_limit
-  grown_few few = omega (arith, few, ap (λ (t : StoreState). t.stored + length t.body) is, length-append input.store.body more)
-
-  pub grown_paired : length new.bytes ≤ new.stored + length new.body + input.charged
-  grown_paired =
-      omega (arith, input.paired, ap (λ (t : StoreState). t.stored + length t.body) is, length-append input.store.body more, ap (λ (t : StoreState). length t.bytes) is, length-append input.store.bytes more)
-
--- the open body has the bytes, or memory was lacking and it has none
-pub grown_either : {E : Type 0} (r : Result (Unit {0}) E) (old new : StoreState) (more : List ℕ) → OnOk r (new ≡ store_grown old more) → OnErr r (new ≡ old) → (some : List ℕ) × (length some ≤ length more) × (new ≡ store_grown old some)
-grown_either (Ok done) old new more ok err = (more, omega arith, ok)
-grown_either (Err e) old new more ok err =
-    ([], omega arith, err ∙ sym (ap₂ (λ (bytes body : List ℕ). record old { bytes = bytes; body = body }) (append-nil old.bytes) (append-nil old.body)))
+-- The open body has grown, or memory was lacking and it is unchanged.
+pub grown : {E : Type 0} (input : Input) (new : StoreState) (more : List ℕ) (r : Result (Unit {0}) E) → OnOk r (new ≡ store_grown input.store more) → OnErr r (new ≡ input.store) → input.store.stored + length input.store.body + length more ≤ store_limit →
+    FramesIn (length new.bytes) input.frames.stack.items × (input.turns + length (unread new.bytes input.frames.stack.items) ≡ input.fed + input.charged) × (new.stored + length new.body ≤ store_limit) × (length new.bytes ≤ new.stored + length new.body + input.charged)
+grown input new more (Ok done) is err few = search (arith, length-append, unread-store_grown, frames-store) steps 100000
+grown input new more (Err e) ok is few = rw is (input.framed, input.turned, input.few, input.paired)
 
 -- The next bytes are unchanged when the open body grows.
 pub comes_still : (stored more : List ℕ) (frames : List Frame) → FramesIn (length stored) frames → (piece : List ℕ) (at fed : ℕ) (text : List ℕ) (place : ℕ) → AreNextBytes stored frames piece at fed text place → AreNextBytes (stored ++ more) frames piece at fed text place
@@ -526,10 +433,7 @@ comes_still stored more frames framed piece at fed text place comes = record {
 -- The n bytes that came: of bodies, or of the piece.
 pub came_take : (frames : List Placed) (piece : List ℕ) (at fed n : ℕ) → at ≤ length piece → (length frames ≡ 0 → at + n ≤ length piece) → (0 < length frames → n ≤ length frames) →
     Came frames (drop n frames) piece at (at + (n - length frames)) fed (take n (frames ++ placed_from fed (drop at piece)))
-came_take [] piece at fed n within alone inside =
-    let few = alone refl in
-    let counted : length (take n (placed_from fed (drop at piece))) ≡ n = length-take-le n (placed_from fed (drop at piece)) (omega (arith, few, length-placed fed (drop at piece), length-drop at piece)) in
-    of_piece refl (drop_all n [] (omega arith)) (take-placed n fed (drop at piece) ∙ ap (λ (k : ℕ). placed_from fed (take k (drop at piece))) (sym counted)) (omega (arith, counted)) (omega (arith, few))
+came_take [] piece at fed n within alone inside = search (arith, length-take-le, length-placed, length-drop, drop_all, take-placed) steps 100000
 came_take (x ∷ xs) piece at fed n within alone inside =
     let few = inside (omega arith) in
     of_body (omega arith) (sym (take-append-drop n (x ∷ xs)) ∙ ap (λ (ys : List Placed). ys ++ drop n (x ∷ xs)) (sym (take-append-le n (x ∷ xs) (placed_from fed (drop at piece)) few))) (omega (arith, few))

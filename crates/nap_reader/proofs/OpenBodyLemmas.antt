@@ -1,385 +1,211 @@
-use Rattle.nap_reader.proofs.Common.{AreOfBody, AtBody, BodyFront, Bool, Continues, EighthBit, Entry, Fault, Ghosts, ReadingState, ArePending, ArePendingIn, IsOpenBody, IsRefused, List, Machine, Mode, None, OpenBody, Option, Outcome, Placed, ReadsOn, Some, Store, [], act, after_body, ap, append-nil, append_assoc, arith, between, body_front, body_front_by, bound_front, bytes_of, after_charge, cond, drop, drop_at, ends_body, eqb, false, front, pending_escape, in_body, inl, inr, leb, length, length-append, length-map, nat_tests, one_byte_later, outcome_by_front, outcome_from, body_front_after, place_at, prepend, refl, refusal, refuse, shown_front, store_limit, stores, subst, sym, take, take_at, true, ℕ, ◌++◌, ◌+◌, ◌-◌, ◌<◌, ◌∙◌, ◌∷◌, ◌≡◌, ◌≢◌, ◌≤◌, ◌⊎◌}
+use Rattle.nap_reader.proofs.Common.{All, All-cons, All-head, All-nil, All-tail, AreOfBody, ArePending, ArePendingIn, BodyFront, Bool, Continues, EighthBit, Fault, Ghosts, IsOpenBody, IsRefused, List, Machine, Mode, None, OpenBody, Option, Outcome, Placed, ReadingState, Some, Store, [], act, after_body, ap, append-nil, append_assoc, ap₂, arith, between, body_front, body_front_after, body_front_by, bound_front, bytes_of, drop_at, ends_body, eqb, eqb-false, eqb-true, false, front, in_body, le-leb, leb, length, length-append, length-map, lt-leb, nat_tests, ne_eqb, outcome_from, pending_escape, place_at, prepend, refl, refusal, refuse, shown_front, store_limit, stores, subst, sym, take, take-append-add, take-map, take_at, true, ℕ, ◌++◌, ◌+◌, ◌-◌, ◌<◌, ◌∙◌, ◌∷◌, ◌≡◌, ◌≢◌, ◌≤◌}
+use Rattle.std.proofs.Math.Seq.{drop-append-add}
 use Rattle.nap_reader.specs.Bodies as bodies
-use Rattle.nap_reader.proofs.ReadingLemmas.{place_at-following, front_body, leads_left, leads_shown, leads_to_refusal, leads_past, leads_shift, leads_unrefused, code_continues, holds_nothing}
-use Rattle.nap_reader.proofs.StreamLemmas.{bytes_of-append, outcome_from-front}
+use Rattle.nap_reader.proofs.ReadingLemmas.{by_front, front_at, holds_nothing, leads_to_refusal, place_at-following}
+use Rattle.nap_reader.proofs.StreamLemmas.{bytes_of-append}
 use Rattle.nap_reader.proofs.SpelledLemmas.{escape_unfinished}
 
--- The effect of the next byte of an open body.
+-- The effect of the next bytes of an open body.
 
 -- a byte that is neither ESC nor has the eighth bit
 pub record IsPlain (byte : ℕ) : Type 0 where
   pub low : byte < 128
   pub other : byte ≢ 27
 
-body_front_after-further : (n : ℕ) (f : BodyFront) → body_front_after n (one_byte_later f) ≡ body_front_after (n + 1) f
-body_front_after-further n bodies.unfinished = refl
-body_front_after-further n (bodies.refused fault i) = ap (bodies.refused fault) (omega arith)
-body_front_after-further n (bodies.ended k) = ap bodies.ended (omega arith)
+body_front_after-none : (f : BodyFront) → body_front_after 0 f ≡ f
+body_front_after-none f = grind arith
 
-pub stores-some : (space : ℕ) (f : BodyFront) → space ≢ 0 → stores space f ≡ one_byte_later f
-stores-some space f some = at (eqb space 0) refl
-  where
-    at : (b : Bool) → eqb space 0 ≡ b → cond b (bodies.refused Store 0) (one_byte_later f) ≡ one_byte_later f
-    at true e = absurd (some (grind (arith, nat_tests)))
-    at false e = refl
+body_front_after-twice : (n k : ℕ) (f : BodyFront) → body_front_after n (body_front_after k f) ≡ body_front_after (n + k) f
+body_front_after-twice n k f = grind arith
 
-pub stores-none : (space : ℕ) (f : BodyFront) → space ≡ 0 → stores space f ≡ bodies.refused Store 0
-stores-none space f none = rw none refl
+-- a byte of the body, which has space for it
+stores_one : (space : ℕ) (f : BodyFront) → space ≢ 0 → stores space f ≡ body_front_after 1 f
+stores_one space f some = grind (arith, nat_tests)
 
-pub plain_front : (space byte : ℕ) (bytes : List ℕ) → IsPlain byte → body_front space (byte ∷ bytes) ≡ stores space (body_front (space - 1) bytes)
+plain_front : (space byte : ℕ) (bytes : List ℕ) → IsPlain byte → body_front space (byte ∷ bytes) ≡ stores space (body_front (space - 1) bytes)
 unfolding body_front
-plain_front space byte bytes plain =
-    let low : leb 128 byte ≡ false = grind (arith, nat_tests, plain.low) in
-    let other : eqb byte 27 ≡ false = grind (arith, nat_tests, plain.other) in
-    rw (low, other) refl
+plain_front space byte bytes plain = rw (lt-leb 128 byte plain.low, ne_eqb byte 27 plain.other) refl
 
 -- ESC, and after it a byte that doesn't end the body
-pub escape_front : (space byte : ℕ) (bytes : List ℕ) → byte < 128 → ends_body byte ≡ false →
-    body_front space (27 ∷ byte ∷ bytes) ≡ stores space (body_front (space - 1) (byte ∷ bytes))
+escape_front : (space byte : ℕ) (bytes : List ℕ) → byte < 128 → ends_body byte ≡ false → body_front space (27 ∷ byte ∷ bytes) ≡ stores space (body_front (space - 1) (byte ∷ bytes))
 unfolding body_front
-escape_front space byte bytes few ends =
-    let low : leb 128 byte ≡ false = grind (arith, nat_tests) in
-    rw (low, ends) refl
+escape_front space byte bytes low ends = rw (lt-leb 128 byte low, ends) refl
 
 -- ESC, and after it a byte that ends the body
-pub ended_front : (space byte : ℕ) (bytes : List ℕ) → ends_body byte ≡ true → body_front space (27 ∷ byte ∷ bytes) ≡ bodies.ended 0
+ended_front : (space byte : ℕ) (bytes : List ℕ) → ends_body byte ≡ true → body_front space (27 ∷ byte ∷ bytes) ≡ bodies.ended 0
 unfolding body_front
-ended_front space byte bytes ends =
-    let low : leb 128 byte ≡ false = grind (arith, nat_tests, ends) in
-    rw (low, ends) refl
+ended_front space byte bytes ends = search (arith) steps 100000
 
-eighth_front : (space byte : ℕ) (bytes : List ℕ) → 128 ≤ byte → body_front space (byte ∷ bytes) ≡ bodies.refused EighthBit 0
+-- A byte that is refused, and its place: it has the eighth bit, or the body has no space for it or for the ESC before it.
+
+pub eighth_front : (space : ℕ) (x : Placed) (escape : Option ℕ) (more : List Placed) → 128 ≤ x.byte →
+    (body_front space (bytes_of (pending_escape escape) ++ x.byte ∷ bytes_of more) ≡ bodies.refused EighthBit (length (pending_escape escape))) × (place_at (pending_escape escape ++ x ∷ more) (length (pending_escape escape)) ≡ x.place)
 unfolding body_front
-eighth_front space byte bytes high =
-    let test : leb 128 byte ≡ true = grind (arith, nat_tests) in
-    rw test refl
+eighth_front space x None more high = (rw (le-leb 128 x.byte high) refl, refl)
+eighth_front space x (Some place) more high = (rw (le-leb 128 x.byte high) refl, refl)
 
-eighth_escape : (space byte : ℕ) (bytes : List ℕ) → 128 ≤ byte → body_front space (27 ∷ byte ∷ bytes) ≡ bodies.refused EighthBit 1
-unfolding body_front
-eighth_escape space byte bytes high =
-    let test : leb 128 byte ≡ true = grind (arith, nat_tests) in
-    rw test refl
+pub plain_full : (space byte : ℕ) (bytes : List ℕ) → IsPlain byte → space ≡ 0 → body_front space (byte ∷ bytes) ≡ bodies.refused Store 0
+plain_full space byte bytes plain none = plain_front space byte bytes plain ∙ rw none refl
 
--- a byte that belongs to the body, whatever comes after it
-of_body : (space : ℕ) (body : List ℕ) (byte : ℕ) (next more : List ℕ) →
-    body_front space (body ++ (byte ∷ (next ++ more))) ≡ body_front_after (length body) (stores (space - length body) (body_front (space - length body - 1) (next ++ more))) →
-    space - length body ≢ 0 →
-    body_front space ((body ++ byte ∷ []) ++ (next ++ more)) ≡ body_front_after (length (body ++ byte ∷ [])) (body_front (space - length (body ++ byte ∷ [])) (next ++ more))
-of_body space body byte next more is some =
-    let n = length body in
-    let longer : length (body ++ byte ∷ []) ≡ n + 1 = length-append body (byte ∷ []) in
-    let less : space - n - 1 ≡ space - length (body ++ byte ∷ []) = omega (arith, longer) in
-    ap (body_front space) (append_assoc body (byte ∷ []) (next ++ more))
-    ∙ is
-    ∙ ap (body_front_after n) (stores-some (space - n) (body_front (space - n - 1) (next ++ more)) some)
-    ∙ body_front_after-further n (body_front (space - n - 1) (next ++ more))
-    ∙ ap (λ (k : ℕ). body_front_after k (body_front (space - n - 1) (next ++ more))) (sym longer)
-    ∙ ap (λ (k : ℕ). body_front_after (length (body ++ byte ∷ [])) (body_front k (next ++ more))) less
+pub escape_full : (space byte : ℕ) (bytes : List ℕ) → byte < 128 → ends_body byte ≡ false → space ≡ 0 → body_front space (27 ∷ byte ∷ bytes) ≡ bodies.refused Store 0
+escape_full space byte bytes low ends none = escape_front space byte bytes low ends ∙ rw none refl
 
-body_front_after-none : (f : BodyFront) → body_front_after 0 f ≡ f
-body_front_after-none bodies.unfinished = refl
-body_front_after-none (bodies.refused fault i) = ap (bodies.refused fault) (omega arith)
-body_front_after-none (bodies.ended k) = ap bodies.ended (omega arith)
+pub pair_full : (space byte : ℕ) (bytes : List ℕ) → IsPlain byte → ends_body byte ≡ false → space ≡ 1 → body_front space (27 ∷ byte ∷ bytes) ≡ bodies.refused Store 1
+pair_full space byte bytes plain ends one = escape_front space byte bytes plain.low ends ∙ rw (one, plain_front 0 byte bytes plain) refl
+
+-- Bytes that belong to a body, before the next bytes.
+
+none_of_body : (space : ℕ) (next : List ℕ) → AreOfBody space [] next
+none_of_body space next = λ more. sym (body_front_after-none (body_front (space - 0) (next ++ more)) ∙ ap (λ (n : ℕ). body_front n (next ++ more)) (let e : space - 0 ≡ space = omega arith in e))
+
+-- further bytes belong to it
+then_of_body : (space : ℕ) (body next more added left : List ℕ) → AreOfBody space body next → next ++ more ≡ added ++ left → AreOfBody (space - length body) added left → AreOfBody space (body ++ added) left
+then_of_body space body next more added left first joined then = λ last.
+    let all : next ++ (more ++ last) ≡ added ++ (left ++ last) = sym (append_assoc next more last) ∙ ap (λ (bs : List ℕ). bs ++ last) joined ∙ append_assoc added left last in
+    let less : space - length body - length added ≡ space - (length body + length added) = omega arith in
+    rw (append_assoc body added (left ++ last), length-append body added, ← less, ← body_front_after-twice, ← then last, ← all) (first (more ++ last))
+
+plain_of_body : (space : ℕ) (bytes : List ℕ) → All IsPlain bytes → length bytes ≤ space → AreOfBody space bytes []
+plain_of_body space [] plain few = none_of_body space []
+plain_of_body space (b ∷ bs) plain few =
+    then_of_body space (b ∷ []) [] bs bs [] (λ more. plain_front space b more (All-head IsPlain b bs plain) ∙ stores_one space _ (omega (arith, few))) (sym (append-nil bs))
+    (plain_of_body (space - 1) bs (All-tail IsPlain b bs plain) (omega (arith, few)))
+
+escape_of_body : (space byte : ℕ) → byte < 128 → ends_body byte ≡ false → space ≢ 0 → AreOfBody space (27 ∷ []) (byte ∷ [])
+escape_of_body space byte low ends some = λ more. escape_front space byte more low ends ∙ stores_one space _ some
 
 -- a body begins
-pub body_begins : (b : OpenBody) (h : ReadingState) → b.escape ≡ None → h.machine.mode ≡ in_body b.name b.show → h.body ≡ [] → h.open_run ≡ None → h.half ≡ [] →
-    IsOpenBody [] b h
-body_begins b h none mode empty still half =
-    let space = store_limit - h.machine.stored in
-    let at : AtBody [] b h [] = record {
-      mode = mode;
-      body = sym empty;
-      are_of_body = λ more.
-          rw empty
-          (sym (body_front_after-none (body_front (space - 0) more) ∙ ap (λ (n : ℕ). body_front n more) (let e : space - 0 ≡ space = omega arith in e)));
-      still = still;
-      half = half;
-    } in
-    record {
-      bytes = [];
-      is = ap pending_escape (sym none);
-      at = subst (λ (e : Option ℕ). AtBody [] b h (bytes_of (pending_escape e))) (sym none) at;
-    }
+pub body_begins : (b : OpenBody) (h : ReadingState) → b.escape ≡ None → h.machine.mode ≡ in_body b.name b.show → h.body ≡ [] → h.open_run ≡ None → h.half ≡ [] → IsOpenBody [] b h
+body_begins b h none mode empty still half = search (arith, none_of_body) steps 100000
 
-pending_length : (rest : List Placed) (b : OpenBody) (h : ReadingState) (next : List ℕ) → AtBody rest b h next → length h.body ≡ length rest
-pending_length rest b h next at = ap length (sym at.body) ∙ length-map rest _
+abbrev pub escape_at : ℕ → Placed
+escape_at place = record { byte = 27; place = place }
 
--- the front of the bytes of a body and of those after them
-body_at : (rest : List Placed) (b : OpenBody) (h : ReadingState) (next : List ℕ) (xs : List Placed) (more : List ℕ) → AtBody rest b h next → bytes_of xs ≡ next ++ more →
-    front h.machine (rest ++ xs)
-    ≡ body_front_by h.machine b.name b.show (rest ++ xs) (body_front_after (length h.body) (body_front (store_limit - h.machine.stored - length h.body) (next ++ more)))
-body_at rest b h next xs more at is =
-    front_body rest b h xs at.mode
-    ∙ ap (body_front_by h.machine b.name b.show (rest ++ xs))
-    (ap (body_front (store_limit - h.machine.stored))
-    (bytes_of-append rest xs ∙ ap (λ (bs : List ℕ). bs ++ bytes_of xs) at.body ∙ ap (λ (bs : List ℕ). h.body ++ bs) is)
-    ∙ at.are_of_body more)
+-- After this ESC, or none, and these bytes, a body with this space has the added ones, and this ESC, or none, is pending.
+pub record AreAdded (space : ℕ) (before : Option ℕ) (xs added : List Placed) (escape : Option ℕ) : Type 0 where
+  pub joined : pending_escape before ++ xs ≡ added ++ pending_escape escape
+  pub are_of_body : AreOfBody space (bytes_of added) (bytes_of (pending_escape escape))
 
--- the state before the next byte of a body
-module _ {S : Type 0} {g : Ghosts S} {s : S} {o : Outcome} {t : S} {h : ReadingState} {b : OpenBody} {x : Placed} {pending : List Placed} (k : ReadsOn g s o t h b x pending) where
-  abbrev space : ℕ
-  space = store_limit - h.machine.stored - length h.body
+pub plain_added : (space : ℕ) (xs : List Placed) → All IsPlain (bytes_of xs) → length xs ≤ space → AreAdded space None xs xs None
+plain_added space xs plain few = record { joined = sym (append-nil xs); are_of_body = plain_of_body space (bytes_of xs) plain (omega (arith, few, length-map xs (λ (x : Placed). x.byte))) }
 
-  next_front : (f : BodyFront) → body_front space (x.byte ∷ bytes_of pending) ≡ f →
-      front h.machine (k.rest ++ x ∷ pending) ≡ body_front_by h.machine b.name b.show (k.rest ++ x ∷ pending) (body_front_after (length h.body) f)
-  next_front f e =
-      body_at k.rest b h (x.byte ∷ []) (x ∷ pending) (bytes_of pending) k.at refl
-      ∙ ap (λ (f : BodyFront). body_front_by h.machine b.name b.show (k.rest ++ x ∷ pending) (body_front_after (length h.body) f)) e
+pub lone_escape : (space : ℕ) (x : Placed) → x.byte ≡ 27 → AreAdded space None (x ∷ []) [] (Some x.place)
+lone_escape space x is = record { joined = ap (λ (n : ℕ). record { byte = n; place = x.place } ∷ []) is; are_of_body = none_of_body space (27 ∷ []) }
 
-  -- the next byte is refused
-  refused_next : (fault : Fault) → body_front space (x.byte ∷ bytes_of pending) ≡ bodies.refused fault 0 → IsRefused g s o t h (refusal fault x.place)
-  refused_next fault e =
-      let place = place_at-following k.rest x pending (length h.body + 0) (omega (arith, pending_length k.rest b h (x.byte ∷ []) k.at)) in
-      let is : o ≡ prepend k.done (outcome_by_front outcome_from h.machine (k.rest ++ x ∷ pending) (refuse (refusal fault x.place))) =
-      k.leads ∙ ap (prepend k.done) (outcome_from-front h.machine (k.rest ++ x ∷ pending)
-      ∙ ap (outcome_by_front outcome_from h.machine (k.rest ++ x ∷ pending)) (next_front (bodies.refused fault 0) e ∙ ap (λ (n : ℕ). refuse (refusal fault n)) place)) in (
-        ap (λ (o : Outcome). o.refusal) is,
-        subst (λ (es : List Entry). g.took s es t) (sym (ap (λ (o : Outcome). o.entries) is ∙ append-nil k.done)) k.taken,
-        ap (λ (o : Outcome). o.machine.left) is,
-      )
+-- a pending ESC, and after it another one, or a plain byte that doesn't end the body
+pub escape_added : (space place : ℕ) (x : Placed) → x.byte ≡ 27 → space ≢ 0 → AreAdded space (Some place) (x ∷ []) (escape_at place ∷ []) (Some x.place)
+escape_added space place x is some = search (arith, escape_of_body) steps 100000
 
-  pub byte_full : IsPlain x.byte → space ≡ 0 → IsRefused g s o t h (refusal Store x.place)
-  byte_full plain none = refused_next Store (plain_front space x.byte (bytes_of pending) plain ∙ stores-none space _ none)
+pub pair_added : (space place : ℕ) (x : Placed) → IsPlain x.byte → ends_body x.byte ≡ false → 2 ≤ space → AreAdded space (Some place) (x ∷ []) (escape_at place ∷ x ∷ []) None
+pair_added space place x plain ends some = record {
+  joined = refl;
+  are_of_body =
+      then_of_body space (27 ∷ []) (x.byte ∷ []) [] (x.byte ∷ []) [] (escape_of_body space x.byte plain.low ends (omega (arith, some))) refl
+      (plain_of_body (space - 1) (x.byte ∷ []) (All-cons IsPlain x.byte [] plain (All-nil IsPlain)) (omega (arith, some)));
+}
 
-  -- the reading state after the byte
-  abbrev pub reading_on : Option ℕ → List ℕ → ReadingState
-  reading_on escape body = record h {
-    machine = record h.machine { mode = in_body b.name b.show };
-    open_body = Some (record { name = b.name; show = b.show; escape = escape });
-    body = body;
-  }
+pub either_added : (space place : ℕ) (x : Placed) → x.byte < 128 → ends_body x.byte ≡ false → space ≢ 0 → (x.byte ≢ 27 → 2 ≤ space) → (added : List Placed) × (escape : Option ℕ) × AreAdded space (Some place) (x ∷ []) added escape
+either_added space place x low ends some two = at (eqb x.byte 27) refl
+  where
+    at : (test : Bool) → eqb x.byte 27 ≡ test → (added : List Placed) × (escape : Option ℕ) × AreAdded space (Some place) (x ∷ []) added escape
+    at true e = (escape_at place ∷ [], Some x.place, escape_added space place x (eqb-true x.byte 27 e) some)
+    at false e = let other = eqb-false x.byte 27 e in (escape_at place ∷ x ∷ [], None, pair_added space place x (record { low = low; other = other }) ends (two other))
 
-  shifts : (h' : ReadingState) → h'.machine ≡ record h.machine { mode = in_body b.name b.show } → ArePending (k.rest ++ x ∷ []) h' → Continues g s o t h' pending
-  shifts h' same retained = record {
-    done = k.done;
-    taken = k.taken;
-    clear = k.clear;
-    rest = k.rest ++ x ∷ [];
-    retained = retained;
-    leads =
-        k.leads
-        ∙ ap (λ (mode : Mode). prepend k.done (outcome_from (record h.machine { mode = mode }) (k.rest ++ x ∷ pending))) k.at.mode
-        ∙ ap (λ (m : Machine). prepend k.done (outcome_from m (k.rest ++ x ∷ pending))) (sym same)
-        ∙ ap (λ (xs : List Placed). prepend k.done (outcome_from h'.machine xs)) (sym (append_assoc k.rest (x ∷ []) pending));
-  }
+-- the reading state with this pending ESC, or none, and these bytes in the body
+abbrev pub state_with_body : ReadingState → OpenBody → Option ℕ → List ℕ → ReadingState
+state_with_body h b escape body = record h {
+  machine = record h.machine { mode = in_body b.name b.show };
+  open_body = Some (record { name = b.name; show = b.show; escape = escape });
+  body = body;
+}
 
-  bytes_more : bytes_of (k.rest ++ x ∷ []) ≡ h.body ++ x.byte ∷ []
-  bytes_more = bytes_of-append k.rest (x ∷ []) ∙ ap (λ (bs : List ℕ). bs ++ x.byte ∷ []) k.at.body
+-- the space that is left for the body
+abbrev pub space_for : ReadingState → ℕ
+space_for h = store_limit - h.machine.stored - length h.body
 
-  -- the byte is a byte of the body
-  pub byte_kept : IsPlain x.byte → space ≢ 0 → Continues g s o t (reading_on None (h.body ++ x.byte ∷ [])) pending
-  byte_kept plain some = shifts (reading_on None (h.body ++ x.byte ∷ [])) refl (record {
-    bytes = k.rest ++ x ∷ [];
-    is = sym (append-nil (k.rest ++ x ∷ []));
-    at = record {
-      mode = refl;
-      body = bytes_more;
-      are_of_body = λ more.
-          of_body (store_limit - h.machine.stored) h.body x.byte [] more
-          (k.at.are_of_body more ∙ ap (body_front_after (length h.body)) (plain_front space x.byte more plain)) some;
-      still = k.at.still;
-      half = k.at.half;
-    };
-  })
+-- bytes after an open body
+module _ {S : Type 0} {g : Ghosts S} {s : S} {o : Outcome} {t : S} {h : ReadingState} {b : OpenBody} (opened : h.open_body ≡ Some b) where
+  module _ {pending : List Placed} (k : Continues g s o t h pending) where
+    pub pending_body : IsOpenBody k.rest b h
+    pending_body = subst (ArePendingIn k.rest h) opened k.retained
 
-  -- the byte is ESC
-  pub escape_pending : x ≡ record { byte = 27; place = x.place } → Continues g s o t (reading_on (Some x.place) h.body) pending
-  escape_pending is = shifts (reading_on (Some x.place) h.body) refl (record {
-    bytes = k.rest;
-    is = ap (λ (y : Placed). k.rest ++ y ∷ []) is;
-    at = record {
-      mode = refl;
-      body = k.at.body;
-      are_of_body = subst (λ (y : Placed). AreOfBody (store_limit - h.machine.stored) h.body (y.byte ∷ [])) is k.at.are_of_body;
-      still = k.at.still;
-      half = k.at.half;
-    };
-  })
+    pub body_at_front : (f : BodyFront) → body_front (space_for h) (bytes_of (pending_escape b.escape) ++ bytes_of pending) ≡ f →
+        front h.machine (k.rest ++ pending) ≡ body_front_by h.machine b.name b.show (pending_body.bytes ++ (pending_escape b.escape ++ pending)) (body_front_after (length pending_body.bytes) f)
+    body_at_front f e =
+        let p = pending_body in
+        let next = pending_escape b.escape ++ pending in
+        let all : k.rest ++ pending ≡ p.bytes ++ next = ap (λ (xs : List Placed). xs ++ pending) p.is ∙ append_assoc p.bytes (pending_escape b.escape) pending in
+        let size : length h.body ≡ length p.bytes = ap length (sym p.body) ∙ length-map p.bytes _ in
+        let bytes : bytes_of (p.bytes ++ next) ≡ h.body ++ (bytes_of (pending_escape b.escape) ++ bytes_of pending) =
+        bytes_of-append p.bytes next ∙ ap₂ (λ (xs ys : List ℕ). xs ++ ys) p.body (bytes_of-append (pending_escape b.escape) pending) in
+        ap (front h.machine) all ∙ front_at h.machine (p.bytes ++ next) p.mode
+        ∙ ap (body_front_by h.machine b.name b.show (p.bytes ++ next))
+        (ap (body_front (store_limit - h.machine.stored)) bytes ∙ p.are_of_body (bytes_of pending) ∙ ap₂ body_front_after size e)
 
--- a byte after an open body
-module _ {S : Type 0} {g : Ghosts S} {s : S} {o : Outcome} {t : S} {h : ReadingState} {b : OpenBody} {x : Placed} {pending : List Placed} (opened : h.open_body ≡ Some b) (k : Continues g s o t h (x ∷ pending)) where
-  pub pending_body : IsOpenBody k.rest b h
-  pending_body = subst (ArePendingIn k.rest h) opened k.retained
+    -- they are refused
+    pub body_refused : (fault : Fault) (i : ℕ) → body_front (space_for h) (bytes_of (pending_escape b.escape) ++ bytes_of pending) ≡ bodies.refused fault i → IsRefused g s o t h (refusal fault (place_at (pending_escape b.escape ++ pending) i))
+    body_refused fault i e = leads_to_refusal k _ (body_at_front (bodies.refused fault i) e ∙ ap (λ (n : ℕ). refuse (refusal fault n)) (place_at-following pending_body.bytes (pending_escape b.escape ++ pending) (length pending_body.bytes + i) i refl))
 
-  abbrev unread_space : ℕ
-  unread_space = store_limit - h.machine.stored - length h.body
+    -- the reading state once the body has ended
+    pub body_over : (m : Machine) → m.mode ≡ between → ArePending [] (record h { machine = m; open_run = None; run = []; open_body = None; body = [] })
+    body_over m mode = holds_nothing (record h { machine = m; open_run = None; run = []; open_body = None; body = [] }) refl mode refl refl pending_body.half
 
-  -- the reading state once the body has ended
-  pub body_over : (m : Machine) → m.mode ≡ between → ArePending [] (record h { machine = m; open_run = None; run = []; open_body = None; body = [] })
-  body_over m mode =
-      holds_nothing (record h { machine = m; open_run = None; run = []; open_body = None; body = [] }) refl mode refl refl pending_body.at.half
-
-  -- no ESC is pending
-  pub reads_on : b.escape ≡ None → ReadsOn g s o t h b x pending
-  reads_on none =
-      let at : AtBody pending_body.bytes b h [] = subst (λ (e : Option ℕ). AtBody pending_body.bytes b h (bytes_of (pending_escape e))) none pending_body.at in
-      let all : k.rest ≡ pending_body.bytes = pending_body.is ∙ ap (λ (e : Option ℕ). pending_body.bytes ++ pending_escape e) none ∙ append-nil pending_body.bytes in
+  -- the first of them are added to the body
+  pub body_grows : {xs added pending : List Placed} {escape : Option ℕ} → Continues g s o t h (xs ++ pending) → AreAdded (space_for h) b.escape xs added escape → Continues g s o t (state_with_body h b escape (h.body ++ bytes_of added)) pending
+  body_grows {xs} {added} {pending} {escape} k adds =
+      let p = pending_body k in
       record {
         done = k.done;
         taken = k.taken;
         clear = k.clear;
-        rest = pending_body.bytes;
-        at = record { mode = at.mode; body = at.body; are_of_body = λ more. at.are_of_body (x.byte ∷ more); still = at.still; half = at.half };
-        leads = k.leads ∙ ap (λ (xs : List Placed). prepend k.done (outcome_from h.machine (xs ++ x ∷ pending))) all;
+        rest = k.rest ++ xs;
+        retained = record {
+          bytes = p.bytes ++ added;
+          is = simp (p.is, append_assoc, adds.joined);
+          mode = refl;
+          body = bytes_of-append p.bytes added ∙ ap (λ (bs : List ℕ). bs ++ bytes_of added) p.body;
+          are_of_body =
+              then_of_body (store_limit - h.machine.stored) h.body (bytes_of (pending_escape b.escape)) (bytes_of xs) (bytes_of added) (bytes_of (pending_escape escape)) p.are_of_body
+              (sym (bytes_of-append (pending_escape b.escape) xs) ∙ ap bytes_of adds.joined ∙ bytes_of-append added (pending_escape escape)) adds.are_of_body;
+          still = p.still;
+          half = p.half;
+        };
+        leads = k.leads ∙ ap₂ (λ (mode : Mode) (ys : List Placed). prepend k.done (outcome_from (record h.machine { mode = mode }) ys)) p.mode (sym (append_assoc k.rest xs pending));
       }
 
-  -- the front of the next bytes, if an ESC is pending at this place
-  module _ {place : ℕ} (retained : b.escape ≡ Some place) where
-    abbrev escape : Placed
-    escape = record { byte = 27; place = place }
+-- The next byte ends a body, after the pending ESC.
+module _ {S : Type 0} {g : Ghosts S} {s : S} {o : Outcome} {t : S} {h : ReadingState} {name place : ℕ} {x : Placed} {pending : List Placed} (k : Continues g s o t h (x ∷ pending)) (ends : ends_body x.byte ≡ true) where
+  pub ends_at : (show : Bool) (opened : h.open_body ≡ Some (record { name = name; show = show; escape = Some place })) →
+      front h.machine (k.rest ++ x ∷ pending) ≡ bound_front h.machine name show (length (pending_body opened k).bytes) ((pending_body opened k).bytes ++ escape_at place ∷ x ∷ pending)
+  ends_at show opened =
+      let before = (pending_body opened k).bytes in
+      body_at_front opened k (bodies.ended 0) (ended_front _ x.byte (bytes_of pending) ends)
+      ∙ ap (λ (n : ℕ). bound_front h.machine name show n (before ++ escape_at place ∷ x ∷ pending)) (let e : length before + 0 ≡ length before = omega arith in e)
 
-    at_escape : AtBody pending_body.bytes b h (27 ∷ [])
-    at_escape = subst (λ (e : Option ℕ). AtBody pending_body.bytes b h (bytes_of (pending_escape e))) retained pending_body.at
+  -- the body is bound, and its end is the next code
+  abbrev pub body_bound : h.open_body ≡ Some (record { name = name; show = false; escape = Some place }) →
+      Continues g s o t (record h { machine = after_body h.machine name h.body; half = 27 ∷ []; open_run = None; run = []; open_body = None; body = [] }) (x ∷ pending)
+  body_bound opened = record {
+    done = k.done;
+    taken = k.taken;
+    clear = k.clear;
+    rest = escape_at place ∷ [];
+    retained = record { mode = refl; body = refl; half = (refl, escape_unfinished h.machine.sets) };
+    leads =
+        let p = pending_body opened k in
+        let rest = escape_at place ∷ x ∷ pending in
+        by_front k (act [] (after_body h.machine name h.body) rest)
+        (ends_at false opened
+        ∙ rw (bytes_of-append p.bytes rest, take_at (bytes_of p.bytes) (bytes_of rest) (length p.bytes) (length-map p.bytes _), drop_at p.bytes rest (length p.bytes) refl, p.body) refl);
+  }
 
-    rest_is : k.rest ++ x ∷ pending ≡ pending_body.bytes ++ escape ∷ x ∷ pending
-    rest_is =
-        ap (λ (xs : List Placed). xs ++ x ∷ pending) (pending_body.is ∙ ap (λ (e : Option ℕ). pending_body.bytes ++ pending_escape e) retained)
-        ∙ append_assoc pending_body.bytes (escape ∷ []) (x ∷ pending)
-
-    escape_at_front : (f : BodyFront) → body_front unread_space (27 ∷ x.byte ∷ bytes_of pending) ≡ f →
-        front h.machine (k.rest ++ x ∷ pending)
-        ≡ body_front_by h.machine b.name b.show (pending_body.bytes ++ escape ∷ x ∷ pending) (body_front_after (length h.body) f)
-    escape_at_front f e =
-        ap (front h.machine) rest_is
-        ∙ body_at pending_body.bytes b h (27 ∷ []) (escape ∷ x ∷ pending) (x.byte ∷ bytes_of pending) at_escape refl
-        ∙ ap (λ (f : BodyFront). body_front_by h.machine b.name b.show (pending_body.bytes ++ escape ∷ x ∷ pending) (body_front_after (length h.body) f)) e
-
-    body_length : length h.body ≡ length pending_body.bytes
-    body_length = pending_length pending_body.bytes b h (27 ∷ []) at_escape
-
-    -- the ESC belongs to the body, which has no space for it
-    pub escape_full : x.byte < 128 → ends_body x.byte ≡ false → unread_space ≡ 0 → IsRefused g s o t h (refusal Store place)
-    escape_full few ends none =
-        let e = escape_at_front (bodies.refused Store 0) (escape_front unread_space x.byte (bytes_of pending) few ends ∙ stores-none unread_space _ none) in
-        let there = place_at-following pending_body.bytes escape (x ∷ pending) (length h.body + 0) (omega (arith, body_length)) in
-        leads_to_refusal k _ (e ∙ ap (λ (n : ℕ). refuse (refusal Store n)) there)
-
-    -- the ESC belongs to the body
-    pub escape_kept : x.byte < 128 → ends_body x.byte ≡ false → unread_space ≢ 0 → ReadsOn g s o t (record h { body = h.body ++ 27 ∷ [] }) b x pending
-    escape_kept few ends some =
-        record {
-          done = k.done;
-          taken = k.taken;
-          clear = k.clear;
-          rest = pending_body.bytes ++ escape ∷ [];
-          at = record {
-            mode = at_escape.mode;
-            body = bytes_of-append pending_body.bytes (escape ∷ []) ∙ ap (λ (bs : List ℕ). bs ++ 27 ∷ []) at_escape.body;
-            are_of_body = λ more.
-                of_body (store_limit - h.machine.stored) h.body 27 (x.byte ∷ []) more
-                (at_escape.are_of_body (x.byte ∷ more) ∙ ap (body_front_after (length h.body)) (escape_front unread_space x.byte more few ends)) some;
-            still = at_escape.still;
-            half = at_escape.half;
-          };
-          leads = k.leads ∙ ap (λ (xs : List Placed). prepend k.done (outcome_from h.machine xs)) (rest_is ∙ sym (append_assoc pending_body.bytes (escape ∷ []) (x ∷ pending)));
-        }
-
-    -- the body has ended
-    module _ (ends : ends_body x.byte ≡ true) where
-      abbrev xs : List Placed
-      xs = pending_body.bytes ++ escape ∷ x ∷ pending
-
-      ends_at : front h.machine (k.rest ++ x ∷ pending) ≡ bound_front h.machine b.name b.show (length h.body) xs
-      ends_at =
-          escape_at_front (bodies.ended 0) (ended_front unread_space x.byte (bytes_of pending) ends)
-          ∙ ap (λ (n : ℕ). bound_front h.machine b.name b.show n xs) (let e : length h.body + 0 ≡ length h.body = omega arith in e)
-
-      bytes_are : bytes_of xs ≡ h.body ++ 27 ∷ x.byte ∷ bytes_of pending
-      bytes_are = bytes_of-append pending_body.bytes (escape ∷ x ∷ pending) ∙ ap (λ (bs : List ℕ). bs ++ 27 ∷ x.byte ∷ bytes_of pending) at_escape.body
-
-      body_taken : take (length h.body) (bytes_of xs) ≡ h.body
-      body_taken = ap (take (length h.body)) bytes_are ∙ take_at h.body (27 ∷ x.byte ∷ bytes_of pending) (length h.body) refl
-
-      pair_left : drop (length h.body) xs ≡ escape ∷ x ∷ pending
-      pair_left = drop_at pending_body.bytes (escape ∷ x ∷ pending) (length h.body) (sym body_length)
-
-      -- the body is bound, and its end is the next code
-      pub body_binds : b.show ≡ false →
-          front h.machine (k.rest ++ x ∷ pending) ≡ act [] (after_body h.machine b.name h.body) (escape ∷ x ∷ pending)
-      body_binds hidden =
-          ends_at
-          ∙ ap (λ (show : Bool). bound_front h.machine b.name show (length h.body) xs) hidden
-          ∙ ap (λ (body : List ℕ). act [] (after_body h.machine b.name body) (drop (length h.body) xs)) body_taken
-          ∙ ap (act [] (after_body h.machine b.name h.body)) pair_left
-
-      pub body_bound : b.show ≡ false →
-          Continues g s o t (record h { machine = after_body h.machine b.name h.body; half = 27 ∷ []; open_run = None; run = []; open_body = None; body = [] }) (x ∷ pending)
-      body_bound hidden =
-          let h' : ReadingState = record h { machine = after_body h.machine b.name h.body; half = []; open_run = None; run = []; open_body = None; body = [] } in
-          let there = leads_past k h' (escape ∷ x ∷ pending) (holds_nothing h' refl refl refl refl refl) (body_binds hidden) in
-          code_continues refl refl there (escape_unfinished h.machine.sets)
-
-      pub same_done : (hidden : b.show ≡ false) → (body_bound hidden).done ≡ k.done
-      unfolding body_bound leads_past leads_shift code_continues
-      same_done hidden = refl
-
-      -- the body is presented
-      pub body_shows : b.show ≡ true →
-          front h.machine (k.rest ++ x ∷ pending) ≡ shown_front (after_body h.machine b.name h.body) x.place (h.body ++ 27 ∷ x.byte ∷ []) pending
-      body_shows shown =
-          let n : ℕ = length h.body in
-          let all : List Placed = pending_body.bytes ++ escape ∷ x ∷ [] in
-          let joined : xs ≡ all ++ pending = sym (append_assoc pending_body.bytes (escape ∷ x ∷ []) pending) in
-          let before : List Placed = pending_body.bytes ++ escape ∷ [] in
-          let last : xs ≡ before ++ x ∷ pending = sym (append_assoc pending_body.bytes (escape ∷ []) (x ∷ pending)) in
-          let place : place_at xs (n + 1) ≡ x.place =
-          ap (λ (ys : List Placed). place_at ys (n + 1)) last
-          ∙ place_at-following before x pending (n + 1) (omega (arith, body_length, length-append pending_body.bytes (escape ∷ []))) in
-          let bytes : take (n + 2) (bytes_of xs) ≡ h.body ++ 27 ∷ x.byte ∷ [] =
-          ap (take (n + 2)) (bytes_are ∙ sym (append_assoc h.body (27 ∷ x.byte ∷ []) (bytes_of pending)))
-          ∙ take_at (h.body ++ 27 ∷ x.byte ∷ []) (bytes_of pending) (n + 2) (length-append h.body (27 ∷ x.byte ∷ [])) in
-          let left : drop (n + 2) xs ≡ pending = ap (drop (n + 2)) joined ∙ drop_at all pending (n + 2) (omega (arith, body_length, length-append pending_body.bytes (escape ∷ x ∷ []))) in
-          ends_at
-          ∙ ap (λ (show : Bool). bound_front h.machine b.name show n xs) shown
-          ∙ ap (λ (body : List ℕ). shown_front (after_body h.machine b.name body) (place_at xs (n + 1)) (take (n + 2) (bytes_of xs)) (drop (n + 2) xs)) body_taken
-          ∙ ap (λ (p : ℕ). shown_front (after_body h.machine b.name h.body) p (take (n + 2) (bytes_of xs)) (drop (n + 2) xs)) place
-          ∙ ap (λ (bs : List ℕ). shown_front (after_body h.machine b.name h.body) x.place bs (drop (n + 2) xs)) bytes
-          ∙ ap (shown_front (after_body h.machine b.name h.body) x.place (h.body ++ 27 ∷ x.byte ∷ [])) left
-
-      -- the body that is presented is charged
-      pub body_charged : b.show ≡ true → length h.body + 2 ≤ h.machine.left → o.machine.left < h.machine.left
-      body_charged shown few =
-          let bytes = h.body ++ 27 ∷ x.byte ∷ [] in
-          let size = length-append h.body (27 ∷ x.byte ∷ []) in
-          let m : Machine = after_body h.machine b.name h.body in
-          let h' : ReadingState = record h { machine = after_charge m (length bytes); open_run = None; run = []; open_body = None; body = [] } in
-          let there =
-          leads_shown k m x.place bytes pending (body_shows shown) (omega (arith, size, few)) h' refl (body_over (after_charge m (length bytes)) refl) in
-          omega (arith, size, few, leads_left there)
-
-  -- the byte has the eighth bit
-  pub byte_eighth : 128 ≤ x.byte → IsRefused g s o t h (refusal EighthBit x.place)
-  byte_eighth high = at b.escape refl
-    where
-      at : (e : Option ℕ) → b.escape ≡ e → IsRefused g s o t h (refusal EighthBit x.place)
-      at None none = refused_next (reads_on none) EighthBit (eighth_front unread_space x.byte (bytes_of pending) high)
-      at (Some place) retained =
-          let escape : Placed = record { byte = 27; place = place } in
-          let before : List Placed = pending_body.bytes ++ escape ∷ [] in
-          let there : place_at (pending_body.bytes ++ escape ∷ x ∷ pending) (length h.body + 1) ≡ x.place =
-          ap (λ (ys : List Placed). place_at ys (length h.body + 1)) (sym (append_assoc pending_body.bytes (escape ∷ []) (x ∷ pending)))
-          ∙ place_at-following before x pending (length h.body + 1) (omega (arith, body_length retained, length-append pending_body.bytes (escape ∷ []))) in
-          leads_to_refusal k _
-          (escape_at_front retained _ (eighth_escape unread_space x.byte (bytes_of pending) high)
-          ∙ ap (λ (n : ℕ). refuse (refusal EighthBit n)) there)
-
--- a pending ESC and the byte after it belong to a body, which has space for all of them that are stored
-module _ {S : Type 0} {g : Ghosts S} {s : S} {o : Outcome} {t : S} {h : ReadingState} {b : OpenBody} {x : Placed} {place : ℕ} (opened : h.open_body ≡ Some b) (k : Continues g s o t h (x ∷ [])) (retained : b.escape ≡ Some place)
-    (few : x.byte < 128) (ends : ends_body x.byte ≡ false) (some : store_limit - h.machine.stored - length h.body ≢ 0) where
-  both_kept : ReadsOn g s o t (record h { body = h.body ++ 27 ∷ [] }) b x []
-  both_kept = escape_kept opened k retained few ends some
-
-  escape_again : x.byte ≡ 27 → o.refusal ≡ None
-  escape_again is =
-      leads_unrefused (escape_pending both_kept (ap (λ (n : ℕ). record { byte = n; place = x.place }) is))
-
-  pub escape_unrefused : (x.byte ≡ 27) ⊎ (store_limit - h.machine.stored - length h.body ≢ 1) → o.refusal ≡ None
-  escape_unrefused (inl is) = escape_again is
-  escape_unrefused (inr two) = at (eqb x.byte 27) refl
-    where
-      at : (test : Bool) → eqb x.byte 27 ≡ test → o.refusal ≡ None
-      at true e = escape_again (grind (arith, nat_tests))
-      at false e =
-          leads_unrefused
-          (byte_kept both_kept (record { low = few; other = grind (arith, nat_tests) })
-          (omega (arith, some, two, length-append h.body (27 ∷ []))))
+  -- the body is presented
+  pub body_shows : h.open_body ≡ Some (record { name = name; show = true; escape = Some place }) → front h.machine (k.rest ++ x ∷ pending) ≡ shown_front (after_body h.machine name h.body) x.place (h.body ++ 27 ∷ x.byte ∷ []) pending
+  body_shows opened =
+      let p = pending_body opened k in
+      let rest = escape_at place ∷ x ∷ pending in
+      let body : take (length p.bytes) (bytes_of (p.bytes ++ rest)) ≡ h.body =
+      ap (take (length p.bytes)) (bytes_of-append p.bytes rest) ∙ take_at (bytes_of p.bytes) (bytes_of rest) (length p.bytes) (length-map p.bytes _) ∙ p.body in
+      let both : take (length p.bytes + 2) (bytes_of (p.bytes ++ rest)) ≡ h.body ++ 27 ∷ x.byte ∷ [] =
+      take-map (λ (y : Placed). y.byte) (length p.bytes + 2) (p.bytes ++ rest) ∙ ap bytes_of (take-append-add p.bytes rest 2) ∙ bytes_of-append p.bytes (take 2 rest) ∙ ap (λ (bs : List ℕ). bs ++ 27 ∷ x.byte ∷ []) p.body in
+      ends_at true opened ∙ rw (body, both, place_at-following p.bytes rest (length p.bytes + 1) 1 refl, drop-append-add p.bytes rest 2) refl

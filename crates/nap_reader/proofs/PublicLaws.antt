@@ -1,4 +1,4 @@
-use Rattle.nap_reader.proofs.Common.{All, All-head, All-tail, Code, CodeActs, FrontAfterFront, IsAlone, IsOpenRun, IsOperandByte, IsRun, List, Machine, Opcode, Placed, RunActs, RunWaits, [], arith, bytes_of, code_front, code_rule, drawn_front, is_operand_byte, kind_of, length, length-append, length-map, nat_tests, refl, run_length, true, walk, words_of, ℕ, ◌++◌, ◌+◌, ◌-◌, ◌∙◌, ◌∷◌, ◌≡◌}
+use Rattle.nap_reader.proofs.Common.{All, All-head, All-tail, Code, CodeActs, FrontAfterFront, IsAlone, IsOpenRun, IsOperandByte, IsRun, List, Machine, Opcode, Placed, RunActs, RunWaits, [], arith, bytes_of, code_front, code_rule, drawn_front, is_operand_byte, kind_of, length, length-append, length-map, nat_tests, refl, run_length, true, walk, words_of, ℕ, ◌++◌, ◌+◌, ◌∙◌, ◌∷◌, ◌≡◌}
 use Rattle.nap_reader.proofs.Base.{front_code, front_run, open_run_pauses, outcome_from-front}
 use Rattle.nap_codes.specs.declared.code.Code.TheVariants as code
 pub use Rattle.nap_reader.proofs.LegalLemmas.{begun_comes_first, end_breaks_among, fed_breaks_among, accepted_is_legal, read_values_are_in_range}
@@ -12,23 +12,14 @@ front_after_front = outcome_from-front
 operand_byte : (b : ℕ) → IsOperandByte b → is_operand_byte b ≡ true
 operand_byte b h = grind (arith, nat_tests)
 
-all_operands : (xs : List Placed) → All IsOperandByte (bytes_of xs) → run_length xs ≡ length xs
+pub all_operands : (xs : List Placed) → All IsOperandByte (bytes_of xs) → run_length xs ≡ length xs
 all_operands [] all = refl
 all_operands (x ∷ xs) all =
     rw (operand_byte x.byte (All-head IsOperandByte x.byte (bytes_of xs) all), all_operands xs (All-tail IsOperandByte x.byte (bytes_of xs) all)) (omega arith)
 
 is_open_run : (m : Machine) (op : Opcode) (x : Placed) (operands : List Placed) → IsRun m op x operands →
     IsOpenRun (x ∷ operands) (record { op = op; place = x.place }) (words_of operands) m.sets
-is_open_run m op x operands run = record {
-  opcode = x;
-  operands = operands;
-  is = refl;
-  place = refl;
-  names = run.names;
-  words = refl;
-  all = all_operands operands run.carriers;
-  short = omega (arith, run.few, length-map operands (λ (y : Placed). y.byte - 64));
-}
+is_open_run m op x operands run = search (arith, all_operands, length-map)
 
 pub run_acts : RunActs
 run_acts m op x operands y ys run other =

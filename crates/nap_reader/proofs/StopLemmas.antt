@@ -1,25 +1,12 @@
-use Rattle.nap_reader.proofs.Common.{All, All-head, All-tail, Breaks, BreaksFrom, Came, Continues, LeadsThrough, Fault, Ghosts, ReadingState, LeadsTo, List, Machine, Outcome, Placed, Reaches, Reader, Refusal, Stops, StopsAt, StopsByte, StopsText, [], ap, arith, at_byte, begun, budget_of, bytes_of, cause_of, draw_fault, drop, drop_at, fault_of, fed_of, get_or, in_text, left_of, length, length-append, length-drop, length-map, length-take-le, of_body, of_piece, place_at, placed_at, placed_from, refl, refusal, sink_of, subst, suc, sym, take, take-append-drop, zero, ℕ, ◌++◌, ◌+◌, ◌-◌, ◌<◌, ◌∙◌, ◌∷◌, ◌≡◌, ◌≤◌}
-use Rattle.nap_reader.proofs.Base.{IsAt, Lawful, acted_typed, all_prefix, breaks_byte, breaks_inside, breaks_more, breaks_place, bytes_of-append, bytes_of-placed, came_coming, came_next, came_none, came_take, cut, leads_left, leads_machine, leads_unrefused, left_acted, length-placed, stops_acted}
+use Rattle.nap_reader.proofs.Common.{All, All-head, Breaks, Came, LeadsThrough, Entry, Ghosts, ReadingState, LeadsTo, List, Machine, Outcome, Owes, Placed, Reaches, Reader, Refusal, Stops, StopsAt, StopsByte, [], ap, arith, begun, budget_of, bytes_of, drop, drop_at, fed_of, get_or, left_of, length, length-append, length-drop, length-take-le, of_body, of_piece, placed_at, placed_from, refl, sink_of, subst, sym, take, take-append-drop, ℕ, ◌++◌, ◌+◌, ◌-◌, ◌<◌, ◌∙◌, ◌∷◌, ◌≡◌, ◌≤◌}
+use Rattle.nap_reader.proofs.Base.{IsAt, Lawful, breaks_byte, breaks_inside, breaks_place, bytes_of-append, bytes_of-placed, came_coming, came_next, came_none, came_take, leads_left, leads_machine, leads_unrefused, length-placed}
 use Rattle.nap_reader.proofs.PieceLemmas.{broken_amid, first_placed, known_amid, known_with, leads_past, length_taken, stops_by}
-use Rattle.nap_reader.proofs.TakingLemmas.{place_at-drop}
-use Rattle.nap_reader.proofs.TextLemmas.{halts_in, not_own, text_breaks_off, text_stops}
 
 -- The places at which the reading of a piece stops.
 
-place_of_placed : (fed : ℕ) (bs : List ℕ) (i : ℕ) → i < length bs → place_at (placed_from fed bs) i ≡ fed + i
-unfolding placed_from
-place_of_placed fed [] i less = absurd (omega (arith, less))
-place_of_placed fed (b ∷ bs) zero less = omega arith
-place_of_placed fed (b ∷ bs) (suc i) less = place_of_placed (suc fed) bs i (omega (arith, less)) ∙ omega arith
-
-place_of_all : (n : ℕ) (xs : List Placed) (i : ℕ) → i < length xs → All (IsAt n) xs → place_at xs i ≡ n
-place_of_all n [] i less all = absurd (omega (arith, less))
-place_of_all n (x ∷ xs) zero less all = All-head (IsAt n) x xs all
-place_of_all n (x ∷ xs) (suc i) less all = place_of_all n xs i (omega (arith, less)) (All-tail (IsAt n) x xs all)
-
-module _ {S : Type 0} {g : Ghosts S} {old : Reader S g} {piece : List ℕ} {at : ℕ} {t : S} {h : ReadingState} {frames : List Placed} (new : Reader S g) (leads : LeadsTo old piece at t h frames) (left : left_of new ≡ h.machine.left) (laws : Lawful g) where
+module _ {S : Type 0} {g : Ghosts S} {old : Reader S g} {piece : List ℕ} {at : ℕ} {t : S} {owed : List Entry} {h : ReadingState} {frames : List Placed} (new : Reader S g) (leads : LeadsTo old piece at t owed h frames) (left : left_of new ≡ h.machine.left) (laws : Lawful g) where
   -- The byte that came is refused, or reading breaks with it.
-  pub stops_byte : {x : Placed} {r : Refusal} {rest : List Placed} {until : ℕ} → StopsByte g t h x (sink_of new) r → Came frames rest piece at until (fed_of old + at) (x ∷ []) → fed_of new ≡ fed_of old + until → (i : ℕ) × StopsAt old new piece r i
+  pub stops_byte : {x : Placed} {r : Refusal} {rest : List Placed} {until : ℕ} → StopsByte g t owed h x (sink_of new) r → Came frames rest piece at until (fed_of old + at) (x ∷ []) → fed_of new ≡ fed_of old + until → (i : ℕ) × StopsAt old new piece r i
   unfolding placed_from
   stops_byte {x = x} {r = r} stops (of_piece empty gone is moved inside) fed =
       let b = get_or piece at 0 in
@@ -33,14 +20,14 @@ module _ {S : Type 0} {g : Ghosts S} {old : Reader S g} {piece : List ℕ} {at :
               let q = p ++ take at piece in
               let o : Outcome = begun (budget_of old) (q ++ b ∷ []) in
               let k0 = leads.alone empty s p had_read in
-              let k : Continues g s o t h (x ∷ []) = subst (λ (y : Placed). Continues g s o t h (y ∷ [])) (sym placed) (known_with leads empty (b ∷ []) had_read) in
+              let k : Owes g s o t owed h (x ∷ []) = subst (λ (y : Placed). Owes g s o t owed h (y ∷ [])) (sym placed) (known_with leads empty (b ∷ []) had_read) in
               let here : placed_at b (fed_of old + at) ≡ placed_at b (length q) =
               ap (placed_at b) (sym (length_taken p piece at leads.within ∙ ap (λ (n : ℕ). n + at) (sym (had_read.fed leads.live)))) in
               let known = ap (λ (m : Machine). m.left) (leads_machine k0) in
               stops_by s (budget_of old) q b (sink_of new) (left_of new) r (λ is. let k' = stops.own is s o [] k in record { refusal = k'.0; taken = k'.1; left = k'.2 ∙ sym left })
               (λ is. record {
                 before = leads_unrefused k0;
-                breaks = breaks_byte (budget_of old) q b laws k0 is (subst (λ (y : Placed). Breaks g t h y (sink_of new) r) (placed ∙ here) (stops.broke is));
+                breaks = breaks_byte (budget_of old) q b laws k0 is (subst (λ (y : Placed). Breaks g t owed h y (sink_of new) r) (placed ∙ here) (stops.broke is));
                 left = omega (arith, left, known);
                 charged = omega (arith, left, leads_left k);
               });
@@ -57,55 +44,16 @@ module _ {S : Type 0} {g : Ghosts S} {old : Reader S g} {piece : List ℕ} {at :
           before = λ s p had_read. leads_unrefused (amid.before s p had_read);
           there = λ s p had_read.
               let o : Outcome = begun (budget_of old) ((p ++ take i piece) ++ b ∷ []) in
-              let k = subst (Continues g s o t h) front (known_amid leads.live inside amid had_read) in
+              let k = subst (Owes g s o t owed h) front (known_amid leads.live inside amid had_read) in
               stops_by s (budget_of old) (p ++ take i piece) b (sink_of new) (left_of new) r (λ is. let k' = stops.own is s o rest k in record { refusal = k'.0; taken = k'.1; left = k'.2 ∙ sym left })
               (λ is.
               broken_amid leads.live inside amid had_read laws left
               (breaks_place (fed_of old + i) (All-head (IsAt (fed_of old + i)) x rest (subst (All (IsAt (fed_of old + i))) front amid.there)) amid.run (stops.broke is))
-              (λ s o k.
-              let less = cut (x ∷ []) rest (subst (Continues g s o t h) front k) in
-              breaks_more less.1 less.2 (breaks_inside laws less.3 is (stops.broke is))));
+              (λ s o k. breaks_inside laws (subst (Owes g s o t owed h) front k) is (stops.broke is)));
         },
       )
 
-  -- One of the characters that came was refused, or broke.
-  pub stops_text : {texts rest : List Placed} {until index : ℕ} {r : Refusal} → StopsText g t h (bytes_of texts) index (sink_of new) r → Came frames rest piece at until (fed_of old + at) texts → place_at texts index ≡ r.place → index < length texts →
-      fed_of new ≡ fed_of old + at + (index + 1 - length frames) → (i : ℕ) × StopsAt old new piece r i
-  stops_text {texts = texts} {index = index} {r = r} stops (of_piece empty gone placed moved inside) place less fed =
-      let all = take (length texts) (drop at piece) in
-      let front : take (length (bytes_of texts)) (drop at piece) ≡ bytes_of texts =
-      ap (λ (n : ℕ). take n (drop at piece)) (length-map texts (λ (x : Placed). x.byte)) ∙ sym (bytes_of-placed (fed_of old + at) all) ∙ ap bytes_of (sym placed) in
-      let here : r.place ≡ fed_of old + at + index = sym place ∙ ap (λ (xs : List Placed). place_at xs index) placed
-      ∙ place_of_placed (fed_of old + at) all index (omega (arith, less, length-take-le (length texts) (drop at piece) (omega (arith, moved, inside, length-drop at piece)))) in
-      (at + index, text_stops new leads empty left laws stops front here (omega (arith, fed, ap length empty)))
-  stops_text {texts = texts} {rest = rest} {index = index} {r = r} stops (of_body some front same) place less fed =
-      let (i, last, amid) = leads.amid some in
-      let inside : i < length piece = omega (arith, last, leads.within) in
-      let there : All (IsAt (fed_of old + i)) texts = all_prefix (fed_of old + i) texts rest (subst (All (IsAt (fed_of old + i))) front amid.there) in
-      let reason : r ≡ refusal (draw_fault (fault_of stops.fault)) r.place = ap (λ (f : Fault). refusal f r.place) stops.why in (
-        i,
-        record {
-          within = inside;
-          fed = omega (arith, fed, last, less, ap length front, length-append texts rest);
-          before = λ s p had_read. leads_unrefused (amid.before s p had_read);
-          there = λ s p had_read.
-              stops_by s (budget_of old) (p ++ take i piece) (get_or piece i 0) (sink_of new) (left_of new) r (λ own. absurd (not_own stops.fault (ap (λ (r : Refusal). cause_of r.fault) (sym reason) ∙ own)))
-              (λ _.
-              broken_amid leads.live inside amid had_read laws left (sym place ∙ place_of_all (fed_of old + i) texts index less there)
-              (λ s o k.
-              subst (λ (r : Refusal). BreaksFrom g s [] o (sink_of new) (cause_of r.fault)) (sym reason)
-              (text_breaks_off {set = stops.set} texts rest (subst (Continues g s o t h) front k) stops.text_is
-              laws (halts_in g h.machine.work.state stops.set (bytes_of texts) index t (sink_of new) stops.fault stops.text_is.some stops.halts))));
-        },
-      )
-
-place_at-taken : (xs : List Placed) (n i : ℕ) → i < n → place_at (take n xs) i ≡ place_at xs i
-place_at-taken xs zero i less = absurd (omega (arith, less))
-place_at-taken [] (suc n) i less = refl
-place_at-taken (x ∷ xs) (suc n) zero less = refl
-place_at-taken (x ∷ xs) (suc n) (suc i) less = place_at-taken xs n i (omega (arith, less))
-
--- The bytes that came lead to a byte that is refused or breaks, or to characters of which one does.
+-- The bytes that came lead to a byte that is refused or breaks.
 module _ {S : Type 0} {g : Ghosts S} {old : Reader S g} {piece : List ℕ} {at : ℕ} {t : S} {h : ReadingState} {frames : List Placed} (by : Reaches old piece at t h frames) (laws : Lawful g) (many : ℕ)
     (fit : (length frames ≡ 0 → at + many ≤ length piece) × (0 < length frames → many ≤ length frames)) where
   abbrev all : List Placed
@@ -137,51 +85,34 @@ module _ {S : Type 0} {g : Ghosts S} {old : Reader S g} {piece : List ℕ} {at :
         ∙ drop_at (take n all) (rest ++ placed_from (fed_of old + until) (drop until piece)) n (length-take-le n all (omega (arith, few, all_long)))
 
     -- what leads to the stop
-    reached : (P : S → ReadingState → Type 0) → (c : LeadsThrough g t h (take n all)) → P c.sink c.holding → (n ≡ 0 → P t h → P by.sink by.holding) →
-        (u : S) × (retained : ReadingState) × LeadsTo old piece until u retained rest × (h.machine.left ≡ retained.machine.left) × P u retained
-    reached P c here first = by_first (take n all) refl
+    reached : {owed : List Entry} {x : Placed} {v : S} {r : Refusal} (following : List Placed) → drop n all ≡ x ∷ following → (c : LeadsThrough g t h owed (take n all)) → StopsByte g c.sink owed c.holding x v r →
+        (u : S) × (then : List Entry) × (retained : ReadingState) × LeadsTo old piece until u then retained rest × (h.machine.left ≡ retained.machine.left) × StopsByte g u then retained x v r
+    reached {owed} {x} {v} {r} following is c stops = by_first (take n all) refl
       where
-        by_first : (xs : List Placed) → take n all ≡ xs → (u : S) × (retained : ReadingState) × LeadsTo old piece until u retained rest × (h.machine.left ≡ retained.machine.left) × P u retained
+        by_first : (xs : List Placed) → take n all ≡ xs → (u : S) × (then : List Entry) × (retained : ReadingState) × LeadsTo old piece until u then retained rest × (h.machine.left ≡ retained.machine.left) × StopsByte g u then retained x v r
         by_first [] gone =
-            let gone_is = c.none gone in
-            let still = came_none frames rest piece at until (fed_of old + at) (take n all) gone came in (
+            let (sink, holding, none) = c.none gone in
+            let still = came_none frames rest piece at until (fed_of old + at) (take n all) gone came in
+            let zero : n ≡ 0 = omega (arith, ap length gone, length-take-le n all (omega (arith, few, all_long))) in
+            let first : next ≡ x.byte ∷ bytes_of following = sym next_is ∙ ap bytes_of (ap (λ (m : ℕ). drop m all) (sym zero) ∙ is) in
+            let here : StopsByte g t [] h x v r = rw (sink, holding, none) at stops in (
               by.sink,
+              [],
               by.holding,
-              subst (λ (m : ℕ). LeadsTo old piece m by.sink by.holding rest) (sym still.1) (subst (LeadsTo old piece at by.sink by.holding) (sym still.0) by.leads),
-              left_acted by.acted,
-              first (omega (arith, ap length gone, length-take-le n all (omega (arith, few, all_long)))) (subst (P t) gone_is.1 (subst (λ (w : S). P w c.holding) gone_is.0 here)),
+              subst (λ (m : ℕ). LeadsTo old piece m by.sink [] by.holding rest) (sym still.1) (subst (LeadsTo old piece at by.sink [] by.holding) (sym still.0) by.leads),
+              by.acted.left,
+              by.acted.stops x (bytes_of following) first v r here,
             )
         by_first (y ∷ ys) some =
             let front : next ≡ y.byte ∷ (bytes_of ys ++ bytes_of (drop n all)) =
             sym next_is ∙ ap bytes_of (sym (take-append-drop n all)) ∙ bytes_of-append (take n all) (drop n all) ∙ ap (λ (zs : List Placed). bytes_of zs ++ bytes_of (drop n all)) some in
-            let past = subst (λ (zs : List Placed). (c : LeadsThrough g t h zs) → Came frames rest piece at until (fed_of old + at) zs → LeadsTo old piece until c.sink c.holding rest) (sym some)
-            (leads_past laws.more by (bytes_of ys ++ bytes_of (drop n all)) front) in
-            (c.sink, c.holding, past c came, sym c.left, here)
+            let past = subst (λ (zs : List Placed). (c : LeadsThrough g t h owed zs) → Came frames rest piece at until (fed_of old + at) zs → LeadsTo old piece until c.sink owed c.holding rest) (sym some)
+            (leads_past by (bytes_of ys ++ bytes_of (drop n all)) front) in
+            (c.sink, owed, c.holding, past c came, sym c.left, stops)
 
   -- Reading stops there. The bytes of the input are counted up to and with the one that stops it.
-  pub stops_reached : {r : Refusal} {index : ℕ} (new : Reader S g) → left_of new ≡ h.machine.left → index ≤ many → Stops g t h all many index (sink_of new) r → fed_of new ≡ fed_of old + at + (index + 1 - length frames) → (i : ℕ) × StopsAt old new piece r i
-  stops_reached {r} {index} new left few (at_byte x following is c stops) fed =
-      let (u, retained, leads, same, there) =
-      reached index few (λ (u : S) (retained : ReadingState). StopsByte g u retained x (sink_of new) r) c stops
-      (λ zero here.
-      let first : next ≡ x.byte ∷ bytes_of following = sym next_is ∙ ap bytes_of (ap (λ (m : ℕ). drop m all) (sym zero) ∙ is) in
-      stops_acted laws.more (λ b bs e. ap (λ (zs : List ℕ). get_or zs 0 0) (sym first ∙ e)) by.acted here) in
+  pub stops_reached : {r : Refusal} {index : ℕ} (new : Reader S g) → left_of new ≡ h.machine.left → index ≤ many → Stops g t h all index (sink_of new) r → fed_of new ≡ fed_of old + at + (index + 1 - length frames) → (i : ℕ) × StopsAt old new piece r i
+  stops_reached {index = index} new left few stops fed =
+      let (u, owed, retained, leads, same, there) = reached index few stops.following stops.is stops.leads stops.stops in
       stops_byte new leads (left ∙ same) laws there
-      (came_next (rest index few) piece (until index few) (fed_of old + until index few) x following leads.within (sym (then_is index few) ∙ is)) (omega (arith, fed, length-drop index frames))
-  stops_reached {r} new left few (in_text first taken size is less inside_slice place c stops) fed =
-      let few' : first ≤ many = omega (arith, inside_slice) in
-      let texts = take size (drop first all) in
-      let from = until first few' in
-      let following = rest first few' in
-      let left_there = length-drop first frames in
-      let (u, retained, leads, same, there) =
-      reached first few' (λ (u : S) (retained : ReadingState). StopsText g u retained (bytes_of texts) taken (sink_of new) r) c stops
-      (λ zero here.
-      let typed = acted_typed by.acted here.set here.text_is.rested here.text_is.chars in
-      subst (λ (retained : ReadingState). StopsText g by.sink retained (bytes_of texts) taken (sink_of new) r) typed.1 (subst (λ (w : S). StopsText g w h (bytes_of texts) taken (sink_of new) r) typed.0 here)) in
-      stops_text new leads (left ∙ same) laws there
-      (subst (Came following (drop size following) piece from (from + (size - length following)) (fed_of old + from)) (ap (take size) (sym (then_is first few')))
-      (came_take following piece from (fed_of old + from) size leads.within (λ empty. grind (arith, empty, left_there, less, inside_slice, fit.0, fit.1)) (λ some. grind (arith, some, left_there, inside_slice, fit.1))))
-      (place_at-taken (drop first all) size taken less ∙ place_at-drop all first taken ∙ ap (place_at all) (sym is) ∙ place)
-      (omega (arith, less, length-take-le size (drop first all) (omega (arith, inside_slice, all_long, length-drop first all))))
-      (grind (arith, left_there, is, less, fed, inside_slice, fit.1))
+      (came_next (rest index few) piece (until index few) (fed_of old + until index few) stops.byte stops.following leads.within (sym (then_is index few) ∙ stops.is)) (omega (arith, fed, length-drop index frames))

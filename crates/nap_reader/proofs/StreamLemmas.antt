@@ -1,5 +1,4 @@
-use Rattle.nap_reader.proofs.Common.{All, All-cons, All-nil, Bool, Code, CodeSets, DrawFault, RuleResult, Entry, Err, Front, IsMade, IsWord, Kind, Lessens, List, LongRun, Machine, Mode, None, Ok, Opcode, Option, Placed, Refusal, Result, Some, Unfinished, Work, [], act, after_body, all_at, ap, append_assoc, arith, begun, between, body_front, body_front_by, body_of, bound_front, bytes_of, code_front, code_rule, cond, continue, continue_by, drawn_front, drop, drop-append-le, drop_of_length-le, ends_of, eqb, eqb-false, eqb-true, false, front, front_by, front_in, outcome_within, half_read, in_body, is_operand, is_operand_byte, kind_of, length, length-append, length-drop, length-map, length-prefix_len, lt-ltb, ltb, ltb-false, ltb-true, nat_tests, outcome_by_front, opcode_front, open_run, outcome, outcome_from, pause, place_at, placed_from, prefix_len-append, prefix_len-le-length, prepend, refl, refusal, refuse, refused_index, refused_stays, rule, run_front, run_length, run_limit, shown_front, start_machine, store_limit, subst, suc, sym, take, take-append-le, true, code_length, code_stays, words_of, zero, ℕ, ⊤, ◌++◌, ◌+◌, ◌-◌, ◌<◌, ◌∙◌, ◌∷◌, ◌≡◌, ◌≢◌, ◌≤◌}
-use Rattle.nap_reader.specs.Course.{Stays}
+use Rattle.nap_reader.proofs.Common.{All, All-map, Bool, Code, CodeSets, DrawFault, Entry, Err, Front, IsMade, IsWord, Kind, List, LongRun, Machine, Mode, None, Ok, Opcode, Option, Outcome, Placed, Refusal, Result, RuleResult, Some, Unfinished, Work, [], act, after_body, all_at, ap, append-nil, append_assoc, arith, begun, between, body_front_by, body_of, bound_front, bytes_of, code_front, code_length, code_rule, code_stays, cond, continue, continue_by, drawn_front, drop, drop-append-le, drop_of_length-le, ends_of, eqb-false, eqb-true, false, front, front_by, front_in, get_or, get_or-take, half_read, in_body, is_operand, kind_of, length, length-append, length-drop, length-map, length-prefix_len, lt-ltb, ltb, ltb-false, ltb-true, map-append, nat_tests, opcode_front, open_run, outcome, outcome_by_front, outcome_from, outcome_within, pause, paused, place_at, placed_from, prefix_len-append, prefix_len-le-length, prefix_len_passes, prepend, refl, refusal, refuse, refused_index, refused_stays, rule, run_front, run_length, run_limit, shown_front, store_limit, subst, suc, sym, take, take-append-le, true, words_of, zero, ℕ, ⊤, ◌++◌, ◌+◌, ◌-◌, ◌<◌, ◌∙◌, ◌∷◌, ◌≡◌, ◌≤◌}
 use Rattle.nap_codes.specs.declared.code.Code.TheVariants as code
 use Rattle.nap_codes.specs.Front as codes
 use Rattle.nap_reader.specs.declared.kind.Kind.TheVariants as kinds
@@ -14,90 +13,7 @@ prepend-append ds es o = rw append_assoc refl
 
 pub continue-prepend : {M E F U B : Type 0} (next : M → List B → course.Outcome M E F U B) (es : List E) (o : course.Outcome M E F U B) (ys : List B) →
     continue next (prepend es o) ys ≡ prepend es (continue next o ys)
-continue-prepend {M} {E} {F} {U} {B} next es o ys = at o.refusal
-  where
-    at : (r : Option F) → continue_by next r (prepend es o) ys ≡ prepend es (continue_by next r o ys)
-    at (Some f) = refl
-    at None = prepend-append es o.entries (next o.machine (o.rest ++ ys))
-
--- no code that acts raises this count
-abbrev pub Falls : {M E F U B : Type 0} → (M → List B → course.Front M E F U B) → (M → ℕ) → Type 0
-Falls {M} {E} {F} {U} {B} front count = (m : M) (xs : List B) (es : List E) (m' : M) (ys : List B) →
-    front m xs ≡ act es m' ys → count m' ≤ count m
-
-module _ {M E F U B : Type 0} (front : M → List B → course.Front M E F U B) (left count : M → ℕ) (falls : Falls front count) where
-  outcome_within-falls : (f : ℕ) (m : M) (xs : List B) → count (outcome_within front f m xs).machine ≤ count m
-  unfolding outcome_within
-  outcome_within-falls zero m xs = omega arith
-  outcome_within-falls (suc f) m xs = at (front m xs) refl (λ m' ys. outcome_within-falls f m' ys)
-    where
-      at : (n : course.Front M E F U B) → front m xs ≡ n → ((m' : M) (ys : List B) → count (outcome_within front f m' ys).machine ≤ count m') →
-          count (outcome_by_front (outcome_within front f) m xs n).machine ≤ count m
-      at (pause u) e ih = omega arith
-      at (refuse x) e ih = omega arith
-      at (act es m' ys) e ih = omega (arith, ih m' ys, falls m xs es m' ys e)
-
-  -- the outcome of an input doesn't raise the count
-  pub outcome-falls : (m : M) (xs : List B) → count (outcome front left m xs).machine ≤ count m
-  unfolding outcome
-  outcome-falls m xs = outcome_within-falls (suc (length xs + left m)) m xs
-
-module _ {M E F U B : Type 0} (front : M → List B → course.Front M E F U B) (left : M → ℕ) (lessens : Lessens front left) where
-  -- more fronts than are needed change nothing
-  outcome_within-spare : (f g : ℕ) (m : M) (xs : List B) → length xs + left m < f → length xs + left m < g →
-      outcome_within front f m xs ≡ outcome_within front g m xs
-  unfolding outcome_within
-  outcome_within-spare zero g m xs hf hg = absurd (omega arith)
-  outcome_within-spare (suc f) zero m xs hf hg = absurd (omega arith)
-  outcome_within-spare (suc f) (suc g) m xs hf hg =
-      at (front m xs) refl (λ m' ys h h'. outcome_within-spare f g m' ys h h')
-    where
-      at : (n : course.Front M E F U B) → front m xs ≡ n →
-          ((m' : M) (ys : List B) → length ys + left m' < f → length ys + left m' < g → outcome_within front f m' ys ≡ outcome_within front g m' ys) →
-          outcome_by_front (outcome_within front f) m xs n ≡ outcome_by_front (outcome_within front g) m xs n
-      at (pause u) e ih = refl
-      at (refuse x) e ih = refl
-      at (act es m' ys) e ih =
-          let less = lessens m xs es m' ys e in
-          ap (prepend es) (ih m' ys (omega arith) (omega arith))
-
-  -- the outcome of an input is that of its front, and then that of the rest
-  pub outcome-front : (m : M) (xs : List B) → outcome front left m xs ≡ outcome_by_front (outcome front left) m xs (front m xs)
-  unfolding outcome outcome_within
-  outcome-front m xs = at (front m xs) refl
-    where
-      at : (n : course.Front M E F U B) → front m xs ≡ n →
-          outcome_by_front (outcome_within front (length xs + left m)) m xs n ≡ outcome_by_front (outcome front left) m xs n
-      at (pause u) e = refl
-      at (refuse x) e = refl
-      at (act es m' ys) e =
-          let less = lessens m xs es m' ys e in
-          ap (prepend es) (outcome_within-spare (length xs + left m) (suc (length ys + left m')) m' ys less (omega arith))
-
-module _ {M E F U B : Type 0} (front : M → List B → course.Front M E F U B) (left : M → ℕ) (lessens : Lessens front left) (stays : Stays front) where
-  in_pieces : (f : ℕ) (m : M) (xs ys : List B) → length xs + left m < f →
-      outcome front left m (xs ++ ys) ≡ continue (outcome front left) (outcome front left m xs) ys
-  in_pieces zero m xs ys h = absurd (omega arith)
-  in_pieces (suc f) m xs ys h = at (front m xs) refl (λ m' zs h'. in_pieces f m' zs ys h')
-    where
-      whole : (m : M) (xs : List B) → outcome front left m xs ≡ outcome_by_front (outcome front left) m xs (front m xs)
-      whole = outcome-front front left lessens
-
-      at : (n : course.Front M E F U B) → front m xs ≡ n →
-          ((m' : M) (zs : List B) → length zs + left m' < f →
-          outcome front left m' (zs ++ ys) ≡ continue (outcome front left) (outcome front left m' zs) ys) →
-          outcome front left m (xs ++ ys) ≡ continue (outcome front left) (outcome front left m xs) ys
-      at (pause u) e ih = sym (rw (whole m xs, e) refl)
-      at (refuse x) e ih = rw (whole m xs, e, whole m (xs ++ ys), stays.refusing m xs x ys e) refl
-      at (act es m' zs) e ih =
-          let less = lessens m xs es m' zs e in
-          rw (whole m xs, e, whole m (xs ++ ys), stays.acting m xs es m' zs ys e, ih m' zs (omega arith))
-          (sym (continue-prepend (outcome front left) es (outcome front left m' zs) ys))
-
-  -- the outcome of an input in two pieces
-  pub outcome-append : (m : M) (xs ys : List B) →
-      outcome front left m (xs ++ ys) ≡ continue (outcome front left) (outcome front left m xs) ys
-  outcome-append m xs ys = in_pieces (suc (length xs + left m)) m xs ys (omega arith)
+continue-prepend {F = F} next es o ys = search (arith, prepend-append)
 
 -- The effect of each front: the entries that it puts, and what is left after it.
 
@@ -120,14 +36,8 @@ pub data Fronts (q : List Placed) (work : Work) (left k : ℕ) : Front → Front
   refuses : {r : Refusal} → Fronts q work left k (course.refuse r) (course.refuse r)
   acts : {es : List Entry} {m : Machine} {xs ys : List Placed} → ys ≡ xs ++ q → length xs + left_of m < k → m.left ≤ left → Puts work es m.work → Fronts q work left k (course.act es m xs) (course.act es m ys)
 
-Fronts-more : {q : List Placed} {work : Work} {left k n : ℕ} {f f' : Front} → k ≤ n → Fronts q work left k f f' → Fronts q work left n f f'
-Fronts-more h (pauses words) = pauses words
-Fronts-more h refuses = refuses
-Fronts-more h (acts same less few puts) = acts same (omega arith) few puts
-
-Fronts-acting : {q : List Placed} {work : Work} {left k : ℕ} {es : List Entry} {m : Machine} {xs : List Placed} {f : Front} → Fronts q work left k (course.act es m xs) f →
-    (f ≡ course.act es m (xs ++ q)) × (length xs + left_of m < k) × (m.left ≤ left)
-Fronts-acting {es = es} {m = m} (acts same less few puts) = (ap (course.act es m) same, less, few)
+Fronts-acting : {q : List Placed} {work : Work} {left k : ℕ} {es : List Entry} {m : Machine} {xs : List Placed} {f : Front} → Fronts q work left k (course.act es m xs) f → f ≡ course.act es m (xs ++ q)
+Fronts-acting {es = es} {m = m} (acts same less few puts) = ap (course.act es m) same
 
 Fronts-refusing : {q : List Placed} {work : Work} {left k : ℕ} {r : Refusal} {f : Front} → Fronts q work left k (course.refuse r) f → f ≡ course.refuse r
 Fronts-refusing refuses = refl
@@ -140,20 +50,14 @@ Fronts-cond_left : {q : List Placed} {work : Work} {left k : ℕ} (b : Bool) {x 
 Fronts-cond_left true f g = f refl
 Fronts-cond_left false f g = g refl
 
-carries_word : (b : ℕ) → is_operand_byte b ≡ true → IsWord (b - 64)
-carries_word b is = grind (arith, nat_tests)
-
 -- the operand bytes of a prefix carry words
 run_words : (xs : List Placed) → All IsWord (words_of (take (run_length xs) xs))
-run_words [] = All-nil IsWord
-run_words (x ∷ xs) = at (is_operand x) refl (run_words xs)
+run_words xs = All-map IsWord (λ (x : Placed). x.byte - 64) (take (run_length xs) xs) (λ i d less.
+    let few : i < run_length xs = omega (arith, less, length-prefix_len is_operand xs) in
+    rw (get_or-take (run_length xs) xs i d few) (word (get_or xs i d) (prefix_len_passes is_operand xs i d few)))
   where
-    at : (b : Bool) → is_operand x ≡ b → All IsWord (words_of (take (run_length xs) xs)) → All IsWord (words_of (take (cond b (1 + run_length xs) 0) (x ∷ xs)))
-    at true is rest =
-        let more : 1 + run_length xs ≡ suc (run_length xs) = omega arith in
-        subst (λ (n : ℕ). All IsWord (words_of (take n (x ∷ xs)))) (sym more)
-        (All-cons IsWord (x.byte - 64) (words_of (take (run_length xs) xs)) (carries_word x.byte is) rest)
-    at false is rest = All-nil IsWord
+    word : (x : Placed) → is_operand x ≡ true → IsWord (x.byte - 64)
+    word x is = grind (arith, nat_tests)
 
 pub length-all_at : (place : ℕ) (bytes : List ℕ) → length (all_at place bytes) ≡ length bytes
 length-all_at place bytes = length-map bytes _
@@ -164,8 +68,7 @@ place_at-append (x ∷ xs) q zero h = refl
 place_at-append (x ∷ xs) q (suc i) h = place_at-append xs q i (omega arith)
 
 pub bytes_of-append : (xs ys : List Placed) → bytes_of (xs ++ ys) ≡ bytes_of xs ++ bytes_of ys
-bytes_of-append [] ys = refl
-bytes_of-append (x ∷ xs) ys = ap (λ (bs : List ℕ). x.byte ∷ bs) (bytes_of-append xs ys)
+bytes_of-append xs ys = map-append (λ (x : Placed). x.byte) xs ys
 
 pub bytes_of-placed : (n : ℕ) (bytes : List ℕ) → bytes_of (placed_from n bytes) ≡ bytes
 unfolding placed_from
@@ -175,10 +78,6 @@ bytes_of-placed n (b ∷ bytes) = ap (λ (bs : List ℕ). b ∷ bs) (bytes_of-pl
 pub bytes_of-all_at : (place : ℕ) (bytes : List ℕ) → bytes_of (all_at place bytes) ≡ bytes
 bytes_of-all_at place [] = refl
 bytes_of-all_at place (b ∷ bytes) = ap (λ (bs : List ℕ). b ∷ bs) (bytes_of-all_at place bytes)
-
-pub words_of-append : (xs ys : List Placed) → words_of (xs ++ ys) ≡ words_of xs ++ words_of ys
-words_of-append [] ys = refl
-words_of-append (x ∷ xs) ys = ap (λ (ws : List ℕ). (x.byte - 64) ∷ ws) (words_of-append xs ys)
 
 drawn_fronts : (m : Machine) (place : ℕ) (rest q : List Placed) (by : Result RuleResult DrawFault) (k : ℕ) → length rest + left_of m < k → ((d : RuleResult) → by ≡ Ok d → Puts m.work d.entries d.work) →
     Fronts q m.work m.left k (drawn_front m place rest by) (drawn_front m place (rest ++ q) by)
@@ -213,20 +112,8 @@ open_fronts m op place run more rest q {k} words h =
 
 -- the run of an opcode, ended or still open
 opcode_fronts : (m : Machine) (op : Opcode) (place : ℕ) (xs q : List Placed) (k : ℕ) → length xs + left_of m < k → Fronts q m.work m.left k (opcode_front m op place xs) (opcode_front m op place (xs ++ q))
-opcode_fronts m op place xs q k h = at (eqb (run_length xs) (length xs)) refl
-  where
-    at : (b : Bool) → eqb (run_length xs) (length xs) ≡ b → Fronts q m.work m.left k (opcode_front m op place xs) (opcode_front m op place (xs ++ q))
-    at true e =
-        let is : run_length xs ≡ length xs = eqb-true (run_length xs) (length xs) e in
-        let long : run_length (xs ++ q) ≡ length xs + run_length q = rw (prefix_len-append is_operand xs q, e) refl in
-        let more : length (take (run_length xs) xs) ≤ length (take (run_length (xs ++ q)) (xs ++ q)) = simp length-prefix_len (omega arith) in
-        rw (drop_of_length-le xs {i = run_length xs} (omega arith)) (open_fronts m op place _ _ _ q (run_words xs) more)
-    at false e =
-        let ne : run_length xs ≢ length xs = eqb-false (run_length xs) (length xs) e in
-        let le : run_length xs ≤ length xs = prefix_len-le-length is_operand xs in
-        let same : run_length (xs ++ q) ≡ run_length xs = rw (prefix_len-append is_operand xs q, e) refl in
-        rw (same, take-append-le _ xs q le, drop-append-le _ xs q le)
-        (ended_fronts m op place _ (drop (run_length xs) xs) q k (simp length-drop (omega arith)) (run_words xs) (simp length-drop (omega arith)))
+opcode_fronts m op place xs q k h =
+    search (arith, eqb-true, prefix_len-append, length-prefix_len, drop_of_length-le, open_fronts, run_words, eqb-false, prefix_len-le-length, take-append-le, drop-append-le, ended_fronts, length-drop)
 
 -- the smallest number of bytes of a code of this kind
 abbrev least : Kind → ℕ
@@ -254,13 +141,9 @@ least_of : (sets : CodeSets) (bytes : List ℕ) (c : Code) (n : ℕ) (after : Co
 least_of sets bytes (code.DefMacro name show) n after e = definition_length sets bytes name show n after e
 least_of sets bytes c n after e = (code_length sets bytes c n after e).0
 
-half_of_words : (bytes : List ℕ) → IsOfWords (half_read bytes)
-half_of_words [] = tt
-half_of_words (b ∷ bs) = tt
-
 by_fronts : (m : Machine) (xs q : List Placed) (f : codes.Front) → codes.front m.sets (bytes_of xs) ≡ f → m.mode ≡ between →
-    Fronts q m.work m.left (length xs + m.left) (front_by m xs f) (front_by m (xs ++ q) (codes.front m.sets (bytes_of (xs ++ q))))
-by_fronts m xs q codes.unfinished e mode = pauses (half_of_words (bytes_of xs))
+    Fronts q m.work m.left (length xs + (m.left + 0)) (front_by m xs f) (front_by m (xs ++ q) (codes.front m.sets (bytes_of (xs ++ q))))
+by_fronts m xs q codes.unfinished e mode = pauses (elim (bytes_of xs) as (λ (bs : List ℕ). IsOfWords (half_read bs)) [ [] ↦ tt | _ ↦ tt ])
 by_fronts m xs q (codes.refused fault i) e mode =
     let same : length (bytes_of xs) ≡ length xs = length-map xs _ in
     let within : i < length (bytes_of xs) = refused_index m.sets (bytes_of xs) fault i e in
@@ -270,13 +153,12 @@ by_fronts m xs q (codes.complete c n sets) e mode =
     let within = code_length m.sets (bytes_of xs) c n sets e in
     let few = least_of m.sets (bytes_of xs) c n sets e in
     let last : n - 1 < length xs = omega (arith, within.0, within.1) in
-    let following : length (drop n xs) + (least (kind_of c) + m.left) ≤ length xs + m.left = simp length-drop (omega (arith, within.1, few, same)) in
+    let following : length (drop n xs) + (least (kind_of c) + m.left) ≤ length xs + (m.left + 0) = simp length-drop (omega (arith, within.1, few, same)) in
     rw (bytes_of-append xs q, code_stays m.sets (bytes_of xs) (bytes_of q) c n sets e, place_at-append xs q (n - 1) last, drop-append-le n xs q (omega (arith, within.1)))
-    (code_fronts (record m { sets = sets }) (kind_of c) (place_at xs (n - 1)) (drop n xs) q (length xs + m.left) mode following (front_kind_made m.sets (bytes_of xs) c n sets e))
+    (code_fronts (record m { sets = sets }) (kind_of c) (place_at xs (n - 1)) (drop n xs) q (length xs + (m.left + 0)) mode following (front_kind_made m.sets (bytes_of xs) c n sets e))
 
 taken_bytes : (xs q : List Placed) (n : ℕ) → n ≤ length xs → take n (bytes_of (xs ++ q)) ≡ take n (bytes_of xs)
-taken_bytes xs q n h =
-    ap (take n) (bytes_of-append xs q) ∙ take-append-le n (bytes_of xs) (bytes_of q) (omega (arith, length-map xs (λ (x : Placed). x.byte)))
+taken_bytes xs q n h = search (arith, bytes_of-append, take-append-le, length-map)
 
 bound_fronts : (m : Machine) (name : ℕ) (show : Bool) (n : ℕ) (xs q : List Placed) → n + 2 ≤ length xs → Fronts q m.work m.left (length xs + (m.left + 1)) (bound_front m name show n xs) (bound_front m name show n (xs ++ q))
 bound_fronts m name false n xs q h =
@@ -297,40 +179,66 @@ body_fronts m name show xs q waits = pauses tt
 body_fronts m name show xs q (settled.refuses {i = i} within) = rw (place_at-append xs q i within) refuses
 body_fronts m name show xs q (ends {k = k} within) = bound_fronts m name show k xs q within
 
--- the state of the body at the beginning of a list, if these bytes come after it
-settled_body : (m : Machine) (xs q : List Placed) →
-    Settled (length xs) (body_front (store_limit - m.stored) (bytes_of xs)) (body_front (store_limit - m.stored) (bytes_of xs ++ bytes_of q))
-settled_body m xs q =
-    subst (λ (n : ℕ). Settled n (body_front (store_limit - m.stored) (bytes_of xs)) (body_front (store_limit - m.stored) (bytes_of xs ++ bytes_of q)))
-    (length-map xs _) (body_front-Settled (store_limit - m.stored) (bytes_of xs) (bytes_of q))
-
 in_fronts : (m : Machine) (xs q : List Placed) (mode : Mode) → m.mode ≡ mode → Fronts q m.work m.left (length xs + (m.left + ends_of mode)) (front_in mode m xs) (front_in mode m (xs ++ q))
-in_fronts m xs q between e = Fronts-more (omega arith) (by_fronts m xs q (codes.front m.sets (bytes_of xs)) refl e)
-in_fronts m xs q (in_body name show) e = rw (bytes_of-append xs q) (body_fronts m name show xs q (settled_body m xs q))
+in_fronts m xs q between e = by_fronts m xs q (codes.front m.sets (bytes_of xs)) refl e
+in_fronts m xs q (in_body name show) e = rw (bytes_of-append xs q) (body_fronts m name show xs q (rw (length-map xs (λ (x : Placed). x.byte)) at (body_front-Settled (store_limit - m.stored) (bytes_of xs) (bytes_of q))))
 
 pub front_fronts : (m : Machine) (xs q : List Placed) → Fronts q m.work m.left (length xs + left_of m) (front m xs) (front m (xs ++ q))
 unfolding front
 front_fronts m xs q = in_fronts m xs q m.mode refl
 
-front-lessens : Lessens front left_of
-front-lessens m xs es m' ys e = (Fronts-acting (rw e at (front_fronts m xs []))).1
-
-front-falls : Falls front (λ m. m.left)
-front-falls m xs es m' ys e = (Fronts-acting (rw e at (front_fronts m xs []))).2
-
-front-stays : Stays front
-front-stays = record {
-  acting = λ m xs es m' ys q e. (Fronts-acting (rw e at (front_fronts m xs q))).0;
-  refusing = λ m xs r q e. Fronts-refusing (rw e at (front_fronts m xs q));
-}
+-- more fronts than are needed change nothing
+outcome_within-spare : (f g : ℕ) (m : Machine) (xs : List Placed) → length xs + left_of m < f → length xs + left_of m < g → outcome_within front f m xs ≡ outcome_within front g m xs
+unfolding outcome_within
+outcome_within-spare zero g m xs hf hg = absurd (omega arith)
+outcome_within-spare (suc f) zero m xs hf hg = absurd (omega arith)
+outcome_within-spare (suc f) (suc g) m xs hf hg = at (front_fronts m xs []) (λ m' ys h h'. outcome_within-spare f g m' ys h h')
+  where
+    at : {n n' : Front} → Fronts [] m.work m.left (length xs + left_of m) n n' →
+        ((m' : Machine) (ys : List Placed) → length ys + left_of m' < f → length ys + left_of m' < g → outcome_within front f m' ys ≡ outcome_within front g m' ys) →
+        outcome_by_front (outcome_within front f) m xs n ≡ outcome_by_front (outcome_within front g) m xs n
+    at (pauses words) ih = refl
+    at refuses ih = refl
+    at (acts {es = es} {m = m'} {xs = ys} same less few puts) ih = ap (prepend es) (ih m' ys (omega arith) (omega arith))
 
 -- the outcome of a list is that of its front, and then that of the rest
 pub outcome_from-front : (m : Machine) (xs : List Placed) → outcome_from m xs ≡ outcome_by_front outcome_from m xs (front m xs)
-outcome_from-front = outcome-front front left_of front-lessens
+unfolding outcome outcome_within
+outcome_from-front m xs = at (front_fronts m xs [])
+  where
+    at : {n n' : Front} → Fronts [] m.work m.left (length xs + left_of m) n n' → outcome_by_front (outcome_within front (length xs + left_of m)) m xs n ≡ outcome_by_front outcome_from m xs n
+    at (pauses words) = refl
+    at refuses = refl
+    at (acts {es = es} {m = m'} {xs = ys} same less few puts) = ap (prepend es) (outcome_within-spare (length xs + left_of m) (suc (length ys + left_of m')) m' ys less (omega arith))
+
+-- What holds of the outcome of every list: it holds where the front is a pause or a refusal, whatever comes after it,
+-- and with the entries of a front that acts if it holds after that front.
+module _ (Holds : Machine → List Placed → Outcome → Type 0)
+    (pausing : (m : Machine) (xs : List Placed) (u : Unfinished) → IsOfWords u → Holds m xs (paused m xs (Some u)))
+    (refusing : (m : Machine) (xs : List Placed) (r : Refusal) → ((q : List Placed) → front m (xs ++ q) ≡ refuse r) → Holds m xs (course.refused m r))
+    (acting : (m m' : Machine) (xs ys : List Placed) (es : List Entry) (o : Outcome) → ((q : List Placed) → front m (xs ++ q) ≡ act es m' (ys ++ q)) → Puts m.work es m'.work → m'.left ≤ m.left → Holds m' ys o →
+    Holds m xs (prepend es o)) where
+  holds_within : (fuel : ℕ) (m : Machine) (xs : List Placed) → length xs + left_of m < fuel → Holds m xs (outcome_within front fuel m xs)
+  unfolding outcome_within
+  holds_within zero m xs h = absurd (omega arith)
+  holds_within (suc fuel) m xs h = at (front_fronts m xs []) (front_fronts m xs) (holds_within fuel)
+    where
+      at : {f f' : Front} → Fronts [] m.work m.left (length xs + left_of m) f f' → ((q : List Placed) → Fronts q m.work m.left (length xs + left_of m) f (front m (xs ++ q))) →
+          ((m' : Machine) (ys : List Placed) → length ys + left_of m' < fuel → Holds m' ys (outcome_within front fuel m' ys)) → Holds m xs (outcome_by_front (outcome_within front fuel) m xs f)
+      at (pauses {u = u} words) is ih = pausing m xs u words
+      at (refuses {r = r}) is ih = refusing m xs r (λ q. Fronts-refusing (is q))
+      at (acts {es = es} {m = m'} {xs = ys} same less few puts) is ih = acting m m' xs ys es _ (λ q. Fronts-acting (is q)) puts few (ih m' ys (omega arith))
+
+  pub outcome_holds : (m : Machine) (xs : List Placed) → Holds m xs (outcome_from m xs)
+  unfolding outcome
+  outcome_holds m xs = holds_within (suc (length xs + left_of m)) m xs (omega arith)
 
 -- the outcome of a list in two pieces
 pub outcome_from-append : (m : Machine) (xs ys : List Placed) → outcome_from m (xs ++ ys) ≡ continue outcome_from (outcome_from m xs) ys
-outcome_from-append = outcome-append front left_of front-lessens front-stays
+outcome_from-append m xs ys =
+    outcome_holds (λ m xs o. outcome_from m (xs ++ ys) ≡ continue outcome_from o ys) (λ m xs u words. refl) (λ m xs r is. outcome_from-front m (xs ++ ys) ∙ ap (outcome_by_front outcome_from m (xs ++ ys)) (is ys))
+    (λ m m' xs zs es o is puts few ih.
+    outcome_from-front m (xs ++ ys) ∙ ap (outcome_by_front outcome_from m (xs ++ ys)) (is ys) ∙ ap (prepend es) ih ∙ sym (continue-prepend outcome_from es o ys)) m xs
 
 pub placed_from-append : (n : ℕ) (p q : List ℕ) → placed_from n (p ++ q) ≡ placed_from n p ++ placed_from (n + length p) q
 unfolding placed_from
@@ -341,10 +249,17 @@ placed_from-append n (b ∷ p) q =
 
 -- the outcome of a stream once more of it has come
 pub begun-append : (budget : ℕ) (p q : List ℕ) → begun budget (p ++ q) ≡ continue outcome_from (begun budget p) (placed_from (length p) q)
-begun-append budget p q =
-    ap (outcome_from (start_machine budget)) (placed_from-append 0 p q ∙ ap (λ (m : ℕ). placed_from 0 p ++ placed_from m q) (omega arith))
-    ∙ outcome_from-append (start_machine budget) (placed_from 0 p) (placed_from (length p) q)
+begun-append budget p q = search (arith, placed_from-append, outcome_from-append)
 
 -- the outcome of a list leaves no more to charge
 pub outcome_from-left : (m : Machine) (xs : List Placed) → (outcome_from m xs).machine.left ≤ m.left
-outcome_from-left = outcome-falls front left_of (λ m. m.left) front-falls
+outcome_from-left = outcome_holds (λ m xs o. o.machine.left ≤ m.left) (λ m xs u words. omega arith) (λ m xs r is. omega arith) (λ m m' xs ys es o is puts few ih. omega arith)
+
+-- what is known of an outcome comes first in that with more input
+pub continue_first : (r : Option Refusal) (o : Outcome) (ys : List Placed) → (es : List Entry) × ((continue_by outcome_from r o ys).entries ≡ o.entries ++ es)
+continue_first (Some r) o ys = ([], sym (append-nil o.entries))
+continue_first None o ys = ((outcome_from o.machine (o.rest ++ ys)).entries, refl)
+
+-- the entries of a list are a prefix of those of a longer one
+pub entries_first : (m : Machine) (xs ys : List Placed) → (es : List Entry) × ((outcome_from m (xs ++ ys)).entries ≡ (outcome_from m xs).entries ++ es)
+entries_first m xs ys = rw (outcome_from-append m xs ys) (continue_first (outcome_from m xs).refusal (outcome_from m xs) ys)

@@ -1,4 +1,4 @@
-use Rattle.std.specs.Prelude.{ℕ, suc, zero, ◌+◌, ◌≡◌, ◌<◌, List, [], ◌++◌, length, Option, Some, None}
+use Rattle.std.specs.Prelude.{ℕ, suc, zero, ◌+◌, List, [], ◌++◌, length, Option, Some, None}
 
 -- The front of a machine's input: no complete code yet, with what is unfinished; a refusal; or a code that acts, with
 -- its entries, the machine after it, and the input that remains.
@@ -49,14 +49,3 @@ continue_by next None o ys = prepend o.entries (next o.machine (o.rest ++ ys))
 
 abbrev pub continue : {M E F U B : Type 0} → (M → List B → Outcome M E F U B) → Outcome M E F U B → List B → Outcome M E F U B
 continue next o ys = continue_by next o.refusal o ys
-
--- Each code that acts lessens what is unread and what the machine has left, taken together.
-abbrev pub Lessens : {M E F U B : Type 0} → (M → List B → Front M E F U B) → (M → ℕ) → Type 0
-Lessens {M} {E} {F} {U} {B} front left = (m : M) (xs : List B) (es : List E) (m' : M) (ys : List B) →
-    front m xs ≡ act es m' ys → length ys + left m' < length xs + left m
-
--- A complete front is unchanged by more input after it.
-pub record Stays {M E F U B : Type 0} (front : M → List B → Front M E F U B) : Type 0 where
-  pub acting : (m : M) (xs : List B) (es : List E) (m' : M) (ys zs : List B) →
-      front m xs ≡ act es m' ys → front m (xs ++ zs) ≡ act es m' (ys ++ zs)
-  pub refusing : (m : M) (xs : List B) (f : F) (zs : List B) → front m xs ≡ refuse f → front m (xs ++ zs) ≡ refuse f

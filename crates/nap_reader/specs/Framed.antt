@@ -1,4 +1,4 @@
-use Rattle.std.specs.Prelude.{◌≡◌, ◌≢◌, ◌<◌, ◌≤◌, ◌+◌, ◌++◌, ℕ, List, [], ◌∷◌, All, drop, length, take}
+use Rattle.std.specs.Prelude.{◌≡◌, ◌≢◌, ◌<◌, ◌≤◌, ◌+◌, ◌++◌, ℕ, List, [], ◌∷◌, All, drop, length}
 use Rattle.nap_reader.specs.declared.frames.Frame.{Frame}
 use Rattle.nap_reader.specs.Stored.{sublist}
 use Rattle.nap_reader.specs.Stream.{Placed, all_at, bytes_of}
@@ -38,10 +38,6 @@ pub record Innermost (bytes : List ℕ) (frames : List Frame) (text : List ℕ) 
   pub text_is : text ≡ sublist bytes frame.next frame.end
   pub place_is : place ≡ frame.place
 
--- `count` bytes at the beginning of the text were given, each at this place
-abbrev pub GivesFrom : List ℕ → List Frame → ℕ → List ℕ → ℕ → List Frame → Type 0
-GivesFrom bytes old place text count new = unread bytes old ≡ all_at place (take count text) ++ unread bytes new
-
 -- these bytes, with the place of the first, come next: of the innermost body, or else of the piece from this index on
 pub record AreNextBytes (stored : List ℕ) (frames : List Frame) (piece : List ℕ) (at fed : ℕ) (text : List ℕ) (place : ℕ) : Type 0 where
   pub of_piece : frames ≡ [] → (text ≡ drop at piece) × (place ≡ fed)
@@ -54,9 +50,3 @@ all_next stored frames piece at = bytes_of (unread stored frames) ++ drop at pie
 -- the bytes after those that come next
 abbrev pub bytes_after : List ℕ → List Frame → List ℕ → ℕ → List ℕ → List ℕ
 bytes_after stored frames piece at text = drop (length text) (all_next stored frames piece at)
-
--- n of the next bytes were consumed
-pub record MovesOn (stored : List ℕ) (old new : List Frame) (at until fed counted n : ℕ) : Type 0 where
-  pub of_piece : old ≡ [] → (new ≡ []) × (until ≡ at + n) × (counted ≡ fed + n)
-  pub of_body : old ≢ [] → (until ≡ at) × (counted ≡ fed)
-      × ((text : List ℕ) (place : ℕ) → Innermost stored old text place → n ≤ length text → GivesFrom stored old place text n new)

@@ -1,6 +1,5 @@
-use Rattle.std.specs.Prelude.{◌≡◌, ◌≢◌, ◌⊎◌, ◌<◌, ◌≤◌, ◌+◌, ◌-◌, ◌^◌, ◌++◌, ℕ, Bool, List, [], ◌∷◌, Option, true, length, take, drop}
-use Rattle.nap_reader.specs.Shared.{OpenBody, Fault, Input, AreNextBytes, MovesOn, bytes_after, placed_at, unread_of, Placed, all_at, bytes_of, placed_from}
-use Rattle.nap_reader.specs.declared.fault.Fault.TheVariants as faults
+use Rattle.std.specs.Prelude.{Bool, List, Option, Some, [], drop, length, take, true, ℕ, ◌++◌, ◌+◌, ◌-◌, ◌<◌, ◌^◌, ◌∷◌, ◌≡◌, ◌≢◌, ◌≤◌, ◌⊎◌}
+use Rattle.nap_reader.specs.Shared.{ends_body, Budget, AreNextBytes, Fault, Input, Memory, OpenBody, Placed, all_at, bytes_after, bytes_of, placed_at, placed_from, unread, unread_of}
 use Rattle.nap_reader.specs.Steps.{IsOver}
 use Rattle.nap_reader.specs.Stored.{StoreState, store_grown}
 
@@ -25,18 +24,22 @@ pub record IsNext (input : Input) (piece : List ℕ) (place step : ℕ) (text : 
   pub some : 0 < length text
   pub over : ended ≡ true → IsOver (bytes_after input.store.bytes input.frames.stack.items piece input.at text)
 
--- An input can pass `count` of the next bytes.
-pub record CanAdvance (input : Input) (count : ℕ) : Type 0 where
-  pub piece : List ℕ
+-- An input can pass `count` of the next bytes, which come before the rest of this piece, or of some piece.
+pub record CanPass (input : Input) (piece : List ℕ) (count : ℕ) : Type 0 where
   pub reads : Reads input piece
   pub place : ℕ
   pub text : List ℕ
   pub comes : AreNextBytes input.store.bytes input.frames.stack.items piece input.at input.fed text place
   pub few : count ≤ length text
 
+abbrev pub CanAdvance : Input → ℕ → Type 0
+CanAdvance input count = (piece : List ℕ) × CanPass input piece count
+
 -- An input has passed `count` bytes, and charged nothing more.
 pub record Passed (old new : Input) (count : ℕ) : Type 0 where
-  pub moves : MovesOn old.store.bytes old.frames.stack.items new.frames.stack.items old.at new.at old.fed new.fed count
+  pub rest : unread old.store.bytes new.frames.stack.items ≡ drop count (unread_of old)
+  pub at : new.at ≡ old.at + (count - length (unread_of old))
+  pub fed : new.fed ≡ old.fed + (count - length (unread_of old))
   pub turns : new.turns ≡ old.turns + count
   pub budget : new.budget ≡ old.budget
   pub charged : new.charged ≡ old.charged
@@ -60,6 +63,11 @@ pub record KeepsNextBytes (old new : Input) : Type 0 where
   pub frames : new.frames.stack.items ≡ old.frames.stack.items
   pub charged : new.charged ≡ old.charged
 
+-- The same, and so are the unread bytes of bodies.
+pub record SameComes (old new : Input) : Type 0 where
+  pub still : KeepsNextBytes old new
+  pub frames : unread_of new ≡ unread_of old
+
 -- An input stores these bodies, and this body is open; the next bytes are unchanged.
 pub record StoresBody (old new : Input) (store : StoreState) (opened : Option OpenBody) : Type 0 where
   pub still : KeepsNextBytes old new
@@ -69,7 +77,7 @@ pub record StoresBody (old new : Input) (store : StoreState) (opened : Option Op
 -- An input has passed `count` of the next bytes, which belong to the open body.
 pub record Keeps (old new : Input) (piece : List ℕ) (count : ℕ) : Type 0 where
   pub mid : Input
-  pub sets : StoresBody old mid (store_grown old.store (take count (bytes_of (next_bytes old piece)))) old.body
+  pub sets : StoresBody old mid (store_grown old.store (bytes_of (take count (next_bytes old piece)))) old.body
   pub passes : Advances mid new count
 
 -- An input has charged this part of the store, which has these bytes and comes next at this place. The store is this
@@ -86,8 +94,8 @@ pub record Shows (old new : Input) (store : StoreState) (opened : Option OpenBod
 
 -- The part can't be charged, or memory is lacking for it.
 pub record CannotShow (old new : Input) (bytes : List ℕ) (fault : Fault) : Type 0 where
-  pub reason : ((fault ≡ faults.Budget) × (old.budget - old.charged < length bytes))
-      ⊎ ((fault ≡ faults.Memory) × (0 < length bytes) × (length bytes ≤ old.budget - old.charged))
+  pub reason : ((fault ≡ Budget) × (old.budget - old.charged < length bytes))
+      ⊎ ((fault ≡ Memory) × (0 < length bytes) × (length bytes ≤ old.budget - old.charged))
   pub still : KeepsNextBytes old new
 
 -- An input has read on, by at least `count` bytes.
@@ -102,3 +110,10 @@ pub record IsNextByte (input : Input) (piece : List ℕ) (byte place : ℕ) : Ty
   pub reads : Reads input piece
   pub rest : List Placed
   pub is : next_bytes input piece ≡ placed_at byte place ∷ rest
+
+-- An ESC is pending in this body, and this byte after it ends the body, or doesn't.
+pub record AfterEscape (input : Input) (b : OpenBody) (byte : ℕ) (ending : Bool) : Type 0 where
+  pub escape : ℕ
+  pub retained : b.escape ≡ Some escape
+  pub opened : input.body ≡ Some (record { name = b.name; show = b.show; escape = Some escape })
+  pub ends : ends_body byte ≡ ending

@@ -1,6 +1,5 @@
-use Rattle.std.specs.Prelude.{All, Bool, ◌≡◌, ◌<◌, ◌≤◌, ◌+◌, ◌-◌, ◌++◌, ℕ, List, [], ◌∷◌, Some, None, false, true, length, take, drop, slice_index, IsSome}
-use Rattle.nap_reader.specs.Shared.{Ghosts, Refusal, Input, Reader, placed_at, placed_by_step, Continues, ReadingState, RunAt, reading_state_by, unread_of, Outcome, Placed, begun, bytes_of, place_at}
-use Rattle.nap_reader.specs.declared.fault.Fault.TheVariants as faults
+use Rattle.std.specs.Prelude.{All, Bool, IsSome, List, None, Some, [], drop, false, length, slice_index, take, true, ℕ, ◌++◌, ◌+◌, ◌-◌, ◌<◌, ◌∷◌, ◌≡◌, ◌≢◌, ◌≤◌}
+use Rattle.nap_reader.specs.Shared.{Continues, Entry, Ghosts, ReadingState, Input, Outcome, Owes, Placed, Reader, Refusal, RunAt, Sink, begun, bytes_of, reading_state_by, place_at, placed_at, placed_by_step, unread_of}
 use Rattle.nap_reader.specs.declared.machine.Machine.{Machine}
 use Rattle.nap_reader.specs.declared.machine.Request.{Request}
 use Rattle.nap_reader.specs.NextBytes.{HasReadOn, IsNext, Reads}
@@ -13,30 +12,30 @@ use Rattle.nap_reader.specs.Steps.{Acted, Takes}
 
 -- The byte with this index called or presented a body, which is read in part: the sink and the pending bytes before the
 -- byte, and what led on since. All bytes of bodies have the place of the byte, and so has an open run.
-pub record AmidCall {S : Type 0} {g : Ghosts S} (old : Reader S g) (piece : List ℕ) (i : ℕ) (t : S) (h : ReadingState) (frames : List Placed) : Type 0 where
+pub record AmidCall {S : Type 0} {g : Ghosts S} (old : Reader S g) (piece : List ℕ) (i : ℕ) (t : S) (owed : List Entry) (h : ReadingState) (frames : List Placed) : Type 0 where
   pub sink : S
   pub holding : ReadingState
   pub before : (s : S) (p : List ℕ) → HasRead old s p → Continues g s (begun (budget_of old) (p ++ take i piece)) sink holding []
   pub since : (s : S) (o : Outcome) (pending : List Placed) → Continues g s o sink holding (placed_at (slice_index piece i) (fed_of old + i) ∷ pending) →
-      Continues g s o t h (frames ++ pending)
+      Owes g s o t owed h (frames ++ pending)
   pub less : h.machine.left < holding.machine.left
   pub there : All (λ (x : Placed). x.place ≡ fed_of old + i) frames
   pub run : RunAt (fed_of old + i) h.open_run
 
--- The bytes of a piece before this index were consumed, the last of them perhaps in part: the sink, the pending bytes,
--- and the bytes of bodies that come next.
-pub record LeadsTo {S : Type 0} {g : Ghosts S} (old : Reader S g) (piece : List ℕ) (at : ℕ) (t : S) (h : ReadingState) (frames : List Placed) : Type 0 where
+-- The bytes of a piece before this index were consumed, the last of them perhaps in part: the sink, what it is owed, the
+-- pending bytes, and the bytes of bodies that come next.
+pub record LeadsTo {S : Type 0} {g : Ghosts S} (old : Reader S g) (piece : List ℕ) (at : ℕ) (t : S) (owed : List Entry) (h : ReadingState) (frames : List Placed) : Type 0 where
   pub live : refusal_of old ≡ None
   pub within : at ≤ length piece
-  pub alone : frames ≡ [] → (s : S) (p : List ℕ) → HasRead old s p → Continues g s (begun (budget_of old) (p ++ take at piece)) t h []
-  pub amid : 0 < length frames → (i : ℕ) × (at ≡ i + 1) × AmidCall old piece i t h frames
+  pub alone : frames ≡ [] → (s : S) (p : List ℕ) → HasRead old s p → Owes g s (begun (budget_of old) (p ++ take at piece)) t owed h []
+  pub amid : 0 < length frames → (i : ℕ) × (at ≡ i + 1) × AmidCall old piece i t owed h frames
 
 -- The bytes before the index lead to this sink and to these pending bytes; the opcode of the run that they end with may
 -- have acted.
 pub record Reaches {S : Type 0} {g : Ghosts S} (old : Reader S g) (piece : List ℕ) (at : ℕ) (t : S) (h : ReadingState) (frames : List Placed) : Type 0 where
   pub sink : S
   pub holding : ReadingState
-  pub leads : LeadsTo old piece at sink holding frames
+  pub leads : LeadsTo old piece at sink [] holding frames
   pub acted : Acted g sink holding t h (bytes_of frames ++ drop at piece)
 
 -- The invariant of the loop: a reader has read the piece up to this index.
@@ -70,20 +69,18 @@ pub record TakesPiece {S : Type 0} {g : Ghosts S} (old new : Reader S g) (piece 
   pub more_turns : turns_of old ≤ turns_of new
 
 -- The stream was refused at a byte of the piece, or reading broke there.
-pub record RefusesPiece {S : Type 0} {g : Ghosts S} (old new : Reader S g) (piece : List ℕ) : Type 0 where
-  pub why : Refusal
-  pub is : refusal_of new ≡ Some why
+pub record RefusesPiece {S : Type 0} {g : Ghosts S} (old new : Reader S g) (piece : List ℕ) (r : Refusal) : Type 0 where
   pub budget : budget_of new ≡ budget_of old
   pub has_read : (s : S) (p : List ℕ) → HasRead old s p → HasRead new s (p ++ piece)
-  pub stops : (i : ℕ) × StopsAt old new piece why i
-  pub failed : why.fault ≡ faults.Sink → g.failed (sink_of new) ≡ true
-  pub kept : g.failed (sink_of old) ≡ false → g.failed (sink_of new) ≡ true → why.fault ≡ faults.Sink
+  pub stops : (i : ℕ) × StopsAt old new piece r i
+  pub failed : r.fault ≡ Sink → g.failed (sink_of new) ≡ true
+  pub kept : r.fault ≢ Sink → g.failed (sink_of old) ≡ false → g.failed (sink_of new) ≡ false
   pub more_turns : turns_of old ≤ turns_of new
 
 -- Reading stopped; if the reader had read the piece up to some index, it stopped at a byte of the piece.
 abbrev pub StopsFrom : {S : Type 0} {g : Ghosts S} → List ℕ → Machine S g → Input → Machine S g → Input → Type 0
 StopsFrom {S} {g} piece machine input machine' input' = IsSome machine'.refusal
-    × ((old new : Reader S g) → refusal_of old ≡ None → ReadsTo old piece machine input → new.machine ≡ machine' → new.input ≡ input' → RefusesPiece old new piece)
+    × ((r : Refusal) → machine'.refusal ≡ Some r → (old new : Reader S g) → refusal_of old ≡ None → ReadsTo old piece machine input → new.machine ≡ machine' → new.input ≡ input' → RefusesPiece old new piece r)
 
 -- The machine consumed bytes of the next slice, the last of them at this place, while no body was open.
 pub record TakesSlice {S : Type 0} {g : Ghosts S} (old now : Machine S g) (input : Input) (piece : List ℕ) (count : ℕ) (request : Request) (place : ℕ) : Type 0 where
@@ -96,12 +93,3 @@ pub record TakesSlice {S : Type 0} {g : Ghosts S} (old now : Machine S g) (input
   pub next : IsNext input piece first step text ended
   pub takes : Takes old now (placed_by_step first step text) ended count request
   pub last : 0 < count → place ≡ place_at (placed_by_step first step text) (count - 1)
-
--- A reader at the beginning of the piece consumed all of it; or the stream is refused.
-abbrev pub ReadsPiece : {S : Type 0} {g : Ghosts S} → List ℕ → Machine S g → Input → Machine S g → Input → Type 0
-ReadsPiece {S} {g} piece machine input machine' input' =
-    (old new : Reader S g) → old.machine ≡ machine → old.input ≡ input → new.machine ≡ machine' → new.input ≡ input' → TakesPiece old new piece
-
-abbrev pub StopsPiece : {S : Type 0} {g : Ghosts S} → List ℕ → Machine S g → Input → Machine S g → Input → Type 0
-StopsPiece {S} {g} piece machine input machine' input' = IsSome machine'.refusal
-    × ((old new : Reader S g) → old.machine ≡ machine → old.input ≡ input → new.machine ≡ machine' → new.input ≡ input' → RefusesPiece old new piece)

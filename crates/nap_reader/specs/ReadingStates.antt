@@ -1,5 +1,5 @@
-use Rattle.std.specs.Prelude.{⊤, ◌≡◌, ◌≢◌, ◌<◌, ◌≤◌, ◌-◌, ◌+◌, ◌++◌, ℕ, false, List, [], ◌∷◌, Option, Some, None, length}
-use Rattle.nap_reader.specs.Below.{operand_words, CodeSets, Ghosts, Entry, Cause, stream, memory, run_limit}
+use Rattle.std.specs.Prelude.{⊤, ◌≡◌, ◌≤◌, ◌-◌, ◌+◌, ◌++◌, ℕ, false, List, [], ◌∷◌, Option, Some, None, length}
+use Rattle.nap_reader.specs.Below.{operand_words, CodeSets, Ghosts, Entry, stream, run_limit, Work}
 use Rattle.nap_codes.specs.declared.code.Code.TheVariants as code
 use Rattle.nap_codes.specs.Front as codes
 use Rattle.nap_reader.specs.declared.fault.Refusal.{Refusal}
@@ -13,8 +13,9 @@ use Rattle.nap_reader.specs.Bodies.{Mode, between, in_body, BodyFront, store_lim
 use Rattle.nap_reader.specs.Framed.{unread}
 use Rattle.nap_reader.specs.Course.{prepend}
 use Rattle.nap_reader.specs.Stream as model
-use Rattle.nap_reader.specs.Stream.{Placed, Machine, Outcome, Unfinished, open_body, refusal, bytes_of, words_of, is_operand_byte, run_length, half_read, outcome_from, begun, with_run}
-use Rattle.nap_reader.specs.Breaking.{cause_of, TookPart, BreaksInRun, BreaksFrom, Begins}
+use Rattle.nap_reader.specs.Stream.{Placed, Machine, Outcome, Unfinished, open_body, refusal, bytes_of, words_of, run_length, half_read, outcome_from}
+use Rattle.nap_reader.specs.Breaking.{cause_of}
+use Rattle.nap_list.specs.State.{start}
 
 -- The state of a reader between two bytes, and how it leads to the meaning of the stream. No caller sees these
 -- definitions.
@@ -106,19 +107,15 @@ body_front_after n (bodies.ended k) = bodies.ended (n + k)
 abbrev pub AreOfBody : ℕ → List ℕ → List ℕ → Type 0
 AreOfBody space body next = (more : List ℕ) → body_front space (body ++ (next ++ more)) ≡ body_front_after (length body) (body_front (space - length body) (next ++ more))
 
--- before the next bytes, these bytes are those of a body that hasn't ended
-pub record AtBody (rest : List Placed) (b : OpenBody) (h : ReadingState) (next : List ℕ) : Type 0 where
-  pub mode : h.machine.mode ≡ in_body b.name b.show
-  pub body : bytes_of rest ≡ h.body
-  pub are_of_body : AreOfBody (store_limit - h.machine.stored) h.body next
-  pub still : h.open_run ≡ None
-  pub half : h.half ≡ []
-
--- before the next bytes, these bytes are those of a body that hasn't ended, and maybe a pending ESC
+-- these bytes are those of a body that hasn't ended, and maybe a pending ESC
 pub record IsOpenBody (rest : List Placed) (b : OpenBody) (h : ReadingState) : Type 0 where
   pub bytes : List Placed
   pub is : rest ≡ bytes ++ pending_escape b.escape
-  pub at : AtBody bytes b h (bytes_of (pending_escape b.escape))
+  pub mode : h.machine.mode ≡ in_body b.name b.show
+  pub body : bytes_of bytes ≡ h.body
+  pub are_of_body : AreOfBody (store_limit - h.machine.stored) h.body (bytes_of (pending_escape b.escape))
+  pub still : h.open_run ≡ None
+  pub half : h.half ≡ []
 
 -- between two codes, these bytes are an open run, else those of a half-read code
 pub record ArePendingBetweenCodes (rest : List Placed) (h : ReadingState) : Type 0 where
@@ -134,54 +131,28 @@ ArePendingIn rest h (Some body) = IsOpenBody rest body h
 abbrev pub ArePending : List Placed → ReadingState → Type 0
 ArePending rest h = ArePendingIn rest h h.open_body
 
--- A sink that was s took the first entries of the outcome; the others are those of the pending bytes followed by the
--- next bytes.
-pub record Continues {S : Type 0} (g : Ghosts S) (s : S) (o : Outcome) (t : S) (h : ReadingState) (pending : List Placed) : Type 0 where
+-- A sink that was s took the first entries of the outcome; next come those that it is owed, and then those of the pending
+-- bytes followed by the next bytes.
+pub record Owes {S : Type 0} (g : Ghosts S) (s : S) (o : Outcome) (t : S) (owed : List Entry) (h : ReadingState) (pending : List Placed) : Type 0 where
   pub done : List Entry
   pub taken : g.took s done t
   pub clear : g.failed s ≡ false → g.failed t ≡ false
   pub rest : List Placed
   pub retained : ArePending rest h
-  pub leads : o ≡ prepend done (outcome_from h.machine (rest ++ pending))
+  pub leads : o ≡ prepend done (prepend owed (outcome_from h.machine (rest ++ pending)))
 
--- A sink that was s took the first entries of the outcome, and the pending bytes are those of the body before this
--- byte.
-pub record ReadsOn {S : Type 0} (g : Ghosts S) (s : S) (o : Outcome) (t : S) (h : ReadingState) (b : OpenBody) (x : Placed) (pending : List Placed) : Type 0 where
-  pub done : List Entry
-  pub taken : g.took s done t
-  pub clear : g.failed s ≡ false → g.failed t ≡ false
-  pub rest : List Placed
-  pub at : AtBody rest b h (x.byte ∷ [])
-  pub leads : o ≡ prepend done (outcome_from h.machine (rest ++ x ∷ pending))
+-- the same, and nothing is owed
+abbrev pub Continues : {S : Type 0} → Ghosts S → S → Outcome → S → ReadingState → List Placed → Type 0
+Continues g s o t h pending = Owes g s o t [] h pending
 
--- A sink that was s took these entries, the first of the outcome; the others are those of the pending bytes followed by
--- the next bytes.
-pub record ContinuesPast {S : Type 0} (g : Ghosts S) (s : S) (known : List Entry) (o : Outcome) (t : S) (h : ReadingState) (pending : List Placed) : Type 0 where
-  pub continues : Continues g s o t h pending
-  pub done : continues.done ≡ known
+-- a sink that keeps the entries as a list, whatever their number
+abbrev pub kept_list : Ghosts (List Entry)
+kept_list = record { state = λ _. start; wants = λ _ _. ⊤; failed = λ _. false; took = λ s es t. t ≡ s ++ es; broke = λ _ _ _ _. ⊥ }
 
--- A sink that was s has the known entries, and a part of the outcome's further ones. The outcome has no refusal.
-pub record BreaksNext {S : Type 0} (g : Ghosts S) (s : S) (known : List Entry) (o : Outcome) (t : S) (cause : Cause) : Type 0 where
-  pub more : List Entry
-  pub adds : o.entries ≡ known ++ more
-  pub unrefused : o.refusal ≡ None
-  pub part : TookPart g s known more t cause
-
--- The outcome has entries after the known ones. If memory was lacking, the sink may lack it for these.
-pub record BreaksPast {S : Type 0} (g : Ghosts S) (s : S) (known : List Entry) (o : Outcome) (t : S) (cause : Cause) : Type 0 where
-  pub next : BreaksNext g s known o t cause
-  pub some : next.more ≢ []
-  pub wants : cause ≡ memory → g.wants s (known ++ next.more)
-
--- The next bytes broke; or a body is charged, and the sink has a part of their entries.
-pub data BreaksInBody {S : Type 0} (g : Ghosts S) (s : S) (known : List Entry) (o : Outcome) (t : S) (left : ℕ) (cause : Cause) : Type 0 where
-  next_broke : BreaksNext g s known o t cause → BreaksInBody g s known o t left cause
-  body_broke : o.machine.left < left → BreaksFrom g s known o t cause → BreaksInBody g s known o t left cause
-
--- The next bytes broke, or a body is charged; and there are further entries.
-pub data BreaksSome {S : Type 0} (g : Ghosts S) (s : S) (known : List Entry) (o : Outcome) (t : S) (left : ℕ) (cause : Cause) : Type 0 where
-  some_broke : BreaksPast g s known o t cause → BreaksSome g s known o t left cause
-  charged_broke : o.machine.left < left → BreaksFrom g s known o t cause → BreaksSome g s known o t left cause
+-- The first entries of the outcome are the known ones; the others are those of the pending bytes followed by the next
+-- bytes.
+abbrev pub Leads : Outcome → List Entry → ReadingState → List Placed → Type 0
+Leads o known h pending = Continues kept_list [] o known h pending
 
 -- the refusal is the stream's own
 abbrev pub IsOwn : Refusal → Type 0
@@ -193,20 +164,11 @@ IsRefused g s o t h r = (o.refusal ≡ Some r) × g.took s o.entries t × (o.mac
 
 -- A sink that was s has taken the entries of an outcome that ends with this drawing state, and with these bytes of a
 -- half-read code.
-pub record Ends {S : Type 0} (g : Ghosts S) (s : S) (o : Outcome) (t : S) (h : ReadingState) : Type 0 where
+pub record Ends {S : Type 0} (g : Ghosts S) (s : S) (o : Outcome) (t : S) (drawn : Work) (bytes : List ℕ) : Type 0 where
   pub refusal : o.refusal ≡ None
   pub taken : g.took s o.entries t
-  pub work : o.machine.work ≡ h.machine.work
-  pub half : o.unfinished ≡ Some (half_read h.half)
-
--- the entries of the open run after p are a prefix of those with any byte that ends the run
-abbrev pub BeginsAll : ℕ → List ℕ → Type 0
-BeginsAll budget p = (b : ℕ) → is_operand_byte b ≡ false → Begins (with_run (begun budget p)) (begun budget (p ++ b ∷ []))
-
--- The opcode of the open run was refused, or broke.
-pub data ClosesInto {S : Type 0} (g : Ghosts S) (s : S) (budget : ℕ) (p : List ℕ) (t : S) (r : Refusal) : Type 0 where
-  run_refused : (with_run (begun budget p)).refusal ≡ Some r → g.took s (with_run (begun budget p)).entries t → IsOwn r → ClosesInto g s budget p t r
-  run_broke : BeginsAll budget p → BreaksInRun g s budget p t r → cause_of r.fault ≢ stream → ClosesInto g s budget p t r
+  pub work : o.machine.work ≡ drawn
+  pub half : o.unfinished ≡ Some (half_read bytes)
 
 -- the open run, if there is one, is at this place
 abbrev pub RunAt : ℕ → Option OpenRun → Type 0

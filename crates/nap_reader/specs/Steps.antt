@@ -1,12 +1,11 @@
-use Rattle.std.specs.Prelude.{All, Bool, if◌then◌else◌, ⊤, ◌≡◌, ◌≢◌, ◌<◌, ◌≤◌, ◌⊎◌, ◌+◌, ◌++◌, ℕ, false, true, List, [], ◌∷◌, Option, Some, None, Ok, length, take, drop}
-use Rattle.nap_reader.specs.Shared.{CharSet, CodeSets, Opcode, IsGraphic, LexerState, Entry, Ghosts, SinkFault, IsTextByte, HaltsAfter, sink_model_of, DrawFault, DrawsBy, fault_of, stream, run_limit, RuleResult, IsDrawn, rule, OpenBody, Fault, Refusal, OpenRun, body_of, no_names, draw_fault, Placed, Outcome, after_drawing, bytes_of, front, is_operand, is_operand_byte, place_at, placed_from, refusal, shown_front, cause_of, ReadingState, BreaksInBody, BreaksSome, Continues, ContinuesPast, ArePending, IsOwn, IsRefused, RunAt, run_by}
+use Rattle.std.specs.Prelude.{All, Bool, List, None, Ok, Option, Some, [], drop, false, get_or, if◌then◌else◌, length, slice_index, take, true, ℕ, ⊤, ◌*◌, ◌++◌, ◌+◌, ◌-◌, ◌<◌, ◌∷◌, ◌≡◌, ◌≢◌, ◌≤◌, ◌⊎◌}
+use Rattle.nap_reader.specs.Shared.{CharSet, CodeSets, Continues, DrawFault, RuleResult, DrawsBy, Entry, Fault, Ghosts, ReadingState, IsDrawn, IsGraphic, ArePending, IsOwn, IsRefused, IsTextByte, LexerState, Opcode, OpenBody, OpenRun, Outcome, Placed, Refusal, RunAt, Sink, after_drawing, body_of, bytes_of, cause_of, draw_fault, front, in_body, is_operand, is_operand_byte, no_names, place_at, placed_at, placed_by_step, placed_from, refusal, rule, run_by, shown_front, stream, Cause, Ends, Owes, begun, device, kept_list, memory, with_run}
 use Rattle.nap_codes.specs.Front as codes
 use Rattle.nap_codes.specs.Lexer.{IsShift}
 use Rattle.nap_codes.specs.declared.code.Code.TheVariants as code
 use Rattle.nap_list.specs.Agreement.{StatesAgree}
-use Rattle.nap_draw.specs.Codes as draws_codes
+use Rattle.nap_list.specs.declared.state.State.{State}
 use Rattle.nap_draw.specs.Draws as draws
-use Rattle.nap_reader.specs.declared.fault.Fault.TheVariants as faults
 use Rattle.nap_reader.specs.declared.machine.Machine.{Machine}
 use Rattle.nap_reader.specs.declared.machine.Request.{Request}
 use Rattle.nap_reader.specs.declared.machine.Request.TheVariants as requests
@@ -15,8 +14,7 @@ use Rattle.nap_reader.specs.declared.machine.front.FrontCode.TheVariants as fron
 use Rattle.nap_reader.specs.declared.machine.codes.CodeOutcome.{CodeOutcome}
 use Rattle.nap_reader.specs.declared.machine.codes.CodeOutcome.TheVariants as outcomes
 use Rattle.nap_reader.specs.Carried.{AllCharacters}
-use Rattle.nap_reader.specs.Bodies as bodies
-use Rattle.nap_reader.specs.Stream as model
+use Rattle.nap_list.specs.Putting as put
 
 -- What a reader does with the next bytes. No caller sees these definitions.
 
@@ -26,12 +24,11 @@ Passes {S} g t h xs u h' came = (s : S) (o : Outcome) (pending : List Placed) �
 
 -- The opcode of the open run.
 
--- The opcode of the open run acts on its words, and no byte is a character by itself.
+-- The opcode of the open run acts on its words.
 pub record ActsRun {S : Type 0} (g : Ghosts S) (t : S) (h : ReadingState) (u : S) (h' : ReadingState) : Type 0 where
   pub open_run : OpenRun
   pub between : h.open_body ≡ None
   pub is : h.open_run ≡ Some open_run
-  pub alone : (set : CharSet) → AllCharacters h.machine.sets set → ⊥
   pub drawn : RuleResult
   pub by : rule h.machine.work open_run.op h.run ≡ Ok drawn
   pub took : g.took t drawn.entries u
@@ -47,64 +44,55 @@ pub record StopsRun {S : Type 0} (g : Ghosts S) (t : S) (h : ReadingState) (u : 
   pub why : r ≡ refusal (draw_fault fault) open_run.place
   pub drew : DrawsBy g.took g.broke g.failed (rule h.machine.work open_run.op h.run) t u fault (draws.cause_of fault)
 
--- The open body has ended, with the pending ESC, and is bound; its end is the next code. No code was half read before
--- the ESC.
-pub record Binds (h h' : ReadingState) : Type 0 where
-  pub body : OpenBody
-  pub is : h.open_body ≡ Some body
-  pub place : ℕ
-  pub retained : body.escape ≡ Some place
-  pub hidden : body.show ≡ false
-  pub holds : h.half ≡ [] → h' ≡ record h { machine = model.after_body h.machine body.name h.body; half = 0x1B ∷ []; open_run = None; run = []; open_body = None; body = [] }
-  pub left : h'.machine.left ≡ h.machine.left
-  pub between : h'.open_body ≡ None
-  pub closed : h'.open_run ≡ None
-  pub waits : h'.half ≢ []
-
--- The sink and the pending bytes are unchanged; or, before the byte that ends it, the opcode of the open run has acted
--- or the open body is bound. That byte is the first of these, which come next.
-pub data Acted {S : Type 0} (g : Ghosts S) (t : S) (h : ReadingState) (u : S) (h' : ReadingState) (next : List ℕ) : Type 0 where
-  as_it_was : u ≡ t → h' ≡ h → Acted g t h u h' next
-  ahead : (b : ℕ) (bs : List ℕ) → next ≡ b ∷ bs → is_operand_byte b ≡ false → ActsRun g t h u h' → Acted g t h u h' next
-  bound : (b : ℕ) (bs : List ℕ) → next ≡ b ∷ bs → bodies.ends_body b ≡ true → u ≡ t → Binds h h' → Acted g t h u h' next
-
 -- How reading breaks.
 
--- memory is lacking for a word of the open run
-pub record LacksWord {S : Type 0} (t : S) (h : ReadingState) (x : Placed) (u : S) (r : Refusal) : Type 0 where
-  pub open_run : OpenRun
-  pub between : h.open_body ≡ None
-  pub is : h.open_run ≡ Some open_run
-  pub word : is_operand x ≡ true
-  pub few : length h.run < run_limit
-  pub sink : u ≡ t
-  pub why : r ≡ refusal faults.Memory x.place
+-- a sink that was t took what it was owed and a part of the entries, or one of them broke; or it took nothing, and was
+-- owed nothing
+abbrev pub TakesSome : {S : Type 0} → Ghosts S → S → List Entry → List Entry → S → Cause → Type 0
+TakesSome g t owed es u stream = ⊥
+TakesSome g t owed es u memory = ((u ≡ t) × (owed ≡ [])) ⊎ put.Stops (λ t es u. g.took t (owed ++ es) u) t es u
+TakesSome g t owed es u device = ((g.failed t ≡ true) × (u ≡ t) × (owed ≡ [])) ⊎ put.Breaks (λ t es e u. g.broke t (owed ++ es) e u) t es u
 
--- not all entries of the code that a byte ends are in the sink
-pub record BreaksCode {S : Type 0} (g : Ghosts S) (t : S) (h : ReadingState) (x : Placed) (u : S) (r : Refusal) : Type 0 where
+-- the byte is a word of the open run, or comes while a body is open
+abbrev pub Grows : ReadingState → Placed → Type 0
+Grows h x = ((open_run : OpenRun) × (h.open_body ≡ None) × (h.open_run ≡ Some open_run) × (is_operand x ≡ true)) ⊎ ((body : OpenBody) × (h.open_body ≡ Some body))
+
+-- The reader itself may lack memory for a byte after which these bytes come next: a body is charged, or what is open
+-- grows.
+abbrev pub LacksOwn : ReadingState → Placed → ReadingState → List Placed → Type 0
+LacksOwn h x after came = (after.machine.left < h.machine.left) ⊎ ((came ≡ []) × Grows h x)
+
+-- Reading breaks at the place of a byte, where a list would take all entries that it adds, and these bytes would come
+-- next: the reader itself lacks memory; or there are such entries, for which the sink may lack it.
+pub record BreaksHere {S : Type 0} (g : Ghosts S) (t : S) (owed : List Entry) (h : ReadingState) (x : Placed) (u : S) (r : Refusal) : Type 0 where
   pub place : r.place ≡ x.place
-  pub part : (s : S) (known : List Entry) (o : Outcome) → ContinuesPast g s known o t h (x ∷ []) → BreaksSome g s known o u h.machine.left (cause_of r.fault)
+  pub adds : List Entry
+  pub after : ReadingState
+  pub came : List Placed
+  pub passes : (known : List Entry) → Passes kept_list known h (x ∷ []) (known ++ adds) after came
+  pub part : TakesSome g t owed adds u (cause_of r.fault)
+  pub why : LacksOwn h x after came ⊎ ((came ≡ []) × (adds ≢ []) × (cause_of r.fault ≡ memory → g.wants t (owed ++ adds)))
 
--- a byte of a body adds more than was stored or put
-pub record BreaksBody {S : Type 0} (g : Ghosts S) (t : S) (h : ReadingState) (x : Placed) (u : S) (r : Refusal) : Type 0 where
-  pub body : OpenBody
-  pub is : h.open_body ≡ Some body
-  pub place : r.place ≡ x.place
-  pub part : (s : S) (known : List Entry) (o : Outcome) → ContinuesPast g s known o t h (x ∷ []) → BreaksInBody g s known o u h.machine.left (cause_of r.fault)
-
--- Reading breaks at a byte: at a word of the open run; in the opcode whose run the byte ends; in the code that it ends,
--- after such a run or not; or in a body.
-pub data Breaks {S : Type 0} (g : Ghosts S) (t : S) (h : ReadingState) (x : Placed) (u : S) (r : Refusal) : Type 0 where
-  at_word : LacksWord t h x u r → Breaks g t h x u r
-  in_run : is_operand x ≡ false → StopsRun g t h u r → Breaks g t h x u r
-  in_code : h.open_run ≡ None → BreaksCode g t h x u r → Breaks g t h x u r
-  after_run : (v : S) (h' : ReadingState) → is_operand x ≡ false → ActsRun g t h v h' → BreaksCode g v h' x u r → Breaks g t h x u r
-  in_body : BreaksBody g t h x u r → Breaks g t h x u r
+-- Reading breaks at a byte: in the opcode whose run the byte ends; or at its own place, after such a run or not.
+pub data Breaks {S : Type 0} (g : Ghosts S) (t : S) (owed : List Entry) (h : ReadingState) (x : Placed) (u : S) (r : Refusal) : Type 0 where
+  in_run : owed ≡ [] → is_operand x ≡ false → StopsRun g t h u r → Breaks g t owed h x u r
+  at_byte : (is_operand x ≡ true) ⊎ (h.open_body ≡ None → h.open_run ≡ None) → BreaksHere g t owed h x u r → Breaks g t owed h x u r
+  after_run : owed ≡ [] → (v : S) (h' : ReadingState) → is_operand x ≡ false → ActsRun g t h v h' → BreaksHere g v [] h' x u r → Breaks g t owed h x u r
 
 -- The stream is refused at a byte, or reading breaks at it.
-pub record StopsByte {S : Type 0} (g : Ghosts S) (t : S) (h : ReadingState) (x : Placed) (u : S) (r : Refusal) : Type 0 where
-  pub own : IsOwn r → (s : S) (o : Outcome) (pending : List Placed) → Continues g s o t h (x ∷ pending) → IsRefused g s o u h r
-  pub broke : cause_of r.fault ≢ stream → Breaks g t h x u r
+pub record StopsByte {S : Type 0} (g : Ghosts S) (t : S) (owed : List Entry) (h : ReadingState) (x : Placed) (u : S) (r : Refusal) : Type 0 where
+  pub own : IsOwn r → (s : S) (o : Outcome) (pending : List Placed) → Owes g s o t owed h (x ∷ pending) → IsRefused g s o u h r
+  pub broke : cause_of r.fault ≢ stream → Breaks g t owed h x u r
+
+-- The sink and the pending bytes are unchanged; or, before the byte that ends it, the opcode of the open run has acted
+-- or the open body is bound. That byte is the first of these, which come next: what is known of it and of the state
+-- after this is known of the state before.
+pub record Acted {S : Type 0} (g : Ghosts S) (t : S) (h : ReadingState) (u : S) (h' : ReadingState) (next : List ℕ) : Type 0 where
+  pub passes : (x : Placed) (bs : List ℕ) → next ≡ x.byte ∷ bs → (s : S) (o : Outcome) (pending : List Placed) → Continues g s o t h (x ∷ pending) → Continues g s o u h' (x ∷ pending)
+  pub stops : (x : Placed) (bs : List ℕ) → next ≡ x.byte ∷ bs → (v : S) (r : Refusal) → StopsByte g u [] h' x v r → StopsByte g t [] h x v r
+  pub left : h'.machine.left ≡ h.machine.left
+  pub run : (n : ℕ) → RunAt n h.open_run → RunAt n h'.open_run
+  pub none : next ≡ [] → (u ≡ t) × (h' ≡ h)
 
 -- The bytes are characters, or format effectors among them, and nothing is pending before them.
 pub record IsText (h : ReadingState) (set : CharSet) (text : List ℕ) : Type 0 where
@@ -112,16 +100,7 @@ pub record IsText (h : ReadingState) (set : CharSet) (text : List ℕ) : Type 0 
   pub closed : h.open_run ≡ None
   pub rested : h.half ≡ []
   pub chars : AllCharacters h.machine.sets set
-  pub some : 0 < length text
   pub typed : All IsTextByte text
-
--- One of the characters, the one with this index, was refused, or reading broke at it.
-pub record StopsText {S : Type 0} (g : Ghosts S) (t : S) (h : ReadingState) (text : List ℕ) (index : ℕ) (u : S) (r : Refusal) : Type 0 where
-  pub set : CharSet
-  pub text_is : IsText h set text
-  pub fault : SinkFault
-  pub halts : HaltsAfter (sink_model_of g) (draws_codes.text h.machine.work.state set text) t u index fault
-  pub why : r.fault ≡ draw_fault (fault_of fault)
 
 -- The next bytes.
 
@@ -131,19 +110,19 @@ pub data Came (frames rest : List Placed) (piece : List ℕ) (at until fed : ℕ
   of_body : 0 < length frames → frames ≡ xs ++ rest → until ≡ at → Came frames rest piece at until fed xs
   of_piece : frames ≡ [] → rest ≡ [] → xs ≡ placed_from fed (take (length xs) (drop at piece)) → until ≡ at + length xs → until ≤ length piece → Came frames rest piece at until fed xs
 
--- What consumed bytes lead to: a sink, and pending bytes. A run that is open there has the place of these bytes, or of
--- the run that was open before them.
-pub record LeadsThrough {S : Type 0} (g : Ghosts S) (t : S) (h : ReadingState) (xs : List Placed) : Type 0 where
+-- What consumed bytes lead to: a sink, the entries that it is owed, and pending bytes. A run that is open there has the
+-- place of these bytes, or of the run that was open before them.
+pub record LeadsThrough {S : Type 0} (g : Ghosts S) (t : S) (h : ReadingState) (owed : List Entry) (xs : List Placed) : Type 0 where
   pub sink : S
   pub holding : ReadingState
   pub left : holding.machine.left ≡ h.machine.left
   pub run : (n : ℕ) → All (λ (x : Placed). x.place ≡ n) xs → RunAt n h.open_run → RunAt n holding.open_run
-  pub passes : Passes g t h xs sink holding []
-  pub none : xs ≡ [] → (sink ≡ t) × (holding ≡ h)
+  pub passes : (s : S) (o : Outcome) (pending : List Placed) → Continues g s o t h (xs ++ pending) → Owes g s o sink owed holding pending
+  pub none : xs ≡ [] → (sink ≡ t) × (holding ≡ h) × (owed ≡ [])
 
 -- The bytes were consumed, and others come next. The opcode of a run that they end with may have acted.
 pub record LeadsOn {S : Type 0} (g : Ghosts S) (t : S) (h : ReadingState) (u : S) (h' : ReadingState) (xs : List Placed) (next : List ℕ) : Type 0 where
-  pub conveys : LeadsThrough g t h xs
+  pub conveys : LeadsThrough g t h [] xs
   pub acted : Acted g conveys.sink conveys.holding u h' next
 
 -- The first byte is no operand byte.
@@ -177,7 +156,7 @@ with_machine h m = record h {
 abbrev pub state_after_request : ReadingState → Request → ReadingState
 state_after_request h requests.Clear = record h { machine = record h.machine { names = no_names } }
 state_after_request h (requests.Define name show) = record h {
-  machine = record h.machine { mode = bodies.in_body name show };
+  machine = record h.machine { mode = in_body name show };
   open_body = Some (record { name = name; show = show; escape = None });
 }
 state_after_request h _ = h
@@ -196,32 +175,34 @@ pub record Calls {S : Type 0} (g : Ghosts S) (t : S) (h : ReadingState) (u : S) 
   pub between : holding.open_body ≡ None
   pub closed : holding.open_run ≡ None
   pub left : holding.machine.left ≡ h'.machine.left
-  pub front_is : (s : S) (o : Outcome) (pending : List Placed) (k : Continues g s o u holding (byte ∷ pending)) →
-      front holding.machine (k.rest ++ byte ∷ pending) ≡ shown_front h'.machine byte.place (body_of h'.machine.names name) pending
+  pub front_is : (rest pending : List Placed) → ArePending rest holding → front holding.machine (rest ++ byte ∷ pending) ≡ shown_front h'.machine byte.place (body_of h'.machine.names name) pending
   pub rested : h'.open_run ≡ None
-  pub still : (s : S) (o : Outcome) (pending : List Placed) → Continues g s o u holding (byte ∷ pending) → ArePending [] h'
+  pub still : (rest : List Placed) → ArePending rest holding → ArePending [] h'
   pub named : name < 0x80
 
--- The bytes before this index lead to a state in which the byte there is refused or breaks; or to characters, of which
--- one does, and which end within `many` bytes.
-pub data Stops {S : Type 0} (g : Ghosts S) (t : S) (h : ReadingState) (all : List Placed) (many index : ℕ) (u : S) (r : Refusal) : Type 0 where
-  at_byte : (x : Placed) (bytes_after : List Placed) → drop index all ≡ x ∷ bytes_after → (c : LeadsThrough g t h (take index all)) → StopsByte g c.sink c.holding x u r →
-      Stops g t h all many index u r
-  in_text : (before taken size : ℕ) → index ≡ before + taken → taken < size → before + size ≤ many → place_at all index ≡ r.place →
-      (c : LeadsThrough g t h (take before all)) → StopsText g c.sink c.holding (bytes_of (take size (drop before all))) taken u r → Stops g t h all many index u r
+-- The bytes before this index lead to a state in which the byte there is refused or breaks.
+pub record Stops {S : Type 0} (g : Ghosts S) (t : S) (h : ReadingState) (all : List Placed) (index : ℕ) (u : S) (r : Refusal) : Type 0 where
+  pub byte : Placed
+  pub following : List Placed
+  pub is : drop index all ≡ byte ∷ following
+  pub owed : List Entry
+  pub leads : LeadsThrough g t h owed (take index all)
+  pub stops : StopsByte g leads.sink owed leads.holding byte u r
 
--- The machine consumed `count` bytes, and their last code makes this request to the input. The slice has `many` bytes.
-abbrev pub TakesBy : {S : Type 0} → Ghosts S → S → ReadingState → S → ReadingState → List Placed → ℕ → ℕ → Option Refusal → Request → Type 0
-TakesBy g t h u h' all many count r requests.Stop = (why : Refusal) × (r ≡ Some why) × Stops g t h all many count u why
-TakesBy g t h u h' all many count r (requests.Call name) = (index : ℕ) × (count ≡ index + 1) × Calls g t h u h' all index name
-TakesBy g t h u h' all many count r (requests.Define name show) =
-    (0 < count) × IsGraphic name × LeadsOn g t h u (state_after_request h' (requests.Define name show)) (take count all) (bytes_of (drop count all))
-TakesBy g t h u h' all many count r request = LeadsOn g t h u (state_after_request h' request) (take count all) (bytes_of (drop count all))
+-- The machine consumed `count` bytes, and their last code makes this request to the input.
+abbrev pub TakesBy : {S : Type 0} → Ghosts S → S → ReadingState → S → ReadingState → List Placed → ℕ → Option Refusal → Request → Type 0
+TakesBy g t h u h' all count r requests.Stop = (why : Refusal) × (r ≡ Some why) × Stops g t h all count u why
+TakesBy g t h u h' all count r (requests.Call name) = (index : ℕ) × (count ≡ index + 1) × Calls g t h u h' all index name
+TakesBy g t h u h' all count r (requests.Define name show) = IsGraphic name × LeadsOn g t h u (state_after_request h' (requests.Define name show)) (take count all) (bytes_of (drop count all))
+TakesBy g t h u h' all count r request = LeadsOn g t h u (state_after_request h' request) (take count all) (bytes_of (drop count all))
 
 -- A machine isn't refused, and its state of failure agrees with its sink.
-pub record IsLive {S : Type 0} {g : Ghosts S} (machine : Machine S g) : Type 0 where
-  pub live : machine.refusal ≡ None
-  pub agrees : StatesAgree machine.work.state (g.state machine.sink)
+pub record IsLiveBy {S : Type 0} (g : Ghosts S) (refusal : Option Refusal) (state : State) (sink : S) : Type 0 where
+  pub live : refusal ≡ None
+  pub agrees : StatesAgree state (g.state sink)
+
+abbrev pub IsLive : {S : Type 0} {g : Ghosts S} → Machine S g → Type 0
+IsLive {S} {g} machine = IsLiveBy g machine.refusal machine.work.state machine.sink
 
 -- A machine that wasn't refused still isn't, and its sink works if it did before.
 pub record Works {S : Type 0} {g : Ghosts S} (old new : Machine S g) : Type 0 where
@@ -238,7 +219,7 @@ pub record Refuses {S : Type 0} {g : Ghosts S} (old new : Machine S g) (r : Refu
 
 -- whether a sink that was t, and is u, has failed, by the fault
 abbrev pub FaultMatchesSink : {S : Type 0} → Ghosts S → S → S → Fault → Type 0
-FaultMatchesSink g t u fault = (fault ≡ faults.Sink → g.failed u ≡ true) × (g.failed t ≡ false → g.failed u ≡ true → fault ≡ faults.Sink)
+FaultMatchesSink g t u fault = (fault ≡ Sink → g.failed u ≡ true) × (g.failed t ≡ false → g.failed u ≡ true → fault ≡ Sink)
 
 -- The machine is refused, and tells whether its sink has failed.
 pub record Latches {S : Type 0} {g : Ghosts S} (old new : Machine S g) : Type 0 where
@@ -255,14 +236,21 @@ abbrev pub Progresses : {S : Type 0} {g : Ghosts S} → Machine S g → Machine 
 Progresses old new count request = (0 < count) ⊎ (request ≡ requests.Stop) ⊎ ((new.open_run ≡ None) × (old.open_run ≢ None))
 
 -- The machine consumed `count` bytes of a slice that has these, after which others come: none of an operand if the run
--- has ended. If the machine requests nothing, only a run may be open after the last of them.
+-- has ended.
 pub record Takes {S : Type 0} {g : Ghosts S} (old new : Machine S g) (bytes : List Placed) (ended : Bool) (count : ℕ) (request : Request) : Type 0 where
   pub within : count ≤ length bytes
   pub leaves : Leaves old new request
-  pub goes : 0 < length bytes → Progresses old new count request
-  pub closed : request ≡ requests.Nothing → count < length bytes → new.open_run ≡ None
   pub by : (h : ReadingState) (bytes_after : List Placed) → h.open_body ≡ None → (ended ≡ true → IsOver (bytes_of bytes_after)) →
-      TakesBy g old.sink (with_machine h old) new.sink (with_machine h new) (bytes ++ bytes_after) (length bytes) count new.refusal request
+      TakesBy g old.sink (with_machine h old) new.sink (with_machine h new) (bytes ++ bytes_after) count new.refusal request
+
+-- Only after the last of `many` bytes may a run be open, if the machine requests nothing.
+abbrev pub EndsClosed : {S : Type 0} {g : Ghosts S} → Machine S g → ℕ → ℕ → Request → Type 0
+EndsClosed new many count request = request ≡ requests.Nothing → count < many → new.open_run ≡ None
+
+-- The machine consumed bytes of a slice, from this index up to `count`.
+abbrev pub TakesFrom : {S : Type 0} {g : Ghosts S} → Machine S g → Machine S g → ℕ → ℕ → List ℕ → ℕ → Bool → ℕ → Request → Type 0
+TakesFrom old new place step bytes at ended count request = (n : ℕ) × (count ≡ at + n)
+    × Takes old new (placed_at (slice_index bytes at) (place + step * at) ∷ placed_by_step (place + step * (at + 1)) step (drop (at + 1) bytes)) ended n request
 
 -- One code at the front.
 
@@ -286,24 +274,17 @@ IsFrontCode lexer byte fronts.Shift = IsShift lexer byte
 IsFrontCode lexer byte (fronts.Effector step) = (lexer.half ≡ []) × (codes.front lexer.sets (byte ∷ []) ≡ codes.complete (code.Step step) 1 lexer.sets)
 IsFrontCode lexer byte fronts.Other = ⊤
 
--- The first `count` bytes call a macro: the last is its name, and those before it are unfinished.
+-- The first `count` bytes are a call of a macro, with no incomplete code before them. The last one is its name.
 pub record CallsBy (lexer : LexerState) (bytes : List ℕ) (count : ℕ) : Type 0 where
-  pub before : List ℕ
-  pub name : ℕ
-  pub following : List ℕ
-  pub is : bytes ≡ before ++ name ∷ following
-  pub counted : count ≡ length before + 1
   pub rested : lexer.half ≡ []
-  pub named : IsGraphic name
-  pub waits : codes.front lexer.sets before ≡ codes.unfinished
-  pub few : length before ≤ 1
-  pub whole : codes.front lexer.sets (before ++ name ∷ []) ≡ codes.complete (code.Call name) count lexer.sets
+  pub counted : (0 < count) × (count ≤ 2) × (count ≤ length bytes)
+  pub whole : codes.front lexer.sets (take count bytes) ≡ codes.complete (code.Call (get_or bytes (count - 1) 0)) count lexer.sets
 
 -- The number of bytes of the code; or its opcode, whose run these bytes don't end; or nothing was done.
 abbrev pub CodeWithin : {S : Type 0} {g : Ghosts S} → Machine S g → Machine S g → List ℕ → CodeOutcome → Type 0
 CodeWithin old new bytes (outcomes.Acted count clears) = (0 < count) × (count ≤ length bytes)
 CodeWithin old new bytes (outcomes.Stopped count fault index) = (count ≤ length bytes) × (index < length bytes)
-CodeWithin old new bytes (outcomes.Opens op) = (new ≡ old) × (byte : ℕ) × (rest : List ℕ) × (bytes ≡ byte ∷ rest) × IsOpcodeByte old.lexer.half old.lexer.sets byte op
+CodeWithin old new bytes (outcomes.Opens op) = (new ≡ old) × (0 < length bytes) × IsOpcodeByte old.lexer.half old.lexer.sets (get_or bytes 0 0) op
 CodeWithin old new bytes outcomes.Other = new ≡ old
 
 -- The machine consumed the code, or kept its refusal, with the place of the byte with this index.
@@ -318,7 +299,7 @@ CodeTakes old new xs ended _ = ⊤
 pub record Codes {S : Type 0} {g : Ghosts S} (old new : Machine S g) (bytes : List ℕ) (ended : Bool) (outcome : CodeOutcome) : Type 0 where
   pub within : CodeWithin old new bytes outcome
   pub closed : new.open_run ≡ old.open_run
-  pub by : (xs : List Placed) → bytes_of xs ≡ bytes → CodeTakes old new xs ended outcome
+  pub by : (x : Placed) (ys : List Placed) → bytes ≡ x.byte ∷ bytes_of ys → CodeTakes old new (x ∷ ys) ended outcome
 
 -- The opcode of the open run acted, and may have unbound all names; or it is refused, or breaks.
 abbrev pub Executes : {S : Type 0} {g : Ghosts S} → Machine S g → Machine S g → Bool → Type 0
@@ -327,3 +308,7 @@ Executes {S} {g} old new clears = Works old new × (new.open_run ≡ None)
 
 abbrev pub FailsRun : {S : Type 0} {g : Ghosts S} → Machine S g → Machine S g → Refusal → Type 0
 FailsRun {S} {g} old new r = ((h : ReadingState) → h.open_body ≡ None → StopsRun g old.sink (with_machine h old) new.sink r) × FaultMatchesSink g old.sink new.sink r.fault
+
+-- The open run, if there is one, has acted at the end of a stream.
+abbrev pub EndsRun : {S : Type 0} {g : Ghosts S} → Machine S g → Machine S g → Type 0
+EndsRun {S} {g} old new = (h : ReadingState) → h.open_body ≡ None → (s : S) (budget : ℕ) (p : List ℕ) → Continues g s (begun budget p) old.sink (with_machine h old) [] → Ends g s (with_run (begun budget p)) new.sink new.work new.lexer.half

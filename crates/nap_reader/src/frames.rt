@@ -1,7 +1,7 @@
 //! The macro bodies that are being read.
-ghost use Rattle.std.specs.Prelude.{true, ℕ, List, ◌≡◌, ◌<◌, ◌≤◌, ◌+◌, ◌↔◌, [], ◌∷◌, ◌++◌, length, MatchOption, OnOk};
+ghost use Rattle.std.specs.Prelude.{true, ℕ, List, ◌≡◌, ◌<◌, ◌≤◌, ◌+◌, ◌↔◌, [], ◌∷◌, ◌++◌, drop, length, MatchOption, OnOk};
 ghost use Rattle.smallvec.specs.SmallVec.{HasRoomFor};
-ghost use Rattle.nap_reader.specs.Framed.{AreNextBytes, FramesIn, GivesFrom, Innermost, bytes_after, unread};
+ghost use Rattle.nap_reader.specs.Framed.{AreNextBytes, FramesIn, Innermost, bytes_after, unread};
 
 use crate::store::Span;
 use smallvec::SmallVec;
@@ -105,7 +105,7 @@ impl Frames {
     pub(crate) fn take_from_innermost(&mut self, bytes: &[u8], count: usize)
         requires { FramesIn (length bytes.now) self.old.stack.items }
         ensures given { (text : List ℕ) (place : ℕ) → Innermost bytes.now self.old.stack.items text place → count ≤ length text →
-            GivesFrom bytes.now self.old.stack.items place text count self.new.stack.items }
+            unread bytes.now self.new.stack.items ≡ drop count (unread bytes.now self.old.stack.items) }
         ensures within { FramesIn (length bytes.now) self.new.stack.items }
     {
         if self.stack.len() == 0 {

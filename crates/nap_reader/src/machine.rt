@@ -1,5 +1,5 @@
 //! The state that codes work on.
-ghost use Rattle.std.specs.Prelude.{◌≡◌, ◌≢◌, ◌≤◌, Bool, [], None, Some, length, vec_len, IsOk, MatchResult, OnOk};
+ghost use Rattle.std.specs.Prelude.{◌≡◌, ◌≤◌, Bool, [], None, Some, length, vec_len, MatchResult, OnOk};
 ghost use Rattle.nap_codes.specs.CodeSets.{start_sets};
 ghost use Rattle.nap_draw.specs.Limits.{run_limit};
 ghost use Rattle.nap_draw.specs.Rule.{start_work};
@@ -73,7 +73,7 @@ pub(crate) struct Machine<S: Sink> {
 }
 
 impl<S: Sink> Machine<S> {
-    ghost use Rattle.nap_reader.specs.Steps.{Executes, FailsRun, IsLive, Refuses};
+    ghost use Rattle.nap_reader.specs.Steps.{EndsRun, FailsRun, IsLive, Refuses, Works};
 
     /// Returns the state before any code.
     pub(crate) fn new(alloc: Global, sink: S) -> Machine<S>
@@ -147,8 +147,8 @@ impl<S: Sink> Machine<S> {
     pub(crate) fn end_run(&mut self) -> Result<(), Refusal>
         requires live { IsLive self.old }
         ensures closed { OnOk result (self.new.open_run ≡ None) }
-        ensures still { self.old.open_run ≡ None → OnOk result (self.new ≡ self.old) × IsOk result }
-        ensures acts { MatchResult result (λ _. self.old.open_run ≢ None → (clears : Bool) × Executes self.old self.new clears) (λ r. FailsRun self.old self.new r) }
+        ensures works { OnOk result (Works self.old self.new) }
+        ensures ends { MatchResult result (λ _. EndsRun self.old self.new) (λ r. FailsRun self.old self.new r) }
     {
         let Some(open_run) = self.open_run else {
             return Ok(());

@@ -144,10 +144,10 @@ impl<S: Sink> Reader<S> {
     /// Refuses what is unfinished at the end, where no run and no body is open.
     fn check_finished(&mut self) -> Result<(), Refusal>
         requires { self.old.machine.refusal ≡ None }
-        ensures settled { (s : S) (o : Outcome) → Ends S.Sink s o self.old.machine.sink (reading_state self.old) →
-            MatchResult result (λ _. IsTaken S.Sink s (with_code o self.old.input.fed o.unfinished) self.new.machine.sink None)
-            (λ r. IsTaken S.Sink s (with_code o self.old.input.fed o.unfinished) self.new.machine.sink (Some r)) }
-        ensures own { IfErr result IsOwn }
+        ensures ended { OnOk result ((s : S) (o : Outcome) → Ends S.Sink s o self.old.machine.sink self.old.machine.work self.old.machine.lexer.half →
+            IsTaken S.Sink s (with_code o self.old.input.fed o.unfinished) self.new.machine.sink None) }
+        ensures refused { IfErr result (λ r. IsOwn r × ((s : S) (o : Outcome) → Ends S.Sink s o self.old.machine.sink self.old.machine.work self.old.machine.lexer.half →
+            IsTaken S.Sink s (with_code o self.old.input.fed o.unfinished) self.new.machine.sink (Some r))) }
         ensures sink { self.new.machine.sink ≡ self.old.machine.sink }
     {
         if !self.machine.lexer.at_rest() {

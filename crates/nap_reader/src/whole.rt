@@ -10,6 +10,7 @@ use nap_list::{Entry, ListSink};
 use std::alloc::Global;
 
 /// Returns the display list of a stream, or its refusal (PROFILE.md, How a stream is read).
+#[tactic(auto, unfolding(nap_list::specs::State::walk))]
 pub fn read_all(alloc: Global, budget: Budget, bytes: &[u8]) -> Result<Vec<Entry>, Refusal>
     requires { length bytes.now < 2 ^ 63 }
     ensures accepted { IfOk result (λ list. (means budget bytes.now).refusal ≡ None) }

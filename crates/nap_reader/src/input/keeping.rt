@@ -1,21 +1,19 @@
 //! Bytes that are added to the body that is being defined.
-ghost use Rattle.std.specs.Prelude.{◌≡◌, ◌+◌, ◌≤◌, ℕ, List, length, take, OnErr, OnOk};
+ghost use Rattle.std.specs.Prelude.{◌≡◌, ◌+◌, ◌≤◌, length, take, OnErr, OnOk};
 ghost use Rattle.nap_reader.specs.Bodies.{store_limit};
-ghost use Rattle.nap_reader.specs.Framed.{AreNextBytes};
 
 use super::Input;
 use std::alloc::AllocError;
 
 impl Input {
-    ghost use Rattle.nap_reader.specs.NextBytes.{Keeps, Reads, StoresBody, next_bytes};
+    ghost use Rattle.nap_reader.specs.NextBytes.{CanPass, Keeps, StoresBody, next_bytes};
     ghost use Rattle.nap_reader.specs.Stored.{store_grown};
     ghost use Rattle.nap_reader.specs.Stream.{bytes_of};
 
     /// Adds the next `count` bytes to the open body, and advances past them.
     #[inline(always)]
     pub(crate) fn keep(&mut self, count: usize, piece: &[u8]) -> Result<(), AllocError>
-        requires reads { Reads self.old piece.now }
-        requires next { (place : ℕ) × (text : List ℕ) × AreNextBytes self.old.store.bytes self.old.frames.stack.items piece.now self.old.at self.old.fed text place × (count ≤ length text) }
+        requires next { CanPass self.old piece.now count }
         requires few { self.old.store.stored + length self.old.store.body + count ≤ store_limit }
         ensures ok { OnOk result (Keeps self.old self.new piece.now count) }
         ensures err { OnErr result (self.new ≡ self.old) }
@@ -28,10 +26,9 @@ impl Input {
     /// Adds the next `count` bytes to the open body.
     #[inline(always)]
     fn append(&mut self, count: usize, piece: &[u8]) -> Result<(), AllocError>
-        requires reads { Reads self.old piece.now }
-        requires next { (place : ℕ) × (text : List ℕ) × AreNextBytes self.old.store.bytes self.old.frames.stack.items piece.now self.old.at self.old.fed text place × (count ≤ length text) }
+        requires next { CanPass self.old piece.now count }
         requires few { self.old.store.stored + length self.old.store.body + count ≤ store_limit }
-        ensures ok { OnOk result (StoresBody self.old self.new (store_grown self.old.store (take count (bytes_of (next_bytes self.old piece.now)))) self.old.body) }
+        ensures ok { OnOk result (StoresBody self.old self.new (store_grown self.old.store (bytes_of (take count (next_bytes self.old piece.now)))) self.old.body) }
         ensures err { OnErr result (self.new ≡ self.old) }
     {
         match self.frames.next() {

@@ -1,5 +1,5 @@
 //! The requests that codes make of the input.
-ghost use Rattle.std.specs.Prelude.{◌≡◌, ◌≢◌, ◌⊎◌, [], Err, None, Some, MatchResult, OnOk};
+ghost use Rattle.std.specs.Prelude.{ℕ, List, ◌≡◌, ◌≢◌, ◌⊎◌, [], Err, None, Some, MatchResult, OnOk};
 ghost use Rattle.nap_reader.specs.Stream.{refusal};
 
 use super::{Machine, Request, Taken};
@@ -12,9 +12,12 @@ use nap_list::Sink;
 pub(crate) struct Refused;
 
 impl<S: Sink> Machine<S> {
-    ghost use Rattle.nap_reader.specs.NextBytes.{Reads, next_bytes};
+    ghost use Rattle.nap_reader.specs.declared.input.Input.{Input};
+    ghost use Rattle.nap_reader.specs.NextBytes.{CanAdvance, IsNextByte, Reads, SameComes, next_bytes};
+    ghost use Rattle.nap_reader.specs.Framed.{placed_at};
+    ghost use Rattle.nap_reader.specs.ReadingStates.{reading_state_by};
     ghost use Rattle.nap_reader.specs.Pieces.{Goes, StopsFrom, TakesSlice};
-    ghost use Rattle.nap_reader.specs.Steps.{IsLive, Refuses};
+    ghost use Rattle.nap_reader.specs.Steps.{IsLive, Refuses, StopsByte};
 
     /// Consumes bytes of the body that is being defined, if one is, until it ends or no byte is left.
     #[inline(always)]
@@ -82,5 +85,23 @@ impl<S: Sink> Machine<S> {
     {
         self.refusal = Some(Refusal { fault, place });
         Err(Refused)
+    }
+
+    /// Refuses the stream, for good, at the byte that comes next.
+    #[inline(never)]
+    pub(super) fn refuse_next(
+        &mut self,
+        input: &mut Input,
+        fault: Fault,
+        place: u64,
+    ) -> Result<(), Refused>
+        requires { CanAdvance input.old 1 }
+        ensures answer { result ≡ Err (record {}) }
+        ensures stops { (count : ℕ) (start : Input) (piece : List ℕ) (byte at : ℕ) → SameComes start input.old → IsNextByte start piece byte at → fault ≢ Fault.Sink →
+            StopsByte S.Sink self.old.sink [] (reading_state_by self.old start) (placed_at byte at) self.old.sink (refusal fault place) →
+            MatchResult result (λ _. Goes piece count self.old start self.new input.new) (λ _. StopsFrom piece self.old start self.new input.new) }
+    {
+        input.advance(1);
+        self.refuse(fault, place)
     }
 }

@@ -21,6 +21,7 @@ impl<S: Sink> Machine<S> {
 
     /// Consumes bytes of the body that is being defined, until it ends or no byte is left.
     #[inline(never)]
+    #[tactic(auto, using(crate::proofs::DefineLemmas::next_byte, crate::proofs::DefineLemmas::after_escape, crate::proofs::NextByteLemmas::can_pass, crate::proofs::FurtherLemmas::goes_nowhere, crate::proofs::FurtherLemmas::goes_then, crate::proofs::FurtherLemmas::smaller))]
     pub(super) fn take_body(&mut self, input: &mut Input, piece: &[u8]) -> Result<(), Refused>
         requires live { IsLive self.old }
         requires reads { Reads input.old piece.now }
@@ -38,8 +39,7 @@ impl<S: Sink> Machine<S> {
                 place: slice.place,
             };
             if next.byte >= 0x80 {
-                input.advance(1);
-                return self.refuse(Fault::EighthBit, next.place);
+                return self.refuse_next(input, Fault::EighthBit, next.place);
             }
             match body.escape {
                 None => self.keep(input, body, next, piece)?,
@@ -52,6 +52,7 @@ impl<S: Sink> Machine<S> {
 
     /// Consumes an ESC as undecided, or all bytes of the body up to one.
     #[inline(always)]
+    #[tactic(auto, using(crate::proofs::NextByteLemmas::can_pass, crate::proofs::FurtherLemmas::next_same, crate::proofs::FurtherLemmas::same_input))]
     fn keep(
         &mut self,
         input: &mut Input,
@@ -60,11 +61,11 @@ impl<S: Sink> Machine<S> {
         piece: &[u8],
     ) -> Result<(), Refused>
         requires live { IsLive self.old }
-        requires open { input.old.body ≡ Some body }
-        requires retained { body.escape ≡ None }
+        requires open { input.old.body ≡ Some (record body { escape = None }) }
         requires next { IsNextByte input.old piece.now next.byte next.place }
         requires low { next.byte < 0x80 }
-        ensures same { OnOk result (self.new ≡ self.old) }
+        ensures live { OnOk result (IsLive self.new) }
+        ensures run { OnOk result (self.old.open_run ≡ None → self.new.open_run ≡ None) }
         ensures goes { MatchResult result (λ _. Goes piece.now 1 self.old input.old self.new input.new) (λ _. StopsFrom piece.now self.old input.old self.new input.new) }
     {
         if next.byte == 0x1B {
@@ -84,8 +85,7 @@ impl<S: Sink> Machine<S> {
             return self.refuse(Fault::Store, place);
         }
         let Ok(()) = input.keep(count, piece) else {
-            input.advance(1);
-            return self.refuse(Fault::Memory, next.place);
+            return self.refuse_next(input, Fault::Memory, next.place);
         };
         Ok(())
     }

@@ -1,5 +1,5 @@
 //! Characters at the beginning of the next bytes.
-ghost use Rattle.std.specs.Prelude.{All, ◌≡◌, ◌++◌, ◌<◌, ◌≤◌, ℕ, Bool, List, None, length, slice_index};
+ghost use Rattle.std.specs.Prelude.{◌≡◌, ◌++◌, ◌≤◌, ℕ, Bool, List, None, Some, slice_get, slice_index};
 ghost use Rattle.nap_codes.specs.Laws.{IsGraphic};
 
 use super::Machine;
@@ -37,8 +37,7 @@ impl<S: Sink> Machine<S> {
         requires live { IsLive self.old }
         requires closed { self.old.open_run ≡ None }
         requires set { AreCharacters self.old.lexer set }
-        requires graphic { All IsGraphic text.now }
-        requires few { length text.now < 2 }
+        requires graphic { (byte : ℕ) → slice_get text.now 0 ≡ Some byte → IsGraphic byte }
         ensures { (ended : Bool) (following : List ℕ) → Codes self.old self.new (text.now ++ following) ended result }
     {
         let Some(byte) = text.first() else {

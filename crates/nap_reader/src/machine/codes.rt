@@ -1,5 +1,5 @@
 //! The codes at the beginning of the next bytes.
-ghost use Rattle.std.specs.Prelude.{◌≡◌, ◌<◌, None, length};
+ghost use Rattle.std.specs.Prelude.{◌≡◌, ◌⊎◌, ◌<◌, None, length};
 ghost use Rattle.nap_reader.specs.Framed.{placed_by_step};
 
 use super::front::{FrontCode, front_of};
@@ -33,7 +33,8 @@ impl<S: Sink> Machine<S> {
         requires live { IsLive self.old }
         requires closed { self.old.open_run ≡ None }
         requires some { 0 < length slice.now.bytes.now }
-        ensures { Takes self.old self.new (placed_by_step slice.now.place slice.now.step slice.now.bytes.now) ended result.count result.request }
+        ensures takes { Takes self.old self.new (placed_by_step slice.now.place slice.now.step slice.now.bytes.now) ended result.count result.request }
+        ensures goes { (0 < result.count) ⊎ (result.request ≡ Request.Stop) }
     {
         let bytes = slice.bytes;
         let mut count = 0;

@@ -1,6 +1,5 @@
 //! An undecided ESC in a body, and the byte after it.
-ghost use Rattle.std.specs.Prelude.{◌≡◌, ◌<◌, ℕ, List, None, Some, false, true, IsSome, MatchResult, OnOk};
-ghost use Rattle.nap_reader.specs.Bodies as bodies;
+ghost use Rattle.std.specs.Prelude.{◌≡◌, ◌<◌, ℕ, List, None, false, true, MatchResult, OnOk};
 
 use super::bodies::Next;
 use super::{Machine, Refused};
@@ -10,7 +9,7 @@ use crate::input::Input;
 use nap_list::Sink;
 
 impl<S: Sink> Machine<S> {
-    ghost use Rattle.nap_reader.specs.NextBytes.{IsNextByte};
+    ghost use Rattle.nap_reader.specs.NextBytes.{AfterEscape, IsNextByte};
     ghost use Rattle.nap_reader.specs.Pieces.{Goes, StopsFrom};
     ghost use Rattle.nap_reader.specs.Steps.{IsLive};
 
@@ -24,26 +23,23 @@ impl<S: Sink> Machine<S> {
         piece: &[u8],
     ) -> Result<(), Refused>
         requires live { IsLive self.old }
-        requires open { input.old.body ≡ Some body }
-        requires retained { IsSome body.escape }
+        requires following { AfterEscape input.old body next.byte false }
         requires next { IsNextByte input.old piece.now next.byte next.place }
         requires low { next.byte < 0x80 }
-        requires other { bodies.ends_body next.byte ≡ false }
-        ensures same { OnOk result (self.new ≡ self.old) }
+        ensures live { OnOk result (IsLive self.new) }
+        ensures run { OnOk result (self.old.open_run ≡ None → self.new.open_run ≡ None) }
         ensures goes { MatchResult result (λ _. Goes piece.now 1 self.old input.old self.new input.new) (λ _. StopsFrom piece.now self.old input.old self.new input.new) }
     {
         let space = input.store.space_left();
         if space == 0 {
-            input.advance(1);
-            return self.refuse(Fault::Store, body.escape.unwrap_or(next.place));
+            let place = body.escape.unwrap_or(next.place);
+            return self.refuse_next(input, Fault::Store, place);
         }
         if space == 1 && next.byte != 0x1B {
-            input.advance(1);
-            return self.refuse(Fault::Store, next.place);
+            return self.refuse_next(input, Fault::Store, next.place);
         }
         let Ok(()) = input.keep_escape(body) else {
-            input.advance(1);
-            return self.refuse(Fault::Memory, next.place);
+            return self.refuse_next(input, Fault::Memory, next.place);
         };
         if next.byte == 0x1B {
             input.hold_escape(body, next.place);
@@ -51,8 +47,7 @@ impl<S: Sink> Machine<S> {
             return Ok(());
         }
         let Ok(()) = input.keep(1, piece) else {
-            input.advance(1);
-            return self.refuse(Fault::Memory, next.place);
+            return self.refuse_next(input, Fault::Memory, next.place);
         };
         Ok(())
     }
@@ -65,10 +60,8 @@ impl<S: Sink> Machine<S> {
         next: Next,
     ) -> Result<(), Refused>
         requires live { IsLive self.old }
-        requires open { input.old.body ≡ Some body }
-        requires retained { IsSome body.escape }
+        requires following { AfterEscape input.old body next.byte true }
         requires next { (piece : List ℕ) × IsNextByte input.old piece next.byte next.place }
-        requires ends { bodies.ends_body next.byte ≡ true }
         ensures live { OnOk result (IsLive self.new) }
         ensures closed { self.new.open_run ≡ None }
         ensures over { OnOk result (input.new.body ≡ None) }

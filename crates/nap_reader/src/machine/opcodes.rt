@@ -1,6 +1,5 @@
 //! Opcodes at the beginning of the next bytes.
-ghost use Rattle.std.specs.Prelude.{◌≡◌, ◌-◌, ◌<◌, ℕ, List, ◌∷◌, None, drop, length, slice_index};
-ghost use Rattle.nap_reader.specs.Framed.{placed_by_step};
+ghost use Rattle.std.specs.Prelude.{◌≡◌, ◌<◌, None, length, slice_index};
 
 use super::codes::CodeOutcome;
 use super::{Machine, OpenRun, Taken};
@@ -11,14 +10,15 @@ use nap_codes::Opcode;
 use nap_list::Sink;
 
 impl<S: Sink> Machine<S> {
-    ghost use Rattle.nap_reader.specs.Steps.{Codes, IsLive, IsOpcodeByte, Takes};
+    ghost use Rattle.nap_reader.specs.Steps.{Codes, EndsClosed, IsLive, IsOpcodeByte, TakesFrom};
 
     /// Executes the first opcode with its run, if that is complete.
     #[inline(always)]
     pub(super) fn opcode(&mut self, op: Opcode, bytes: &[u8], ended: bool) -> CodeOutcome
         requires live { IsLive self.old }
         requires closed { self.old.open_run ≡ None }
-        requires is { (byte : ℕ) × (rest : List ℕ) × (bytes.now ≡ byte ∷ rest) × IsOpcodeByte self.old.lexer.half self.old.lexer.sets byte op }
+        requires some { 0 < length bytes.now }
+        requires is { IsOpcodeByte self.old.lexer.half self.old.lexer.sets (slice_index bytes.now 0) op }
         ensures { Codes self.old self.new bytes.now ended result }
     {
         let Some(run) = whole_run(&bytes[1..], ended) else {
@@ -41,7 +41,8 @@ impl<S: Sink> Machine<S> {
         requires within { at < length slice.now.bytes.now }
         requires is { IsOpcodeByte self.old.lexer.half self.old.lexer.sets (slice_index slice.now.bytes.now at) op }
         ensures some { at < result.count }
-        ensures takes { Takes self.old self.new (drop at (placed_by_step slice.now.place slice.now.step slice.now.bytes.now)) ended (result.count - at) result.request }
+        ensures closed { EndsClosed self.new (length slice.now.bytes.now) result.count result.request }
+        ensures takes { TakesFrom self.old self.new slice.now.place slice.now.step slice.now.bytes.now at ended result.count result.request }
     {
         let open_run = OpenRun {
             op,

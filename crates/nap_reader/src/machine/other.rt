@@ -1,6 +1,5 @@
 //! Codes that aren't complete as one byte or as a run.
-ghost use Rattle.std.specs.Prelude.{◌≡◌, ◌⊎◌, ◌-◌, ◌<◌, ◌≤◌, None, drop, length};
-ghost use Rattle.nap_reader.specs.Framed.{placed_by_step};
+ghost use Rattle.std.specs.Prelude.{◌≡◌, ◌⊎◌, ◌<◌, None, length};
 
 use super::front::call_bytes;
 use super::{Machine, Request, Taken, took};
@@ -11,7 +10,7 @@ use nap_codes::Step;
 use nap_list::Sink;
 
 impl<S: Sink> Machine<S> {
-    ghost use Rattle.nap_reader.specs.Steps.{IsLive, Takes};
+    ghost use Rattle.nap_reader.specs.Steps.{EndsClosed, IsLive, TakesFrom};
 
     /// Consumes a call that is the code at this index, or a byte of any code.
     #[inline(never)]
@@ -19,9 +18,9 @@ impl<S: Sink> Machine<S> {
         requires live { IsLive self.old }
         requires closed { self.old.open_run ≡ None }
         requires within { at < length slice.now.bytes.now }
-        ensures from { at ≤ result.count }
         ensures some { at < result.count ⊎ (result.request ≡ Request.Stop) }
-        ensures takes { Takes self.old self.new (drop at (placed_by_step slice.now.place slice.now.step slice.now.bytes.now)) ended (result.count - at) result.request }
+        ensures closed { EndsClosed self.new (length slice.now.bytes.now) result.count result.request }
+        ensures takes { TakesFrom self.old self.new slice.now.place slice.now.step slice.now.bytes.now at ended result.count result.request }
     {
         if let Some(more) = call_bytes(&self.lexer, &slice.bytes[at..]) {
             let count = at + more;

@@ -12,14 +12,16 @@ use nap_list::Sink;
 use std::alloc::AllocError;
 
 impl<S: Sink> Machine<S> {
-    ghost use Rattle.nap_reader.specs.Steps.{Executes, FailsRun, IsLive, Takes};
+    ghost use Rattle.nap_reader.specs.Steps.{EndsClosed, Executes, FailsRun, IsLive, Progresses, Takes};
 
     /// Consumes operands of the open run, and executes it once a byte after it is known.
     #[inline(always)]
     pub(super) fn join(&mut self, open_run: OpenRun, slice: &Slice, ended: bool) -> Taken
         requires live { IsLive self.old }
         requires run { self.old.open_run ≡ Some open_run }
-        ensures { Takes self.old self.new (placed_by_step slice.now.place slice.now.step slice.now.bytes.now) ended result.count result.request }
+        ensures takes { Takes self.old self.new (placed_by_step slice.now.place slice.now.step slice.now.bytes.now) ended result.count result.request }
+        ensures goes { 0 < length slice.now.bytes.now → Progresses self.old self.new result.count result.request }
+        ensures closed { EndsClosed self.new (length slice.now.bytes.now) result.count result.request }
     {
         let count = operand_prefix_len(slice.bytes);
         let most = RUN_LIMIT - self.run.len();

@@ -20,6 +20,7 @@ impl<S: Sink> Reader<S> {
     ghost use Rattle.nap_reader.specs.ReaderAnswers.{HasRead, budget_of, refusal_of};
 
     /// Returns what the first bytes of this piece add, if it comes next. The reader is unchanged.
+    #[tactic(auto, using(crate::proofs::AheadLemmas::counted_within))]
     pub fn ahead(&self, piece: &[u8]) -> Ahead
         ensures some { 0 < length piece.now → 0 < bytes_ahead result }
         ensures within { bytes_ahead result ≤ length piece.now }

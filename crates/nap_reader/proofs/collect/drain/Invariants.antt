@@ -1,10 +1,8 @@
-use Rattle.nap_reader.proofs.{Consumes, List, length, ℕ, ◌+◌, ◌≡◌, ◌≤◌}
+use Rattle.nap_reader.proofs.{Gives, List, length, ℕ, ◌≡◌}
 use Rattle.nap_reader.proofs.collect.drain.Given as goal
 
 abbrev pub invariant-loop : goal.invariant-loop
 invariant-loop g l = record {
   buffer : length l.buffer ≡ length l.fn.buffer;
-  calls : g.I.Inlet.calls l.input ≡ g.I.Inlet.calls l.fn.input + l.counter;
-  flag : g.I.Inlet.failed l.input ≡ g.I.Inlet.failed l.fn.input;
-  read : (p : List ℕ) × Consumes (g.I.Inlet.left l.fn.input) (g.I.Inlet.left l.input) p × (l.counter ≤ length p);
+  read : (p : List ℕ) × Gives g.I.Inlet l.fn.input l.input l.counter p;
 }

@@ -1,10 +1,12 @@
-use Rattle.nap_reader.proofs.{counted_all, counted_refused}
+use Rattle.nap_reader.proofs.{made, cause_of, refl, refused_alike, Some}
+use Rattle.std.proofs.Math.Nat.{zero-add}
 use Rattle.nap_reader.proofs.counting.read_counted.Goals as goal
 
 pub returns-in-Ok : goal.returns-in-Ok
-returns-in-Ok g c = record {
-  counts = counted_all g.S.Sink c.args.sink c.new.ensures c.args.budget c.args.stream.now c.in-Ok.found c.into_inner.ensures c.count-count.ensures c.in-Ok.ensures.collects;
-}
+returns-in-Ok g c =
+    let h = rw c.new.ensures at c.in-Ok.ensures.collects in
+    record { counts = rw (c.into_inner.ensures, c.count-count.ensures) (h.0, h.1.took, rw zero-add at (h.1.count.grows 0 refl)) }
 
 pub returns-in-Err : goal.returns-in-Err
-returns-in-Err g c = record { counts = counted_refused g.S.Sink c.args.sink c.new.ensures c.args.budget c.args.stream.now c.in-Err.refusal c.in-Err.ensures.collects }
+returns-in-Err g c =
+    record { counts = refused_alike g.S.Sink (made c.args.sink (Some 0)) c.args.budget c.args.stream.now c.in-Err.refusal (cause_of c.in-Err.refusal.fault) (rw c.new.ensures at c.in-Err.ensures.collects) }

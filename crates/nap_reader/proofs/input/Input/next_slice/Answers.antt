@@ -1,4 +1,4 @@
-use Rattle.nap_reader.proofs.{Innermost, List, arith, comes_inside, none_left, refl, some_inside, subst, text_inside, ℕ}
+use Rattle.nap_reader.proofs.{AreNextBytes, Innermost, List, [], arith, none_left, refl, some_inside, subst, text_inside, ℕ, ◌≢◌}
 use Rattle.nap_reader.proofs.input.Input.next_slice.Goals as goal
 
 pub returns-then-self-piece : goal.returns-then-self-piece
@@ -11,10 +11,11 @@ returns c =
     let text = c.in-Some.bytes.now in
     let place = c.in-Some.place in
     let inner = subst (λ (stored : List ℕ). Innermost stored frames text place) c.bytes.ensures c.in-Some.ensures in
-    let comes = comes_inside input.store.bytes frames text place inner c.args.piece.now input.at input.fed in
+    let none : frames ≢ [] = λ none. some_inside input.store.bytes frames text place inner none in
+    let comes : AreNextBytes input.store.bytes frames c.args.piece.now input.at input.fed text place = record { of_piece = λ is. absurd (none is); of_body = λ _. inner } in
     record {
       comes = comes;
-      of_piece = λ none. absurd (some_inside input.store.bytes frames text place inner none);
+      of_piece = λ is. absurd (none is);
       of_body = λ _. refl;
       some = text_inside input.store.bytes frames text place inner input.framed;
       over = λ ended. c.is_ended.ensures text place comes ended;

@@ -1,61 +1,48 @@
-use Rattle.nap_reader.proofs.{Frame, FramesIn, List, Placed, Span, StoreState, [], all_at, ap, arith, frames-push, frames-store, length, length-append, length-sublist, length-unread-push, refl, sublist_at, subst, sym, unread, unread-push, unread-store, ℕ, ◌++◌, ◌+◌, ◌-◌, ◌<◌, ◌∙◌, ◌∷◌, ◌≡◌, ◌≤◌}
+use Rattle.nap_reader.proofs.{Frame, FramesIn, List, Placed, StoreState, [], all_at, ap, arith, frame_bytes, frames-push, frames-store, IsFrame, length, length-append, refl, sublist_at, unread, unread_of, unread-push, unread-store, ℕ, ◌++◌, ◌+◌, ◌∙◌, ◌∷◌, ◌≡◌}
+use Rattle.nap_reader.proofs.StreamLemmas.{length-all_at}
 use Rattle.nap_reader.proofs.input.Input.show.Goals as goal
 
--- the number of bytes that come next
-counted : (bytes : List ℕ) (span : Span) (body : List ℕ) (ender : ℕ) → (span.start < span.end) × (span.end ≤ length bytes) → sublist_at bytes span ≡ body ++ 0x1B ∷ ender ∷ [] → span.end - span.start ≡ length body + 2
-counted bytes span body ender within next =
-    omega (arith, within.0, ap (λ (xs : List ℕ). length xs) next, length-append body (0x1B ∷ ender ∷ []), length-sublist bytes span.start span.end (omega (arith, within.0)) within.1)
+-- the part of the store with this frame is read next
+next_read : (old new : StoreState) (more : List ℕ) (frames frames' : List Frame) (frame : Frame) → new.bytes ≡ old.bytes ++ more → frames' ≡ frames ++ frame ∷ [] → FramesIn (length old.bytes) frames → IsFrame (length new.bytes) frame →
+    FramesIn (length new.bytes) frames' × (unread new.bytes frames' ≡ frame_bytes new.bytes frame ++ unread old.bytes frames)
+next_read old new more frames frames' frame grown is framed within = rw is (
+  frames-push (length new.bytes) frames frame (frames-store old new more frames grown framed) within,
+  unread-push new.bytes frames frame ∙ ap (λ (xs : List Placed). frame_bytes new.bytes frame ++ xs) (unread-store old new more frames grown framed),
+)
 
-pub invariant_of-self-2-clause-framed : goal.invariant_of-self-2-clause-framed
-invariant_of-self-2-clause-framed c =
+pub invariant_of-self-2 : goal.invariant_of-self-2
+invariant_of-self-2 c =
     let input = c.args.self.now in
-    let span = c.in-Ok-show.span in
-    let frame : Frame = record { next = span.start; end = span.end; place = c.args.place } in
-    subst (FramesIn (length c.show.new.self.bytes)) (sym (c.push_reserved.ensures ∙ ap (λ (fs : List Frame). fs ++ frame ∷ []) c.reserve.ensures.items))
-    (frames-push (length c.show.new.self.bytes) input.frames.stack.items frame
-    (frames-store input.store c.show.new.self (0x1B ∷ c.args.ender ∷ []) input.frames.stack.items (ap (λ (t : StoreState). t.bytes) c.in-Ok-show.ensures.ok) input.framed) c.in-Ok-show.ensures.within)
-
-pub invariant_of-self-2-clause-turned : goal.invariant_of-self-2-clause-turned
-invariant_of-self-2-clause-turned c =
-    let input = c.args.self.now in
-    let span = c.in-Ok-show.span in
-    let stored = c.show.new.self.bytes in
-    let frame : Frame = record { next = span.start; end = span.end; place = c.args.place } in
-    let more = ap (λ (fs : List Frame). length (unread stored fs)) (c.push_reserved.ensures ∙ ap (λ (fs : List Frame). fs ++ frame ∷ []) c.reserve.ensures.items)
-    ∙ length-unread-push stored input.frames.stack.items frame c.in-Ok-show.ensures.within in
-    let same = unread-store input.store c.show.new.self (0x1B ∷ c.args.ender ∷ []) input.frames.stack.items (ap (λ (t : StoreState). t.bytes) c.in-Ok-show.ensures.ok) input.framed in
-    let count = counted c.show.new.self.bytes span input.store.body c.args.ender c.in-Ok-show.ensures.within c.in-Ok-show.ensures.next in
-    omega (arith, input.turned, more, ap (λ (xs : List Placed). length xs) same, count, c.open_len.ensures.count)
-
-pub invariant_of-self-2-clause-few : goal.invariant_of-self-2-clause-few
-invariant_of-self-2-clause-few c =
-    let few = ap (λ (t : StoreState). t.stored + length t.body) c.in-Ok-show.ensures.ok in
-    omega (arith, few, c.args.self.now.few)
-
-pub invariant_of-self-2-clause-paired : goal.invariant_of-self-2-clause-paired
-invariant_of-self-2-clause-paired c =
-    let input = c.args.self.now in
-    let few = ap (λ (t : StoreState). t.stored + length t.body) c.in-Ok-show.ensures.ok in
-    let more = ap (λ (t : StoreState). length t.bytes) c.in-Ok-show.ensures.ok ∙ length-append input.store.bytes (0x1B ∷ c.args.ender ∷ []) in
-    omega (arith, input.paired, few, more)
+    let ok = c.in-Ok-show.ensures.ok in
+    let end : List ℕ = 0x1B ∷ c.args.ender ∷ [] in
+    let read = next_read input.store c.show.new.self _ _ _ _ (ap (λ (t : StoreState). t.bytes) ok) (rw c.reserve.ensures.items at c.push_reserved.ensures) input.framed c.in-Ok-show.ensures.within in
+    let sizes = ap (λ (t : StoreState). t.stored + length t.body) ok in
+    let more = ap (λ (t : StoreState). length t.bytes) ok ∙ length-append input.store.bytes end in
+    let bytes = ap length c.in-Ok-show.ensures.next ∙ length-append input.store.body end in
+    record {
+      within = omega (arith, c.budget_left.ensures.left, c.if-count-budget_left.false);
+      small = omega (arith, c.budget_left.ensures.most, c.if-count-budget_left.false);
+      named = tt;
+      framed = read.0;
+      turned = omega (arith, input.turned, ap length read.1, length-append (all_at c.args.place (sublist_at c.show.new.self.bytes c.in-Ok-show.span)) (unread_of input), length-all_at c.args.place (sublist_at c.show.new.self.bytes c.in-Ok-show.span), bytes, c.open_len.ensures.count);
+      counted = input.counted;
+      few = omega (arith, sizes, input.few);
+      paired = omega (arith, input.paired, sizes, more);
+    }
 
 pub returns : goal.returns
 returns c =
     let input = c.args.self.now in
-    let span = c.in-Ok-show.span in
-    let stored = c.show.new.self.bytes in
-    let bytes = input.store.body ++ 0x1B ∷ c.args.ender ∷ [] in
+    let ok = c.in-Ok-show.ensures.ok in
     let many = length-append input.store.body (0x1B ∷ c.args.ender ∷ []) in
-    let frame : Frame = record { next = span.start; end = span.end; place = c.args.place } in
-    let same = unread-store input.store c.show.new.self (0x1B ∷ c.args.ender ∷ []) input.frames.stack.items (ap (λ (t : StoreState). t.bytes) c.in-Ok-show.ensures.ok) input.framed in
+    let read = next_read input.store c.show.new.self _ _ _ _ (ap (λ (t : StoreState). t.bytes) ok) (rw c.reserve.ensures.items at c.push_reserved.ensures) input.framed c.in-Ok-show.ensures.within in
     record {
       few = omega (arith, many, c.open_len.ensures.count, c.budget_left.ensures.left, c.if-count-budget_left.false);
       charged = omega (arith, many, c.open_len.ensures.count);
-      unread = ap (unread stored) (c.push_reserved.ensures ∙ ap (λ (fs : List Frame). fs ++ frame ∷ []) c.reserve.ensures.items) ∙ unread-push stored input.frames.stack.items frame
-          ∙ ap (λ (bs : List ℕ). all_at c.args.place bs ++ unread stored input.frames.stack.items) c.in-Ok-show.ensures.next ∙ ap (λ (xs : List Placed). all_at c.args.place bytes ++ xs) same;
-      names = ap (λ (t : StoreState). t.names) c.in-Ok-show.ensures.ok;
-      stored = ap (λ (t : StoreState). t.stored) c.in-Ok-show.ensures.ok;
-      open_bytes = ap (λ (t : StoreState). t.body) c.in-Ok-show.ensures.ok;
+      unread = read.1 ∙ ap (λ (bs : List ℕ). all_at c.args.place bs ++ unread_of input) c.in-Ok-show.ensures.next;
+      names = ap (λ (t : StoreState). t.names) ok;
+      stored = ap (λ (t : StoreState). t.stored) ok;
+      open_bytes = ap (λ (t : StoreState). t.body) ok;
       body = refl;
       same = record { budget = refl; at = refl; fed = refl; turns = refl };
     }

@@ -1,4 +1,4 @@
-use Rattle.nap_reader.proofs.{Call, Clear, Define, Lawful, Nothing, Stop, StoreState, ap, call_goes, call_refuses, state_sets, inl, match_goes, no_names, on_ok_by, reads_still, refl, same_comes, stop_passes, sym, turn_as, turn_counts, turn_goes, turn_passes, turn_stops, turn_takes, ◌∙◌, ◌≡◌}
+use Rattle.nap_reader.proofs.{Call, Clear, Define, Lawful, Nothing, Stop, StoreState, ap, call_goes, call_refuses, state_sets, inl, match_goes, no_names, on_ok_by, reads_still, refl, same_comes, same_input, stop_passes, sym, turn_as, turn_counts, turn_goes, turn_passes, turn_stops, turn_takes, ◌∙◌, ◌≡◌}
 use Rattle.nap_reader.proofs.machine.Machine.answer.Goals as goal
 
 pub advance-requires : goal.advance-requires
@@ -14,8 +14,8 @@ returns-in-Nothing g c =
       on = λ stop. let bad : Nothing ≡ Stop = sym c.in-Nothing.is ∙ stop in cc;
       goes = λ old turn.
           let t = turn_as Nothing c.in-Nothing.is turn in
-          turn_goes t adv g.met.S.Sink.took_more (turn_takes t) (state_sets c.args.self.now c.args.input.now c.advance.new.self adv.store adv.body adv.passed.budget adv.passed.charged)
-          (record { frames = refl; same = record { budget = refl; at = refl; fed = refl; turns = refl } }) t.takes.leaves;
+          turn_goes t adv (turn_takes t) (state_sets c.args.self.now c.args.input.now c.advance.new.self adv.store adv.body adv.passed.budget adv.passed.charged)
+          (same_input refl) t.takes.leaves;
     }
 
 pub returns-in-Clear : goal.returns-in-Clear
@@ -29,7 +29,7 @@ returns-in-Clear g c =
       on = λ stop. let bad : Clear ≡ Stop = sym c.in-Clear.is ∙ stop in cc;
       goes = λ old turn.
           let t = turn_as Clear c.in-Clear.is turn in
-          turn_goes t adv g.met.S.Sink.took_more (turn_takes t)
+          turn_goes t adv (turn_takes t)
           (state_sets c.args.self.now c.args.input.now c.clear.new.self (sets.store_is ∙ ap (λ (store : StoreState). record store { names = no_names }) adv.store) (sets.body ∙ adv.body)
           (sets.still.same.budget ∙ adv.passed.budget) (sets.still.charged ∙ adv.passed.charged)) (same_comes sets refl) t.takes.leaves;
     }
@@ -48,7 +48,7 @@ returns-in-Ok g c =
       goes = λ old turn.
           let t = turn_as (Call c.in-Call.name) c.in-Call.is turn in
           let calls = turn_takes t in
-          call_goes t adv calls.1 calls.2 g.met.S.Sink.took_more t.takes.leaves c.in-Ok.ensures;
+          call_goes t adv calls.1 calls.2 t.takes.leaves c.in-Ok.ensures;
     }
 
 pub returns-in-Err-clause-goes : goal.returns-in-Err-clause-goes
@@ -60,7 +60,7 @@ returns-in-Err-clause-goes g c =
     call_refuses t c.advance.ensures calls.1 calls.2 laws t.takes.leaves c.in-Err.ensures c.refuse.ensures.latched.is c.refuse.ensures.latched.sink)
 
 pub open_body-requires : goal.open_body-requires
-open_body-requires g c = (turn_takes (turn_as (Define c.in-Define.name c.in-Define.show) c.in-Define.is c.requires.turn.1)).1
+open_body-requires g c = (turn_takes (turn_as (Define c.in-Define.name c.in-Define.show) c.in-Define.is c.requires.turn.1)).0
 
 pub take_body-requires-clause-live : goal.take_body-requires-clause-live
 take_body-requires-clause-live g c = (turn_as (Define c.in-Define.name c.in-Define.show) c.in-Define.is c.requires.turn.1).takes.leaves.live
@@ -77,7 +77,7 @@ returns-in-Define-clause-goes g c = λ old turn.
     let adv = c.advance.ensures in
     let sets = c.open_body.ensures in
     match_goes c.take_body.new.self c.take_body.new.input c.take_body.result
-    (turn_goes t adv g.met.S.Sink.took_more (turn_takes t).2
+    (turn_goes t adv (turn_takes t).1
     (state_sets c.args.self.now c.args.input.now c.open_body.new.self (sets.store_is ∙ adv.store) sets.body (sets.still.same.budget ∙ adv.passed.budget) (sets.still.charged ∙ adv.passed.charged)) (same_comes sets refl) t.takes.leaves)
     c.take_body.ensures.goes
 

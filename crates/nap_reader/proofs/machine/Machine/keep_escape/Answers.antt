@@ -1,125 +1,87 @@
-use Rattle.nap_reader.proofs.{Advances, CanAdvance, HasName, Input, Lawful, Option, Some, Store, StoreState, [], again_goes, ap, arith, after_escape, both_lack, byte_comes, byte_fills, byte_passed, byte_stops, can_pass, escape_fills, first_left, inl, inr, length, length-append, memory_other, next_same, next_still, pair_goes, passed_none, passed_then, refl, refusal, same_comes, store_limit, store_other, subst, sym, ℕ, ◌+◌, ◌-◌, ◌∙◌, ◌∷◌, ◌≡◌, ◌≢◌, ◌⊎◌}
+use Rattle.nap_reader.proofs.{IsNextByte, Option, StoreState, append_assoc, ap, arith, body_goes, body_lacks, body_stops, byte_comes, bytes_of, can_pass, either_added, escape_added, escape_full, next_same, length, length-append, pair_added, pair_full, placed_at, refl, same_comes, same_input, sets_then, store_limit, take, unread-store_grown, ℕ, ◌+◌, ◌-◌, ◌∙◌, ◌∷◌, ◌≡◌, ◌≢◌, ◌≤◌, []}
 use Rattle.std.specs.Option.{unwrap_or}
 use Rattle.nap_reader.proofs.machine.Machine.keep_escape.Goals as goal
+use Rattle.nap_reader.proofs.machine.Machine.keep_escape.Goals.{After-keep_escape, In-Ok}
 
-pub advance-requires : goal.advance-requires
-advance-requires g c = can_pass c.requires.next
+pub refuse_next-requires : goal.refuse_next-requires
+refuse_next-requires g c = can_pass c.requires.next
 
 pub returns-then-space-eq0-clause-goes : goal.returns-then-space-eq0-clause-goes
 returns-then-space-eq0-clause-goes g c =
-    let laws : Lawful g.S.Sink = record { more = g.met.S.Sink.took_more; broken = g.met.S.Sink.took_broke; wants = g.met.S.Sink.wants_more; none = g.met.S.Sink.took_none } in
-    let input = c.args.input.now in
-    let following = after_escape c.requires.open c.requires.retained c.requires.next c.requires.other in
-    let place : c.unwrap_or.result ≡ following.escape = c.unwrap_or.ensures ∙ ap (λ (o : Option ℕ). unwrap_or o c.args.next.place) following.retained in
-    rw c.refuse.ensures.answer
-    (byte_stops laws c.requires.next (c.refuse.ensures.latched.is ∙ ap (λ (n : ℕ). Some (refusal Store n)) place) c.refuse.ensures.latched.sink store_other
-    (byte_passed c.requires.next c.advance.ensures.passed)
-    (escape_fills c.args.self.now following c.requires.low (omega (arith, c.space_left-space.ensures, c.if-space-eq0.true))))
+    let following = c.requires.following in
+    let place : c.unwrap_or-place.result ≡ following.escape = c.unwrap_or-place.ensures ∙ ap (λ (o : Option ℕ). unwrap_or o c.args.next.place) following.retained in
+    (c.refuse_next.ensures.stops 1 _ _ _ _ (same_input refl) c.requires.next (λ own. cc)
+    (rw place (body_stops following.opened 0 refl (λ more. (escape_full _ c.args.next.byte (bytes_of more) c.requires.low following.ends (omega (arith, c.space_left-space.ensures, c.if-space-eq0.true)), refl)))))
 
-pub advance-requires-then-next-ne27 : goal.advance-requires-then-next-ne27
-advance-requires-then-next-ne27 g c = can_pass c.requires.next
+pub refuse_next-requires-then-next-ne27 : goal.refuse_next-requires-then-next-ne27
+refuse_next-requires-then-next-ne27 g c = can_pass c.requires.next
 
 pub returns-then-next-ne27-clause-goes : goal.returns-then-next-ne27-clause-goes
 returns-then-next-ne27-clause-goes g c =
-    let laws : Lawful g.S.Sink = record { more = g.met.S.Sink.took_more; broken = g.met.S.Sink.took_broke; wants = g.met.S.Sink.wants_more; none = g.met.S.Sink.took_none } in
-    let following = after_escape c.requires.open c.requires.retained c.requires.next c.requires.other in
-    rw c.refuse-then-next-ne27.ensures.answer
-    (byte_stops laws c.requires.next c.refuse-then-next-ne27.ensures.latched.is c.refuse-then-next-ne27.ensures.latched.sink store_other
-    (byte_passed c.requires.next c.advance-then-next-ne27.ensures.passed)
-    (byte_fills c.args.self.now following c.requires.low (omega (arith, c.space_left-space.ensures, c.if-space-eq1.true)) c.if-next-ne27.true))
+    (c.refuse_next-then-next-ne27.ensures.stops 1 _ _ _ _ (same_input refl) c.requires.next (λ own. cc)
+    (body_stops c.requires.following.opened 1 refl (λ more. (pair_full _ c.args.next.byte (bytes_of more) (record { low = c.requires.low; other = c.if-next-ne27.true }) c.requires.following.ends (omega (arith, c.space_left-space.ensures, c.if-space-eq1.true)), refl))))
 
-pub keep_escape-requires-clause-named : goal.keep_escape-requires-clause-named
-keep_escape-requires-clause-named g c = subst HasName c.requires.open c.args.input.now.named
+pub refuse_next-requires-in_default : goal.refuse_next-requires-in_default
+refuse_next-requires-in_default g c = can_pass (next_same c.requires.next (same_input c.in_default.ensures.err))
 
-pub advance-requires-in_default : goal.advance-requires-in_default
-advance-requires-in_default g c = subst (λ (input : Input). CanAdvance input 1) (sym c.in_default.ensures.err) (can_pass c.requires.next)
+-- the body has space for the ESC and the byte, if that is no ESC
+two_left : (g : _) → (c : After-keep_escape g) → c.args.next.byte ≢ 27 → 2 ≤ store_limit - c.args.input.now.store.stored - length c.args.input.now.store.body
+two_left g c other = elim c.else-space-eq1.branch [
+  | goal.else-space-eq1-via-then-space-eq1+else-next-ne27 w ↦ absurd (other w.if-next-ne27.false)
+  | goal.else-space-eq1-via-else-space-eq1 w ↦ omega (arith, c.space_left-space.ensures, c.if-space-eq0.false, w.if-space-eq1.false)
+]
 
 pub returns-in_default-clause-goes : goal.returns-in_default-clause-goes
 returns-in_default-clause-goes g c =
-    let laws : Lawful g.S.Sink = record { more = g.met.S.Sink.took_more; broken = g.met.S.Sink.took_broke; wants = g.met.S.Sink.wants_more; none = g.met.S.Sink.took_none } in
-    let following = after_escape c.requires.open c.requires.retained c.requires.next c.requires.other in
-    let slice = byte_comes c.requires.next in
-    let adv = subst (λ (input : Input). Advances input c.advance-in_default.new.self 1) c.in_default.ensures.err c.advance-in_default.ensures in
-    let two = elim c.else-space-eq1.branch as (λ _. (c.args.next.byte ≡ 27) ⊎ (store_limit - c.args.input.now.store.stored - length c.args.input.now.store.body ≢ 1)) [
-      | goal.else-space-eq1-via-then-space-eq1+else-next-ne27 w ↦ inl w.if-next-ne27.false
-      | goal.else-space-eq1-via-else-space-eq1 w ↦ inr (omega (arith, c.space_left-space.ensures, w.if-space-eq1.false))
-    ] in
-    rw c.refuse-in_default.ensures.answer
-    (byte_stops laws c.requires.next c.refuse-in_default.ensures.latched.is c.refuse-in_default.ensures.latched.sink memory_other
-    (byte_passed c.requires.next adv.passed)
-    (both_lack c.args.self.now following c.requires.low (omega (arith, c.space_left-space.ensures, c.if-space-eq0.false)) two))
+    let following = c.requires.following in
+    let adds =
+    either_added _ following.escape (placed_at c.args.next.byte c.args.next.place) c.requires.low following.ends (omega (arith, c.space_left-space.ensures, c.if-space-eq0.false))
+    (two_left g (goal.at.returns-in_default-clause-goes g c).After-keep_escape) in
+    c.refuse_next-in_default.ensures.stops 1 _ _ _ _ (same_input c.in_default.ensures.err) c.requires.next (λ own. cc) (body_lacks following.opened adds.2)
 
-pub hold_escape-requires : goal.hold_escape-requires
-hold_escape-requires g c = subst HasName c.requires.open c.args.input.now.named
+-- the ESC is of the body, and the byte still comes next
+still_next : (g : _) → (c : In-Ok g) → IsNextByte c.keep_escape.new.self c.args.piece.now c.args.next.byte c.args.next.place
+still_next g c =
+    let input = c.args.input.now in
+    next_same c.requires.next (same_comes c.in-Ok.ensures.ok (unread-store_grown input.store.bytes (27 ∷ []) input.frames.stack.items input.framed))
 
-pub advance-requires-then-next-eq27 : goal.advance-requires-then-next-eq27
-advance-requires-then-next-eq27 g c =
-    let following = after_escape c.requires.open c.requires.retained c.requires.next c.requires.other in
-    can_pass
-    (next_same (next_still c.args.self.now following c.requires.low (omega (arith, c.space_left-space.ensures, c.if-space-eq0.false)) c.in-Ok.ensures.ok)
-    (same_comes c.hold_escape.ensures refl))
+pub advance-requires : goal.advance-requires
+advance-requires g c = can_pass (next_same (still_next g (goal.at.advance-requires g c).In-Ok) (same_comes c.hold_escape.ensures refl))
 
-pub returns-then-next-eq27 : goal.returns-then-next-eq27
-returns-then-next-eq27 g c =
-    let following = after_escape c.requires.open c.requires.retained c.requires.next c.requires.other in
-    let some = c.if-space-eq0.false in
-    record {
-      same = refl;
-      goes = again_goes c.args.self.now following c.requires.low (omega (arith, c.space_left-space.ensures, some)) c.in-Ok.ensures.ok c.if-next-eq27.true c.hold_escape.ensures c.advance-then-next-eq27.ensures g.met.S.Sink.took_more c.requires.live;
-    }
-
-pub keep-requires-clause-reads : goal.keep-requires-clause-reads
-keep-requires-clause-reads g c =
-    let following = after_escape c.requires.open c.requires.retained c.requires.next c.requires.other in
-    (next_still c.args.self.now following c.requires.low (omega (arith, c.space_left-space.ensures, c.if-space-eq0.false)) c.in-Ok.ensures.ok).reads
+pub returns-then-next-eq27-clause-goes : goal.returns-then-next-eq27-clause-goes
+returns-then-next-eq27-clause-goes g c =
+    let first = c.in-Ok.ensures.ok in
+    let following = c.requires.following in
+    body_goes c.args.self.now following.opened (escape_added _ following.escape (placed_at c.args.next.byte c.args.next.place) c.if-next-eq27.true (omega (arith, c.space_left-space.ensures, c.if-space-eq0.false)))
+    (byte_comes c.requires.next) (ap (take 1) c.requires.next.is) (sets_then first (simp first.store_is at c.hold_escape.ensures)) c.advance.ensures c.requires.live (omega arith)
 
 pub keep-requires-clause-next : goal.keep-requires-clause-next
-keep-requires-clause-next g c =
-    let following = after_escape c.requires.open c.requires.retained c.requires.next c.requires.other in
-    let slice = byte_comes (next_still c.args.self.now following c.requires.low (omega (arith, c.space_left-space.ensures, c.if-space-eq0.false)) c.in-Ok.ensures.ok) in
-    (slice.1, slice.0, slice.2, slice.3)
+keep-requires-clause-next g c = byte_comes (still_next g (goal.at.keep-requires-clause-next g c).In-Ok)
 
 pub keep-requires-clause-few : goal.keep-requires-clause-few
 keep-requires-clause-few g c =
-    let input = c.args.input.now in
     let grew = ap (λ (store : StoreState). store.stored + length store.body) c.in-Ok.ensures.ok.store_is in
-    elim c.else-space-eq1.branch [
-      | goal.else-space-eq1-via-then-space-eq1+else-next-ne27 w ↦ absurd (c.if-next-eq27.false w.if-next-ne27.false)
-      | goal.else-space-eq1-via-else-space-eq1 w ↦ omega (arith, grew, length-append input.store.body (27 ∷ []), c.space_left-space.ensures, c.if-space-eq0.false, w.if-space-eq1.false)
-    ]
+    omega (arith, grew, length-append c.args.input.now.store.body (27 ∷ []), two_left g (goal.at.keep-requires-clause-few g c).After-keep_escape c.if-next-eq27.false)
 
-pub advance-requires-in_default-keep : goal.advance-requires-in_default-keep
-advance-requires-in_default-keep g c =
-    let following = after_escape c.requires.open c.requires.retained c.requires.next c.requires.other in
-    subst (λ (input : Input). CanAdvance input 1) (sym c.in_default-keep.ensures.err)
-    (can_pass (next_still c.args.self.now following c.requires.low (omega (arith, c.space_left-space.ensures, c.if-space-eq0.false)) c.in-Ok.ensures.ok))
+pub refuse_next-requires-in_default-keep : goal.refuse_next-requires-in_default-keep
+refuse_next-requires-in_default-keep g c = can_pass (next_same (still_next g (goal.at.refuse_next-requires-in_default-keep g c).In-Ok) (same_input c.in_default-keep.ensures.err))
 
 pub returns-in_default-keep-clause-goes : goal.returns-in_default-keep-clause-goes
 returns-in_default-keep-clause-goes g c =
-    let laws : Lawful g.S.Sink = record { more = g.met.S.Sink.took_more; broken = g.met.S.Sink.took_broke; wants = g.met.S.Sink.wants_more; none = g.met.S.Sink.took_none } in
-    let following = after_escape c.requires.open c.requires.retained c.requires.next c.requires.other in
-    let slice = byte_comes c.requires.next in
-    let sets = c.in-Ok.ensures.ok in
-    let adv = subst (λ (input : Input). Advances input c.advance-in_default-keep.new.self 1) c.in_default-keep.ensures.err c.advance-in_default-keep.ensures in
-    let two = elim c.else-space-eq1.branch as (λ _. (c.args.next.byte ≡ 27) ⊎ (store_limit - c.args.input.now.store.stored - length c.args.input.now.store.body ≢ 1)) [
-      | goal.else-space-eq1-via-then-space-eq1+else-next-ne27 w ↦ inl w.if-next-ne27.false
-      | goal.else-space-eq1-via-else-space-eq1 w ↦ inr (omega (arith, c.space_left-space.ensures, w.if-space-eq1.false))
-    ] in
-    rw c.refuse-in_default-keep.ensures.answer
-    (byte_stops laws c.requires.next c.refuse-in_default-keep.ensures.latched.is c.refuse-in_default-keep.ensures.latched.sink memory_other
-    (passed_then c.requires.next.reads slice.2 (omega arith) (passed_none sets.still)
-    (first_left c.args.self.now following c.requires.low (omega (arith, c.space_left-space.ensures, c.if-space-eq0.false)) sets) adv.passed)
-    (both_lack c.args.self.now following c.requires.low (omega (arith, c.space_left-space.ensures, c.if-space-eq0.false)) two))
+    let input = c.args.input.now in
+    let two = two_left g (goal.at.returns-in_default-keep-clause-goes g c).After-keep_escape c.if-next-eq27.false in
+    (c.refuse_next-in_default-keep.ensures.stops 1 _ _ _ _
+    (rw c.in_default-keep.ensures.err (same_comes c.in-Ok.ensures.ok (unread-store_grown input.store.bytes (27 ∷ []) input.frames.stack.items input.framed))) c.requires.next (λ own. cc)
+    (body_lacks c.requires.following.opened (pair_added _ c.requires.following.escape (placed_at c.args.next.byte c.args.next.place) (record { low = c.requires.low; other = c.if-next-eq27.false }) c.requires.following.ends two)))
 
-pub returns : goal.returns
-returns g c =
-    let following = after_escape c.requires.open c.requires.retained c.requires.next c.requires.other in
-    let some = c.if-space-eq0.false in
-    let two = elim c.else-space-eq1.branch as (λ _. store_limit - c.args.input.now.store.stored - length c.args.input.now.store.body ≢ 1) [
-      | goal.else-space-eq1-via-then-space-eq1+else-next-ne27 w ↦ absurd (c.if-next-eq27.false w.if-next-ne27.false)
-      | goal.else-space-eq1-via-else-space-eq1 w ↦ omega (arith, c.space_left-space.ensures, w.if-space-eq1.false)
-    ] in
-    record {
-      same = refl;
-      goes = pair_goes c.args.self.now following c.requires.low (omega (arith, c.space_left-space.ensures, some)) c.in-Ok.ensures.ok c.if-next-eq27.false c.in-Ok-keep.ensures.ok g.met.S.Sink.took_more c.requires.live two;
-    }
+pub returns-clause-goes : goal.returns-clause-goes
+returns-clause-goes g c =
+    let input = c.args.input.now in
+    let following = c.requires.following in
+    let first = c.in-Ok.ensures.ok in
+    let keeps = c.in-Ok-keep.ensures.ok in
+    body_goes c.args.self.now following.opened
+    (pair_added _ following.escape (placed_at c.args.next.byte c.args.next.place) (record { low = c.requires.low; other = c.if-next-eq27.false }) following.ends (two_left g (goal.at.returns-clause-goes g c).After-keep_escape c.if-next-eq27.false))
+    (byte_comes c.requires.next) (ap (take 1) c.requires.next.is)
+    (sets_then first (simp ((still_next g (goal.at.returns-clause-goes g c).In-Ok).is, first.store_is, first.body, append_assoc input.store.bytes (27 ∷ []) (c.args.next.byte ∷ []), append_assoc input.store.body (27 ∷ []) (c.args.next.byte ∷ [])) at keeps.sets))
+    keeps.passes c.requires.live (omega arith)

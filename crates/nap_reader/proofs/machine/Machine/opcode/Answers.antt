@@ -1,20 +1,12 @@
-use Rattle.nap_reader.proofs.{Err, IsWholeRun, List, RuleResult, RunsWhole, ap, arith, draw_fault, drop, length, length-drop, opcode_acts, opcode_stops, refl, sink_fault, subst, take_all, ℕ, ◌-◌, ◌∙◌}
+use Rattle.nap_reader.proofs.{Err, RuleResult, RunsWhole, ap, arith, draw_fault, drop, length, length-drop, opcode_acts, opcode_stops, refl, sink_fault, take_all, ◌-◌}
 use Rattle.nap_reader.proofs.machine.Machine.opcode.Goals as goal
 use Rattle.nap_reader.proofs.machine.Machine.opcode.Goals.{In-Some}
 
 -- The run of the opcode is complete.
 runs_whole : (g : _) (c : In-Some g) → RunsWhole c.args.self.now c.args.op c.args.bytes.now c.args.ended c.in-Some.run'.now
 runs_whole g c =
-    let (byte, rest, bytes, is) = c.requires.is in
-    record {
-      byte = byte;
-      rest = rest;
-      bytes_is = bytes;
-      at = record { closed = c.requires.closed; is = is };
-      short = c.in-Some.ensures.short;
-      whole = λ following over.
-          subst (λ (bs : List ℕ). IsWholeRun bs following c.in-Some.run'.now) (take_all (length c.args.bytes.now - 1) (drop 1 c.args.bytes.now) (omega (arith, length-drop 1 c.args.bytes.now)) ∙ ap (drop 1) bytes) (c.in-Some.ensures.whole following over);
-    }
+    let rest = take_all (length c.args.bytes.now - 1) (drop 1 c.args.bytes.now) (omega (arith, length-drop 1 c.args.bytes.now)) in
+    record { some = c.requires.some; closed = c.requires.closed; is = c.requires.is; short = c.in-Some.ensures.short; whole = λ following over. rw rest at (c.in-Some.ensures.whole following over) }
 
 pub returns-in-Ok : goal.returns-in-Ok
 returns-in-Ok g c =
@@ -28,4 +20,4 @@ returns-in-Err g c =
     let fault = c.in-Err.fault in
     rw c.from.ensures
     (opcode_stops (runs_whole g (goal.at.returns-in-Err g c).In-Some) fault refl c.in-Err.ensures.acts.1
-    (λ is. c.in-Err.ensures.failed (ap Err (sink_fault fault is)), λ works fails. ap draw_fault (c.in-Err.ensures.kept works fails)) g.met.S.Sink.took_more)
+    (λ is. c.in-Err.ensures.failed (ap Err (sink_fault fault is)), λ works fails. ap draw_fault (c.in-Err.ensures.kept works fails)))

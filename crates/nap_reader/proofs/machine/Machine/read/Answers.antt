@@ -1,4 +1,4 @@
-use Rattle.nap_reader.proofs.{ReadsTo, TakesSlice, ap, arith, begin_reads, comes_rested, err_from_is_err_and, leaves_live, length-placed_by_step, reads_piece, smaller, stops_piece, stops_then, subst, sym, turn_is, turn_less, ℕ, ◌*◌, ◌+◌, ◌-◌, ◌∙◌, ◌≡◌}
+use Rattle.nap_reader.proofs.{Reads, ReadsTo, StopsFrom, TakesSlice, ap, arith, comes_rested, err_from_is_err_and, leaves_live, length-placed_by_step, smaller, stops_then, subst, sym, turn_is, turn_less, ℕ, ◌*◌, ◌+◌, ◌-◌, ◌∙◌, ◌≡◌}
 use Rattle.nap_reader.proofs.machine.Machine.read.Goals as goal
 use Rattle.nap_reader.proofs.machine.Machine.read.Goals.{After-place_of-place}
 
@@ -6,10 +6,10 @@ use Rattle.nap_reader.proofs.machine.Machine.read.Goals.{After-place_of-place}
 turned : (g : _) (c : After-place_of-place g) → TakesSlice {S = g.row.S.Denot} {g = g.S.Sink} c.loop-slice.self c.take-taken.new.self c.loop-slice.input c.args.piece.now c.take-taken.result.count c.take-taken.result.request c.place_of-place.result
 turned g c =
     let last : c.saturating_sub.result ≡ c.take-taken.result.count - 1 = omega (arith, c.saturating_sub.ensures) in
-    turn_is c.loop-slice.invariant.reads c.loop-slice.invariant.ends c.in-Some.ensures c.take-taken.ensures (c.place_of-place.ensures ∙ ap (λ (i : ℕ). c.in-Some.slice.place + c.in-Some.slice.step * i) last)
+    turn_is c.loop-slice.invariant.reads c.loop-slice.invariant.ends c.in-Some.ensures c.take-taken.ensures.takes (c.place_of-place.ensures ∙ ap (λ (i : ℕ). c.in-Some.slice.place + c.in-Some.slice.step * i) last)
 
 pub define-requires-clause-reads : goal.define-requires-clause-reads
-define-requires-clause-reads g c = begin_reads c.args.input.now c.begin_piece.new.self c.args.piece.now c.begin_piece.ensures (omega (arith, c.requires.few)) c.requires.few
+define-requires-clause-reads g c = subst (λ i. Reads i c.args.piece.now) (sym c.begin_piece.ensures) (record { within = omega arith; small = omega (arith, c.requires.few); few = omega (arith, c.requires.few) })
 
 pub loop-slice-init : goal.loop-slice-init
 loop-slice-init g c = record {
@@ -22,13 +22,13 @@ loop-slice-init g c = record {
 pub returns-in_err-define-clause-reads : goal.returns-in_err-define-clause-reads
 returns-in_err-define-clause-reads g c =
     let e = err_from_is_err_and c.from_residual.result c.from_residual.ensures.1 in
-    rw e.1 (stops_piece c.begin_piece.ensures c.requires.rested c.requires.live.live (omega (arith, c.requires.few)) c.requires.few c.in_err-define.ensures.goes)
+    rw e.1 (subst (λ i. StopsFrom {S = g.row.S.Denot} {g = g.S.Sink} c.args.piece.now c.args.self.now i c.define.new.self c.define.new.input) c.begin_piece.ensures c.in_err-define.ensures.goes)
 
 pub place_of-place-requires : goal.place_of-place-requires
-place_of-place-requires g c = omega (arith, c.take-taken.ensures.within, length-placed_by_step c.in-Some.slice.place c.in-Some.slice.step c.in-Some.slice.bytes.now, c.saturating_sub.ensures)
+place_of-place-requires g c = omega (arith, c.take-taken.ensures.takes.within, length-placed_by_step c.in-Some.slice.place c.in-Some.slice.step c.in-Some.slice.bytes.now, c.saturating_sub.ensures)
 
 pub answer-requires-clause-live : goal.answer-requires-clause-live
-answer-requires-clause-live g c = λ other. leaves_live c.loop-slice.self c.take-taken.new.self c.take-taken.result.request c.take-taken.ensures.leaves other
+answer-requires-clause-live g c = λ other. leaves_live c.loop-slice.self c.take-taken.new.self c.take-taken.result.request c.take-taken.ensures.takes.leaves other
 
 pub answer-requires-clause-turn : goal.answer-requires-clause-turn
 answer-requires-clause-turn g c = (c.loop-slice.self, turned g (goal.at.answer-requires-clause-turn g c).After-place_of-place)
@@ -45,25 +45,17 @@ loop-slice-preserved g c =
 
 pub loop-slice-smaller : goal.loop-slice-smaller
 loop-slice-smaller g c =
-    let next = c.in-Some.ensures in
-    let text = next.some in
     smaller c.loop-slice.invariant.reads (c.in_ok-answer.ensures.goes c.loop-slice.self (turned g (goal.at.loop-slice-smaller g c).After-place_of-place)).counts
-    (turn_less c.loop-slice.self c.take-taken.new.self c.answer.new.self c.take-taken.ensures (omega (arith, text, length-placed_by_step c.in-Some.slice.place c.in-Some.slice.step c.in-Some.slice.bytes.now)) c.in_ok-answer.ensures.on
-    c.in_ok-answer.ensures.run)
+    (turn_less c.loop-slice.self c.take-taken.new.self c.answer.new.self c.take-taken.ensures.goes c.in_ok-answer.ensures.on c.in_ok-answer.ensures.run)
 
 pub returns-in_err-answer-clause-reads : goal.returns-in_err-answer-clause-reads
 returns-in_err-answer-clause-reads g c =
     let e = err_from_is_err_and c.from_residual-in_err-answer.result c.from_residual-in_err-answer.ensures.1 in
     let turn = turned g (goal.at.returns-in_err-answer-clause-reads g c).After-place_of-place in
-    rw e.1
-    (stops_piece c.begin_piece.ensures c.requires.rested c.requires.live.live (omega (arith, c.requires.few)) c.requires.few
-    (stops_then (λ old before by. c.loop-slice.invariant.goes old before (subst (λ i. ReadsTo {S = g.row.S.Denot} {g = g.S.Sink} old c.args.piece.now c.args.self.now i) c.begin_piece.ensures by))
-    (c.in_err-answer.ensures.goes c.loop-slice.self turn)))
+    rw e.1 (stops_then c.loop-slice.invariant.goes (c.in_err-answer.ensures.goes c.loop-slice.self turn))
 
 pub returns-clause-rests : goal.returns-clause-rests
 returns-clause-rests g c = comes_rested c.loop-slice.input c.args.piece.now c.in_default.ensures
 
 pub returns-clause-reads : goal.returns-clause-reads
-returns-clause-reads g c =
-    reads_piece c.begin_piece.ensures c.requires.rested c.requires.live.live (omega (arith, c.requires.few)) c.requires.few
-    (λ old before by. c.loop-slice.invariant.goes old before (subst (λ i. ReadsTo {S = g.row.S.Denot} {g = g.S.Sink} old c.args.piece.now c.args.self.now i) c.begin_piece.ensures by)) c.in_default.ensures
+returns-clause-reads g c = (c.loop-slice.invariant.goes, c.in_default.ensures)

@@ -1,4 +1,4 @@
-use Rattle.nap_reader.proofs.{All, All-cons, All-head, All-nil, Codes, IsGraphic, IsTextByte, IsTextOf, List, None, Option, Some, TextStep, [], ap, arith, at_prefix, drop, format_effector, format_effector_front, get_or, is_of_text, length, refl, slice_index, subst, sym, take, take-append-drop, text_halts, text_taken, ℕ, ◌++◌, ◌<◌, ◌∙◌, ◌∷◌, ◌≡◌, ◌≤◌}
+use Rattle.nap_reader.proofs.{All, All-head, Codes, IsGraphic, IsTextByte, IsTextOf, List, None, Option, Some, TextStep, [], ap, arith, drop, first_byte, format_effector, format_effector_front, get_or, is_of_text, length, prefix_len, refl, slice_index, subst, sym, take, take-append-drop, text_halts, text_taken, ℕ, ◌++◌, ◌<◌, ◌∙◌, ◌∷◌, ◌≡◌, ◌≤◌}
 use Rattle.nap_reader.proofs.machine.Machine.text.Goals as goal
 use Rattle.nap_reader.proofs.machine.Machine.text.Goals.{Else-text-lt2}
 
@@ -10,20 +10,17 @@ typed_graphic b typed from = by (format_effector b) refl
     by (Some step) is = absurd (omega (arith, from, (format_effector_front b step is).0))
     by None is = (from, omega (arith, (typed is).1))
 
--- a text of one byte that is no format effector is graphic
-one_graphic : (text rest bytes : List ℕ) → text ++ rest ≡ bytes → 0x20 ≤ slice_index bytes 0 → length text < 2 → All IsTextByte text → All IsGraphic text
-one_graphic [] rest bytes is from few typed = All-nil IsGraphic
-one_graphic (b ∷ []) rest bytes is from few typed =
-    All-cons IsGraphic b [] (typed_graphic b (All-head IsTextByte b [] typed) (omega (arith, from, ap (λ (bs : List ℕ). get_or bs 0 0) is))) (All-nil IsGraphic)
-one_graphic (b ∷ c ∷ more) rest bytes is from few typed = absurd (omega (arith, few))
-
 -- the text and the bytes after it
 parts : (bytes text : List ℕ) (n : ℕ) → text ≡ take n bytes → text ++ drop n bytes ≡ bytes
 parts bytes text n is = ap (λ (bs : List ℕ). bs ++ drop n bytes) is ∙ take-append-drop n bytes
 
 pub character-requires-clause-graphic : goal.character-requires-clause-graphic
-character-requires-clause-graphic g c =
-    one_graphic c.text_bytes-text.result.now _ c.args.bytes.now (parts c.args.bytes.now c.text_bytes-text.result.now _ c.text_bytes-text.ensures.bytes) c.requires.first (omega arith) c.text_bytes-text.ensures.typed
+character-requires-clause-graphic g c = λ b is.
+    let (rest, first) = first_byte c.text_bytes-text.result.now b is in
+    let from = c.requires.first in
+    let all = parts c.args.bytes.now c.text_bytes-text.result.now _ c.text_bytes-text.ensures.bytes in
+    typed_graphic b (All-head IsTextByte b rest (subst (All IsTextByte) first c.text_bytes-text.ensures.typed))
+    (omega (arith, from, ap (λ (bs : List ℕ). get_or bs 0 0) (ap (λ (bs : List ℕ). bs ++ drop (prefix_len is_of_text c.args.bytes.now) c.args.bytes.now) (sym first) ∙ all)))
 
 pub returns-then-text-lt2 : goal.returns-then-text-lt2
 returns-then-text-lt2 g c = λ ended.
@@ -31,9 +28,14 @@ returns-then-text-lt2 g c = λ ended.
 
 -- The text has more than one byte.
 is_text : (g : _) (c : Else-text-lt2 g) → IsTextOf c.args.self.now c.args.set c.args.bytes.now c.text_bytes-text.result.now
-is_text g c =
-    let front = at_prefix is_of_text c.args.bytes.now c.text_bytes-text.result.now c.text_bytes-text.ensures.bytes in
-    record { front = sym front.1; few = front.0; some = omega arith; typed = c.text_bytes-text.ensures.typed; closed = c.requires.closed; are = c.requires.set }
+is_text g c = record {
+  rest = _;
+  is = parts c.args.bytes.now c.text_bytes-text.result.now _ c.text_bytes-text.ensures.bytes;
+  some = omega arith;
+  typed = c.text_bytes-text.ensures.typed;
+  closed = c.requires.closed;
+  are = c.requires.set;
+}
 
 pub returns-in-Ok : goal.returns-in-Ok
 returns-in-Ok g c = λ ended.

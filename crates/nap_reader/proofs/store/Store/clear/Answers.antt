@@ -1,10 +1,5 @@
-use Rattle.nap_reader.proofs.{All-replicate, IsBefore, arith, refl}
+use Rattle.nap_reader.proofs.{none_bound}
 use Rattle.nap_reader.proofs.store.Store.clear.Goals as goal
 
 pub invariant_of-self : goal.invariant_of-self
-invariant_of-self c = record {
-  bound = All-replicate (IsBefore c.self.inside.from) 96 _ (omega arith, omega arith);
-  all = refl;
-  begun = c.self.invariant.begun;
-  few = c.self.invariant.few;
-}
+invariant_of-self c = none_bound c.self.invariant.begun c.self.invariant.few
