@@ -6,6 +6,7 @@ import subprocess
 
 import pytest
 
+from conftest import COMMAND
 from naplps_pages.collection.cluster import ClusterFailed, address_of
 from naplps_pages.collection.remote import alike, difference
 from naplps_pages.collection.tables import hashed
@@ -220,10 +221,12 @@ def test_no_cluster(run, tmp_path, store):
     assert not os.path.exists(store)
 
 
-def test_dask_that_is_not_installed(run, tmp_path, store):
+def test_dask_that_is_not_installed(naplps, tmp_path, store):
     tree(tmp_path, {"none/distributed.py": b"raise ImportError('none')"})
-    said = run(["scan", str(tmp_path), "--into", store, "--on", "127.0.0.1:1"],
-               env={"PYTHONPATH": os.path.join(str(tmp_path), "none")})
+    # (the command itself reads no PYTHONPATH)
+    said = subprocess.run([PYTHON, "-S", COMMAND, "scan", str(tmp_path), "--into", store, "--on", "127.0.0.1:1"],
+                          env=dict(os.environ, NAPLPS=naplps, PYTHONPATH=os.path.join(str(tmp_path), "none")),
+                          capture_output=True)
     assert (said.stdout, said.returncode) == (b"", 3)
     assert said.stderr.decode() == (
         "naplps-pages: Dask's distributed isn't there for /usr/bin/python3 (Debian: apt-get install "

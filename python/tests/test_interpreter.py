@@ -69,6 +69,16 @@ def test_no_command_runs_code_of_the_current_folder(run, naplps, tmp_path):
     assert not os.path.exists(ran)
 
 
+@pytest.mark.parametrize("named", [":", ".", "../hostile", "/nowhere:"])
+def test_no_command_runs_code_of_a_folder_that_the_environment_names(run, tmp_path, named):
+    """An empty name is the current folder. What Python starts with, as `encodings`, is looked for there too."""
+    folder, ran = hostile_folder(tmp_path)
+    for words in (["--version"], ["check", "a.nap"], ["look", "a.nap"], ["scan", ".", "--into", "../x.db"]):
+        said = run(words, cwd=folder, env={"PYTHONPATH": named})
+        assert said.returncode in (0, 1) and b"Traceback" not in said.stderr, (words, said)
+        assert not os.path.exists(ran), (words, open(ran).read())
+
+
 TELLS = "import sys\ndef main(*numbers):\n    print(numbers, *sys.path, sep='\\n')\n"
 
 
