@@ -73,8 +73,7 @@ fn print_lines<O: Outlet + Drop>(
         alloc,
         command.budget,
         page.as_slice(),
-        CountSink::new(),
-        printer,
+        (CountSink::new(), printer),
     );
     let (mut output, written) = finished(printer, &read);
     let answer = end_list(&mut output, written, read);

@@ -21,20 +21,21 @@ fn read_whole<S: Sink>(reader: &mut Reader<S>, stream: &[u8]) -> Result<(), Refu
     Ok(())
 }
 
-/// Reads a stream into the first sink and, if it is accepted, again into the second, in the memory that the reader has.
-/// Returns the second sink, and the first one if both took all entries.
+/// Reads a stream into the first of these sinks and, if it is accepted, again into the second, in the memory that the
+/// reader has. Returns the second sink, and the first one if both took all entries.
+#[inline(always)]
 pub fn read_twice<S: Sink + Drop, T: Sink + Drop>(
     alloc: Global,
     budget: Budget,
     stream: &[u8],
-    first: S,
-    second: T,
+    sinks: (S, T),
 ) -> (T, Result<S, Refusal>)
-    requires start { S.state first ≡ start }
-    requires works { S.failed first ≡ false }
-    requires again { T.state second ≡ start }
-    ensures { IsReadTwice S.Sink T.Sink first second budget stream.now result.0 result.1 }
+    requires start { S.state sinks.0 ≡ start }
+    requires works { S.failed sinks.0 ≡ false }
+    requires again { T.state sinks.1 ≡ start }
+    ensures { IsReadTwice S.Sink T.Sink sinks.0 sinks.1 budget stream.now result.0 result.1 }
 {
+    let (first, second) = sinks;
     let mut reader = Reader::new(alloc, budget, first);
     if let Err(refusal) = read_whole(&mut reader, stream) {
         return (second, Err(refusal));
