@@ -13,6 +13,10 @@ use Rattle.nap_reader.proofs.TextLemmas.{text_past, typed_in}
 
 -- How many entries the first bytes of the next piece add.
 
+-- all bytes of a piece after its first
+pub after_first : (b : ℕ) (rest : List ℕ) → take (length (b ∷ rest) - 1) rest ≡ rest
+after_first b rest = take_all (length (b ∷ rest) - 1) rest (omega arith)
+
 -- Operands after an opcode add no entries.
 
 operands_run : (n j : ℕ) (bs : List ℕ) → j ≤ prefix_len is_operand_byte bs → run_length (placed_from n (take j bs)) ≡ length (placed_from n (take j bs))
@@ -68,7 +72,7 @@ module _ {S : Type 0} {g : Ghosts S} {s t : S} {h : ReadingState} (budget : ℕ)
   opcode_adds rest n counted zero some few = absurd (omega (arith, some))
   opcode_adds rest n counted (suc j) some few =
       let (es, same) = alike h.open_run refl in
-      let counted = counted ∙ ap (prefix_len is_operand_byte) (take_all (length (b ∷ rest) - 1) rest (omega arith)) in
+      let counted = counted ∙ ap (prefix_len is_operand_byte) (after_first b rest) in
       rw (entries (take j rest), entries [], same (placed_from (suc (length p)) (take j rest)) (operands_run (suc (length p)) j rest (omega (arith, few, counted))), same [] refl) refl
 
 -- the operands after the first byte of a piece are within it

@@ -1,7 +1,7 @@
 -- Passes on the names of the crates below that are cited in this crate's contracts. Declares nothing.
 pub use Rattle.nap_codes.specs.CodeSets.{set_at}
 pub use Rattle.nap_codes.specs.Laws.{IsGraphic}
-pub use Rattle.nap_codes.specs.Lexer.{LexerState, StepsBy}
+pub use Rattle.nap_codes.specs.Lexer.{IsCharacter, IsOpcode, LexerState, StepsBy}
 pub use Rattle.nap_codes.specs.Tables.{format_effector}
 unfoldable pub use Rattle.nap_codes.specs.Tables.{control0_rows, row_of}
 pub use Rattle.nap_codes.specs.declared.code.Code.{Code}

@@ -1,7 +1,11 @@
-use Rattle.std.specs.Prelude.{ℕ, ◌≡◌, ◌+◌, ◌≤◌, ◌++◌, List, length, take}
+use Rattle.std.specs.Prelude.{ℕ, ◌≡◌, ◌+◌, ◌<◌, ◌≤◌, ◌++◌, List, ◌∷◌, None, length, take}
+use Rattle.std.specs.List.{prefix_len}
+use Rattle.nap_reader.specs.declared.reader.Reader.{Reader}
 use Rattle.nap_reader.specs.declared.reader.ahead.Ahead.{Ahead}
 use Rattle.nap_reader.specs.declared.reader.ahead.Ahead.TheVariants as ahead
-use Rattle.nap_reader.specs.Stream.{begun}
+use Rattle.nap_reader.specs.Below.{CharSet, Ghosts, IsCharacter, IsGraphic, IsOpcode, LexerState, Opcode}
+use Rattle.nap_reader.specs.Prefix.{is_of_text}
+use Rattle.nap_reader.specs.Stream.{begun, is_operand_byte}
 
 -- What the first bytes of a piece add, if it comes next.
 
@@ -16,3 +20,17 @@ AddsAhead budget p piece (ahead.First n) = (k : ℕ) → 1 ≤ k → k ≤ n →
     (begun budget (p ++ take k piece)).entries ≡ (begun budget (p ++ take 1 piece)).entries
 AddsAhead budget p piece (ahead.Each n) = (k : ℕ) → k ≤ n →
     length (begun budget (p ++ take k piece)).entries ≡ length (begun budget p).entries + k
+
+-- An opcode is counted with all operand bytes after it.
+abbrev pub CountsOperands : LexerState → List ℕ → Ahead → Type 0
+CountsOperands lexer piece found = (b : ℕ) (rest : List ℕ) (op : Opcode) → piece ≡ b ∷ rest → b < 0x40 → IsOpcode lexer b op →
+    found ≡ ahead.First (1 + prefix_len is_operand_byte rest)
+
+-- Characters and the format effectors among them are counted together.
+abbrev pub CountsText : LexerState → List ℕ → Ahead → Type 0
+CountsText lexer piece found = (set : CharSet) → ((b : ℕ) → IsGraphic b → IsCharacter lexer b set) → 0 < prefix_len is_of_text piece →
+    found ≡ ahead.Each (prefix_len is_of_text piece)
+
+-- Unless the body of a macro is being defined, no byte is left out that can be counted.
+abbrev pub CountsAll : {S : Type 0} {g : Ghosts S} → Reader S g → List ℕ → Ahead → Type 0
+CountsAll reader piece found = reader.input.body ≡ None → CountsOperands reader.machine.lexer piece found × CountsText reader.machine.lexer piece found

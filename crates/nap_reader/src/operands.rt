@@ -1,5 +1,5 @@
 //! The operand bytes at the beginning of a piece.
-ghost use Rattle.std.specs.Prelude.{ℕ, List, ◌≡◌, ◌≤◌, true, length, IfSome};
+ghost use Rattle.std.specs.Prelude.{ℕ, List, ◌≡◌, ◌<◌, ◌≤◌, ◌⊎◌, false, true, length, None, IfSome};
 ghost use Rattle.std.specs.List.{prefix_len};
 ghost use Rattle.nap_draw.specs.Limits.{run_limit};
 ghost use Rattle.nap_reader.specs.Steps.{IsOver, IsWholeRun};
@@ -21,6 +21,7 @@ pub(crate) fn operand_prefix_len(bytes: &[u8]) -> usize
 pub(crate) fn whole_run(piece: &[u8], ended: bool) -> Option<&[u8]>
     ensures short { IfSome result (λ run. length run.now ≤ run_limit) }
     ensures whole { IfSome result (λ run. (following : List ℕ) → (ended ≡ true → IsOver following) → IsWholeRun piece.now following run.now) }
+    ensures none { result ≡ None → (run_limit < prefix_len is_operand_byte piece.now) ⊎ ((ended ≡ false) × (prefix_len is_operand_byte piece.now ≡ length piece.now)) }
 {
     let count = prefix_from(piece, 0x40);
     if count > RUN_LIMIT {
@@ -39,6 +40,7 @@ fn last_run(piece: &[u8], ended: bool) -> Option<&[u8]>
     requires all { prefix_len is_operand_byte piece.now ≡ length piece.now }
     ensures short { IfSome result (λ run. length run.now ≤ run_limit) }
     ensures whole { IfSome result (λ run. (following : List ℕ) → (ended ≡ true → IsOver following) → IsWholeRun piece.now following run.now) }
+    ensures none { result ≡ None → ended ≡ false }
 {
     if ended {
         return Some(piece);

@@ -9,6 +9,7 @@ pub use Rattle.nap_reader.specs.Faults
 pub use Rattle.nap_reader.specs.Laws as ReadingLaws
 -- what a reader has read, and where one breaks that lacks memory
 pub use Rattle.nap_reader.specs.ReaderAnswers
+pub use Rattle.nap_reader.specs.Looking
 pub use Rattle.nap_reader.specs.Feeding
 pub use Rattle.nap_reader.specs.Breaking
 pub use Rattle.nap_draw.specs.Draws

@@ -12,7 +12,7 @@
 #![tactic(auto)]
 
 /// Read a page: whole, or in pieces into a sink.
-pub use nap_reader::{Reader, Stopped, read_all};
+pub use nap_reader::{Ahead, Reader, Stopped, read_all};
 
 /// How many bytes of macros a page may call.
 pub use nap_reader::Budget;

@@ -1,6 +1,9 @@
-use Rattle.nap_reader.proofs.{AllCharacters, arith, at_prefix, budget_of, first_byte, is_of_text, sym}
-use Rattle.nap_reader.proofs.AheadLemmas.{closed_by_characters, no_operand, opcode_adds, text_adds}
+use Rattle.nap_reader.specs.Below.{IsOpcode}
+use Rattle.nap_reader.specs.declared.reader.ahead.Ahead.TheVariants as answer
+use Rattle.nap_reader.proofs.{AllCharacters, List, None, Some, ap, arith, at_prefix, budget_of, first_byte, is_of_text, is_operand_byte, opcode_alone, prefix_len, slice_get, subst, sym, ℕ, ◌+◌, ◌∙◌, ◌≡◌}
+use Rattle.nap_reader.proofs.AheadLemmas.{after_first, closed_by_characters, no_operand, opcode_adds, text_adds}
 use Rattle.nap_reader.proofs.reader.Reader.ahead.Goals as goal
+use Rattle.nap_reader.proofs.reader.Reader.ahead.Goals.{then-byte-lt64+in_default-opcode, else-byte-lt64}
 
 -- an opcode and its operands
 pub returns-in-Some-opcode-clause-adds_entries : goal.returns-in-Some-opcode-clause-adds_entries
@@ -28,3 +31,28 @@ returns-then-count-gt0-clause-adds_entries g c = λ live s p has_read.
       typed = c.text_bytes-count.ensures.typed;
     })
     (at_prefix is_of_text piece c.text_bytes-count.result.now c.text_bytes-count.ensures.bytes).1
+
+-- an opcode is counted with all its operands
+pub returns-in-Some-opcode-clause-counts : goal.returns-in-Some-opcode-clause-counts
+returns-in-Some-opcode-clause-counts g c = λ none. (
+  λ b rest op parts low is.
+      ap (λ (n : ℕ). answer.First (1 + n)) (rw parts at c.operand_prefix_len.ensures ∙ ap (prefix_len is_operand_byte) (after_first b rest)),
+  λ set chars some. absurd (opcode_alone c.args.self.now.machine.lexer.sets c.in-Some.byte.now c.in-Some-opcode.field-0 c.in-Some-opcode.ensures.front set (λ b graphic. (chars b graphic).1)),
+)
+
+-- no opcode comes, and no text
+pub returns-in_default-char_set-clause-counts : goal.returns-in_default-char_set-clause-counts
+returns-in_default-char_set-clause-counts g c = λ none. (
+  λ b rest op parts low is.
+      let byte = c.in-Some.byte.now in
+      let found : Some b ≡ Some byte = sym (ap (λ (bs : List ℕ). slice_get bs 0) parts) ∙ sym c.in-Some.ensures.value in
+      let same : byte ≡ b = cc in
+      elim c.if-byte-lt64.branch [
+        | then-byte-lt64+in_default-opcode w ↦
+            let known = (w.opcode.ensures.is op).1 (subst (λ (b : ℕ). IsOpcode c.args.self.now.machine.lexer b op) (sym same) is) in
+            let none : None ≡ Some op = sym w.in_default-opcode.is ∙ known in
+            let bad : ⊥ = cc in absurd bad
+        | else-byte-lt64 w ↦ absurd (omega (arith, same, low, w.if-byte-lt64.false))
+      ],
+  λ set chars some. absurd (let none : None ≡ Some set = sym c.in_default-char_set.is ∙ (c.char_set.ensures set).1 chars in let bad : ⊥ = cc in bad),
+)
