@@ -9,7 +9,7 @@ use nap_list::{Base, CharSize, Colour, Pen, TextLook, Texture};
 use nap_values::{Addr, Grb, Move, Point, Word};
 
 /// A flag of the text attributes, set by controls of the C1 set.
-#[derive(Clone, Copy, PartialEq, Eq, Drop)]
+#[derive(Clone, Copy, Drop)]
 pub(crate) enum Flag {
     /// REVERSE VIDEO and NORMAL VIDEO.
     Reverse,
@@ -22,7 +22,7 @@ pub(crate) enum Flag {
 }
 
 /// A code, with its operands, that sets an attribute.
-#[derive(Clone, Copy, PartialEq, Eq, Default, Drop)]
+#[derive(Clone, Copy, Default, Drop)]
 pub(crate) enum Command {
     /// POINT SET ABS: moves the pen to this point.
     PointSet(Point),

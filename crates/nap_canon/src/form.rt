@@ -1,7 +1,7 @@
 //! The two forms of canonical text (PROFILE.md, Canonical text and Form 1).
 
 /// A form of canonical text.
-#[derive(Clone, Copy, PartialEq, Eq, Drop)]
+#[derive(Clone, Copy, Drop)]
 pub(crate) enum Form {
     /// Form 1: each entry has its own opcode, and each line both its points.
     One,

@@ -7,7 +7,7 @@ use nap_codes::{Code, CodeSet, Lexer, Opcode, Step};
 use nap_values::Word;
 
 /// The codes seen so far.
-#[derive(Clone, Copy, PartialEq, Eq, Drop)]
+#[derive(Clone, Copy, Drop)]
 pub(crate) enum CodesSeen {
     /// Neither an opcode nor a definition.
     Nothing,
@@ -18,7 +18,7 @@ pub(crate) enum CodesSeen {
 }
 
 /// What has to come next.
-#[derive(Clone, Copy, PartialEq, Eq, Drop)]
+#[derive(Clone, Copy, Drop)]
 pub(crate) enum Expected {
     /// Any code.
     Any,
@@ -31,7 +31,7 @@ pub(crate) enum Expected {
 }
 
 /// A check of the codes of a stream, one after another.
-#[derive(Clone, Copy, PartialEq, Eq, Drop)]
+#[derive(Clone, Copy, Drop)]
 pub(crate) struct PlainCheck {
     begun: CodesSeen,
     next: Expected,

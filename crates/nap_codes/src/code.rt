@@ -4,6 +4,7 @@ use crate::code_set::{CharSet, CodeSet};
 use crate::control::{CursorKind, Mask, Size, TextStep};
 use crate::opcode::{Left, Opcode};
 use nap_values::Word;
+use std::fmt;
 use thiserror::Error;
 
 /// A complete code of a stream, with its arguments.
@@ -66,23 +67,30 @@ pub enum Code {
 #[derive(Clone, Copy, PartialEq, Eq, Debug, Drop, Error)]
 pub enum CodeFault {
     /// A byte from `80` on, at any position.
-    #[error("a byte has its eighth bit set")]
     EighthBit,
     /// A byte that continues no escape sequence of the profile (PROFILE.md, Where an escape ends).
-    #[error("no such escape sequence")]
     BadEscape,
     /// A byte below `20` after a single shift (PROFILE.md, Shifts).
-    #[error("a control stands behind a single shift")]
     ShiftAlone,
     /// A code of the PDI set after a single shift, also an opcode that is left out (PROFILE.md, Shifts).
-    #[error("a drawing code stands behind a single shift")]
     ShiftedCode,
     /// An argument outside its range: of APS, or of a control of the C1 set.
-    #[error("an argument is out of range")]
     BadArgument,
     /// A control or opcode that the profile leaves out by name. Its argument, if the standard gives it one, isn't read.
-    #[error("{0} is left out")]
     LeftOut(Left),
+}
+
+impl fmt::Display for CodeFault {
+    fn fmt<W: fmt::Write>(&self, f: &mut fmt::Formatter<W>) -> fmt::Result {
+        f.write_str(match self {
+            CodeFault::EighthBit => "a byte has its eighth bit set",
+            CodeFault::BadEscape => "no such escape sequence",
+            CodeFault::ShiftAlone => "a control stands behind a single shift",
+            CodeFault::ShiftedCode => "a drawing code stands behind a single shift",
+            CodeFault::BadArgument => "an argument is out of range",
+            CodeFault::LeftOut(left) => return write!(f, "{left} is left out"),
+        })
+    }
 }
 
 /// The effect of one byte on a lexer.

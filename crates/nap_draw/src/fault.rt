@@ -5,6 +5,7 @@ ghost use Rattle.nap_draw.specs.Draws.{fault_of};
 
 use nap_list::{BatchFault, SinkFault};
 use std::alloc::AllocError;
+use std::fmt;
 use thiserror::Error;
 
 /// Why a code is refused. If several apply to an opcode, the first in this order is given: `ThreeD`, `Missing`,
@@ -12,35 +13,42 @@ use thiserror::Error;
 #[derive(Clone, Copy, PartialEq, Eq, Debug, Drop, Error)]
 pub enum DrawFault {
     /// DOMAIN in three dimensions.
-    #[error("three dimensions are asked for")]
     ThreeD,
     /// A required operand is missing entirely.
-    #[error("an operand is missing")]
     Missing,
     /// SET COLOR with more than one operand.
-    #[error("more than one colour is set")]
     ManyColours,
     /// A point isn't on the unit screen.
-    #[error("a point lies outside the unit square")]
     Outside,
     /// An opcode starts at the pen, whose position isn't known after text, RESET, CS or FIELD.
-    #[error("the pen's place isn't known")]
     PenUnknown,
     /// SET COLOR without an address to set, since a reset selected the colour.
-    #[error("there is no address to set")]
     NoAddress,
     /// More displacements than an arc or polygon may have.
-    #[error("a shape has too many points")]
     ManyPoints,
     /// REPEAT or REPEAT TO EOL where the last entry isn't a character.
-    #[error("there is no character to repeat")]
     NothingToRepeat,
     /// Memory ran out.
-    #[error("no memory")]
     Memory,
     /// The sink's device failed.
-    #[error("the device behind the sink failed")]
     Sink,
+}
+
+impl fmt::Display for DrawFault {
+    fn fmt<W: fmt::Write>(&self, f: &mut fmt::Formatter<W>) -> fmt::Result {
+        f.write_str(match self {
+            DrawFault::ThreeD => "three dimensions are asked for",
+            DrawFault::Missing => "an operand is missing",
+            DrawFault::ManyColours => "more than one colour is set",
+            DrawFault::Outside => "a point lies outside the unit square",
+            DrawFault::PenUnknown => "the pen's place isn't known",
+            DrawFault::NoAddress => "there is no address to set",
+            DrawFault::ManyPoints => "a shape has too many points",
+            DrawFault::NothingToRepeat => "there is no character to repeat",
+            DrawFault::Memory => "no memory",
+            DrawFault::Sink => "the device behind the sink failed",
+        })
+    }
 }
 
 impl From<AllocError> for DrawFault {

@@ -24,7 +24,7 @@ pub(crate) fn grb(bytes: &[u8]) -> Option<Grb>
 }
 
 /// The kinds of colours that are written with numbers.
-#[derive(Clone, Copy, PartialEq, Eq, Debug, Drop)]
+#[derive(Clone, Copy, Drop)]
 pub(crate) enum ColourKind {
     /// Three components.
     Direct,

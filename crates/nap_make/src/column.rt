@@ -15,7 +15,7 @@ use nap_list::SHAPE_POINTS;
 use std::alloc::{AllocError, Global};
 
 /// A field that a line has to have.
-#[derive(Clone, Copy, PartialEq, Eq, Debug, Drop)]
+#[derive(Clone, Copy, Drop)]
 enum Field {
     Addr,
     Aps,

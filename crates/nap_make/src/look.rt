@@ -39,7 +39,7 @@ pub(crate) fn char_size(bytes: &[u8]) -> Option<CharSize>
 }
 
 /// The four flags of the text attributes.
-#[derive(Clone, Copy, PartialEq, Eq, Debug, Drop)]
+#[derive(Clone, Copy, Drop)]
 pub(crate) struct TextModes {
     /// Whether REVERSE VIDEO is on.
     pub(crate) reverse: bool,

@@ -4,7 +4,7 @@ ghost use Rattle.std.specs.Prelude.{◌≡◌, ◌≢◌, MatchOption};
 use crate::cutting::equals;
 
 /// The name that a line begins with (PROFILE.md, Lines of list).
-#[derive(Clone, Copy, PartialEq, Eq, Debug, Drop)]
+#[derive(Clone, Copy, Drop)]
 pub(crate) enum Name {
     Point,
     Line,

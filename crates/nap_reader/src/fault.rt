@@ -6,6 +6,7 @@ ghost use Rattle.nap_reader.specs.Faults.{number_of, name_of, code_fault, draw_f
 use nap_codes::{CodeFault, Left};
 use nap_draw::DrawFault;
 use nap_list::SinkFault;
+use std::fmt;
 use thiserror::Error;
 
 /// Why a stream is refused (PROFILE.md, Refusals). Its `Display` text says what is wrong; `name` returns the name of
@@ -13,70 +14,48 @@ use thiserror::Error;
 #[derive(Clone, Copy, PartialEq, Eq, Debug, Drop, Error)]
 pub enum Fault {
     /// A byte `80` to `FF`.
-    #[error("a byte has its eighth bit set")]
     EighthBit,
     /// A byte that continues no escape sequence of the profile.
-    #[error("no such escape sequence")]
     BadEscape,
     /// A byte below `20` after SS2 or SS3.
-    #[error("a control stands behind a single shift")]
     ShiftAlone,
     /// A code of the PDI set under a single shift, also an opcode that is left out.
-    #[error("a drawing code stands behind a single shift")]
     ShiftedCode,
     /// An argument outside its range.
-    #[error("an argument is out of range")]
     BadArgument,
     /// A code that the profile leaves out by name.
-    #[error("{0} is left out")]
     LeftOut(Left),
     /// DOMAIN in three dimensions: b6 of its word is set.
-    #[error("three dimensions are asked for")]
     ThreeD,
     /// A required operand of an opcode is missing entirely.
-    #[error("an operand is missing")]
     Missing,
     /// SET COLOR with more than one operand.
-    #[error("more than one colour is set")]
     ManyColours,
     /// A point of the opcode isn't on the unit screen.
-    #[error("a point lies outside the unit square")]
     Outside,
     /// The opcode starts at the pen, whose position isn't known after text, RESET, CS or FIELD.
-    #[error("the pen's place isn't known")]
     PenUnknown,
     /// SET COLOR without an address to set, since a reset selected the colour.
-    #[error("there is no address to set")]
     NoAddress,
     /// More than `RUN_LIMIT` operand bytes of one opcode.
-    #[error("an opcode has too many operand bytes")]
     LongRun,
     /// More displacements than an arc or polygon may have.
-    #[error("a shape has too many points")]
     ManyPoints,
     /// REPEAT or REPEAT TO EOL where the last entry isn't a character.
-    #[error("there is no character to repeat")]
     NothingToRepeat,
     /// An operand word outside a run.
-    #[error("an operand stands without an opcode")]
     Stray,
     /// A call or presentation would exceed the budget.
-    #[error("the macros would pass the budget")]
     Budget,
     /// The macro bodies would exceed their limit.
-    #[error("the macros would pass the store")]
     Store,
     /// The input ends inside a code.
-    #[error("the stream ends inside a code")]
     Cut,
     /// The input ends inside a macro body or a definition.
-    #[error("the stream ends inside a definition")]
     Unended,
     /// Memory ran out.
-    #[error("no memory")]
     Memory,
     /// The sink's device failed.
-    #[error("the device behind the sink failed")]
     Sink,
 }
 
@@ -139,6 +118,35 @@ impl Fault {
             Fault::Memory => "Memory",
             Fault::Sink => "Sink",
         }
+    }
+}
+
+impl fmt::Display for Fault {
+    fn fmt<W: fmt::Write>(&self, f: &mut fmt::Formatter<W>) -> fmt::Result {
+        f.write_str(match self {
+            Fault::EighthBit => "a byte has its eighth bit set",
+            Fault::BadEscape => "no such escape sequence",
+            Fault::ShiftAlone => "a control stands behind a single shift",
+            Fault::ShiftedCode => "a drawing code stands behind a single shift",
+            Fault::BadArgument => "an argument is out of range",
+            Fault::LeftOut(left) => return write!(f, "{left} is left out"),
+            Fault::ThreeD => "three dimensions are asked for",
+            Fault::Missing => "an operand is missing",
+            Fault::ManyColours => "more than one colour is set",
+            Fault::Outside => "a point lies outside the unit square",
+            Fault::PenUnknown => "the pen's place isn't known",
+            Fault::NoAddress => "there is no address to set",
+            Fault::LongRun => "an opcode has too many operand bytes",
+            Fault::ManyPoints => "a shape has too many points",
+            Fault::NothingToRepeat => "there is no character to repeat",
+            Fault::Stray => "an operand stands without an opcode",
+            Fault::Budget => "the macros would pass the budget",
+            Fault::Store => "the macros would pass the store",
+            Fault::Cut => "the stream ends inside a code",
+            Fault::Unended => "the stream ends inside a definition",
+            Fault::Memory => "no memory",
+            Fault::Sink => "the device behind the sink failed",
+        })
     }
 }
 
