@@ -6,9 +6,7 @@ from pathlib import Path
 from prove.deciding import Deciding
 from prove.naming import Import, imports_in, uses
 from prove.parts import cut_definitions, cut_source
-from prove.wrong_bodies import (
-    PUT_OFF, REFUSED, Verdict, Verdicts, put_off_in, read_verdicts, standing, write_verdicts,
-)
+from prove.wrong_bodies import REFUSED, Verdict, Verdicts, read_verdicts, standing, write_verdicts
 
 LOW = '''//! Halves.
 ghost use Rattle.low.specs.Half.{half, is_small, is_lonely};
@@ -303,22 +301,11 @@ class Standing(unittest.TestCase):
         kept = {name: Verdict("0" * 16, REFUSED, "1" * 16) for name in ("same", "edited", "reached", "gone")}
         kept["accepted"] = Verdict("0" * 16, "the edit is accepted", "1" * 16)
         kept["old"] = Verdict("0" * 16, REFUSED)
-        kept["put off"] = Verdict("0" * 16, PUT_OFF, "1" * 16)
-        names = ("same", "edited", "reached", "accepted", "old", "new", "put off")
+        names = ("same", "edited", "reached", "accepted", "old", "new")
         texts = {name: ("2" if name == "edited" else "0") * 16 for name in names}
         sums = {name: ("2" if name == "reached" else "1") * 16 for name in names}
         self.assertEqual(standing(Verdicts("", kept), texts, sums), {"same": kept["same"]})
         self.assertEqual(standing(None, texts, sums), {})
-
-    def test_what_is_put_off_is_told(self) -> None:
-        """By its crate; it has no verdict, and is tried by the next run."""
-        with tempfile.TemporaryDirectory() as room:
-            (Path(room) / "crates.txt").write_text("nap_low:\nnap_high: nap_low\n", "utf-8")
-            for name, said in (("nap_low", REFUSED), ("nap_high", PUT_OFF)):
-                (Path(room) / "crates" / name / "wrong-bodies").mkdir(parents=True)
-                of = {"a": Verdict("0" * 16, said, "1" * 16)}
-                write_verdicts(Path(room) / "crates" / name, Verdicts("f" * 64, of))
-            self.assertEqual(put_off_in(Path(room)), {"nap_high": 1})
 
     def test_verdicts_are_read_as_they_are_written(self) -> None:
         """With the sum over what decides an edit, and without one."""

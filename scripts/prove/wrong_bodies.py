@@ -15,8 +15,6 @@ from prove.promises import LIST, NO_EDIT, faults_of_promises, rows_of_list
 HEAD = "# What the prover said of each wrong body. scripts/prove/wrong-bodies writes this file.\n"
 PLACES = {"gate": "must-fail", "apart": "wrong-bodies"}
 REFUSED = "refused"
-# Said of one that has to be tried, by whoever leaves that for later: the tests tell it, and don't fail.
-PUT_OFF = "put-off"
 SUM = re.compile(r"[0-9a-f]{16}")
 
 
@@ -139,17 +137,9 @@ def faults_of_verdicts(root: Path, name: str) -> Iterator[Optional[str]]:
         if verdict is None or verdict.edit != text:
             yield f"{name}: the wrong body {edit} has no verdict: {again}"
         else:
-            is_well = verdict.said in (REFUSED, PUT_OFF)
-            yield None if is_well else f"{name}: the wrong body {edit} isn't refused: {verdict.said}"
+            yield None if verdict.said == REFUSED else f"{name}: the wrong body {edit} isn't refused: {verdict.said}"
     for edit in sorted(set(kept.of) - set(edits)):
         yield f"{name}: there is a verdict on {edit}, and no such wrong body: {again}"
-
-
-def put_off_in(root: Path) -> Dict[str, int]:
-    """How many wrong bodies of a crate are put off, by the names of those that have some."""
-    kept = {name: read_verdicts(root / "crates" / name) for name in crates_in(root)}
-    counts = {name: [it.said for it in found.of.values()].count(PUT_OFF) for name, found in kept.items() if found}
-    return {name: count for name, count in counts.items() if count}
 
 
 def faults_of_list(root: Path) -> Iterator[Optional[str]]:
