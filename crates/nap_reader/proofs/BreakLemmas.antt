@@ -1,10 +1,9 @@
-use Rattle.nap_reader.proofs.Common.{ActsRun, Bool, Breaks, BreaksAt, BreaksAtByte, BreaksBetween, BreaksFrom, BreaksHere, BreaksInRun, BreaksWith, CanBreakAt, CanLackAt, Continues, DrawFault, Ends, EndsRun, Entry, Err, Executes, Ghosts, Grows, Input, IsCharged, IsLive, IsTaken, LacksOwn, Leads, List, Machine, None, Ok, OpenBody, OpenRun, Option, Outcome, Owes, Placed, ReadingState, Refusal, Result, RuleResult, RunAt, Some, StopsRun, TookPart, Unended, Unfinished, WantsMemory, Work, [], after_run, ap, append-nil, append_assoc, arith, at_byte, begun, cause_of, clear_request_if, closed_by, cond, ended_by, false, half_read, in_run, inl, inr, is_operand_byte, length, length-append, means, memory, open_place, placed_at, placed_from, reading_state_by, refl, refusal, rule, run_place, state_after_request, stream, subst, sym, true, unfinished_by, with_code, with_drawn, with_run, ℕ, ◌++◌, ◌<◌, ◌∙◌, ◌∷◌, ◌≡◌, ◌≢◌, ◌⊎◌}
-use Rattle.nap_draw.specs.Draws as draws
+use Rattle.nap_reader.proofs.Common.{ActsRun, Bool, Breaks, BreaksAt, BreaksAtByte, BreaksBetween, BreaksFrom, BreaksHere, BreaksInRun, BreaksWith, CanBreakAt, CanLackAt, Continues, DrawFault, Ends, EndsRun, Entry, Err, Executes, Ghosts, Grows, IsCharged, IsTaken, LacksOwn, Leads, List, Machine, None, Ok, OpenBody, OpenRun, Option, Outcome, Owes, Placed, ReadingState, Refusal, Result, RuleResult, RunAt, Some, StopsRun, TookPart, Unended, Unfinished, WantsMemory, Work, [], after_run, ap, append-nil, append_assoc, arith, at_byte, begun, cause_of, closed_by, cond, ended_by, false, half_read, in_run, inl, inr, is_operand_byte, length, length-append, means, memory, open_place, placed_at, placed_from, refl, refusal, rule, run_place, stream, subst, sym, true, unfinished_by, with_code, with_drawn, with_run, ℕ, ◌++◌, ◌<◌, ◌∙◌, ◌∷◌, ◌≡◌, ◌≢◌, ◌⊎◌}
 use Rattle.nap_reader.specs.Stream as model
 use Rattle.nap_reader.specs.declared.machine.Machine as struct
 use Rattle.nap_reader.proofs.ReadingLemmas.{Lawful, as_list, is_open_run, leads_entries, leads_left, leads_machine, leads_more, leads_paused, leads_taken, leads_unrefused, list_more, pays, refused_by, rule_part, run_past}
 use Rattle.nap_reader.proofs.PartLemmas.{Known, breaks_longer, known_first, part_from, part_known}
-use Rattle.nap_reader.proofs.StepLemmas.{no_some, passes_run}
+use Rattle.nap_reader.proofs.StepLemmas.{passes_run}
 
 -- what is unfinished after p is what the reading state has
 module _ {S : Type 0} {g : Ghosts S} {s : S} {o : Outcome} {t : S} {h : ReadingState} (k : Continues g s o t h []) where

@@ -1,13 +1,11 @@
-use Rattle.nap_reader.proofs.Common.{All, All-head, AreCharacters, ArePending, Bool, Call, Calls, CallsBy, CharSet, Code, CodeFault, CodeSets, Codes, Continues, Define, DrawFault, Entry, FaultMatchesDevice, FaultMatchesSink, Ghosts, HaltsAfter, IsLive, IsOpcodeByte, IsText, IsTextByte, Kind, LeadsOn, LexerState, List, None, Nothing, Ok, Opcode, OpenBody, OpenRun, Option, Outcome, Passes, Placed, ReadingState, Request, RuleResult, RunAt, Sink, SinkFault, Some, Stop, Stops, StopsByte, Stray, Takes, Work, Works, [], after_drawing, ap, append_assoc, arith, bytes_of, code_fault, code_front, code_rule, draw_fault, drawn_front, drop, earlier_unfinished, false, false≢true, fault_of, front, get_or, in_body, kind_of, length, length-append, length-map, nil_from_length, one_byte_opcode, refl, refusal, rule_result, sink_model_of, slice_get, state_after_request, subst, suc, sym, take, text, with_machine, zero, ℕ, ◌++◌, ◌-◌, ◌<◌, ◌∙◌, ◌∷◌, ◌≡◌, ◌≢◌, ◌≤◌}
+use Rattle.nap_reader.proofs.Common.{All, All-head, AreCharacters, ArePending, Bool, Call, Calls, CallsBy, CharSet, Code, CodeFault, CodeSets, Codes, Continues, Define, DrawFault, Entry, FaultMatchesDevice, FaultMatchesSink, Ghosts, HaltsAfter, IsLive, IsOpcodeByte, IsText, IsTextByte, Kind, LeadsOn, LexerState, List, None, Nothing, Ok, Opcode, OpenBody, OpenRun, Option, Outcome, Passes, Placed, ReadingState, Request, RuleResult, RunAt, SinkFault, Some, Stop, Stops, StopsByte, Stray, Takes, Work, [], after_drawing, ap, append_assoc, arith, bytes_of, code_fault, code_front, code_rule, draw_fault, drawn_front, drop, earlier_unfinished, false, fault_of, front, get_or, kind_of, length, length-append, length-map, nil_from_length, one_byte_opcode, refl, refusal, rule_result, sink_model_of, slice_get, state_after_request, subst, suc, sym, take, text, with_machine, zero, ℕ, ◌++◌, ◌-◌, ◌<◌, ◌∙◌, ◌∷◌, ◌≡◌, ◌≤◌}
 use Rattle.nap_reader.proofs.Base.{Fails, IsAt, TookMore, acts_itself, as_it_was, binds_code, body_begins, by_itself, byte_refused, bytes_of-append, code_breaks, code_continues, code_ends, code_fault_own, code_over, first_byte, front_kind_made, is_between, leads_nowhere, leads_on, leads_past, leads_to_fault, leads_to_refusal, list_more, opcode_alone, opcode_of_kind, opens_drawn, pays, place_at-append, run_opens, split_bytes, stops_now, stops_own}
 use Rattle.nap_codes.specs.declared.code.Code.TheVariants as code
 use Rattle.nap_codes.specs.Front as codes
 use Rattle.nap_reader.specs.declared.kind.Kind.TheVariants as kinds
 use Rattle.nap_reader.specs.Stream as model
-use Rattle.nap_reader.proofs.TakingLemmas.{Drew, LeftBy, left_is, one_takes, own_tells, stop_takes}
+use Rattle.nap_reader.proofs.TakingLemmas.{Drew, LeftBy, left_is, one_takes, stop_takes}
 use Rattle.nap_reader.proofs.TextLemmas.{halts_at, text_past, text_stops}
-use Rattle.nap_codes.specs.declared.code.CodeFault.TheVariants as code_faults
-use Rattle.nap_list.specs.declared.sink.SinkFault.TheVariants as sink_faults
 use Rattle.nap_reader.specs.declared.machine.Machine.{Machine}
 use Rattle.nap_reader.specs.declared.machine.codes.CodeOutcome.TheVariants as outcomes
 
@@ -124,28 +122,19 @@ half_leads x next sink retained between closed unfinished = leads_by next sink r
 
 -- The effect of a byte on a machine without an open run.
 
--- a fault of the lexer isn't the sink's
-lexer_is_own : (fault : CodeFault) → code_fault fault ≢ Sink
-lexer_is_own code_faults.EighthBit is = cc
-lexer_is_own _ is = cc
-
--- a machine still works if its sink is unchanged
-works_on : {S : Type 0} {g : Ghosts S} {old new : Machine S g} → new.sink ≡ old.sink → IsLive new → Works old new
-works_on {g = g} same live = record { live = live; clear = λ clear. ap g.failed same ∙ clear }
-
 -- A machine consumes a byte of a code that isn't complete.
 pub half_takes : {S : Type 0} {g : Ghosts S} {old new : Machine S g} {x : Placed} {zs : List Placed} {ended : Bool} → codes.front old.lexer.sets (old.lexer.half ++ x.byte ∷ []) ≡ codes.unfinished →
     LeftBy old new old.work (record { sets = old.lexer.sets; half = old.lexer.half ++ x.byte ∷ [] }) → new.sink ≡ old.sink → IsLive new → Takes old new (x ∷ zs) ended 1 Nothing
 half_takes {x = x} {zs = zs} unfinished left same live =
-    one_takes (works_on same live) (λ h following between. half_leads x (bytes_of (zs ++ following)) same (left_is left h) between left.before unfinished)
+    one_takes (grind arith) (λ h following between. half_leads x (bytes_of (zs ++ following)) same (left_is left h) between left.before unfinished)
 
 -- A machine refuses a byte.
-pub fault_takes : {S : Type 0} {g : Ghosts S} {old new : Machine S g} {x : Placed} {zs : List Placed} {ended : Bool} (fault : CodeFault) (index : ℕ) → codes.front old.lexer.sets (old.lexer.half ++ x.byte ∷ []) ≡ codes.refused fault index → index ≡ length old.lexer.half →
+pub fault_takes : {S : Type 0} {g : Ghosts S} {old new : Machine S g} {x : Placed} {zs : List Placed} {ended : Bool} (fault : CodeFault) → codes.front old.lexer.sets (old.lexer.half ++ x.byte ∷ []) ≡ codes.refused fault (length old.lexer.half) →
     old.open_run ≡ None → new.refusal ≡ Some (refusal (code_fault fault) x.place) → new.sink ≡ old.sink → Takes old new (x ∷ zs) ended 0 Stop
-fault_takes {g = g} {old = old} {x = x} {zs = zs} fault index refused there closed is same =
-    stop_takes is same (omega arith) (own_tells g old.sink (lexer_is_own fault))
+fault_takes {g = g} {old = old} {x = x} {zs = zs} fault refused closed is same =
+    stop_takes is same (omega arith) (grind arith)
     (λ h following between over. stops_now refl
-    (stops_own g old.sink (with_machine h old) x old.sink (refusal (code_fault fault) x.place) (code_fault_own fault) (λ s o pending c. byte_refused between closed c fault index refused there)))
+    (stops_own g old.sink (with_machine h old) x old.sink (refusal (code_fault fault) x.place) (code_fault_own fault) (λ s o pending c. byte_refused between closed c fault _ refused refl)))
 
 -- the lexer after a code
 abbrev pub rested : CodeSets → LexerState
@@ -162,14 +151,14 @@ module _ {S : Type 0} {g : Ghosts S} {old : Machine S g} {x : Placed} {c : Code}
   -- A machine consumes a code that adds nothing.
   pub nothing_takes : {new : Machine S g} {zs : List Placed} {ended : Bool} → kind_of c ≡ kinds.AddsNothing → LeftBy old new old.work (rested after) → new.sink ≡ old.sink → IsLive new → Takes old new (x ∷ zs) ended 1 Nothing
   nothing_takes {zs = zs} kind left same live =
-      one_takes (works_on same live) (λ h following between.
+      one_takes (grind arith) (λ h following between.
       leads_by (bytes_of (zs ++ following)) same (left_is left h) (omega arith) refl (λ n all before. before)
       (λ s o pending c'. leads_past c' [] (drawn_at (with_machine h old) after old.work) pending (over g old.sink between k c' old.work) (ends g old.sink between k kind c')))
 
   -- A machine consumes a call of a macro.
   pub macro_takes : {new : Machine S g} {zs : List Placed} {ended : Bool} {name : ℕ} → kind_of c ≡ kinds.Calls name → LeftBy old new old.work (rested after) → new.sink ≡ old.sink → IsLive new → Takes old new (x ∷ zs) ended 1 (Call name)
   macro_takes {zs = zs} kind left same live =
-      one_takes (works_on same live)
+      one_takes (grind arith)
       (λ h following between. (0, refl, code_calls g old.sink between k (zs ++ following) refl (leads_nowhere (bytes_of (x ∷ (zs ++ following))) refl refl) kind same (left_is left h)))
 
   -- A machine consumes a code that draws.
@@ -187,7 +176,7 @@ module _ {S : Type 0} {g : Ghosts S} {old : Machine S g} {x : Placed} {c : Code}
   -- A code is an operand outside a run.
   pub strays_takes : {new : Machine S g} {zs : List Placed} {ended : Bool} → kind_of c ≡ kinds.Strays → new.refusal ≡ Some (refusal Stray x.place) → new.sink ≡ old.sink → Takes old new (x ∷ zs) ended 0 Stop
   strays_takes {zs = zs} kind is same =
-      stop_takes is same (omega arith) (own_tells g old.sink (λ own. cc))
+      stop_takes is same (omega arith) (grind arith)
       (λ h following between over. stops_now refl
       (stops_own g old.sink (with_machine h old) x old.sink (refusal Stray x.place) refl (λ s o pending c'. leads_to_refusal c' _ (ends g old.sink between k kind c'))))
 
@@ -212,19 +201,11 @@ some_first bytes b first = omega (arith, ap length (first_byte bytes b first).1)
 module _ {S : Type 0} {g : Ghosts S} {old : Machine S g} {c : Code} {after : CodeSets} {bytes : List ℕ} {b : ℕ} (first : slice_get bytes 0 ≡ Some b) (k : EndsCode old.lexer.sets old.lexer.half old.open_run b c after) where
   -- A code adds nothing.
   pub alone_nothing : {new : Machine S g} {ended : Bool} → LeftBy old new old.work (rested after) → new.sink ≡ old.sink → kind_of c ≡ kinds.AddsNothing → IsLive new → Codes old new bytes ended (outcomes.Acted 1 false)
-  alone_nothing left same kind live = record {
-    within = (omega arith, some_first bytes b first);
-    closed = left.closed ∙ sym k.closed;
-    by = λ x ys is. let here : b ≡ x.byte = cc in nothing_takes (rw here at k) kind left same live;
-  }
+  alone_nothing left same kind live = record { within = (omega arith, some_first bytes b first); closed = left.closed ∙ sym k.closed; by = λ x ys is. let here : b ≡ x.byte = cc in nothing_takes (rw here at k) kind left same live }
 
   -- A code of one byte acts.
   pub alone_acts : {new : Machine S g} {ended : Bool} → LeftBy old new new.work (rested after) → kind_of c ≡ kinds.Acts c → {entries : List Entry} → Drew g (code_rule old.work c) old.sink (drawn_by entries new.work) new.sink → IsLive new → TookMore g → Codes old new bytes ended (outcomes.Acted 1 false)
-  alone_acts left kind drew live more = record {
-    within = (omega arith, some_first bytes b first);
-    closed = left.closed ∙ sym k.closed;
-    by = λ x ys is. let here : b ≡ x.byte = cc in ruled_takes (rw here at k) (acts c kind) drew left live more;
-  }
+  alone_acts left kind drew live more = record { within = (omega arith, some_first bytes b first); closed = left.closed ∙ sym k.closed; by = λ x ys is. let here : b ≡ x.byte = cc in ruled_takes (rw here at k) (acts c kind) drew left live more }
 
   -- A code of one byte is refused, or breaks.
   pub alone_stops : {new : Machine S g} {ended : Bool} {fault : DrawFault} → new.open_run ≡ old.open_run → kind_of c ≡ kinds.Acts c → Fails g (code_rule old.work c) old.sink new.sink fault → FaultMatchesSink g old.sink new.sink (draw_fault fault) → Codes old new bytes ended (outcomes.Stopped 0 (draw_fault fault) 0)
@@ -236,8 +217,7 @@ module _ {S : Type 0} {g : Ghosts S} {old : Machine S g} {c : Code} {after : Cod
 
 -- a sink's fault says whether the sink has failed
 tells_sink : {S : Type 0} {g : Ghosts S} {s t : S} {n : ℕ} (fault : SinkFault) → FaultMatchesDevice (sink_model_of g) s t n fault → FaultMatchesSink g s t (draw_fault (fault_of fault))
-tells_sink sink_faults.Memory tells = (λ is. cc, λ works fails. absurd (false≢true (sym (tells.memory refl) ∙ fails)))
-tells_sink sink_faults.Write tells = (λ is. tells.write refl, λ works fails. refl)
+tells_sink fault tells = grind arith
 
 -- The first bytes are characters, and the format effectors among them.
 pub record IsTextOf {S : Type 0} {g : Ghosts S} (old : Machine S g) (set : CharSet) (bytes chars : List ℕ) : Type 0 where

@@ -1,5 +1,5 @@
 use Rattle.std.proofs.Common.{rules}
-use Rattle.nap_reader.proofs.Common.{BreaksAmong, Cause, Consumes, Consumes-trans, EndsBy, Entry, Err, Fault, FeedFault, Feeds, Ghosts, HasRead, IsDrained, LacksMemoryFor, LacksWithin, List, None, Ok, Outcome, Reader, Refusal, RefusedBy, Result, Some, StopsAt, StopsBy, StopsInLast, TookPrefix, WantsSome, [], ap, append-nil, append_assoc, arith, begun, budget_of, cause_of, device, drop, false, get_or, inl, inr, left_of, length, length-append, means, memory, or-false, reading, reads_limit, refl, refusal_of, sink_of, stream, subst, sym, take, true, ℕ, ◌++◌, ◌+◌, ◌-◌, ◌<◌, ◌||◌, ◌∙◌, ◌∷◌, ◌≡◌, ◌≢◌, ◌≤◌, ◌⊎◌}
+use Rattle.nap_reader.proofs.Common.{BreaksAmong, Cause, Consumes, Consumes-trans, EndsBy, Entry, Err, Fault, FeedFault, Feeds, Ghosts, HasRead, IsDrained, List, None, Ok, Outcome, Reader, Refusal, RefusedBy, Result, Some, StopsAt, StopsBy, StopsInLast, [], ap, append-nil, append_assoc, arith, begun, budget_of, cause_of, device, drop, false, get_or, inl, inr, left_of, length, length-append, means, memory, or-false, reading, reads_limit, refl, refusal_of, sink_of, stream, subst, sym, take, true, ℕ, ◌++◌, ◌+◌, ◌-◌, ◌<◌, ◌||◌, ◌∙◌, ◌∷◌, ◌≡◌, ◌≢◌, ◌≤◌}
 use Rattle.nap_reader.specs.Shared.{BreaksInRun}
 use Rattle.nap_reader.specs.Collecting.{IsCollected}
 use Rattle.nap_reader.specs.Twice.{BreaksOff, EndsEarly}
@@ -19,8 +19,7 @@ still_refused budget p more r is = search (arith, more_bytes_keep_refusal)
 
 -- a fault that is neither the stream's own nor lack of memory is a failed device
 device_fault : (f : Fault) → cause_of f ≡ device → f ≡ fault.Sink
-device_fault fault.Sink is = refl
-device_fault _ is = cc
+device_fault f is = grind arith
 
 module _ {S : Type 0} (g : Ghosts S) (s : S) (budget : ℕ) (t : S) (r : Refusal) (fails : r.fault ≡ fault.Sink → g.failed t ≡ true) where
   -- reading broke with the bytes of a page, or at their end

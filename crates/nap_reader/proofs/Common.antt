@@ -1,20 +1,20 @@
 -- Passes on the names that proofs cite. Declares nothing.
-pub use Rattle.std.proofs.Common.{All, Bool, Err, Fits, IfErr, IsSome, List, MatchOption, MatchResult, None, Ok, OnErr, OnOk, Option, Result, Some, [], ap, append-nil, append_assoc, ap₂, arith, cond, drop, eq-eqb, eqb, false, get_or, if◌then◌else◌, inl, inr, is_err, is_ok, is_some, leb, length, length-append, length-take, ltb, map, nat_lt, not, refl, replicate, rules, set, slice_index_or, subst, suc, sym, take, take-add, true, w8, zero, ℕ, ◌%◌, ◌&&◌, ◌*◌, ◌++◌, ◌+◌, ◌-◌, ◌<◌, ◌^◌, ◌||◌, ◌∙◌, ◌∷◌, ◌≡◌, ◌≢◌, ◌≤◌, ◌⊎◌}
+pub use Rattle.std.proofs.Common.{All, Bool, Err, Fits, IfErr, IsSome, List, MatchOption, MatchResult, None, Ok, OnErr, OnOk, Option, Result, Some, [], add-zero, ap, append-nil, append_assoc, ap₂, arith, cond, drop, eq-eqb, eqb, false, get_or, if◌then◌else◌, inl, inr, is_err, is_ok, is_some, leb, length, length-append, length-take, ltb, map, nat_lt, not, refl, replicate, rules, set, slice_index_or, subst, suc, sym, take, take-add, true, w8, zero, ℕ, ◌%◌, ◌&&◌, ◌*◌, ◌++◌, ◌+◌, ◌-◌, ◌<◌, ◌^◌, ◌||◌, ◌∙◌, ◌∷◌, ◌≡◌, ◌≢◌, ◌≤◌, ◌⊎◌}
 pub use Rattle.std.proofs.KnownBytes.{Consumes-kept, Consumes-nil, Consumes-trans}
 pub use Rattle.std.proofs.Math.Bool.{or-false, or-true}
 pub use Rattle.std.proofs.Math.ListN.{drop_of_length-le}
 pub use Rattle.std.proofs.Math.Seq.{drop-append_seam, get_or-append_seam, take-append-add, take-append_seam}
 pub use Rattle.std.proofs.lemmas.Bool.{and_parts, cond-false, cond-true, eqb-false, eqb-true, false≢true, le-leb, le-ltb, leb-false, leb-true, lt-leb, lt-ltb, ltb-false, ltb-true, ne_eqb}
 pub use Rattle.std.proofs.lemmas.Bool.Decides.{nat_tests}
-pub use Rattle.std.proofs.lemmas.List.{drop-append-le, drop-drop, drop-map, drop-take, drop_all, drop_at, drop_more, get_or-append-add, get_or-drop, get_or-take, get_or_append_left, length-drop, length-map, length-take-le, map-append, map-set, nil_from_length, take-append-drop, take-append-le, take-map, take-take, take_all, take_at, take_more}
-pub use Rattle.std.proofs.lemmas.List.Elements.{All-append, All-cons, All-head, All-map, All-nil, All-pop, All-replicate, All-tail}
+pub use Rattle.std.proofs.lemmas.List.{drop-append-le, drop-drop, drop-map, drop-take, drop_all, drop_at, drop_more, get_or-append-add, get_or-drop, get_or-take, get_or_append_left, length-drop, length-map, length-take-le, map-append, map-set, nil_from_length, take-append-drop, take-append-le, take-map, take-take, take_all, take_at, take_more, take_rest}
+pub use Rattle.std.proofs.lemmas.List.Elements.{All-append, All-cons, All-drop, All-head, All-map, All-nil, All-pop, All-push, All-replicate, All-tail, All-take}
 pub use Rattle.std.proofs.lemmas.List.Folds.{length-prefix_len, prefix_len-append}
 pub use Rattle.std.proofs.lemmas.List.Sums.{prefix_len-drop_yes, prefix_len-le-length, prefix_len_passes, prefix_len_stops}
-pub use Rattle.std.proofs.lemmas.Result.{err_from_is_err_and}
+pub use Rattle.std.proofs.lemmas.Result.{MatchResult-weaker, err_from_is_err_and}
 pub use Rattle.std.specs.Io.KnownBytes.{Consumes}
 pub use Rattle.std.specs.List.{prefix_len}
 pub use Rattle.std.specs.Prelude.{IfSome, IsTrue, slice_get, slice_index, ⊤}
-pub use Rattle.nap_codes.proofs.PublicLaws.{code_ranges, earlier_unfinished, format_effector_front, one_byte_opcode, refused_index, refused_stays, code_is_spelled, code_length, code_stays}
+pub use Rattle.nap_codes.proofs.PublicLaws.{code_is_spelled, code_length, code_ranges, code_stays, earlier_unfinished, format_effector_front, one_byte_opcode, refused_index, refused_stays}
 pub use Rattle.nap_codes.specs.CodeSets.{start_sets}
 pub use Rattle.nap_codes.specs.Laws.{IsInRange}
 pub use Rattle.nap_codes.specs.Lexer.{Steps}
@@ -28,7 +28,7 @@ unfoldable pub use Rattle.nap_draw.specs.Codes.{text}
 pub use Rattle.nap_draw.specs.Rule.{rule_result}
 pub use Rattle.nap_list.specs.Batches.{batch_entries, text_entry}
 pub use Rattle.nap_list.specs.Limits.{reads_limit}
-pub use Rattle.nap_list.specs.Putting.{Put, PutSome, SinkModel, FaultMatchesDevice}
+pub use Rattle.nap_list.specs.Putting.{FaultMatchesDevice, Put, PutSome, SinkModel}
 pub use Rattle.nap_list.specs.Reading.{IsCutOff, IsReadWhole, NoneFailed, Reading, reading}
 pub use Rattle.nap_list.specs.State.{Legal, after, hand_of, start}
 unfoldable pub use Rattle.nap_list.specs.State.{AllFit}
@@ -37,23 +37,23 @@ pub use Rattle.nap_values.specs.Laws.{IsOperandByte, IsWord}
 pub use lib.Count.{count_trailing_zeros}
 pub use Rattle.nap_reader.specs.Carried.{AllCharacters, HasName, NoCharacters}
 pub use Rattle.nap_reader.specs.Collecting.{Collects, CountsAll, IsCount, IsDrained, LacksMemoryFor, RefusedBy}
-pub use Rattle.nap_reader.specs.NextBytes.{Advances, AfterEscape, CanAdvance, CannotShow, HasReadOn, IsNext, IsNextByte, Keeps, Passed, Reads, SameComes, StoresBody, Shows, KeepsNextBytes, next_bytes, CanPass}
+pub use Rattle.nap_reader.specs.NextBytes.{AfterEscape, CanAdvance, CanPass, CannotShow, HasReadOn, IsNext, IsNextByte, Moves, Position, Reads, StoresBody, bytes_from, next_bytes, past, position_of}
 pub use Rattle.nap_reader.specs.Counting.{CountedSink, GrowsBy, Took, counting}
 pub use Rattle.nap_reader.specs.Feeding.{EndsBy, FailsBy, Feeds, StopsInLast}
 pub use Rattle.nap_reader.specs.Kinds.{kind_of}
 pub use Rattle.nap_reader.specs.Laws.{AcceptedIsLegal, BegunComesFirst, BreaksAmong, CodeActs, EndBreaksAmong, FedBreaksAmong, FrontAfterFront, IsAlone, IsRun, MoreBytesKeepEntries, MoreBytesKeepRefusal, PiecesAgree, ReadValuesAreInRange, RunActs, RunWaits, WantsSome, in_pieces, joined}
-pub use Rattle.nap_reader.specs.Pieces.{AmidCall, Goes, ReadsFurther, LeadsTo, Reaches, ReadsTo, RefusesPiece, StopsFrom, TakesPiece, TakesSlice}
+pub use Rattle.nap_reader.specs.Pieces.{AmidCall, Goes, LeadsTo, Reaches, ReadsFurther, ReadsTo, StopsFrom, TakesSlice}
 pub use Rattle.nap_reader.specs.Prefix.{is_from, is_of_body, is_of_text}
-pub use Rattle.nap_reader.specs.ReaderAnswers.{Answers, AnswersBy, IsBroken, IsKnown, IsTaken, HasRead, StopsAt, StopsBy, budget_of, fed_of, left_of, refusal_of, sink_of}
-pub use Rattle.nap_reader.specs.Steps.{Acted, ActsRun, AreCharacters, Breaks, Calls, CallsBy, Came, CodeTakes, Codes, LeadsThrough, Executes, FailsRun, IsLive, IsOpcodeByte, IsOver, IsText, IsWholeRun, Latches, LeadsOn, Leaves, Passes, Progresses, Refuses, Stops, StopsByte, StopsRun, Takes, TakesBy, FaultMatchesSink, Works, state_after_request, clear_request_if, at_byte, after_run, in_run, of_body, of_piece, with_machine, EndsRun, BreaksHere, Grows, LacksOwn, TakesSome}
-pub use Rattle.nap_reader.specs.Stored.{IsBefore, StoreState, store_bound, store_grown, sublist, sublist_at, store_shown}
+pub use Rattle.nap_reader.specs.ReaderAnswers.{Answers, AnswersBy, HasRead, IsBroken, IsKnown, IsTaken, StopsAt, StopsBy, budget_of, fed_of, left_of, refusal_of, sink_of}
+pub use Rattle.nap_reader.specs.Steps.{Acted, ActsRun, AreCharacters, Breaks, BreaksHere, Calls, CallsBy, CodeTakes, Codes, EndsRun, Executes, FailsRun, FaultMatchesSink, Grows, IsLive, IsOpcodeByte, IsOver, IsText, IsWholeRun, LacksOwn, Latches, LeadsOn, LeadsThrough, Leaves, Passes, Progresses, Refuses, Stops, StopsByte, StopsRun, Takes, TakesBy, TakesSome, Works, after_run, at_byte, clear_request_if, in_run, state_after_request, with_machine}
+pub use Rattle.nap_reader.specs.Stored.{IsBefore, StoreState, store_bound, store_grown, store_shown, sublist, sublist_at}
 pub use Rattle.nap_reader.specs.declared.feeding.FeedFault.{FeedFault}
 pub use Rattle.nap_reader.specs.declared.frames.Frame.{Frame}
 pub use Rattle.nap_reader.specs.declared.kind.Kind.{Kind}
 pub use Rattle.nap_reader.specs.declared.machine.Request.{Request}
 pub use Rattle.nap_reader.specs.declared.store.Span.{Span}
-pub use Rattle.nap_reader.specs.Below.{Cause, CharSet, Code, CodeFault, CodeSets, DrawFault, RuleResult, DrawsBy, Entry, Ghosts, HaltsAfter, IsDrawn, IsGraphic, IsTextByte, LexerState, Opcode, SinkFault, StepsBy, TextStep, Work, operand_words, code_rule, device, fault_of, format_effector, memory, rule, run_limit, set_at, sink_model_of, stream}
+pub use Rattle.nap_reader.specs.Below.{Cause, CharSet, Code, CodeFault, CodeSets, DrawFault, DrawsBy, Entry, Ghosts, HaltsAfter, IsDrawn, IsGraphic, IsTextByte, LexerState, Opcode, RuleResult, SinkFault, StepsBy, TextStep, Work, code_rule, device, fault_of, format_effector, memory, operand_words, rule, run_limit, set_at, sink_model_of, stream}
 unfoldable pub use Rattle.nap_reader.specs.Below.{control0_rows, row_of, walk}
-pub use Rattle.nap_reader.specs.Shared.{AreOfBody, BodyFront, BreaksAt, BreaksBetween, BreaksFrom, BreaksInRun, BreaksWith, BreaksWithin, Budget, CanBreakAt, CanLackAt, AreNextBytes, Continues, EighthBit, Ends, Fault, FramesIn, Front, ReadingState, Innermost, Input, IsCharged, IsFrame, ArePendingBetweenCodes, ArePending, ArePendingBy, ArePendingIn, IsOpenBody, IsOpenRun, IsOwn, IsRefused, LacksWithin, LongRun, Machine, Memory, Mode, OpenBody, OpenRun, Outcome, Placed, Reader, Refusal, RunAt, Sink, Store, Stray, TakesPart, TookPrefix, TookPart, Unended, Unfinished, WantsMemory, act, after_body, after_drawing, all_at, all_next, at_escape, begun, bytes_after, between, body_front_by, body_of, bound_front, bytes_of, cause_of, after_charge, closed_by, code_fault, code_front, continue, continue_by, draw_fault, drawn_front, ended, ended_by, ends_body, ends_of, frame_bytes, front_by, front_in, half_code, half_read, reading_state_by, pending_escape, reading_state, in_body, is_operand, is_operand_byte, machine_of, means, mode_of, no_names, nothing, one_byte_later, outcome_by_front, opcode_front, open_body, open_place, open_run, outcome_from, body_front_after, pause, paused, place_at, placed_at, prepend, refusal, refuse, refused, run_by, run_front, run_length, run_place, shown_front, start_machine, store_limit, stores, unfinished, unfinished_by, unfinished_of, unread, unread_of, with_code, with_definition, with_drawn, with_end, with_run, with_run_by, words_of, BreaksAtByte, Owes, Leads, kept_list}
-unfoldable pub use Rattle.nap_reader.specs.Shared.{body_front, front, outcome_within, outcome, placed_from, placed_by_step}
+pub use Rattle.nap_reader.specs.Shared.{AreOfBody, ArePending, ArePendingBetweenCodes, ArePendingBy, ArePendingIn, BodyFront, BreaksAt, BreaksAtByte, BreaksBetween, BreaksFrom, BreaksInRun, BreaksWith, BreaksWithin, Budget, CanBreakAt, CanLackAt, Continues, EighthBit, Ends, Fault, FramesIn, Front, Innermost, Input, IsCharged, IsFrame, IsOpenBody, IsOpenRun, IsOwn, IsRefused, LacksWithin, Leads, LongRun, Machine, Memory, Mode, OpenBody, OpenRun, Outcome, Owes, Placed, Reader, ReadingState, Refusal, RunAt, Sink, Store, Stray, TakesPart, TookPart, TookPrefix, Unended, Unfinished, WantsMemory, act, after_body, after_charge, after_drawing, all_at, at_escape, begun, between, body_front_after, body_front_by, body_of, bound_front, bytes_of, cause_of, closed_by, code_fault, code_front, continue, continue_by, draw_fault, drawn_front, ended, ended_by, ends_body, ends_of, frame_bytes, front_by, front_in, half_code, half_read, in_body, is_operand, is_operand_byte, kept_list, machine_of, means, mode_of, no_names, nothing, one_byte_later, opcode_front, open_body, open_place, open_run, outcome_by_front, outcome_from, pause, paused, pending_escape, place_at, placed_at, prepend, reading_state, reading_state_by, refusal, refuse, refused, run_by, run_front, run_length, run_place, shown_front, start_machine, store_limit, stores, unfinished, unfinished_by, unfinished_of, unread, unread_of, with_code, with_definition, with_drawn, with_end, with_run, with_run_by, words_of}
+unfoldable pub use Rattle.nap_reader.specs.Shared.{body_front, front, outcome, outcome_within, placed_by_step, placed_from}
 pub use Rattle.nap_reader.specs.declared.machine.Request.TheVariants.{Call, Clear, Define, Nothing, Stop}

@@ -1,4 +1,4 @@
-use Rattle.nap_reader.proofs.Common.{Cause, CountedSink, Entry, Err, FaultMatchesDevice, Ghosts, GrowsBy, HaltsAfter, List, Ok, Option, Put, PutSome, Refusal, RefusedBy, Result, SinkFault, [], ap, arith, counting, device, inl, inr, length, length-append, memory, refl, sink_model_of, stream, ℕ, ◌∙◌, ◌∷◌, ◌≡◌}
+use Rattle.nap_reader.proofs.Common.{Cause, CountedSink, Entry, Err, FaultMatchesDevice, Ghosts, GrowsBy, HaltsAfter, List, Ok, Option, Put, PutSome, Refusal, RefusedBy, Result, SinkFault, [], ap, arith, counting, inl, inr, length, length-append, refl, sink_model_of, ℕ, ◌∙◌, ◌∷◌, ◌≡◌}
 use Rattle.std.proofs.Math.Nat.{add-zero}
 use Rattle.nap_list.specs.declared.sink.BatchFault.{BatchFault}
 use Rattle.nap_list.specs.declared.sink.SinkFault.TheVariants as faults
@@ -19,17 +19,14 @@ taken_of all (Err stop) = stop.taken
 -- The entries that another sink took are counted.
 module _ {S : Type 0} (g : Ghosts S) (list : List Entry) (s t : CountedSink S) where
   halts : (n : ℕ) (f : SinkFault) → GrowsBy n s.count t.count → (n ≡ 0 → t.count ≡ s.count) → HaltsAfter (sink_model_of g) list s.sink t.sink n f → HaltsAfter (sink_model_of (counting g)) list s t n f
-  halts n faults.Memory grows still h = search (arith)
-  halts n faults.Write grows still (inl (set, sink, zero)) = inl (set, same s t sink (still zero), zero)
-  halts n faults.Write grows still (inr h) = inr (record { prefix = h.prefix; next = h.next; rest = h.rest; parts = h.parts; count = h.count; broken = h.broken })
+  halts n f grows still h = grind (arith, same)
 
   tells : (n : ℕ) (f : SinkFault) → (n ≡ 0 → t.count ≡ s.count) → FaultMatchesDevice (sink_model_of g) s.sink t.sink n f → FaultMatchesDevice (sink_model_of (counting g)) s t n f
-  tells n f still h = record { write = h.write; memory = h.memory; none = λ set. let k = h.none set in (k.0, same s t k.1 (still k.2), k.2) }
+  tells n f still h = grind (arith, same)
 
   pub puts : (r : Result (Unit {0}) BatchFault) (n : ℕ) → n ≡ taken_of (length list) r → GrowsBy n s.count t.count → (n ≡ 0 → t.count ≡ s.count) → Put (sink_model_of g) list s.sink t.sink r →
       Put (sink_model_of (counting g)) list s t r
-  puts (Ok x) n is grows still h = search (arith, same)
-  puts (Err stop) n is grows still h = search (arith, halts, tells)
+  puts r n is grows still h = grind (arith, same, halts, tells)
 
 -- An entry that another sink didn't take isn't counted.
 pub puts_none : {S : Type 0} (g : Ghosts S) (x : Entry) (s : CountedSink S) (t : S) (f : SinkFault) → PutSome {A = Unit {0}} (sink_model_of g) (x ∷ []) s.sink t (Err f) →
@@ -47,6 +44,4 @@ puts_none g x s t f (n, h, said) = (
 
 -- the refusal of a page that was read into a counting sink is the page's
 pub refused_alike : {S : Type 0} (g : Ghosts S) (s : CountedSink S) (budget : ℕ) (p : List ℕ) (r : Refusal) (cause : Cause) → RefusedBy (counting g) s budget p r cause → RefusedBy g s.sink budget p r cause
-refused_alike g s budget p r stream is = is
-refused_alike g s budget p r memory is = is
-refused_alike g s budget p r device (breaks, (t, failed)) = (breaks, (t.sink, failed))
+refused_alike g s budget p r cause h = grind arith

@@ -1,5 +1,5 @@
-use Rattle.nap_reader.proofs.Common.{AcceptedIsLegal, All-append, All-nil, AllFit, BegunComesFirst, Bool, BreaksAmong, BreaksAt, BreaksBetween, BreaksFrom, BreaksWith, CanLackAt, Cause, DrawFault, EndBreaksAmong, Entry, Err, FedBreaksAmong, Ghosts, IfSome, IsBroken, LacksWithin, Legal, List, None, Ok, Option, Outcome, ReadValuesAreInRange, Refusal, Result, RuleResult, Some, StopsBy, Unfinished, WantsMemory, WantsSome, Work, [], ap, append-nil, append_assoc, arith, begun, cause_of, closed_by, code_fits, code_values_are_in_range, device, drawn_values_are_in_range, drop, ended_by, false, get_or, get_or-append_seam, half_code, if◌then◌else◌, inl, inr, is_operand_byte, length, length-append, means, memory, open_body, open_run, placed_from, refl, rule, rule_fits, start, start_machine, stream, sym, take, take-append_seam, true, walk, with_code, with_definition, with_drawn, with_end, with_run, with_run_by, ℕ, ◌++◌, ◌+◌, ◌∙◌, ◌∷◌, ◌≡◌, ◌≢◌, ◌⊎◌}
-use Rattle.nap_reader.proofs.Base.{First, IsOfWords, Puts, breaks_longer, breaks_more, breaks_there, by_code, by_rule, lacks_there, more_bytes_keep_entries, puts_nothing, run_first, same_first, taken_all, took_prefix, closed_first}
+use Rattle.nap_reader.proofs.Common.{AcceptedIsLegal, All-append, All-nil, AllFit, BegunComesFirst, BreaksAmong, BreaksAt, BreaksBetween, BreaksFrom, BreaksWith, CanLackAt, Cause, DrawFault, EndBreaksAmong, Entry, Err, FedBreaksAmong, Ghosts, IfSome, IsBroken, LacksWithin, Legal, List, None, Ok, Option, Outcome, ReadValuesAreInRange, Refusal, Result, RuleResult, Some, StopsBy, Unfinished, WantsMemory, WantsSome, Work, [], ap, append-nil, append_assoc, arith, begun, cause_of, code_fits, code_values_are_in_range, device, drawn_values_are_in_range, drop, ended_by, get_or, get_or-append_seam, inl, inr, length, length-append, means, memory, open_run, placed_from, refl, rule, rule_fits, start, start_machine, stream, sym, take, take-append_seam, walk, with_drawn, with_end, with_run, with_run_by, ℕ, ◌++◌, ◌+◌, ◌∙◌, ◌∷◌, ◌≡◌, ◌≢◌, ◌⊎◌}
+use Rattle.nap_reader.proofs.Base.{First, IsOfWords, Puts, breaks_longer, breaks_more, breaks_there, by_code, by_rule, closed_first, lacks_there, more_bytes_keep_entries, puts_nothing, run_first, same_first, taken_all, took_prefix}
 use Rattle.nap_reader.proofs.StreamLemmas.{outcome_holds}
 use Rattle.nap_reader.specs.Breaking.{AddsEntries, PlacedWith, PlacedWithin}
 use Rattle.nap_list.specs.declared.state.OpenDefinition.{OpenDefinition}
@@ -10,19 +10,8 @@ use Rattle.nap_list.proofs.PublicLaws.{fits_join, start_agrees, walks_join}
 -- The end of a stream keeps the entries before it. It is accepted only where nothing was refused before and no definition
 -- is open.
 
-definition_keeps : (o : Outcome) (n : ℕ) (opened : Option OpenDefinition) → o.machine.work.state.definition ≡ opened →
-    ((with_definition o n opened).entries ≡ o.entries) × ((with_definition o n opened).refusal ≡ None → o.machine.work.state.definition ≡ None)
-definition_keeps o n None is = (refl, λ accepted. is)
-definition_keeps o n (Some opened) is = (refl, λ accepted. cc)
-
-code_keeps : (o : Outcome) (n : ℕ) (u : Option Unfinished) → ((with_code o n u).entries ≡ o.entries) × ((with_code o n u).refusal ≡ None → o.machine.work.state.definition ≡ None)
-code_keeps o n (Some (half_code bytes)) = (refl, λ accepted. cc)
-code_keeps o n (Some open_body) = (refl, λ accepted. cc)
-code_keeps o n _ = definition_keeps o n o.machine.work.state.definition refl
-
 end_keeps : (o : Outcome) (n : ℕ) (r : Option Refusal) → ((with_end o n r).entries ≡ o.entries) × (o.refusal ≡ r → (with_end o n r).refusal ≡ None → o.machine.work.state.definition ≡ None)
-end_keeps o n None = let k = code_keeps o n o.unfinished in (k.0, λ is. k.1)
-end_keeps o n (Some r) = (refl, λ is accepted. cc)
+end_keeps o n r = grind arith
 
 ended_first : (o : Outcome) (n : ℕ) (r : Option Refusal) → First o (ended_by o n r)
 ended_first o n (Some r) = same_first o
@@ -140,9 +129,7 @@ run_reads o (Some (open_run op place run)) words so = at (rule o.machine.work op
 run_reads o _ words so = so
 
 nothing_shown : (opened shown : Option OpenDefinition) → opened ≡ None → DefinitionsAgree opened shown → shown ≡ None
-nothing_shown None None e h = refl
-nothing_shown None (Some shown) e h = absurd h
-nothing_shown (Some opened) shown e h = cc
+nothing_shown opened shown e h = grind arith
 
 ended_reads : (o : Outcome) (n : ℕ) (r : Option Refusal) → Reads o.entries o.machine.work → IfSome o.unfinished IsOfWords → AllInRange (ended_by o n r).entries × (o.refusal ≡ r → (ended_by o n r).refusal ≡ None → Legal (ended_by o n r).entries)
 ended_reads o n (Some r) so words = (so.ranged, λ is accepted. cc)

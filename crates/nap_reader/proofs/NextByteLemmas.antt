@@ -1,15 +1,13 @@
-use Rattle.nap_reader.proofs.Common.{All, All-append, All-cons, All-head, All-nil, All-pop, All-replicate, All-tail, Came, CanAdvance, CanPass, AreNextBytes, Err, Frame, FramesIn, Innermost, Input, IsBefore, IsFrame, IsNextByte, List, None, Ok, OnErr, OnOk, Placed, Reads, Result, Some, Span, StoreState, [], all_at, ap, append-nil, append_assoc, ap₂, arith, bytes_after, bytes_of, store_bound, next_bytes, drop, drop-append-le, drop-append_seam, drop-drop, drop-map, drop-take, drop_all, drop_at, drop_more, drop_of_length-le, frame_bytes, get_or, get_or-append_seam, store_grown, inl, inr, length, length-append, length-drop, length-map, length-take, length-take-le, map, map-set, nil_from_length, of_body, of_piece, sublist, sublist_at, place_at, placed_at, placed_from, refl, replicate, set, store_shown, slice_get, placed_by_step, store_limit, subst, suc, sym, take, take-append-drop, take-append-le, take-append_seam, take-map, take-take, take_all, unread, unread_of, zero, ℕ, ◌*◌, ◌++◌, ◌+◌, ◌-◌, ◌<◌, ◌∙◌, ◌∷◌, ◌≡◌, ◌≢◌, ◌≤◌, ◌⊎◌}
+use Rattle.nap_reader.proofs.Common.{All, All-append, All-cons, All-head, All-nil, All-pop, All-replicate, All-tail, Bool, CanAdvance, CanPass, Err, Frame, FramesIn, Innermost, Input, IsBefore, IsFrame, IsNext, IsNextByte, IsOver, List, None, Ok, OnErr, OnOk, Placed, Position, Reads, Result, Some, Span, StoreState, [], add-zero, all_at, ap, append-nil, append_assoc, ap₂, arith, begun, bytes_from, bytes_of, drop, drop-append-le, drop-append_seam, drop-drop, drop-map, drop-take, drop_all, drop_more, drop_of_length-le, false, frame_bytes, get_or, length, length-append, length-drop, length-map, length-take, map, map-set, next_bytes, nil_from_length, place_at, placed_at, placed_by_step, placed_from, position_of, refl, replicate, set, slice_get, store_bound, store_grown, store_limit, store_shown, sublist, sublist_at, subst, suc, sym, take, take-append-le, take-append_seam, take-map, take-take, take_rest, true, unread, unread_of, zero, ℕ, ◌*◌, ◌++◌, ◌+◌, ◌-◌, ◌<◌, ◌∙◌, ◌∷◌, ◌≡◌, ◌≢◌, ◌≤◌}
+use Rattle.std.proofs.lemmas.List.{same_from_push}
 use Rattle.nap_reader.specs.Stored.{IsStore}
-use Rattle.nap_reader.proofs.StreamLemmas.{bytes_of-all_at, bytes_of-append, length-all_at, placed_from-append}
+use Rattle.nap_reader.proofs.StreamLemmas.{bytes_of-all_at, bytes_of-append, bytes_of-placed, length-all_at}
 
 -- a part of a list is unchanged by more bytes at the end of the list
 pub sublist-store_grown : (bytes more : List ℕ) (start end : ℕ) → start ≤ end → end ≤ length bytes → sublist (bytes ++ more) start end ≡ sublist bytes start end
 sublist-store_grown bytes more start end h within =
-    search (arith, drop-append-le, take-append-le, length-drop) steps 100000
-
--- a part up to the end
-pub sublist-all : (bytes : List ℕ) (start : ℕ) → start ≤ length bytes → sublist bytes start (length bytes) ≡ drop start bytes
-sublist-all bytes start h = take_all (length bytes - start) (drop start bytes) (omega (arith, length-drop start bytes))
+    ap (take (end - start)) (drop-append-le start bytes more (omega arith))
+    ∙ take-append-le (end - start) (drop start bytes) more (omega (arith, length-drop start bytes))
 
 pub bodies-store_grown : (bytes more : List ℕ) (n : ℕ) (spans : List Span) → n ≤ length bytes → All (IsBefore n) spans →
     map (sublist_at (bytes ++ more)) spans ≡ map (sublist_at bytes) spans
@@ -29,18 +27,30 @@ pub none_bound : {bytes : List ℕ} {from stored : ℕ} → from ≤ length byte
 none_bound {from = from} begun few = record { bound = All-replicate (IsBefore from) 96 _ (omega arith, omega arith); all = refl; begun = begun; few = few }
 
 pub grown_by : (more : List ℕ) {bytes new : List ℕ} {spans : List Span} {from stored : ℕ} {old : StoreState} → IsStore bytes spans from stored → state_of bytes spans from stored ≡ old → new ≡ bytes ++ more → state_of new spans from stored ≡ store_grown old more
-grown_by more {bytes} {spans = spans} {from} store view is = search (arith, bodies-store_grown, drop-append-le) steps 100000
+grown_by more {bytes} {spans = spans} {from} store view is =
+    rw (is, ← view, bodies-store_grown bytes more from spans store.begun store.bound, drop-append-le from bytes more store.begun) refl
 
 pub bound : (bytes : List ℕ) (spans : List Span) (from stored name end : ℕ) → from ≤ length bytes → end ≡ length bytes →
     state_of bytes (set spans (name - 32) (record { start = from; end = end })) end (stored + (end - from))
     ≡ store_bound (state_of bytes spans from stored) name
-bound bytes spans from stored name end h all = search (arith, map-set, sublist-all, drop_of_length-le, length-drop) steps 100000
+bound bytes spans from stored name end h all =
+    rw (all, map-set (sublist_at bytes) spans (name - 32) (record { start = from; end = length bytes }), take_rest bytes from, drop_of_length-le bytes {i = length bytes} (omega arith), length-drop) refl
 
 pub bound_grown : (bytes : List ℕ) (spans : List Span) (from stored name ender end : ℕ) → All (IsBefore from) spans → from ≤ length bytes → end ≡ length bytes →
     state_of (bytes ++ 0x1B ∷ ender ∷ []) (set spans (name - 32) (record { start = from; end = end })) (length (bytes ++ 0x1B ∷ ender ∷ [])) (stored + (end - from))
     ≡ store_shown (state_of bytes spans from stored) name ender
 bound_grown bytes spans from stored name ender end all h same =
-    search (arith, bodies-store_grown, sublist-store_grown, sublist-all, map-set, drop_of_length-le, length-drop) steps 100000
+    let more : List ℕ = 0x1B ∷ ender ∷ [] in
+    let store_grown = bodies-store_grown bytes more from spans h all in
+    let body = sublist-store_grown bytes more from (length bytes) h (omega arith) ∙ take_rest bytes from in
+    rw (
+      same,
+      map-set (sublist_at (bytes ++ more)) spans (name - 32) (record { start = from; end = length bytes }),
+      store_grown,
+      body,
+      drop_of_length-le (bytes ++ more) {i = length (bytes ++ more)} (omega arith),
+      length-drop,
+    ) refl
 
 -- one more body is read
 pub unread-push : (bytes : List ℕ) (frames : List Frame) (frame : Frame) →
@@ -56,24 +66,15 @@ drop-sublist bytes next end count less =
     let all : end - next ≡ count + (end - (next + count)) = omega (arith, less) in
     ap (λ (n : ℕ). drop count (take n (drop next bytes))) all ∙ drop-take count (end - (next + count)) (drop next bytes) ∙ ap (take (end - (next + count))) (drop-drop count next bytes)
 
--- the innermost body has given this number of bytes, and has more
-pub gives-some : (bytes : List ℕ) (frames : List Frame) (frame : Frame) (count : ℕ) → count ≤ frame.end - frame.next → frame.end ≤ length bytes →
-    drop count (unread bytes (frames ++ frame ∷ [])) ≡ unread bytes (frames ++ record frame { next = frame.next + count } ∷ [])
-gives-some bytes frames frame count less within = search (arith, unread-push, drop-append-le, length-all_at, length-take, length-drop, drop-map, drop-sublist) steps 100000
-
--- it has given all
-pub gives-all : (bytes : List ℕ) (frames : List Frame) (frame : Frame) (count : ℕ) → length (sublist bytes frame.next frame.end) ≡ count → drop count (unread bytes (frames ++ frame ∷ [])) ≡ unread bytes frames
-gives-all bytes frames frame count all = search (arith, unread-push, drop_at, length-all_at) steps 100000
-
--- there is one innermost body
-pub same-frame : (frames before before' : List Frame) (frame frame' : Frame) → frames ≡ before ++ frame ∷ [] → frames ≡ before' ++ frame' ∷ [] → frame ≡ frame'
-same-frame frames before before' frame frame' is is' =
-    let e = ap (λ (xs : List Frame). length xs) (sym is ∙ is') in
-    let same : length before ≡ length before' = omega (arith, e, length-append before (frame ∷ []), length-append before' (frame' ∷ [])) in
-    sym (get_or-append_seam before frame [] frame)
-    ∙ ap (λ (xs : List Frame). get_or xs (length before) frame) (sym is ∙ is')
-    ∙ ap (λ (i : ℕ). get_or (before' ++ frame' ∷ []) i frame) same
-    ∙ get_or-append_seam before' frame' [] frame
+-- the innermost body has given this number of bytes
+pub gives : (bytes : List ℕ) (frames : List Frame) (frame : Frame) (count : ℕ) → frame.next + count ≤ frame.end → frame.end ≤ length bytes →
+    drop count (unread bytes (frames ++ frame ∷ [])) ≡ frame_bytes bytes (record frame { next = frame.next + count }) ++ unread bytes frames
+gives bytes frames frame count less within =
+    ap (drop count) (unread-push bytes frames frame)
+    ∙ drop-append-le count (frame_bytes bytes frame) (unread bytes frames)
+    (omega (arith, less, within, length-all_at frame.place (sublist bytes frame.next frame.end), length-take (frame.end - frame.next) (drop frame.next bytes), length-drop frame.next bytes))
+    ∙ ap (λ (xs : List Placed). xs ++ unread bytes frames)
+    (drop-map (λ (b : ℕ). placed_at b frame.place) count (sublist bytes frame.next frame.end) ∙ ap (all_at frame.place) (drop-sublist bytes frame.next frame.end count (omega (arith, less))))
 
 -- the unread bytes are unchanged when bytes are added to the store
 pub unread-store_grown : (bytes more : List ℕ) (frames : List Frame) → FramesIn (length bytes) frames → unread (bytes ++ more) frames ≡ unread bytes frames
@@ -93,7 +94,10 @@ length-sublist bytes start end h within = length-take (end - start) (drop start 
 -- the number of unread bytes with one more body
 pub length-unread-push : (bytes : List ℕ) (frames : List Frame) (frame : Frame) → IsFrame (length bytes) frame →
     length (unread bytes (frames ++ frame ∷ [])) ≡ length (unread bytes frames) + (frame.end - frame.next)
-length-unread-push bytes frames frame h = search (arith, unread-push, length-append, length-all_at, length-sublist) steps 100000
+length-unread-push bytes frames frame h =
+    let pushed = ap length (unread-push bytes frames frame) ∙ length-append (frame_bytes bytes frame) (unread bytes frames) in
+    let count = length-all_at frame.place (sublist bytes frame.next frame.end) ∙ length-sublist bytes frame.next frame.end (omega (arith, h.0)) h.1 in
+    omega (arith, pushed, count)
 
 -- each body that is read has an unread byte
 pub frames-unread : (bytes : List ℕ) (frames : List Frame) → FramesIn (length bytes) frames → length frames ≤ length (unread bytes frames)
@@ -128,7 +132,9 @@ drop-placed_by_step place step (b ∷ bs) (suc n) = drop-placed_by_step (place +
 -- the byte of a slice at an index, and those after it
 pub byte-placed_by_step : (place step : ℕ) (bs : List ℕ) (n : ℕ) → n < length bs → drop n (placed_by_step place step bs) ≡ placed_at (get_or bs n 0) (place + step * n) ∷ placed_by_step (place + step * (n + 1)) step (drop (n + 1) bs)
 unfolding placed_by_step
-byte-placed_by_step place step bs n less = search (arith, drop-placed_by_step, drop_more) steps 100000
+byte-placed_by_step place step bs n less =
+    drop-placed_by_step place step bs n ∙ ap (placed_by_step (place + step * n) step) (drop_more bs n 0 less)
+    ∙ ap (λ (p : ℕ). placed_at (get_or bs n 0) (place + step * n) ∷ placed_by_step p step (drop (n + 1) bs)) (let e : place + step * n + step ≡ place + step * (n + 1) = grind arith in e)
 
 -- the first of some bytes
 pub first_of : (xs : List Placed) (b : ℕ) (bs : List ℕ) → bytes_of xs ≡ b ∷ bs → (x : Placed) × (ys : List Placed) × (xs ≡ x ∷ ys) × (x.byte ≡ b) × (bytes_of ys ≡ bs)
@@ -168,9 +174,7 @@ pub length-placed_by_step : (place step : ℕ) (bs : List ℕ) → length (place
 length-placed_by_step place step bs = sym (length-map (placed_by_step place step bs) (λ (x : Placed). x.byte)) ∙ ap length (bytes_of-placed_by_step place step bs)
 
 pub length-placed : (n : ℕ) (bs : List ℕ) → length (placed_from n bs) ≡ length bs
-unfolding placed_from
-length-placed n [] = refl
-length-placed n (b ∷ bs) = ap suc (length-placed (suc n) bs)
+length-placed n bs = sym (length-map (placed_from n bs) (λ (x : Placed). x.byte)) ∙ ap length (bytes_of-placed n bs)
 
 take-placed : (k n : ℕ) (bs : List ℕ) → take k (placed_from n bs) ≡ placed_from n (take k bs)
 unfolding placed_from
@@ -178,200 +182,165 @@ take-placed zero n bs = refl
 take-placed (suc k) n [] = refl
 take-placed (suc k) n (b ∷ bs) = ap (λ (xs : List Placed). placed_at b n ∷ xs) (take-placed k (suc n) bs)
 
--- A list of frames is empty, or has unread bytes.
-pub none_or_some : (frames : List Frame) → (frames ≡ []) ⊎ (frames ≢ [])
-none_or_some [] = inl refl
-none_or_some (first ∷ others) = inr (λ none. let bad : ⊥ = cc in bad)
+drop-placed : (k n : ℕ) (bs : List ℕ) → drop k (placed_from n bs) ≡ placed_from (n + k) (drop k bs)
+unfolding placed_from
+drop-placed zero n bs = ap (λ (m : ℕ). placed_from m bs) (omega arith)
+drop-placed (suc k) n [] = refl
+drop-placed (suc k) n (b ∷ bs) = drop-placed k (suc n) bs ∙ ap (λ (m : ℕ). placed_from m (drop k bs)) (let e : suc n + k ≡ n + suc k = omega arith in e)
 
-pub some_unread : (stored : List ℕ) (frames : List Frame) → FramesIn (length stored) frames → frames ≢ [] → 0 < length (unread stored frames)
-some_unread stored [] framed some = absurd (some refl)
-some_unread stored (first ∷ others) framed some = omega (arith, frames-unread stored (first ∷ others) framed)
+-- the bytes that come next, without the first n
+pub drop_next : (frames : List Placed) (place at n : ℕ) (piece : List ℕ) →
+    drop n (frames ++ placed_from place (drop at piece)) ≡ drop n frames ++ placed_from (place + (n - length frames)) (drop (at + (n - length frames)) piece)
+drop_next [] place at n piece =
+    let all : n - 0 ≡ n = omega arith in
+    let gone = drop_all {X = Placed} n [] (omega arith) in
+    rw (all, gone) (drop-placed n place (drop at piece) ∙ ap (placed_from (place + n)) (drop-drop n at piece))
+drop_next (x ∷ xs) place at zero piece =
+    let none : 0 - suc (length xs) ≡ 0 = omega arith in
+    rw (none, add-zero, add-zero) refl
+drop_next (x ∷ xs) place at (suc n) piece = let less : suc n - suc (length xs) ≡ n - length xs = omega arith in rw less (drop_next xs place at n piece)
 
--- the bytes of the innermost body are a prefix of the unread bytes
-body_next : {stored : List ℕ} {frames : List Frame} {text : List ℕ} {place : ℕ} (inner : Innermost stored frames text place) → unread stored frames ≡ all_at place text ++ unread stored inner.before
-body_next {stored} inner = search (arith, unread-push) steps 100000
+-- the bytes of bodies and those bytes of the piece that are among the first n: the first n, and those left of bodies
+pub take_next : (frames : List Placed) (place : ℕ) (bs : List ℕ) (n : ℕ) → frames ++ placed_from place (take (n - length frames) bs) ≡ take n (frames ++ placed_from place bs) ++ drop n frames
+unfolding placed_from
+take_next [] place bs n =
+    let all : n - 0 ≡ n = omega arith in
+    let gone = drop_all {X = Placed} n [] (omega arith) in
+    rw (all, gone, append-nil) (sym (take-placed n place bs))
+take_next (x ∷ xs) place bs zero = let none : 0 - suc (length xs) ≡ 0 = omega arith in rw none (ap (λ (ys : List Placed). x ∷ ys) (append-nil xs))
+take_next (x ∷ xs) place bs (suc n) =
+    let less : suc n - suc (length xs) ≡ n - length xs = omega arith in
+    rw less (ap (λ (ys : List Placed). x ∷ ys) (take_next xs place bs n))
 
--- If the next slice is empty, no byte comes next.
-pub none_comes : {stored : List ℕ} {frames : List Frame} {piece text : List ℕ} {at fed place : ℕ} → FramesIn (length stored) frames → at ≤ length piece → AreNextBytes stored frames piece at fed text place →
-    text ≡ [] → (unread stored frames ≡ []) × (length piece ≤ at)
-none_comes {stored} {frames} {piece} {text} {at} framed within comes none = elim (none_or_some frames) [
-  | inl empty ↦ (ap (unread stored) empty, omega (arith, ap length (comes.of_piece empty).0, ap length none, length-drop at piece))
-  | inr some ↦
-      let inner = comes.of_body some in
-      let last = last-frame (length stored) frames inner.before inner.frame inner.last framed in
-      absurd (omega (arith, last.0, last.1, ap length none, ap length inner.text_is, length-sublist stored inner.frame.next inner.frame.end (omega (arith, last.0)) last.1))
-]
+-- the number of the next bytes
+pub length-next : (p : Position) (piece : List ℕ) → length (bytes_from p piece) ≡ length p.frames + (length piece - p.at)
+length-next p piece =
+    length-append p.frames (placed_from p.place (drop p.at piece)) ∙ ap (λ (n : ℕ). length p.frames + n) (length-placed p.place (drop p.at piece) ∙ length-drop p.at piece)
 
--- A slice comes next.
-module _ (input : Input) (piece text : List ℕ) (place : ℕ) (comes : AreNextBytes input.store.bytes input.frames.stack.items piece input.at input.fed text place) where
-  -- the next bytes begin with those of the slice, followed by those after it
-  pub text_next : (step : ℕ) → (input.frames.stack.items ≡ [] → step ≡ 1) → (input.frames.stack.items ≢ [] → step ≡ 0) → (more : List Placed) × (next_bytes input piece ≡ placed_by_step place step text ++ more)
-  text_next step of_one of_none = elim (none_or_some input.frames.stack.items) [
-    | inl none ↦
-        let front = comes.of_piece none in (
-          [],
-          ap (λ (frames : List Frame). unread input.store.bytes frames ++ placed_from input.fed (drop input.at piece)) none
-              ∙ sym (ap₂ (λ (k : ℕ) (bs : List ℕ). placed_by_step place k bs) (of_one none) front.0 ∙ ap (λ (p : ℕ). placed_by_step p 1 (drop input.at piece)) front.1 ∙ placed_by_step-one input.fed (drop input.at piece))
-              ∙ sym (append-nil (placed_by_step place step text)),
-        )
-    | inr some ↦
-        let inner = comes.of_body some in
-        let outer = unread input.store.bytes inner.before in (
-          outer ++ placed_from input.fed (drop input.at piece),
-          ap (λ (xs : List Placed). xs ++ placed_from input.fed (drop input.at piece))
-              (body_next inner ∙ ap (λ (xs : List Placed). xs ++ outer) (sym (ap (λ (k : ℕ). placed_by_step place k text) (of_none some) ∙ placed_by_step-none place text)))
-              ∙ append_assoc (placed_by_step place step text) outer (placed_from input.fed (drop input.at piece)),
-        )
-  ]
+-- The next byte can be passed.
+pub can_next : {input : Input} {piece : List ℕ} → Reads input piece → 0 < length (next_bytes input piece) → CanPass input piece 1
+can_next {input} {piece} reads some = record {
+  reads = reads;
+  of_piece = λ none. omega (arith, some, length-next (position_of input) piece, ap (λ (frames : List Frame). length (unread input.store.bytes frames)) none);
+  of_body = λ before frame is. let in_store = last-frame (length input.store.bytes) input.frames.stack.items before frame is input.framed in omega (arith, in_store.0);
+}
 
-  -- the first bytes of the slice are the first of the next bytes
-  pub taken_next : (n : ℕ) → n ≤ length text → bytes_of (take n (next_bytes input piece)) ≡ take n text
-  taken_next n few = elim (none_or_some input.frames.stack.items) [
-    | inl none ↦ at_step 1 (λ _. refl) (λ some. absurd (some none))
-    | inr some ↦ at_step 0 (λ none. absurd (some none)) (λ _. refl)
-  ]
-    where
-      at_step : (step : ℕ) → (input.frames.stack.items ≡ [] → step ≡ 1) → (input.frames.stack.items ≢ [] → step ≡ 0) → bytes_of (take n (next_bytes input piece)) ≡ take n text
-      at_step step of_one of_none =
-          let next = text_next step of_one of_none in
-          sym (take-map (λ (x : Placed). x.byte) n (next_bytes input piece)) ∙ ap (λ (xs : List Placed). take n (bytes_of xs)) next.1
-          ∙ ap (take n) (bytes_of-append (placed_by_step place step text) next.0 ∙ ap (λ (bs : List ℕ). bs ++ bytes_of next.0) (bytes_of-placed_by_step place step text))
-          ∙ take-append-le n text (bytes_of next.0) few
-
-  -- the number of bytes of the slice
-  pub fits : input.at ≤ length piece → (length (unread_of input) ≡ 0 → input.at + length text ≤ length piece) × (0 < length (unread_of input) → length text ≤ length (unread_of input))
-  fits within = elim (none_or_some input.frames.stack.items) [
-    | inl none ↦ (
-      λ _. omega (arith, within, ap length (comes.of_piece none).0, length-drop input.at piece),
-      λ some. absurd (omega (arith, some, ap (λ (frames : List Frame). length (unread input.store.bytes frames)) none)),
-    )
-    | inr some ↦
-        let inner = comes.of_body some in
-        let size = ap length (body_next inner) ∙ length-append (all_at place text) (unread input.store.bytes inner.before) in
-        (λ none. absurd (omega (arith, none, some_unread input.store.bytes input.frames.stack.items input.framed some)), λ _. omega (arith, size, length-all_at place text))
-  ]
-
--- a list of frames that isn't empty has a last one
-last_parts : (first : Frame) (others : List Frame) → (before : List Frame) × (frame : Frame) × (first ∷ others ≡ before ++ frame ∷ [])
-last_parts first [] = ([], first, refl)
-last_parts first (next ∷ others) = let parts = last_parts next others in (first ∷ parts.0, parts.1, ap (λ (frames : List Frame). first ∷ frames) parts.2)
-
--- The byte after the innermost body.
-following_body : (stored : List ℕ) (frames : List Frame) (piece text : List ℕ) (at place : ℕ) (inner : Innermost stored frames text place) →
-    bytes_after stored frames piece at text ≡ bytes_of (unread stored inner.before) ++ drop at piece
-following_body stored frames piece text at place inner =
-    let outer = unread stored inner.before in
-    ap (λ (xs : List Placed). drop (length text) (bytes_of xs ++ drop at piece))
-    (body_next inner)
-    ∙ ap (drop (length text))
-    (ap (λ (bs : List ℕ). bs ++ drop at piece) (bytes_of-append (all_at place text) outer ∙ ap (λ (bs : List ℕ). bs ++ bytes_of outer) (bytes_of-all_at place text)) ∙ append_assoc text (bytes_of outer) (drop at piece))
-    ∙ drop_at text (bytes_of outer ++ drop at piece) (length text) refl
-
--- the bytes of a part, by the first
-first_of_part : (stored : List ℕ) (next end : ℕ) → next < end → end ≤ length stored → sublist stored next end ≡ get_or stored next 0 ∷ take (end - next - 1) (drop (next + 1) stored)
-first_of_part stored next end some within = search (arith, drop_more) steps 100000
-
--- the byte after the innermost body is the next byte of the body outside it
-pub following_in_body : (stored : List ℕ) (frames : List Frame) → FramesIn (length stored) frames → (piece text : List ℕ) (at place : ℕ) → Innermost stored frames text place → (d : Frame) → 1 < length frames →
-    (rest : List ℕ) × (bytes_after stored frames piece at text ≡ get_or stored (get_or frames (length frames - 2) d).next 0 ∷ rest)
-following_in_body stored frames framed piece text at place inner d more = by inner.before refl
-  where
-    by : (before : List Frame) → inner.before ≡ before → (rest : List ℕ) × (bytes_after stored frames piece at text ≡ get_or stored (get_or frames (length frames - 2) d).next 0 ∷ rest)
-    by [] none = absurd (omega (arith, more, ap length inner.last, ap (λ (fs : List Frame). length (fs ++ inner.frame ∷ [])) none))
-    by (first ∷ others) is =
-        let parts = last_parts first others in
-        let outer = parts.1 in
-        let all : frames ≡ parts.0 ++ outer ∷ inner.frame ∷ [] = inner.last ∙ ap (λ (fs : List Frame). fs ++ inner.frame ∷ []) (is ∙ parts.2) ∙ append_assoc parts.0 (outer ∷ []) (inner.frame ∷ []) in
-        let there : length frames - 2 ≡ length parts.0 = omega (arith, ap length all, length-append parts.0 (outer ∷ inner.frame ∷ [])) in
-        let second : get_or frames (length frames - 2) d ≡ outer = ap₂ (λ (fs : List Frame) (i : ℕ). get_or fs i d) all there ∙ get_or-append_seam parts.0 outer (inner.frame ∷ []) d in
-        let kept = All-pop (IsFrame (length stored)) frames inner.before (Some inner.frame) inner.last framed in
-        let framed' = last-frame (length stored) inner.before parts.0 outer (is ∙ parts.2) kept.0 in
-        let bytes = take (outer.end - outer.next - 1) (drop (outer.next + 1) stored) in
-        let front : bytes_of (unread stored inner.before) ≡ get_or stored outer.next 0 ∷ (bytes ++ bytes_of (unread stored parts.0)) =
-        ap (λ (fs : List Frame). bytes_of (unread stored fs)) (is ∙ parts.2) ∙ ap bytes_of (unread-push stored parts.0 outer)
-        ∙ bytes_of-append (all_at outer.place (sublist stored outer.next outer.end)) (unread stored parts.0)
-        ∙ ap (λ (bs : List ℕ). bs ++ bytes_of (unread stored parts.0)) (bytes_of-all_at outer.place (sublist stored outer.next outer.end) ∙ first_of_part stored outer.next outer.end framed'.0 framed'.1) in (
-          (bytes ++ bytes_of (unread stored parts.0)) ++ drop at piece,
-          following_body stored frames piece text at place inner ∙ ap (λ (bs : List ℕ). bs ++ drop at piece) front
-              ∙ ap (λ (f : Frame). get_or stored f.next 0 ∷ ((bytes ++ bytes_of (unread stored parts.0)) ++ drop at piece)) (sym second),
-        )
-
--- without a body outside it, the byte after the innermost body is the next byte of the piece
-pub following_in_piece : (stored : List ℕ) (frames : List Frame) (piece text : List ℕ) (at place : ℕ) → Innermost stored frames text place → length frames ≤ 1 → at < length piece →
-    (rest : List ℕ) × (bytes_after stored frames piece at text ≡ get_or piece at 0 ∷ rest)
-following_in_piece stored frames piece text at place inner one within =
-    let none : inner.before ≡ [] = nil_from_length inner.before (omega (arith, one, ap length inner.last, length-append inner.before (inner.frame ∷ []))) in (
-      drop (at + 1) piece,
-      following_body stored frames piece text at place inner ∙ ap (λ (fs : List Frame). bytes_of (unread stored fs) ++ drop at piece) none ∙ drop_more piece at 0 within,
-    )
-
--- no byte comes after the innermost body
-pub none_following : (stored : List ℕ) (frames : List Frame) (piece text : List ℕ) (at fed place : ℕ) → length frames ≤ 1 → (frames ≡ []) ⊎ (length piece ≤ at) → AreNextBytes stored frames piece at fed text place →
-    bytes_after stored frames piece at text ≡ []
-none_following stored [] piece text at fed place one none comes = search (arith, drop_all) steps 100000
-none_following stored (first ∷ others) piece text at fed place one (inl none) comes = let bad : ⊥ = cc in absurd bad
-none_following stored (first ∷ others) piece text at fed place one (inr all) comes =
-    let frames = first ∷ others in
-    let inner = comes.of_body (λ none. let bad : ⊥ = cc in bad) in
-    let none : inner.before ≡ [] = nil_from_length inner.before (omega (arith, one, ap length inner.last, length-append inner.before (inner.frame ∷ []))) in
-    following_body stored frames piece text at place inner ∙ ap (λ (fs : List Frame). bytes_of (unread stored fs) ++ drop at piece) none ∙ drop_all at piece all
-
--- The bytes that came, and the next bytes then.
-pub came_coming : (frames rest : List Placed) (piece : List ℕ) (at until fed counted : ℕ) (xs : List Placed) → Came frames rest piece at until fed xs → counted + at ≡ fed + until →
-    frames ++ placed_from fed (drop at piece) ≡ xs ++ (rest ++ placed_from counted (drop until piece))
-came_coming frames rest piece at until fed counted xs (of_body some split still) counts = search (arith, append_assoc) steps 100000
-came_coming frames rest piece at until fed counted xs (of_piece empty none is further within) counts =
-    let n = length xs in
-    ap (λ (zs : List Placed). zs ++ placed_from fed (drop at piece)) empty
-    ∙ ap (placed_from fed) (sym (take-append-drop n (drop at piece)))
-    ∙ placed_from-append fed (take n (drop at piece)) (drop n (drop at piece))
-    ∙ ap₂ (λ (zs : List Placed) (k : ℕ). zs ++ placed_from k (drop n (drop at piece))) (sym is)
-    (let e : fed + length (take n (drop at piece)) ≡ counted = omega (arith, counts, further, length-take-le n (drop at piece) (omega (arith, further, within, length-drop at piece))) in e)
-    ∙ ap (λ (bs : List ℕ). xs ++ placed_from counted bs) (drop-drop n at piece ∙ ap (λ (k : ℕ). drop k piece) (sym further))
-    ∙ ap (λ (zs : List Placed). xs ++ (zs ++ placed_from counted (drop until piece))) (sym none)
-
--- the index up to which the piece was read
-pub came_within : (frames rest : List Placed) (piece : List ℕ) (at until fed : ℕ) (xs : List Placed) → at ≤ length piece → Came frames rest piece at until fed xs → (at ≤ until) × (until ≤ length piece)
-came_within frames rest piece at until fed xs within (of_body some is same) = (omega (arith, same), omega (arith, same, within))
-came_within frames rest piece at until fed xs within (of_piece empty none is moved inside) = (omega (arith, moved), inside)
-
--- if no bytes came, the next bytes are unchanged
-pub came_none : (frames rest : List Placed) (piece : List ℕ) (at until fed : ℕ) (xs : List Placed) → xs ≡ [] → Came frames rest piece at until fed xs → (rest ≡ frames) × (until ≡ at)
-came_none frames rest piece at until fed xs none (of_body some split same) = (sym (split ∙ ap (λ (zs : List Placed). zs ++ rest) none), same)
-came_none frames rest piece at until fed xs none (of_piece empty gone is moved within) = (gone ∙ sym empty, omega (arith, moved, ap length none))
-
--- Some bytes come next, in one slice.
-pub some_come : (stored : List ℕ) (frames : List Frame) → FramesIn (length stored) frames → (piece : List ℕ) (at fed : ℕ) → (text : List ℕ) × (place : ℕ) × AreNextBytes stored frames piece at fed text place
-some_come stored frames framed piece at fed = by frames refl
-  where
-    by : (fs : List Frame) → frames ≡ fs → (text : List ℕ) × (place : ℕ) × AreNextBytes stored frames piece at fed text place
-    by [] is = (drop at piece, fed, record { of_piece = λ _. (refl, refl); of_body = λ some. absurd (some is) })
-    by (first ∷ others) is =
-        let parts = last_parts first others in
-        let some : frames ≢ [] = λ none. let bad : first ∷ others ≡ [] = sym is ∙ none in cc in (
-          sublist stored parts.1.next parts.1.end,
-          parts.1.place,
-          record { of_piece = λ none. absurd (some none); of_body = λ _. record { before = parts.0; frame = parts.1; last = is ∙ parts.2; text_is = refl; place_is = refl } },
-        )
-
--- If a byte comes next, it can be passed.
-pub some_pass : {input : Input} {piece : List ℕ} → Reads input piece → 0 < length (unread_of input) + (length piece - input.at) → CanPass input piece 1
-some_pass {input} {piece} reads more = by there.0 refl
-  where
-    there : (text : List ℕ) × (first : ℕ) × AreNextBytes input.store.bytes input.frames.stack.items piece input.at input.fed text first
-    there = some_come input.store.bytes input.frames.stack.items input.framed piece input.at input.fed
-
-    by : (bytes : List ℕ) → there.0 ≡ bytes → CanPass input piece 1
-    by [] none = let nothing = none_comes input.framed reads.within there.2 none in absurd (omega (arith, more, ap length nothing.0, nothing.1))
-    by (b ∷ bs) some = record { reads = reads; place = there.1; text = there.0; comes = there.2; few = omega (arith, ap length some) }
-
-pub byte_comes : {input : Input} {piece : List ℕ} {byte place : ℕ} → IsNextByte input piece byte place → CanPass input piece 1
-byte_comes {input} {piece} next =
-    some_pass next.reads
-    (omega (arith, ap length next.is, length-append (unread_of input) (placed_from input.fed (drop input.at piece)), length-placed input.fed (drop input.at piece), length-drop input.at piece))
+pub passes_next : {input : Input} {piece : List ℕ} {byte place : ℕ} → IsNextByte input piece byte place → CanPass input piece 1
+passes_next next = can_next next.reads (omega (arith, ap (λ (xs : List Placed). length xs) next.is))
 
 pub can_pass : {input : Input} {piece : List ℕ} {byte place : ℕ} → IsNextByte input piece byte place → CanAdvance input 1
-can_pass {piece = piece} next = (piece, byte_comes next)
+can_pass next = (_, passes_next next)
+
+-- fewer bytes can be passed
+pub can_less : {input : Input} {piece : List ℕ} {n : ℕ} (k : ℕ) → k ≤ n → CanPass input piece n → CanPass input piece k
+can_less k few can = record {
+  reads = can.reads;
+  of_piece = λ none. let all = can.of_piece none in omega (arith, few, all);
+  of_body = λ before frame is. let all = can.of_body before frame is in omega (arith, few, all);
+}
+
+-- they are of bodies, unless no body is being read
+inside_last : (bytes : List ℕ) (first : Frame) (others : List Frame) (n : ℕ) → FramesIn (length bytes) (first ∷ others) → ((before : List Frame) (frame : Frame) → first ∷ others ≡ before ++ frame ∷ [] → frame.next + n ≤ frame.end) → n ≤ length (unread bytes (first ∷ others))
+inside_last bytes first [] n framed fits =
+    let in_store = All-head (IsFrame (length bytes)) first [] framed in
+    let all = fits [] first refl in
+    omega (arith, all, length-all_at first.place (sublist bytes first.next first.end), length-sublist bytes first.next first.end (omega (arith, in_store.0)) in_store.1)
+inside_last bytes first (second ∷ others) n framed fits =
+    let less = inside_last bytes second others n (All-tail (IsFrame (length bytes)) first (second ∷ others) framed) (λ before last is. fits (first ∷ before) last (ap (λ (fs : List Frame). first ∷ fs) is)) in
+    omega (arith, less, length-append (unread bytes (second ∷ others)) (frame_bytes bytes first))
+
+pub can_inside : {input : Input} {piece : List ℕ} {n : ℕ} → CanPass input piece n → input.frames.stack.items ≢ [] → n ≤ length (unread_of input)
+can_inside {input} {piece} {n} can some = at input.frames.stack.items refl
+  where
+    at : (frames : List Frame) → input.frames.stack.items ≡ frames → n ≤ length (unread_of input)
+    at [] none = absurd (some none)
+    at (first ∷ others) is =
+        subst (λ (frames : List Frame). n ≤ length (unread input.store.bytes frames)) (sym is)
+        (inside_last input.store.bytes first others n (subst (FramesIn (length input.store.bytes)) is input.framed) (λ before frame last. can.of_body before frame (is ∙ last)))
+
+-- they are some of the next bytes
+pub can_few : {input : Input} {piece : List ℕ} {n : ℕ} → CanPass input piece n → n ≤ length (next_bytes input piece)
+can_few {input} {piece} {n} can = at input.frames.stack.items refl
+  where
+    at : (frames : List Frame) → input.frames.stack.items ≡ frames → n ≤ length (next_bytes input piece)
+    at [] none = let all = can.of_piece none in omega (arith, all, length-next (position_of input) piece)
+    at (first ∷ others) is =
+        let inside = can_inside can (λ none. let bad : first ∷ others ≡ [] = sym is ∙ none in cc) in
+        omega (arith, inside, length-next (position_of input) piece)
+
+-- the first of them, in the store
+pub taken_inside : (stored : List ℕ) (before : List Frame) (frame : Frame) (following : List Placed) (n : ℕ) → IsFrame (length stored) frame → frame.next + n ≤ frame.end →
+    sublist stored frame.next (frame.next + n) ≡ bytes_of (take n (unread stored (before ++ frame ∷ []) ++ following))
+taken_inside stored before frame following n in_store few =
+    let text = sublist stored frame.next frame.end in
+    let rest = unread stored before ++ following in
+    let same : frame.next + n - frame.next ≡ n = omega arith in
+    ap (λ (k : ℕ). take k (drop frame.next stored)) same ∙ sym (take-take n (frame.end - frame.next) (drop frame.next stored) (omega (arith, few)))
+    ∙ ap (take n) (sym (bytes_of-all_at frame.place text)) ∙ take-map (λ (x : Placed). x.byte) n (frame_bytes stored frame)
+    ∙ ap bytes_of (sym (take-append-le n (frame_bytes stored frame) rest (omega (arith, few, length-all_at frame.place text, length-sublist stored frame.next frame.end (omega (arith, in_store.0)) in_store.1)))
+    ∙ ap (take n) (sym (append_assoc (frame_bytes stored frame) (unread stored before) following) ∙ ap (λ (xs : List Placed). xs ++ following) (sym (unread-push stored before frame))))
+
+-- the first byte of the innermost of some bodies
+pub following_in_body : (stored : List ℕ) (frames : List Frame) → FramesIn (length stored) frames → (d : Frame) → 0 < length frames → (rest : List ℕ) × (bytes_of (unread stored frames) ≡ get_or stored (get_or frames (length frames - 1) d).next 0 ∷ rest)
+following_in_body stored [] framed d some = absurd (omega (arith, some))
+following_in_body stored (frame ∷ frames) framed d some = at frames (All-head (IsFrame (length stored)) frame frames framed) (following_in_body stored frames (All-tail (IsFrame (length stored)) frame frames framed) d)
+  where
+    at : (frames : List Frame) → IsFrame (length stored) frame → (0 < length frames → (rest : List ℕ) × (bytes_of (unread stored frames) ≡ get_or stored (get_or frames (length frames - 1) d).next 0 ∷ rest)) →
+        (rest : List ℕ) × (bytes_of (unread stored (frame ∷ frames)) ≡ get_or stored (get_or (frame ∷ frames) (suc (length frames) - 1) d).next 0 ∷ rest)
+    at [] in_store ih =
+        let one_more : frame.end - frame.next ≡ suc (frame.end - frame.next - 1) = omega (arith, in_store.0) in (
+          take (frame.end - frame.next - 1) (drop (frame.next + 1) stored),
+          bytes_of-all_at frame.place (sublist stored frame.next frame.end) ∙ ap₂ (λ (n : ℕ) (bs : List ℕ). take n bs) one_more (drop_more stored frame.next 0 (omega (arith, in_store.0, in_store.1))),
+        )
+    at (second ∷ others) in_store ih =
+        let (rest, is) = ih (omega arith) in
+        let outer = bytes_of (frame_bytes stored frame) in
+        let last : suc (length others) ≡ suc (suc (length others)) - 1 = omega arith in
+        let same : suc (length others) - 1 ≡ length others = omega arith in (
+          rest ++ outer,
+          bytes_of-append (unread stored (second ∷ others)) (frame_bytes stored frame) ∙ ap (λ (bs : List ℕ). bs ++ outer) is
+              ∙ ap (λ (i : ℕ). get_or stored (get_or (second ∷ others) i d).next 0 ∷ (rest ++ outer)) same
+              ∙ ap (λ (i : ℕ). get_or stored (get_or (frame ∷ second ∷ others) i d).next 0 ∷ (rest ++ outer)) last,
+        )
+
+-- The next slice is of the piece, or of the innermost body.
+
+pub piece_next : {input : Input} {piece : List ℕ} → Reads input piece → input.frames.stack.items ≡ [] → input.at < length piece → IsNext input piece input.fed 1 (drop input.at piece) false
+piece_next {input} {piece} reads none less = record {
+  some = omega (arith, less, length-drop input.at piece);
+  more = [];
+  is = ap (λ (frames : List Frame). unread input.store.bytes frames ++ placed_from input.fed (drop input.at piece)) none ∙ sym (append-nil (placed_by_step input.fed 1 (drop input.at piece)) ∙ placed_by_step-one input.fed (drop input.at piece));
+  passes = record {
+    reads = reads;
+    of_piece = λ none. omega (arith, less, length-drop input.at piece);
+    of_body = λ before frame is. absurd (omega (arith, ap (λ (frames : List Frame). length frames) (sym none ∙ is), length-append before (frame ∷ [])));
+  };
+  over = λ ended. let bad : false ≡ true = ended in cc;
+}
+
+pub body_next : {input : Input} {piece text : List ℕ} {place : ℕ} {ended : Bool} → Reads input piece → (inner : Innermost input.store.bytes input.frames.stack.items text place) → (ended ≡ true → IsOver (bytes_of (unread input.store.bytes inner.before) ++ drop input.at piece)) → IsNext input piece place 0 text ended
+body_next {input} {piece} {text} {place} reads inner over =
+    let stored = input.store.bytes in
+    let frame = inner.frame in
+    let in_store = last-frame (length stored) input.frames.stack.items inner.before frame inner.last input.framed in
+    let size = ap length inner.text_is ∙ length-sublist stored frame.next frame.end (omega (arith, in_store.0)) in_store.1 in
+    let outer = unread stored inner.before in
+    let following = placed_from input.fed (drop input.at piece) in
+    let front : unread_of input ≡ placed_by_step place 0 text ++ outer =
+    ap (unread stored) inner.last ∙ unread-push stored inner.before frame ∙ ap₂ (λ (m : ℕ) (bs : List ℕ). all_at m bs ++ outer) (sym inner.place_is) (sym inner.text_is) ∙ ap (λ (xs : List Placed). xs ++ outer) (sym (placed_by_step-none place text)) in
+    record {
+      some = omega (arith, in_store.0, size);
+      more = outer ++ following;
+      is = ap (λ (xs : List Placed). xs ++ following) front ∙ append_assoc (placed_by_step place 0 text) outer following;
+      passes = record {
+        reads = reads;
+        of_piece = λ none. absurd (omega (arith, ap (λ (frames : List Frame). length frames) (sym none ∙ inner.last), length-append inner.before (frame ∷ [])));
+        of_body = λ before last is.
+            let same = (same_from_push before inner.before last frame (sym is ∙ inner.last)).1 in
+            omega (arith, in_store.0, size, ap (λ (f : Frame). f.next) same, ap (λ (f : Frame). f.end) same);
+      };
+      over = λ ended. subst IsOver (sym (bytes_of-append outer following ∙ ap (λ (bs : List ℕ). bytes_of outer ++ bs) (bytes_of-placed input.fed (drop input.at piece)))) (over ended);
+    }
 
 -- the place of a byte of a slice
 pub place_at-placed_by_step : (place step : ℕ) (bs : List ℕ) (i : ℕ) → i < length bs → place_at (placed_by_step place step bs) i ≡ place + step * i
@@ -380,68 +349,17 @@ place_at-placed_by_step place step [] i less = absurd (omega (arith, less))
 place_at-placed_by_step place step (b ∷ bs) zero less = grind arith
 place_at-placed_by_step place step (b ∷ bs) (suc i) less = place_at-placed_by_step (place + step) step bs i (omega (arith, less)) ∙ grind arith
 
--- The next slice is of a body that is being read.
-module _ (stored : List ℕ) (frames : List Frame) (text : List ℕ) (place : ℕ) (inner : Innermost stored frames text place) where
-  pub some_inside : frames ≢ []
-  some_inside none = omega (arith, ap length (sym none ∙ inner.last), length-append inner.before (inner.frame ∷ []))
-
-  -- a body that is being read has an unread byte
-  pub text_inside : FramesIn (length stored) frames → 0 < length text
-  text_inside framed =
-      let is = last-frame (length stored) frames inner.before inner.frame inner.last framed in
-      omega (arith, is.0, ap length inner.text_is, length-sublist stored inner.frame.next inner.frame.end (omega (arith, is.0)) is.1)
-
-  -- the index of a body's bytes in the store, and its first bytes
-  pub part_inside : FramesIn (length stored) frames → (n : ℕ) → n ≤ length text → (inner.frame.next + n ≤ length stored) × (sublist stored inner.frame.next (inner.frame.next + n) ≡ take n text)
-  part_inside framed n few =
-      let is = last-frame (length stored) frames inner.before inner.frame inner.last framed in
-      let long : length text ≡ inner.frame.end - inner.frame.next = ap length inner.text_is ∙ length-sublist stored inner.frame.next inner.frame.end (omega (arith, is.0)) is.1 in
-      let same : inner.frame.next + n - inner.frame.next ≡ n = omega arith in (
-        omega (arith, is.0, is.1, long, few),
-        ap (λ (k : ℕ). take k (drop inner.frame.next stored)) same
-            ∙ sym (take-take n (inner.frame.end - inner.frame.next) (drop inner.frame.next stored) (omega (arith, long, few)))
-            ∙ ap (take n) (sym inner.text_is),
-      )
-
--- No bytes of bodies are left, nor of the piece.
+-- no bytes of bodies are left, nor of the piece
 pub none_left : (input : Input) (piece : List ℕ) → input.frames.stack.items ≡ [] → length piece ≤ input.at → next_bytes input piece ≡ []
-unfolding placed_from
-none_left input piece none all = search (arith, drop_all) steps 100000
+none_left input piece none all =
+    nil_from_length (next_bytes input piece) (omega (arith, all, length-next (position_of input) piece, ap (λ (frames : List Frame). length (unread input.store.bytes frames)) none))
 
 -- The open body has grown, or memory was lacking and it is unchanged.
 pub grown : {E : Type 0} (input : Input) (new : StoreState) (more : List ℕ) (r : Result (Unit {0}) E) → OnOk r (new ≡ store_grown input.store more) → OnErr r (new ≡ input.store) → input.store.stored + length input.store.body + length more ≤ store_limit →
     FramesIn (length new.bytes) input.frames.stack.items × (input.turns + length (unread new.bytes input.frames.stack.items) ≡ input.fed + input.charged) × (new.stored + length new.body ≤ store_limit) × (length new.bytes ≤ new.stored + length new.body + input.charged)
-grown input new more (Ok done) is err few = search (arith, length-append, unread-store_grown, frames-store) steps 100000
+grown input new more (Ok done) is err few =
+    let sizes = ap (λ (t : StoreState). t.stored + length t.body) is ∙ ap (λ (n : ℕ). input.store.stored + n) (length-append input.store.body more) in
+    let bytes = ap (λ (t : StoreState). length t.bytes) is ∙ length-append input.store.bytes more in
+    let same = ap (λ (t : StoreState). length (unread t.bytes input.frames.stack.items)) is ∙ ap length (unread-store_grown input.store.bytes more input.frames.stack.items input.framed) in
+    (frames-store input.store new more input.frames.stack.items (ap (λ (t : StoreState). t.bytes) is) input.framed, omega (arith, input.turned, same), omega (arith, few, sizes), omega (arith, input.paired, sizes, bytes))
 grown input new more (Err e) ok is few = rw is (input.framed, input.turned, input.few, input.paired)
-
--- The next bytes are unchanged when the open body grows.
-pub comes_still : (stored more : List ℕ) (frames : List Frame) → FramesIn (length stored) frames → (piece : List ℕ) (at fed : ℕ) (text : List ℕ) (place : ℕ) → AreNextBytes stored frames piece at fed text place → AreNextBytes (stored ++ more) frames piece at fed text place
-comes_still stored more frames framed piece at fed text place comes = record {
-  of_piece = comes.of_piece;
-  of_body = λ some.
-      let inner = comes.of_body some in
-      let is = last-frame (length stored) frames inner.before inner.frame inner.last framed in
-      record {
-        before = inner.before;
-        frame = inner.frame;
-        last = inner.last;
-        text_is = inner.text_is ∙ sym (sublist-store_grown stored more inner.frame.next inner.frame.end (omega (arith, is.0)) is.1);
-        place_is = inner.place_is;
-      };
-}
-
--- The n bytes that came: of bodies, or of the piece.
-pub came_take : (frames : List Placed) (piece : List ℕ) (at fed n : ℕ) → at ≤ length piece → (length frames ≡ 0 → at + n ≤ length piece) → (0 < length frames → n ≤ length frames) →
-    Came frames (drop n frames) piece at (at + (n - length frames)) fed (take n (frames ++ placed_from fed (drop at piece)))
-came_take [] piece at fed n within alone inside = search (arith, length-take-le, length-placed, length-drop, drop_all, take-placed) steps 100000
-came_take (x ∷ xs) piece at fed n within alone inside =
-    let few = inside (omega arith) in
-    of_body (omega arith) (sym (take-append-drop n (x ∷ xs)) ∙ ap (λ (ys : List Placed). ys ++ drop n (x ∷ xs)) (sym (take-append-le n (x ∷ xs) (placed_from fed (drop at piece)) few))) (omega (arith, few))
-
--- the next byte came
-pub came_next : (rest : List Placed) (piece : List ℕ) (until fed : ℕ) (x : Placed) (bytes_after : List Placed) → until ≤ length piece → rest ++ placed_from fed (drop until piece) ≡ x ∷ bytes_after →
-    Came rest (drop 1 rest) piece until (until + (1 - length rest)) fed (x ∷ [])
-came_next rest piece until fed x bytes_after within is =
-    subst (Came rest (drop 1 rest) piece until (until + (1 - length rest)) fed) (ap (take 1) is)
-    (came_take rest piece until fed 1 within
-    (λ none. omega (arith, none, within, ap length is, length-append rest (placed_from fed (drop until piece)), length-placed fed (drop until piece), length-drop until piece)) (λ some. omega arith))

@@ -1,4 +1,4 @@
-use Rattle.nap_reader.proofs.Common.{All, All-head, All-tail, Bool, Fits, IsOver, IsTextByte, IsWholeRun, List, OpenRun, Option, Some, TextStep, [], and_parts, ap, append_assoc, ap₂, arith, operand_words, cond, count_trailing_zeros, drop, drop-drop, eq-eqb, eqb, false, format_effector, get_or, get_or-drop, get_or-take, is_from, is_of_text, is_operand_byte, is_some, leb, leb-true, length, length-drop, length-map, length-prefix_len, length-take-le, ltb, ltb-true, map, map-append, ne_eqb, not, or-true, prefix_len, prefix_len-append, prefix_len-drop_yes, prefix_len-le-length, prefix_len_passes, prefix_len_stops, refl, replicate, run_by, subst, suc, sym, take, take-append-drop, true, w8, ℕ, nat_tests, ◌%◌, ◌*◌, ◌++◌, ◌+◌, ◌-◌, ◌<◌, ◌^◌, ◌||◌, ◌∙◌, ◌∷◌, ◌≡◌, ◌≤◌}
+use Rattle.nap_reader.proofs.Common.{All, All-head, All-tail, Bool, Fits, IsOver, IsTextByte, IsWholeRun, List, OpenRun, Option, Some, [], ap, append_assoc, ap₂, arith, cond, count_trailing_zeros, drop, drop-drop, eq-eqb, eqb, format_effector, get_or, get_or-drop, get_or-take, is_from, is_of_text, is_operand_byte, is_some, leb, length, length-drop, length-map, length-prefix_len, length-take-le, map, map-append, nat_tests, ne_eqb, not, operand_words, prefix_len, prefix_len-append, prefix_len-drop_yes, prefix_len-le-length, prefix_len_passes, prefix_len_stops, refl, replicate, run_by, sym, take, take-append-drop, true, w8, ℕ, ◌%◌, ◌*◌, ◌++◌, ◌+◌, ◌-◌, ◌<◌, ◌^◌, ◌∙◌, ◌∷◌, ◌≡◌, ◌≤◌}
 use Rattle.std.proofs.lemmas.Simd.{chunk-drop, leading_from_mask_l, length-chunk, mask_l-mod, trailing_mask_l}
 use lib.Lanes.{Each1, chunk, mask_l, top, zip2}
 
@@ -6,7 +6,7 @@ use lib.Lanes.{Each1, chunk, mask_l, top, zip2}
 -- others.
 
 pub operands_prefix : (bytes : List ℕ) (n : ℕ) → n ≤ prefix_len is_operand_byte bytes → All (λ b. is_operand_byte b ≡ true) (take n bytes)
-operands_prefix bytes n few = search (arith, length-take-le, prefix_len-le-length, get_or-take, prefix_len_passes) steps 100000
+operands_prefix bytes n few k d within = grind (arith, length-take-le n bytes, get_or-take n bytes k d, prefix_len_passes is_operand_byte bytes k d, prefix_len-le-length is_operand_byte bytes)
 
 -- no operand comes after the operand bytes of a prefix
 pub run_over : (piece following : List ℕ) (n : ℕ) → n ≡ prefix_len is_operand_byte piece → (n ≡ length piece → IsOver following) → IsOver (drop n piece ++ following)
@@ -31,7 +31,7 @@ whole_run_is piece following n counted over =
     }
 
 same_word : (b : ℕ) → is_operand_byte b ≡ true → b % 64 ≡ b - 64
-same_word b is = search (arith, and_parts, leb-true, ltb-true) steps 100000
+same_word b is = grind (arith, nat_tests)
 
 -- operand bytes carry the words that they are read as
 pub same_words : (bytes : List ℕ) → All (λ b. is_operand_byte b ≡ true) bytes → operand_words bytes ≡ map (λ b. b - 64) bytes
@@ -74,8 +74,7 @@ other_mask least v small long fits =
 -- ---- the first of the bytes that are left
 
 not-not : (b : Bool) → not (not b) ≡ b
-not-not true = refl
-not-not false = refl
+not-not b = grind arith
 
 none_other : (x : Bool) (n l m : ℕ) → n ≤ l → cond (not x) (1 + n) 0 ≡ 1 + l → (n ≡ l → m ≡ 0) → cond x 1 0 + 2 * m ≡ 0
 none_other x n l m le e rest = grind arith
@@ -112,29 +111,18 @@ abbrev pub PassesGraphic : List ℕ → ℕ → Type 0
 PassesGraphic xs n = (prefix_len is_of_text xs ≡ n + prefix_len is_of_text (drop n xs)) × (prefix_len (is_from 32) (drop n xs) ≡ 0)
 
 -- the first bytes from 20 to 7F pass so
+past_one : (b : ℕ) (xs : List ℕ) → PassesGraphic xs (prefix_len (is_from 32) xs) → PassesGraphic (b ∷ xs) (prefix_len (is_from 32) (b ∷ xs))
+past_one b xs rest = grind arith
+
 pub past_graphic : (xs : List ℕ) → PassesGraphic xs (prefix_len (is_from 32) xs)
 past_graphic [] = (refl, refl)
-past_graphic (b ∷ xs) = by (is_from 32 b) refl (past_graphic xs)
-  where
-    by : (is : Bool) → is_from 32 b ≡ is → PassesGraphic xs (prefix_len (is_from 32) xs) → PassesGraphic (b ∷ xs) (cond is (1 + prefix_len (is_from 32) xs) 0)
-    by true e rest =
-        let of : is_of_text b ≡ true = ap (λ (x : Bool). is_some (format_effector b) || x) e ∙ or-true (is_some (format_effector b)) in
-        let all : prefix_len is_of_text (b ∷ xs) ≡ 1 + prefix_len is_of_text xs = ap (λ (x : Bool). cond x (1 + prefix_len is_of_text xs) 0) of in
-        let further : suc (prefix_len (is_from 32) xs) ≡ 1 + prefix_len (is_from 32) xs = omega arith in
-        subst (PassesGraphic (b ∷ xs)) further (omega (arith, all, rest.0), rest.1)
-    by false e rest = (omega arith, ap (λ (x : Bool). cond x (1 + prefix_len (is_from 32) xs) 0) e)
+past_graphic (b ∷ xs) = past_one b xs (past_graphic xs)
 
 -- a format effector and the bytes from 20 to 7F after it pass so
 pub past_effector : (xs : List ℕ) (at n : ℕ) → at < length xs → is_some (format_effector (get_or xs at 0)) ≡ true → n ≡ prefix_len (is_from 32) (drop (at + 1) xs) →
     (prefix_len is_of_text (drop at xs) ≡ 1 + n + prefix_len is_of_text (drop (at + 1 + n) xs)) × (prefix_len (is_from 32) (drop (at + 1 + n) xs) ≡ 0)
-past_effector xs at n within is counted =
-    let past : PassesGraphic (drop (at + 1) xs) n = subst (PassesGraphic (drop (at + 1) xs)) (sym counted) (past_graphic (drop (at + 1) xs)) in
-    let there : drop n (drop (at + 1) xs) ≡ drop (at + 1 + n) xs = drop-drop n (at + 1) xs in
-    let one = prefix_len-drop_yes is_of_text xs at 0 within (ap (λ (x : Bool). x || is_from 32 (get_or xs at 0)) is) in (
-      omega (arith, one, past.0, ap (prefix_len is_of_text) there),
-      sym (ap (prefix_len (is_from 32)) there) ∙ past.1,
-    )
+past_effector xs at n within is counted = grind (arith, drop-drop n (at + 1) xs, prefix_len-drop_yes is_of_text xs at 0 within, past_graphic (drop (at + 1) xs))
 
 -- a byte of a text is a format effector of one byte, or a code of a set
 pub of_text_is : (b : ℕ) → is_of_text b ≡ true → IsTextByte b
-of_text_is b is none = search (arith, and_parts, leb-true, ltb-true) steps 100000
+of_text_is b is none = grind (arith, nat_tests)

@@ -2,7 +2,6 @@ use Rattle.nap_reader.proofs.Common.{Breaks, BreaksFrom, Cause, DrawFault, Entry
 use Rattle.nap_draw.specs.declared.fault.DrawFault.TheVariants as draw_faults
 use Rattle.nap_draw.specs.Draws as draws
 use Rattle.nap_reader.proofs.ReadingLemmas.{Lawful, rule_part, was_failed}
-use Rattle.nap_reader.proofs.StreamLemmas.{entries_first}
 
 -- What a sink has if reading breaks.
 

@@ -1,6 +1,5 @@
 use Rattle.nap_reader.proofs.Common.{All, All-head, All-tail, Code, CodeActs, FrontAfterFront, IsAlone, IsOpenRun, IsOperandByte, IsRun, List, Machine, Opcode, Placed, RunActs, RunWaits, [], arith, bytes_of, code_front, code_rule, drawn_front, is_operand_byte, kind_of, length, length-append, length-map, nat_tests, refl, run_length, true, walk, words_of, ℕ, ◌++◌, ◌+◌, ◌∙◌, ◌∷◌, ◌≡◌}
 use Rattle.nap_reader.proofs.Base.{front_code, front_run, open_run_pauses, outcome_from-front}
-use Rattle.nap_codes.specs.declared.code.Code.TheVariants as code
 pub use Rattle.nap_reader.proofs.LegalLemmas.{begun_comes_first, end_breaks_among, fed_breaks_among, accepted_is_legal, read_values_are_in_range}
 pub use Rattle.nap_reader.proofs.LawLemmas.{more_bytes_keep_entries, more_bytes_keep_refusal, pieces_agree}
 
@@ -32,11 +31,7 @@ run_waits m op x operands run =
 alone_front : (m : Machine) (c : Code) (place : ℕ) (ys : List Placed) → IsAlone c →
     code_front m (kind_of c) place ys ≡ drawn_front m place ys (code_rule m.work c)
 unfolding walk
-alone_front m (code.Op op) place ys never = absurd never
-alone_front m (code.Operand word) place ys never = absurd never
-alone_front m (code.Call name) place ys never = absurd never
-alone_front m (code.DefMacro name show) place ys never = absurd never
-alone_front m _ place ys alone = refl
+alone_front m c place ys alone = grind arith
 
 pub code_acts : CodeActs
 code_acts m c before last after ys is =

@@ -1,13 +1,10 @@
-use Rattle.nap_reader.proofs.Common.{Bool, Budget, Code, CodeFault, CodeSets, Continues, DrawFault, RuleResult, Entry, Err, Front, Ghosts, ReadingState, IfErr, IsDrawn, ArePendingBetweenCodes, ArePending, ArePendingBy, ArePendingIn, IsOpenBody, IsOpenRun, IsRefused, LexerState, List, LongRun, Machine, Mode, None, Ok, OnOk, Opcode, OpenBody, OpenRun, Option, Outcome, Placed, Refusal, Result, Some, StepsBy, [], act, all_at, ap, append-nil, append_assoc, arith, begun, between, body_front, body_front_by, bytes_of, cause_of, after_charge, code_fault, code_front, code_ranges, cond-false, cond-true, continue, draw_fault, drawn_front, drop, drop_at, eq-eqb, false, front, front_by, front_in, half_read, pending_escape, inl, inr, is_operand, kind_of, le-ltb, length, length-append, length-map, length-prefix_len, lt-ltb, outcome_by_front, opcode_front, opcodes_are_drawn, outcome_from, pause, paused, place_at, placed_from, prefix_len-append, prepend, refl, refusal, refuse, refused_stays, rule, run_length, run_limit, shown_front, start_machine, store_limit, stream, subst, suc, sym, take, true, unfinished_by, unfinished_of, code_stays, ℕ, ◌++◌, ◌+◌, ◌-◌, ◌<◌, ◌∙◌, ◌∷◌, ◌≡◌, ◌≢◌, ◌≤◌, drop-append_seam, map-append, take-append_seam, Leads, Owes, TakesSome, after_drawing, kept_list}
+use Rattle.nap_reader.proofs.Common.{ArePending, ArePendingBetweenCodes, ArePendingBy, ArePendingIn, Bool, Budget, Code, CodeFault, CodeSets, Continues, DrawFault, Entry, Err, Front, Ghosts, IfErr, IsDrawn, IsOpenBody, IsOpenRun, IsRefused, Leads, List, LongRun, Machine, Mode, None, Ok, OnOk, Opcode, OpenBody, OpenRun, Option, Outcome, Owes, Placed, ReadingState, Refusal, Result, RuleResult, Some, TakesSome, [], act, after_charge, after_drawing, all_at, ap, append-nil, append_assoc, arith, begun, between, body_front, body_front_by, bytes_of, cause_of, code_fault, code_front, code_ranges, code_stays, cond-false, cond-true, continue, draw_fault, drawn_front, drop, drop-append_seam, drop_at, eq-eqb, false, front, front_by, front_in, half_read, is_operand, kept_list, kind_of, le-ltb, length, length-append, length-map, length-prefix_len, lt-ltb, map-append, opcode_front, opcodes_are_drawn, outcome_by_front, outcome_from, pause, paused, pending_escape, place_at, placed_from, prefix_len-append, prepend, refl, refusal, refuse, refused_stays, rule, run_length, run_limit, shown_front, start_machine, store_limit, stream, subst, suc, sym, take, take-append_seam, true, unfinished_by, unfinished_of, ℕ, ◌++◌, ◌+◌, ◌-◌, ◌<◌, ◌∙◌, ◌∷◌, ◌≡◌, ◌≢◌, ◌≤◌}
 use Rattle.nap_codes.specs.declared.code.Code.TheVariants as code
 use Rattle.nap_codes.specs.Front as codes
 use Rattle.nap_reader.specs.Stream as model
-use Rattle.nap_reader.proofs.StreamLemmas.{begun-append, bytes_of-append, outcome_from-front, outcome_from-left, prepend-append}
-use Rattle.nap_draw.specs.declared.fault.DrawFault.TheVariants as draw_faults
-use Rattle.nap_list.specs.Putting as puts
+use Rattle.nap_reader.proofs.StreamLemmas.{begun-append, bytes_of-append, continue-prepend, outcome_from-append, outcome_from-front, outcome_from-left, prepend-append}
 use Rattle.nap_draw.specs.Draws as draws
 use Rattle.nap_reader.specs.Bodies as bodies
-use Rattle.nap_codes.specs.declared.code.Step.TheVariants as steps
 use Rattle.nap_reader.specs.declared.kind.Kind.TheVariants as kinds
 use Rattle.nap_reader.proofs.SpelledLemmas.{nothing_yet}
 use Rattle.nap_reader.specs.Stream.{closed_front}
@@ -244,14 +241,17 @@ pub leads_left : {S : Type 0} {g : Ghosts S} {s : S} {o : Outcome} {t : S} {owed
 leads_left {h = h} {pending = pending} k = search (arith, outcome_from-left)
 
 -- more of the stream has come
-unfoldable pub leads_more : {S : Type 0} {g : Ghosts S} {s : S} {t : S} {owed : List Entry} {h : ReadingState} (budget : ℕ) (p q : List ℕ) →
-    Owes g s (begun budget p) t owed h [] → Owes g s (begun budget (p ++ q)) t owed h (placed_from (length p) q)
-leads_more {owed = owed} {h = h} budget p q k =
-    let rest : Outcome = outcome_from h.machine (k.rest ++ placed_from (length p) q) in
-    leads_as k (begun budget (p ++ q)) h k.rest (placed_from (length p) q) k.retained
+unfoldable pub leads_more : {S : Type 0} {g : Ghosts S} {s : S} {t : S} {owed : List Entry} {h : ReadingState} {pending : List Placed} (budget : ℕ) (p q : List ℕ) →
+    Owes g s (begun budget p) t owed h pending → Owes g s (begun budget (p ++ q)) t owed h (pending ++ placed_from (length p) q)
+leads_more {owed = owed} {h = h} {pending = pending} budget p q k =
+    let more = placed_from (length p) q in
+    let rest : Outcome = outcome_from h.machine (k.rest ++ pending) in
+    leads_as k (begun budget (p ++ q)) h k.rest (pending ++ more) k.retained
     (begun-append budget p q
-    ∙ ap (λ (o : Outcome). continue outcome_from o (placed_from (length p) q)) (leads_paused k)
-    ∙ ap (λ (es : List Entry). prepend (k.done ++ es) rest) (append-nil owed) ∙ prepend-append k.done owed rest)
+    ∙ ap (λ (o : Outcome). continue outcome_from o more) k.leads
+    ∙ continue-prepend outcome_from k.done (prepend owed rest) more
+    ∙ ap (prepend k.done) (continue-prepend outcome_from owed rest more
+    ∙ ap (prepend owed) (sym (outcome_from-append h.machine (k.rest ++ pending) more) ∙ ap (outcome_from h.machine) (append_assoc k.rest pending more))))
 
 -- The entries of a sink, if not all entries after the known ones could be put.
 
@@ -288,23 +288,6 @@ on_ok_map (Err e) so f = tt
 pub if_err_map : {A E : Type 0} {P Q : E → Type 0} (r : Result A E) → IfErr r P → ((e : E) → P e → Q e) → IfErr r Q
 if_err_map (Ok a) so f = tt
 if_err_map (Err e) so f = f e so
-
--- the front, by a step of the lexer
-
-pub more_of : (f : codes.Front) (old : LexerState) (b : ℕ) (new : LexerState) → StepsBy f old b steps.More new →
-    (f ≡ codes.unfinished) × (new ≡ record { sets = old.sets; half = old.half ++ b ∷ [] })
-more_of codes.unfinished old b new h = (refl, h.1)
-more_of _ old b new h = cc
-
-pub code_of : (f : codes.Front) (old : LexerState) (b : ℕ) (c : Code) (new : LexerState) → StepsBy f old b (steps.Code c) new →
-    (n : ℕ) × (after : CodeSets) × (f ≡ codes.complete c n after) × (n ≡ length (old.half ++ b ∷ [])) × (new ≡ record { sets = after; half = [] })
-code_of (codes.complete c' n after) old b c new h = (n, after, ap (λ (k : Code). codes.complete k n after) (cc), h.1, h.2)
-code_of _ old b c new h = cc
-
-pub fault_of : (f : codes.Front) (old : LexerState) (b : ℕ) (fault : CodeFault) (new : LexerState) → StepsBy f old b (steps.Fault fault) new →
-    (i : ℕ) × (f ≡ codes.refused fault i) × (i ≡ length old.half)
-fault_of (codes.refused fault' i) old b fault new h = (i, ap (λ (k : CodeFault). codes.refused k i) (cc), h.1)
-fault_of _ old b fault new h = cc
 
 pub is_half : (h : ReadingState) (rest : List Placed) → h.open_body ≡ None → h.open_run ≡ None → ArePending rest h →
     (bytes_of rest ≡ h.half) × (codes.front h.machine.sets h.half ≡ codes.unfinished)

@@ -1,7 +1,7 @@
-use Rattle.nap_reader.proofs.Common.{ActsRun, All, All-head, All-tail, Bool, Codes, Continues, DrawFault, DrawsBy, Executes, FailsRun, FaultMatchesSink, Ghosts, IsLive, IsOpcodeByte, IsOver, IsWholeRun, LeadsOn, LeadsThrough, List, LongRun, Memory, None, Nothing, Opcode, OpenRun, Outcome, Placed, ReadingState, Refusal, Refuses, RuleResult, Some, Stop, Stops, StopsRun, Takes, [], ap, append-nil, append_assoc, arith, bytes_of, clear_request_if, draw_fault, drop, drop-append-le, drop-map, drop_more, get_or, inl, inr, is_operand_byte, length, length-append, length-drop, length-map, length-take-le, map, operand_words, place_at, prefix_len, prefix_len-le-length, prefix_len_passes, refl, refusal, rule, run_limit, state_after_request, subst, sym, take, take-append-drop, take-append-le, take-map, true, with_machine, ℕ, ◌%◌, ◌++◌, ◌+◌, ◌-◌, ◌<◌, ◌∙◌, ◌∷◌, ◌≡◌, ◌≤◌}
-use Rattle.nap_reader.proofs.Base.{TookMore, acts_ahead, as_it_was, bytes_of-append, conveys_nothing, first_of, lacks, more_words, operands_prefix, place_at-append, run_over, same_words, split_bytes, stops_now, stops_own, stops_run, word_joins, word_too_many}
+use Rattle.nap_reader.proofs.Common.{ActsRun, All, All-head, All-tail, Bool, Codes, Continues, DrawFault, DrawsBy, Executes, FailsRun, FaultMatchesSink, Ghosts, IsLive, IsOpcodeByte, IsOver, IsWholeRun, LeadsOn, LeadsThrough, List, LongRun, Memory, None, Nothing, Opcode, OpenRun, Outcome, Placed, ReadingState, Refusal, Refuses, RuleResult, Some, Stop, Stops, StopsRun, Takes, [], ap, append-nil, append_assoc, arith, bytes_of, clear_request_if, draw_fault, drop, drop-map, drop_more, get_or, inl, inr, is_operand_byte, length, length-append, length-drop, length-map, length-take-le, map, operand_words, place_at, prefix_len, prefix_len-le-length, prefix_len_passes, refl, refusal, rule, run_limit, state_after_request, subst, sym, take, take-append-drop, true, with_machine, ℕ, ◌%◌, ◌++◌, ◌+◌, ◌-◌, ◌<◌, ◌∙◌, ◌∷◌, ◌≡◌, ◌≤◌}
+use Rattle.nap_reader.proofs.Base.{TookMore, acts_ahead, as_it_was, bytes_of-append, conveys_nothing, first_of, lacks, more_words, operands_prefix, run_over, same_words, split_bytes, stops_now, stops_own, stops_run, word_joins, word_too_many}
 use Rattle.nap_reader.specs.declared.machine.Machine.{Machine}
-use Rattle.nap_reader.proofs.TakingLemmas.{Drew, LeftBy, asked_is, asks_takes, leads_after, own_tells, stop_takes, stops_after}
+use Rattle.nap_reader.proofs.TakingLemmas.{Drew, LeftBy, asked_is, asks_takes, leads_after, stop_takes, stops_after}
 use Rattle.nap_draw.specs.Draws as draws
 use Rattle.nap_reader.specs.declared.machine.codes.CodeOutcome.TheVariants as outcomes
 use Rattle.nap_reader.proofs.CodesLemmas.{StartsRun, open_at, run_opened}
@@ -128,7 +128,7 @@ pub run_too_long : {S : Type 0} {g : Ghosts S} {old new : Machine S g} {open_run
 run_too_long {g = g} {old = old} {open_run = open_run} {xs = xs} ended most is less full refused same =
     let bytes = bytes_of xs in
     let next = drop_more bytes most 0 (omega (arith, less, prefix_len-le-length is_operand_byte bytes)) in
-    stop_takes refused same (omega (arith, less, within xs)) (own_tells g old.sink (λ own. cc))
+    stop_takes refused same (omega (arith, less, within xs)) (grind arith)
     (λ h following between over.
     operands_long g old.sink (has_space old open_run is h between xs following most (omega (arith, less)) (omega (arith, full))) _ _ (ap (λ (bs : List ℕ). bs ++ bytes_of following) next)
     (prefix_len_passes is_operand_byte bytes most 0 less) (omega (arith, full, counted old open_run is h)))
@@ -139,7 +139,7 @@ pub run_lacks : {S : Type 0} {g : Ghosts S} {old new : Machine S g} {open_run : 
 run_lacks {xs = []} ended is some short refused same = absurd (omega (arith, some))
 run_lacks {g = g} {old = old} {open_run = open_run} {xs = x ∷ xs} ended is some short refused same =
     let word = prefix_len_passes is_operand_byte (x.byte ∷ bytes_of xs) 0 0 some in
-    stop_takes refused same (omega arith) (own_tells g old.sink (λ own. cc))
+    stop_takes refused same (omega arith) (grind arith)
     (λ h following between over.
     stops_now refl (lacks g old.sink (with_machine h old) x _ [] (inl word) (inr (refl, inl (open_run, between, is, word)))
     (λ known s o pending k. word_joins between is k word (omega (arith, some, short, counted old open_run is h)))))

@@ -1,26 +1,12 @@
-use Rattle.nap_reader.proofs.Common.{eqb-true, AllCharacters, BodyFront, Bool, CallsBy, CharSet, Code, CodeSets, Fault, IfSome, IsGraphic, IsInRange, IsMade, Kind, LexerState, List, Macros, None, Opcode, Some, Step, Steps, StepsBy, [], ap, arith, at_escape, body_front, code_length, code_ranges, cond, control0_rows, control1_rows, ended, ends_body, eqb, false, get_or, get_or-append_seam, kind_of, length, length-append, length-take-le, mask_rows, one_byte_later, opcode_rows, refl, refused, row_of, set_at, set_rows, stores, suc, sym, take, take_all, true, unfinished, code_is_spelled, ℕ, ⊤, ◌++◌, ◌+◌, ◌-◌, ◌<◌, ◌∙◌, ◌∷◌, ◌≡◌, ◌≢◌, ◌≤◌}
+use Rattle.nap_reader.proofs.Common.{AllCharacters, BodyFront, Bool, CallsBy, CharSet, Code, CodeSets, Fault, IsGraphic, IsMade, Kind, LexerState, List, Macros, Opcode, Some, Step, Steps, [], ap, arith, at_escape, body_front, code_is_spelled, code_ranges, cond, control0_rows, control1_rows, ended, eqb, eqb-true, false, get_or, kind_of, length, length-take-le, one_byte_later, opcode_rows, refl, refused, row_of, set_at, stores, suc, take, true, unfinished, ℕ, ⊤, ◌++◌, ◌+◌, ◌-◌, ◌<◌, ◌∷◌, ◌≡◌, ◌≤◌}
 use Rattle.nap_codes.specs.Spelling.{Spells}
-use Rattle.nap_codes.specs.declared.control.Row.TheVariants.{Complete, More}
 use Rattle.nap_codes.specs.declared.code.Code.TheVariants as code
 use Rattle.nap_codes.specs.declared.code_set.CodeSet.{CodeSet}
-use Rattle.nap_codes.specs.declared.code_set.CodeSet.TheVariants as code_sets
-use Rattle.nap_codes.specs.declared.control.Row.{Row}
 use Rattle.nap_codes.specs.Front as codes
 use Rattle.nap_codes.specs.Spelling as spelling
-use Rattle.nap_codes.specs.declared.control.TextStep.TheVariants as steps
 use Rattle.nap_reader.specs.declared.kind.Kind.TheVariants as kinds
 
 -- Codes, by their spellings.
-
--- what is known of a code of one byte: an opcode is from 20 to 7F, and no macro is defined
-abbrev AloneKnown : ℕ → Code → Type 0
-AloneKnown byte (code.Op op) = IsGraphic byte
-AloneKnown byte (code.DefMacro name show) = ⊥
-AloneKnown byte _ = ⊤
-
-abbrev AloneRow : ℕ → Row → Type 0
-AloneRow byte (Complete c) = AloneKnown byte c
-AloneRow byte _ = ⊤
 
 -- a statement about each row of a table is true of the row that is found
 abbrev EachRow : {Entry : Type 0} → (ℕ → Entry → Type 0) → List (ℕ × Entry) → Type 0
@@ -38,38 +24,27 @@ row_found {Entry} P (row ∷ rows) byte found each e = at (eqb byte row.0) refl 
         rw (eqb-true byte row.0 is, ← same) each.0
     at false is e later = later e
 
-opcode_graphic : (byte : ℕ) (op : Opcode) → row_of opcode_rows byte ≡ Some op → IsGraphic byte
+opcode_row : (byte : ℕ) (op : Opcode) → row_of opcode_rows byte ≡ Some op → IsGraphic byte
 unfolding opcode_rows
-opcode_graphic byte op row = row_found (λ key _. IsGraphic key) opcode_rows byte op (omega arith) row
+opcode_row byte op row = row_found (λ key _. IsGraphic key) opcode_rows byte op (omega arith) row
 
-control_alone : (byte : ℕ) (c : Code) → row_of control0_rows byte ≡ Some (Complete c) → AloneKnown byte c
-unfolding control0_rows
-control_alone byte c row = row_found AloneRow control0_rows byte (Complete c) (assumption) row
-
-graphic_alone : (set : CodeSet) (byte : ℕ) → IfSome (codes.non_pdi_code set byte) (AloneKnown byte)
-unfolding codes.non_pdi_code
-graphic_alone code_sets.Pdi byte = tt
-graphic_alone _ byte = tt
-
-spelled_alone : (sets : CodeSets) (bytes : List ℕ) (c : Code) (after : CodeSets) → Spells sets bytes c after → length bytes ≡ 1 → AloneKnown (get_or bytes 0 0) c
-spelled_alone sets _ _ _ (spelling.control0 {byte = byte} {code = c} row differs) one = control_alone byte c row
-spelled_alone sets _ _ _ spelling.shift_out one = tt
-spelled_alone sets _ _ _ spelling.shift_in one = tt
-spelled_alone sets _ _ _ (spelling.in_gl {byte = byte} range e) one = rw e at (graphic_alone (set_at sets sets.gl) byte)
-spelled_alone sets _ _ _ (spelling.opcode {byte = byte} {op = op} pdi row kept) one = opcode_graphic byte op row
-spelled_alone sets _ _ _ (spelling.operand pdi least most) one = tt
-spelled_alone sets _ _ _ _ one = absurd (omega arith)
+opcode_graphic : (sets : CodeSets) (b : ℕ) (op : Opcode) (after : CodeSets) → Spells sets (b ∷ []) (code.Op op) after → IsGraphic b
+unfolding row_of control0_rows codes.non_pdi_code
+opcode_graphic sets b op after spelled = grind (arith, opcode_row)
 
 -- the bytes from 20 to 7F aren't characters where one of them is an opcode
 pub opcode_alone : (sets : CodeSets) (b : ℕ) (op : Opcode) → codes.front sets (b ∷ []) ≡ codes.complete (code.Op op) 1 sets → (set : CharSet) → AllCharacters sets set → ⊥
-opcode_alone sets b op is set all = cc (all b (spelled_alone sets (b ∷ []) (code.Op op) sets ((code_is_spelled sets (b ∷ []) (code.Op op) 1 sets).0 is).1 refl))
+opcode_alone sets b op is set all = cc (all b (opcode_graphic sets b op sets ((code_is_spelled sets (b ∷ []) (code.Op op) 1 sets).0 is).1))
 
 -- a definition of a macro has more than one byte
+definition_long : (sets : CodeSets) (bytes : List ℕ) (name : ℕ) (show : Bool) (after : CodeSets) → Spells sets bytes (code.DefMacro name show) after → 2 ≤ length bytes
+unfolding row_of control0_rows control1_rows codes.non_pdi_code
+definition_long sets bytes name show after spelled = grind arith
+
 pub definition_length : (sets : CodeSets) (bytes : List ℕ) (name : ℕ) (show : Bool) (n : ℕ) (after : CodeSets) → codes.front sets bytes ≡ codes.complete (code.DefMacro name show) n after → 2 ≤ n
 definition_length sets bytes name show n after e =
     let spelled = (code_is_spelled sets bytes (code.DefMacro name show) n after).0 e in
-    let more : n ≢ 1 = λ one. spelled_alone sets (take n bytes) (code.DefMacro name show) after spelled.1 (length-take-le n bytes spelled.0 ∙ one) in
-    omega (arith, more, (code_length sets bytes (code.DefMacro name show) n after e).0)
+    omega (arith, definition_long sets (take n bytes) name show after spelled.1, length-take-le n bytes spelled.0)
 
 -- Calls of macros: the name calls it if the macro set is in GL, and SS3 with the name calls it if that set is in G3.
 
@@ -114,37 +89,24 @@ pub data Settled (n : ℕ) : BodyFront → BodyFront → Type 0 where
   ends : {k : ℕ} → k + 2 ≤ n → Settled n (ended k) (ended k)
 
 Settled-cond : {n : ℕ} (b : Bool) {f g f' g' : BodyFront} → Settled n f f' → Settled n g g' → Settled n (cond b f g) (cond b f' g')
-Settled-cond true x y = x
-Settled-cond false x y = y
+Settled-cond b x y = grind (arith, waits, refuses, ends)
 
 one_byte_later-Settled : {n : ℕ} {f f' : BodyFront} → Settled n f f' → Settled (suc n) (one_byte_later f) (one_byte_later f')
-one_byte_later-Settled waits = waits
-one_byte_later-Settled (refuses within) = refuses (omega arith)
-one_byte_later-Settled (ends within) = ends (omega arith)
+one_byte_later-Settled x = grind (arith, waits, refuses, ends)
 
 stores-Settled : {n : ℕ} (space : ℕ) {f f' : BodyFront} → Settled n f f' → Settled (suc n) (stores space f) (stores space f')
 stores-Settled space k = Settled-cond (eqb space 0) (refuses (omega arith)) (one_byte_later-Settled k)
 
 at_escape-Settled : (space : ℕ) (bytes more : List ℕ) {f f' : BodyFront} → Settled (length bytes) f f' →
     Settled (suc (length bytes)) (at_escape space bytes f) (at_escape space (bytes ++ more) f')
-at_escape-Settled space [] more k = waits
-at_escape-Settled space (byte ∷ bytes) more k =
-    Settled-cond _ (refuses (omega arith)) (Settled-cond (ends_body byte) (ends (omega arith)) (stores-Settled space k))
+at_escape-Settled space bytes more k = grind (arith, waits, refuses, ends)
 
 pub body_front-Settled : (space : ℕ) (bytes more : List ℕ) → Settled (length bytes) (body_front space bytes) (body_front space (bytes ++ more))
 unfolding body_front
 body_front-Settled space [] more = waits
-body_front-Settled space (byte ∷ bytes) more =
-    let further = body_front-Settled (space - 1) bytes more in
-    Settled-cond _ (refuses (omega arith)) (Settled-cond (eqb byte 27) (at_escape-Settled space bytes more further) (stores-Settled space further))
+body_front-Settled space (byte ∷ bytes) more = let further = body_front-Settled (space - 1) bytes more in search (arith, Settled-cond, at_escape-Settled, stores-Settled, refuses)
 
 -- The codes that act have parameters in range.
-
-range_made : (c : Code) → IsInRange c → IsMade c
-range_made (code.Char set byte) range = omega arith
-range_made (code.DefGlyph byte) range = omega arith
-range_made (code.Step (steps.Aps row column)) ranges = omega arith
-range_made _ range = tt
 
 -- a code that acts has parameters in range, and so has the name of a macro
 abbrev pub KindMade : Kind → Type 0
@@ -153,24 +115,17 @@ KindMade (kinds.Calls name) = IsGraphic name
 KindMade (kinds.Binds name show) = IsGraphic name
 KindMade _ = ⊤
 
-kind_made : (c : Code) → IsInRange c → KindMade (kind_of c)
-kind_made (code.Call name) range = range
-kind_made (code.DefMacro name show) range = range
-kind_made c range = range_made c range
-
 -- so has the code at a front
 pub front_made : (sets : CodeSets) (xs : List ℕ) (c : Code) (n : ℕ) (after : CodeSets) → codes.front sets xs ≡ codes.complete c n after → IsMade c
-front_made sets xs c n after e = range_made c (code_ranges sets xs c n after e)
+front_made sets xs c n after e = grind (arith, code_ranges)
 
 pub front_kind_made : (sets : CodeSets) (xs : List ℕ) (c : Code) (n : ℕ) (after : CodeSets) → codes.front sets xs ≡ codes.complete c n after → KindMade (kind_of c)
-front_kind_made sets xs c n after e = kind_made c (code_ranges sets xs c n after e)
+front_kind_made sets xs c n after e = let range = code_ranges sets xs c n after e in grind arith
 
 -- the code that defines a macro
 pub binds_code : (c : Code) (name : ℕ) (show : Bool) → kind_of c ≡ kinds.Binds name show → c ≡ code.DefMacro name show
-binds_code (code.DefMacro name' show') name show e = let same : name' ≡ name = cc in let also : show' ≡ show = cc in cc
-binds_code _ name show e = let bad : ⊥ = cc in absurd bad
+binds_code c name show e = grind arith
 
 -- a code that acts is itself what acts
 pub acts_itself : (c acting : Code) → kind_of c ≡ kinds.Acts acting → kind_of c ≡ kinds.Acts c
-acts_itself (code.Op op) acting e = cc
-acts_itself _ acting e = cc
+acts_itself c acting e = grind arith

@@ -1,16 +1,10 @@
-use Rattle.nap_reader.proofs.Common.{Acted, ActsRun, All, All-tail, ArePending, Breaks, BreaksHere, Budget, CodeFault, Continues, DrawFault, Entry, Fault, Ghosts, IsOver, IsRefused, LacksOwn, LeadsOn, LeadsThrough, List, Machine, Memory, None, Outcome, Passes, Placed, ReadingState, Refusal, RunAt, Sink, Some, Stops, StopsByte, StopsRun, [], after_charge, after_run, all_at, ap, append-nil, append_assoc, arith, at_byte, bytes_of, cause_of, code_fault, draw_fault, false, front, get_or, get_or_append_left, in_run, inl, inr, is_operand, is_operand_byte, kept_list, length, length-append, refl, refusal, shown_front, stream, subst, sym, true, ℕ, ◌++◌, ◌<◌, ◌∙◌, ◌∷◌, ◌≡◌, ◌≤◌, ◌⊎◌}
-use Rattle.nap_codes.specs.declared.code.CodeFault.TheVariants as code_faults
-use Rattle.nap_draw.specs.declared.fault.DrawFault.TheVariants as draw_faults
+use Rattle.nap_reader.proofs.Common.{Acted, ActsRun, All, All-tail, ArePending, Breaks, BreaksHere, Budget, CodeFault, Continues, Entry, Fault, Ghosts, IsOver, IsRefused, LacksOwn, LeadsOn, LeadsThrough, List, Machine, Memory, None, Outcome, Passes, Placed, ReadingState, Refusal, RunAt, Some, Stops, StopsByte, StopsRun, [], after_charge, after_run, all_at, ap, append-nil, append_assoc, arith, at_byte, bytes_of, cause_of, code_fault, false, front, get_or_append_left, in_run, inl, inr, is_operand, kept_list, length, length-append, refl, refusal, shown_front, stream, subst, sym, true, ℕ, ◌++◌, ◌<◌, ◌∙◌, ◌∷◌, ◌≡◌, ◌≤◌, ◌⊎◌}
 use Rattle.nap_reader.proofs.ReadingLemmas.{TookMore, leads_budget, leads_shown, leads_to_fault, over, pays, run_past}
 
 pub no_some : {A : Type 0} {x : A} → Some x ≡ None → ⊥
 no_some e = cc
 
 -- The effect of one byte on a reader, by the front with it.
-
--- the fault of a sink is one fault, for the rule and for the reader
-pub sink_fault : (fault : DrawFault) → draw_fault fault ≡ Sink → fault ≡ draw_faults.Sink
-sink_fault fault is = grind arith
 
 -- a fault of the lexer is the stream's own
 pub code_fault_own : (fault : CodeFault) → cause_of (code_fault fault) ≡ stream

@@ -1,12 +1,11 @@
-use Rattle.nap_reader.proofs.Common.{All, All-map, Bool, Code, CodeSets, DrawFault, Entry, Err, Front, IsMade, IsWord, Kind, List, LongRun, Machine, Mode, None, Ok, Opcode, Option, Outcome, Placed, Refusal, Result, RuleResult, Some, Unfinished, Work, [], act, after_body, all_at, ap, append-nil, append_assoc, arith, begun, between, body_front_by, body_of, bound_front, bytes_of, code_front, code_length, code_rule, code_stays, cond, continue, continue_by, drawn_front, drop, drop-append-le, drop_of_length-le, ends_of, eqb-false, eqb-true, false, front, front_by, front_in, get_or, get_or-take, half_read, in_body, is_operand, kind_of, length, length-append, length-drop, length-map, length-prefix_len, lt-ltb, ltb, ltb-false, ltb-true, map-append, nat_tests, opcode_front, open_run, outcome, outcome_by_front, outcome_from, outcome_within, pause, paused, place_at, placed_from, prefix_len-append, prefix_len-le-length, prefix_len_passes, prepend, refl, refusal, refuse, refused_index, refused_stays, rule, run_front, run_length, run_limit, shown_front, store_limit, subst, suc, sym, take, take-append-le, true, words_of, zero, ℕ, ⊤, ◌++◌, ◌+◌, ◌-◌, ◌<◌, ◌∙◌, ◌∷◌, ◌≡◌, ◌≤◌}
+use Rattle.nap_reader.proofs.Common.{All, All-map, Bool, Code, CodeSets, DrawFault, Entry, Front, IsMade, IsWord, Kind, List, LongRun, Machine, None, Ok, Opcode, Option, Outcome, Placed, Refusal, Result, RuleResult, Some, Unfinished, Work, [], act, after_body, all_at, ap, append-nil, append_assoc, arith, begun, between, body_front_by, body_of, bound_front, bytes_of, code_front, code_length, code_rule, code_stays, cond, continue, continue_by, drawn_front, drop, drop-append-le, drop_of_length-le, ends_of, eqb-false, eqb-true, false, front, front_by, get_or, get_or-take, half_read, in_body, is_operand, kind_of, length, length-append, length-drop, length-map, length-prefix_len, lt-ltb, ltb, ltb-false, ltb-true, map-append, nat_tests, opcode_front, open_run, outcome, outcome_by_front, outcome_from, outcome_within, pause, paused, place_at, placed_from, prefix_len-append, prefix_len-le-length, prefix_len_passes, prepend, refl, refusal, refuse, refused_index, refused_stays, rule, run_front, run_length, run_limit, shown_front, subst, suc, sym, take, take-append-le, true, words_of, zero, ℕ, ⊤, ◌++◌, ◌+◌, ◌-◌, ◌<◌, ◌∙◌, ◌∷◌, ◌≡◌, ◌≤◌}
 use Rattle.nap_codes.specs.declared.code.Code.TheVariants as code
 use Rattle.nap_codes.specs.Front as codes
 use Rattle.nap_reader.specs.declared.kind.Kind.TheVariants as kinds
 use Rattle.nap_reader.specs.Bodies as bodies
 use Rattle.nap_reader.specs.Course as course
 use Rattle.nap_reader.specs.Stream.{left_of}
-use Rattle.nap_reader.proofs.SpelledLemmas as settled
-use Rattle.nap_reader.proofs.SpelledLemmas.{KindMade, Settled, body_front-Settled, definition_length, ends, front_kind_made, waits}
+use Rattle.nap_reader.proofs.SpelledLemmas.{KindMade, Settled, body_front-Settled, definition_length, front_kind_made}
 
 pub prepend-append : {M E F U B : Type 0} (ds es : List E) (o : course.Outcome M E F U B) → prepend (ds ++ es) o ≡ prepend ds (prepend es o)
 prepend-append ds es o = rw append_assoc refl
@@ -43,12 +42,10 @@ Fronts-refusing : {q : List Placed} {work : Work} {left k : ℕ} {r : Refusal} {
 Fronts-refusing refuses = refl
 
 Fronts-cond : {q : List Placed} {work : Work} {left k : ℕ} (b : Bool) {x y x' y' : Front} → (b ≡ true → Fronts q work left k x x') → (b ≡ false → Fronts q work left k y y') → Fronts q work left k (cond b x y) (cond b x' y')
-Fronts-cond true f g = f refl
-Fronts-cond false f g = g refl
+Fronts-cond b f g = grind arith
 
 Fronts-cond_left : {q : List Placed} {work : Work} {left k : ℕ} (b : Bool) {x y f : Front} → (b ≡ true → Fronts q work left k x f) → (b ≡ false → Fronts q work left k y f) → Fronts q work left k (cond b x y) f
-Fronts-cond_left true f g = f refl
-Fronts-cond_left false f g = g refl
+Fronts-cond_left b f g = grind arith
 
 -- the operand bytes of a prefix carry words
 run_words : (xs : List Placed) → All IsWord (words_of (take (run_length xs) xs))
@@ -81,8 +78,7 @@ bytes_of-all_at place (b ∷ bytes) = ap (λ (bs : List ℕ). b ∷ bs) (bytes_o
 
 drawn_fronts : (m : Machine) (place : ℕ) (rest q : List Placed) (by : Result RuleResult DrawFault) (k : ℕ) → length rest + left_of m < k → ((d : RuleResult) → by ≡ Ok d → Puts m.work d.entries d.work) →
     Fronts q m.work m.left k (drawn_front m place rest by) (drawn_front m place (rest ++ q) by)
-drawn_fronts m place rest q (Ok drawn) k h puts = acts refl h (omega arith) (puts drawn refl)
-drawn_fronts m place rest q (Err fault) k h puts = refuses
+drawn_fronts m place rest q by k h puts = grind (arith, acts, refuses)
 
 -- at least as much is charged for the bytes as there are
 shown_fronts : (m : Machine) (place : ℕ) (bytes : List ℕ) (rest q : List Placed) (k : ℕ) → length rest + left_of m < k → Fronts q m.work m.left k (shown_front m place bytes rest) (shown_front m place bytes (rest ++ q))
@@ -138,8 +134,7 @@ code_fronts m kind place rest q k mode h made = at kind h made
         (λ d is. by_code (code.DefMacro name show) d tt is)
 
 least_of : (sets : CodeSets) (bytes : List ℕ) (c : Code) (n : ℕ) (after : CodeSets) → codes.front sets bytes ≡ codes.complete c n after → least (kind_of c) ≤ n
-least_of sets bytes (code.DefMacro name show) n after e = definition_length sets bytes name show n after e
-least_of sets bytes c n after e = (code_length sets bytes c n after e).0
+least_of sets bytes c n after e = grind (arith, definition_length, code_length)
 
 by_fronts : (m : Machine) (xs q : List Placed) (f : codes.Front) → codes.front m.sets (bytes_of xs) ≡ f → m.mode ≡ between →
     Fronts q m.work m.left (length xs + (m.left + 0)) (front_by m xs f) (front_by m (xs ++ q) (codes.front m.sets (bytes_of (xs ++ q))))
@@ -175,17 +170,11 @@ bound_fronts m name true n xs q h =
 
 body_fronts : (m : Machine) (name : ℕ) (show : Bool) (xs q : List Placed) {f g : bodies.BodyFront} → Settled (length xs) f g →
     Fronts q m.work m.left (length xs + (m.left + 1)) (body_front_by m name show xs f) (body_front_by m name show (xs ++ q) g)
-body_fronts m name show xs q waits = pauses tt
-body_fronts m name show xs q (settled.refuses {i = i} within) = rw (place_at-append xs q i within) refuses
-body_fronts m name show xs q (ends {k = k} within) = bound_fronts m name show k xs q within
-
-in_fronts : (m : Machine) (xs q : List Placed) (mode : Mode) → m.mode ≡ mode → Fronts q m.work m.left (length xs + (m.left + ends_of mode)) (front_in mode m xs) (front_in mode m (xs ++ q))
-in_fronts m xs q between e = by_fronts m xs q (codes.front m.sets (bytes_of xs)) refl e
-in_fronts m xs q (in_body name show) e = rw (bytes_of-append xs q) (body_fronts m name show xs q (rw (length-map xs (λ (x : Placed). x.byte)) at (body_front-Settled (store_limit - m.stored) (bytes_of xs) (bytes_of q))))
+body_fronts m name show xs q settled = grind (arith, pauses, refuses, bound_fronts, place_at-append)
 
 pub front_fronts : (m : Machine) (xs q : List Placed) → Fronts q m.work m.left (length xs + left_of m) (front m xs) (front m (xs ++ q))
 unfolding front
-front_fronts m xs q = in_fronts m xs q m.mode refl
+front_fronts m xs q = grind (arith, by_fronts, bytes_of-append, body_fronts, length-map, body_front-Settled)
 
 -- more fronts than are needed change nothing
 outcome_within-spare : (f g : ℕ) (m : Machine) (xs : List Placed) → length xs + left_of m < f → length xs + left_of m < g → outcome_within front f m xs ≡ outcome_within front g m xs

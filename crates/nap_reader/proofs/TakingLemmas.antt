@@ -1,4 +1,4 @@
-use Rattle.nap_reader.proofs.Common.{Bool, Call, Calls, Define, DrawFault, Entry, Err, Fault, FaultMatchesSink, Ghosts, IsLive, IsOver, LeadsOn, LeadsThrough, Leaves, LexerState, List, None, Nothing, Ok, OnErr, OnOk, OpenRun, Option, Placed, ReadingState, Refusal, Request, Result, RuleResult, Sink, Some, Stop, Stops, StopsByte, Takes, TakesBy, Work, Works, [], ap, arith, bytes_of, clear_request_if, drop, drop-append-le, drop-drop, drop_more, false, false≢true, get_or, if◌then◌else◌, is_err, length, length-drop, no_names, place_at, placed_by_step, refl, run_by, state_after_request, subst, suc, sym, take, take-add, take-append-drop, take_all, true, with_machine, zero, ℕ, ◌*◌, ◌++◌, ◌+◌, ◌-◌, ◌<◌, ◌∙◌, ◌∷◌, ◌≡◌, ◌≢◌, ◌≤◌}
+use Rattle.nap_reader.proofs.Common.{Bool, Call, Calls, Define, DrawFault, Entry, Fault, FaultMatchesSink, Ghosts, IsLive, IsOver, LeadsOn, LeadsThrough, Leaves, LexerState, List, None, Nothing, Ok, OpenRun, Option, Placed, ReadingState, Refusal, Request, Result, RuleResult, Sink, Some, Stop, Stops, StopsByte, Takes, TakesBy, Work, Works, [], ap, arith, bytes_of, clear_request_if, drop, drop-append-le, drop-drop, drop_more, false, false≢true, get_or, if◌then◌else◌, length, length-drop, no_names, place_at, placed_by_step, refl, run_by, state_after_request, subst, suc, sym, take, take-add, take-append-drop, take_all, true, with_machine, zero, ℕ, ◌*◌, ◌++◌, ◌+◌, ◌-◌, ◌<◌, ◌∙◌, ◌∷◌, ◌≡◌, ◌≢◌, ◌≤◌}
 use Rattle.nap_reader.proofs.Base.{bytes_of-append, bytes_of-placed_by_step, leads_nowhere, leads_then, stops_then}
 use Rattle.nap_reader.specs.declared.machine.Machine.{Machine}
 
@@ -18,8 +18,7 @@ state_is h m work lexer open_run is_work is_lexer is_run = rw (is_work, is_lexer
 -- an opcode may unbind all names
 pub asked_is : (h : ReadingState) (work : Work) (clears : Bool) → state_after_request (record h { machine = record h.machine { work = work } }) (clear_request_if clears)
     ≡ record h { machine = record h.machine { work = work; names = if clears then no_names else h.machine.names } }
-asked_is h work true = refl
-asked_is h work false = refl
+asked_is h work clears = grind arith
 
 -- No run is open, before or then, and the machine has this work and this lexer then.
 pub record LeftBy {S : Type 0} {g : Ghosts S} (old new : Machine S g) (work : Work) (lexer : LexerState) : Type 0 where
@@ -35,14 +34,9 @@ left_is left h = rw (left.work_is, left.lexer_is, left.closed, left.before)
 
 -- What a machine answers.
 
--- the state after a call that worked, and after one that lacked memory
-pub worked : {T E : Type 0} (r : Result T E) (A : Type 0) (failed : Bool) → failed ≡ is_err r → failed ≡ false → OnOk r A → A
-worked (Ok _) A failed was works so = so
-worked (Err _) A failed was works so = let bad : ⊥ = cc in absurd bad
-
-pub lacked : {T E : Type 0} (r : Result T E) (A : Type 0) (failed : Bool) → failed ≡ is_err r → failed ≡ true → OnErr r A → A
-lacked (Ok _) A failed was fails so = let bad : ⊥ = cc in absurd bad
-lacked (Err _) A failed was fails so = so
+-- a fault that isn't the sink's says that the sink works still
+pub own_tells : {S : Type 0} (g : Ghosts S) (t : S) {fault : Fault} → fault ≢ Sink → FaultMatchesSink g t t fault
+own_tells g t other = (λ device. absurd (other device), λ works fails. absurd (false≢true (sym works ∙ fails)))
 
 -- the machine stops
 pub stop_takes : {S : Type 0} {g : Ghosts S} {old new : Machine S g} {bytes : List Placed} {ended : Bool} {count : ℕ} {r : Refusal} {u : S} → new.refusal ≡ Some r → new.sink ≡ u → count ≤ length bytes → FaultMatchesSink g old.sink u r.fault →
@@ -53,14 +47,9 @@ stop_takes {r = r} is same few tells stops = record {
   by = λ h following between over. (r, is, rw same (stops h following between over));
 }
 
--- a fault that isn't the sink's says nothing of the sink
-pub own_tells : {S : Type 0} (g : Ghosts S) (t : S) {fault : Fault} → fault ≢ Sink → FaultMatchesSink g t t fault
-own_tells g t other = (λ device. absurd (other device), λ works fails. absurd (false≢true (sym works ∙ fails)))
-
 -- the machine continues from a state if its sink works whenever it did before
 pub leaves_from : {S : Type 0} {g : Ghosts S} (old mid new : Machine S g) (request : Request) → (g.failed old.sink ≡ false → g.failed mid.sink ≡ false) → Leaves mid new request → Leaves old new request
-leaves_from old mid new Stop still l = record { why = l.why; is = l.is; tells = (l.tells.0, λ clear fails. l.tells.1 (still clear) fails) }
-leaves_from old mid new _ still w = record { live = w.live; clear = λ clear. w.clear (still clear) }
+leaves_from old mid new request still leaves = grind arith
 
 -- the code may request that all names are unbound
 pub asks_takes : {S : Type 0} {g : Ghosts S} {old new : Machine S g} {xs : List Placed} {ended : Bool} {count : ℕ} (clears : Bool) → Works old new → count ≤ length xs →
@@ -88,23 +77,18 @@ place_at-drop (x ∷ xs) (suc n) i = place_at-drop xs n i ∙ ap (λ (k : ℕ). 
 
 -- bytes in two parts
 two_parts : (all : List Placed) (n m : ℕ) → (take (n + m) all ≡ take n all ++ take m (drop n all)) × (drop m (drop n all) ≡ drop (n + m) all)
-two_parts all n m = (take-add n m all, drop-drop m n all ∙ ap (λ (k : ℕ). drop k all) (omega arith))
+two_parts all n m = grind (arith, take-add, drop-drop)
 
 -- the next bytes in two parts
 next_parts : (all : List Placed) (n m : ℕ) → bytes_of (drop n all) ≡ bytes_of (take m (drop n all)) ++ bytes_of (drop (n + m) all)
-next_parts all n m =
-    ap bytes_of (sym (take-append-drop m (drop n all))) ∙ bytes_of-append (take m (drop n all)) (drop m (drop n all))
-    ∙ ap (λ (xs : List Placed). bytes_of (take m (drop n all)) ++ bytes_of xs) (two_parts all n m).1
+next_parts all n m = simp (← bytes_of-append, ← (two_parts all n m).1, take-append-drop)
 
 module _ {S : Type 0} {g : Ghosts S} {t : S} {h : ReadingState} {u : S} {h' : ReadingState} (all : List Placed) (n : ℕ) (first : LeadsOn g t h u h' (take n all) (bytes_of (drop n all))) where
   -- The bytes lead on.
   pub leads_after : {v : S} {h'' : ReadingState} (m : ℕ) → LeadsOn g u h' v h'' (take m (drop n all)) (bytes_of (drop m (drop n all))) →
       LeadsOn g t h v h'' (take (n + m) all) (bytes_of (drop (n + m) all))
   leads_after {v} {h''} m later =
-      let parts = two_parts all n m in
-      subst (λ (xs : List Placed). LeadsOn g t h v h'' xs (bytes_of (drop (n + m) all))) (sym parts.0)
-      (leads_then first v h'' (take m (drop n all)) (bytes_of (drop (n + m) all)) (next_parts all n m)
-      (subst (λ (xs : List Placed). LeadsOn g u h' v h'' (take m (drop n all)) (bytes_of xs)) parts.1 later))
+      rw ((two_parts all n m).0, ← (two_parts all n m).1) (leads_then first v h'' (take m (drop n all)) (bytes_of (drop m (drop n all))) (rw (two_parts all n m).1 (next_parts all n m)) later)
 
   -- The bytes lead to a byte that stops.
   pub stops_after : {v : S} {r : Refusal} (m : ℕ) → Stops g u h' (drop n all) m v r → Stops g t h all (n + m) v r

@@ -1,7 +1,7 @@
-use Rattle.std.specs.Prelude.{◌≡◌, ◌≢◌, ◌<◌, ◌≤◌, ◌+◌, ◌++◌, ℕ, List, [], ◌∷◌, All, drop, length}
+use Rattle.std.specs.Prelude.{◌≡◌, ◌<◌, ◌≤◌, ◌+◌, ◌++◌, ℕ, List, [], ◌∷◌, All}
 use Rattle.nap_reader.specs.declared.frames.Frame.{Frame}
 use Rattle.nap_reader.specs.Stored.{sublist}
-use Rattle.nap_reader.specs.Stream.{Placed, all_at, bytes_of}
+use Rattle.nap_reader.specs.Stream.{Placed, all_at}
 
 -- What remains to be read of the bodies that are being read.
 
@@ -37,16 +37,3 @@ pub record Innermost (bytes : List ℕ) (frames : List Frame) (text : List ℕ) 
   pub last : frames ≡ before ++ frame ∷ []
   pub text_is : text ≡ sublist bytes frame.next frame.end
   pub place_is : place ≡ frame.place
-
--- these bytes, with the place of the first, come next: of the innermost body, or else of the piece from this index on
-pub record AreNextBytes (stored : List ℕ) (frames : List Frame) (piece : List ℕ) (at fed : ℕ) (text : List ℕ) (place : ℕ) : Type 0 where
-  pub of_piece : frames ≡ [] → (text ≡ drop at piece) × (place ≡ fed)
-  pub of_body : frames ≢ [] → Innermost stored frames text place
-
--- the unread bytes of all bodies, and then those of the piece
-abbrev pub all_next : List ℕ → List Frame → List ℕ → ℕ → List ℕ
-all_next stored frames piece at = bytes_of (unread stored frames) ++ drop at piece
-
--- the bytes after those that come next
-abbrev pub bytes_after : List ℕ → List Frame → List ℕ → ℕ → List ℕ → List ℕ
-bytes_after stored frames piece at text = drop (length text) (all_next stored frames piece at)

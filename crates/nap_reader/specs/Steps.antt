@@ -1,5 +1,5 @@
 use Rattle.std.specs.Prelude.{All, Bool, List, None, Ok, Option, Some, [], drop, false, get_or, if◌then◌else◌, length, slice_index, take, true, ℕ, ⊤, ◌*◌, ◌++◌, ◌+◌, ◌-◌, ◌<◌, ◌∷◌, ◌≡◌, ◌≢◌, ◌≤◌, ◌⊎◌}
-use Rattle.nap_reader.specs.Shared.{CharSet, CodeSets, Continues, DrawFault, RuleResult, DrawsBy, Entry, Fault, Ghosts, ReadingState, IsDrawn, IsGraphic, ArePending, IsOwn, IsRefused, IsTextByte, LexerState, Opcode, OpenBody, OpenRun, Outcome, Placed, Refusal, RunAt, Sink, after_drawing, body_of, bytes_of, cause_of, draw_fault, front, in_body, is_operand, is_operand_byte, no_names, place_at, placed_at, placed_by_step, placed_from, refusal, rule, run_by, shown_front, stream, Cause, Ends, Owes, begun, device, kept_list, memory, with_run}
+use Rattle.nap_reader.specs.Shared.{CharSet, CodeSets, Continues, DrawFault, RuleResult, DrawsBy, Entry, Fault, Ghosts, ReadingState, IsDrawn, IsGraphic, ArePending, IsOwn, IsRefused, IsTextByte, LexerState, Opcode, OpenBody, OpenRun, Outcome, Placed, Refusal, RunAt, Sink, after_drawing, body_of, bytes_of, cause_of, draw_fault, front, in_body, is_operand, is_operand_byte, no_names, place_at, placed_at, placed_by_step, refusal, rule, run_by, shown_front, stream, Cause, Ends, Owes, begun, device, kept_list, memory, with_run}
 use Rattle.nap_codes.specs.Front as codes
 use Rattle.nap_codes.specs.Lexer.{IsShift}
 use Rattle.nap_codes.specs.declared.code.Code.TheVariants as code
@@ -103,12 +103,6 @@ pub record IsText (h : ReadingState) (set : CharSet) (text : List ℕ) : Type 0 
   pub typed : All IsTextByte text
 
 -- The next bytes.
-
--- The bytes were the first of those of bodies, or came from the piece, whose next byte has this index and this place;
--- after them these bytes of bodies are left, and the piece was read up to that index.
-pub data Came (frames rest : List Placed) (piece : List ℕ) (at until fed : ℕ) (xs : List Placed) : Type 0 where
-  of_body : 0 < length frames → frames ≡ xs ++ rest → until ≡ at → Came frames rest piece at until fed xs
-  of_piece : frames ≡ [] → rest ≡ [] → xs ≡ placed_from fed (take (length xs) (drop at piece)) → until ≡ at + length xs → until ≤ length piece → Came frames rest piece at until fed xs
 
 -- What consumed bytes lead to: a sink, the entries that it is owed, and pending bytes. A run that is open there has the
 -- place of these bytes, or of the run that was open before them.

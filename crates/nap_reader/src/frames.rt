@@ -1,7 +1,8 @@
 //! The macro bodies that are being read.
-ghost use Rattle.std.specs.Prelude.{true, ℕ, List, ◌≡◌, ◌<◌, ◌≤◌, ◌+◌, ◌↔◌, [], ◌∷◌, ◌++◌, drop, length, MatchOption, OnOk};
+ghost use Rattle.std.specs.Prelude.{true, ℕ, List, ◌≡◌, ◌<◌, ◌≤◌, ◌+◌, ◌↔◌, [], ◌∷◌, ◌++◌, drop, length, IfSome, MatchOption, OnOk};
 ghost use Rattle.smallvec.specs.SmallVec.{HasRoomFor};
-ghost use Rattle.nap_reader.specs.Framed.{AreNextBytes, FramesIn, Innermost, bytes_after, unread};
+ghost use Rattle.nap_reader.specs.Framed.{FramesIn, Innermost, unread};
+ghost use Rattle.nap_reader.specs.Stream.{bytes_of};
 
 use crate::store::Span;
 use smallvec::SmallVec;
@@ -88,8 +89,8 @@ impl Frames {
     pub(crate) fn byte_after(&self, bytes: &[u8], piece: &[u8], at: usize) -> Option<u8>
         requires framed { FramesIn (length bytes.now) self.now.stack.items }
         requires within { at ≤ length piece.now }
-        ensures { (text : List ℕ) (fed place : ℕ) → AreNextBytes bytes.now self.now.stack.items piece.now at fed text place →
-            MatchOption result (bytes_after bytes.now self.now.stack.items piece.now at text ≡ []) (λ byte. (rest : List ℕ) × (bytes_after bytes.now self.now.stack.items piece.now at text ≡ byte ∷ rest)) }
+        ensures { (before : List Frame) (frame : Frame) → self.now.stack.items ≡ before ++ frame ∷ [] →
+            MatchOption result (bytes_of (unread bytes.now before) ++ drop at piece.now ≡ []) (λ byte. (rest : List ℕ) × (bytes_of (unread bytes.now before) ++ drop at piece.now ≡ byte ∷ rest)) }
     {
         let frames = self.stack.as_slice();
         if frames.len() > 1 {
@@ -104,7 +105,7 @@ impl Frames {
     /// Advances past `count` bytes of the innermost body, which has as many.
     pub(crate) fn take_from_innermost(&mut self, bytes: &[u8], count: usize)
         requires { FramesIn (length bytes.now) self.old.stack.items }
-        ensures given { (text : List ℕ) (place : ℕ) → Innermost bytes.now self.old.stack.items text place → count ≤ length text →
+        ensures given { ((before : List Frame) (frame : Frame) → self.old.stack.items ≡ before ++ frame ∷ [] → frame.next + count ≤ frame.end) →
             unread bytes.now self.new.stack.items ≡ drop count (unread bytes.now self.old.stack.items) }
         ensures within { FramesIn (length bytes.now) self.new.stack.items }
     {

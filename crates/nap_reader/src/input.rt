@@ -1,9 +1,9 @@
 //! The input of a reader: the bytes of called bodies, and then those of the piece.
-ghost use Rattle.std.specs.Prelude.{◌≡◌, ◌+◌, ◌≤◌, ℕ, List, [], None, length, IsTrue, MatchOption};
+ghost use Rattle.std.specs.Prelude.{◌≡◌, ◌+◌, ◌++◌, ◌≤◌, List, [], ◌∷◌, None, drop, length, IsTrue, MatchOption};
 ghost use Rattle.nap_reader.specs.Bodies.{no_names, store_limit};
 ghost use Rattle.nap_reader.specs.Budgets.{most_budget};
 ghost use Rattle.nap_reader.specs.Carried.{HasName, HasName-prop};
-ghost use Rattle.nap_reader.specs.Framed.{AreNextBytes, FramesIn, bytes_after, unread};
+ghost use Rattle.nap_reader.specs.Framed.{FramesIn, unread};
 
 use crate::body::OpenBody;
 use crate::budget::Budget;
@@ -44,8 +44,10 @@ pub(crate) struct Input {
 }
 
 impl Input {
-    ghost use Rattle.nap_reader.specs.NextBytes.{Advances, CanAdvance, IsNext, Reads, StoresBody, next_bytes};
+    ghost use Rattle.nap_reader.specs.NextBytes.{CanAdvance, IsNext, Moves, Reads, StoresBody, next_bytes};
+    ghost use Rattle.nap_reader.specs.declared.frames.Frame.{Frame};
     ghost use Rattle.nap_reader.specs.Steps.{IsOver};
+    ghost use Rattle.nap_reader.specs.Stream.{bytes_of};
 
     /// Returns the input before any byte.
     pub(crate) fn new(alloc: Global, budget: Budget) -> Input
@@ -128,8 +130,7 @@ impl Input {
     #[inline(always)]
     fn is_ended(&self, piece: &[u8]) -> bool
         requires { Reads self.now piece.now }
-        ensures { (text : List ℕ) (place : ℕ) → AreNextBytes self.now.store.bytes self.now.frames.stack.items piece.now self.now.at self.now.fed text place →
-            IsTrue result → IsOver (bytes_after self.now.store.bytes self.now.frames.stack.items piece.now self.now.at text) }
+        ensures { IsTrue result → (before : List Frame) (frame : Frame) → self.now.frames.stack.items ≡ before ++ frame ∷ [] → IsOver (bytes_of (unread self.now.store.bytes before) ++ drop self.now.at piece.now) }
     {
         match self.frames.byte_after(self.store.bytes(), piece, self.at) {
             Some(byte) => !is_operand(byte),
@@ -141,7 +142,7 @@ impl Input {
     #[inline(always)]
     pub(crate) fn advance(&mut self, count: usize)
         requires { CanAdvance self.old count }
-        ensures { Advances self.old self.new count }
+        ensures { Moves self.old self.new count [] self.old.store self.old.body }
     {
         self.turns += count as u64;
         if self.frames.is_empty() {

@@ -8,8 +8,9 @@ use super::Input;
 use crate::fault::Fault;
 
 impl Input {
-    ghost use Rattle.nap_reader.specs.NextBytes.{CannotShow, Shows};
-    ghost use Rattle.nap_reader.specs.Stored.{store_bound};
+    ghost use Rattle.nap_reader.specs.NextBytes.{CannotShow, Moves};
+    ghost use Rattle.nap_reader.specs.Stored.{store_shown};
+    ghost use Rattle.nap_reader.specs.Stream.{all_at};
 
     /// Returns how many bytes may still be charged.
     fn budget_left(&self) -> u64
@@ -22,7 +23,7 @@ impl Input {
     /// Charges the body of a name, which comes next in the stream with this place (PROFILE.md, Macros).
     pub(crate) fn call(&mut self, name: u8, place: u64) -> Result<(), Fault>
         requires { name < 0x80 }
-        ensures { MatchResult result (λ _. Shows self.old self.new self.old.store self.old.body (body_of self.old.store.names name) place) (λ fault. CannotShow self.old self.new (body_of self.old.store.names name) fault) }
+        ensures { MatchResult result (λ _. Moves self.old self.new 0 (all_at place (body_of self.old.store.names name)) self.old.store self.old.body) (λ fault. CannotShow self.old self.new (body_of self.old.store.names name) fault) }
     {
         let span = self.store.span(name);
         let count = (span.end - span.start) as u64;
@@ -44,7 +45,7 @@ impl Input {
     /// in the stream, with this place (PROFILE.md, Macros).
     pub(crate) fn show(&mut self, name: u8, ender: u8, place: u64) -> Result<(), Fault>
         requires { IsGraphic name }
-        ensures { MatchResult result (λ _. Shows self.old self.new (store_bound self.old.store name) None (self.old.store.body ++ 0x1B ∷ ender ∷ []) place) (λ fault. CannotShow self.old self.new (self.old.store.body ++ 0x1B ∷ ender ∷ []) fault) }
+        ensures { MatchResult result (λ _. Moves self.old self.new 0 (all_at place (self.old.store.body ++ 0x1B ∷ ender ∷ [])) (store_shown self.old.store name ender) None) (λ fault. CannotShow self.old self.new (self.old.store.body ++ 0x1B ∷ ender ∷ []) fault) }
     {
         let count = self.store.open_len() as u64 + 2;
         if count > self.budget_left() {

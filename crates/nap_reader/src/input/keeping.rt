@@ -1,12 +1,12 @@
 //! Bytes that are added to the body that is being defined.
-ghost use Rattle.std.specs.Prelude.{◌≡◌, ◌+◌, ◌≤◌, length, take, OnErr, OnOk};
+ghost use Rattle.std.specs.Prelude.{◌≡◌, ◌+◌, ◌≤◌, [], length, take, OnErr, OnOk};
 ghost use Rattle.nap_reader.specs.Bodies.{store_limit};
 
 use super::Input;
 use std::alloc::AllocError;
 
 impl Input {
-    ghost use Rattle.nap_reader.specs.NextBytes.{CanPass, Keeps, StoresBody, next_bytes};
+    ghost use Rattle.nap_reader.specs.NextBytes.{CanPass, Moves, StoresBody, next_bytes};
     ghost use Rattle.nap_reader.specs.Stored.{store_grown};
     ghost use Rattle.nap_reader.specs.Stream.{bytes_of};
 
@@ -15,7 +15,7 @@ impl Input {
     pub(crate) fn keep(&mut self, count: usize, piece: &[u8]) -> Result<(), AllocError>
         requires next { CanPass self.old piece.now count }
         requires few { self.old.store.stored + length self.old.store.body + count ≤ store_limit }
-        ensures ok { OnOk result (Keeps self.old self.new piece.now count) }
+        ensures ok { OnOk result (Moves self.old self.new count [] (store_grown self.old.store (bytes_of (take count (next_bytes self.old piece.now)))) self.old.body) }
         ensures err { OnErr result (self.new ≡ self.old) }
     {
         self.append(count, piece)?;

@@ -1,5 +1,5 @@
 //! The requests that codes make of the input.
-ghost use Rattle.std.specs.Prelude.{ℕ, List, ◌≡◌, ◌≢◌, ◌⊎◌, [], Err, None, Some, MatchResult, OnOk};
+ghost use Rattle.std.specs.Prelude.{ℕ, List, Option, ◌≡◌, ◌≢◌, ◌⊎◌, [], Err, None, Some, MatchResult, OnOk};
 ghost use Rattle.nap_reader.specs.Stream.{refusal};
 
 use super::{Machine, Request, Taken};
@@ -12,11 +12,13 @@ use nap_list::Sink;
 pub(crate) struct Refused;
 
 impl<S: Sink> Machine<S> {
+    ghost use Rattle.nap_reader.specs.declared.body.OpenBody.{OpenBody};
     ghost use Rattle.nap_reader.specs.declared.input.Input.{Input};
-    ghost use Rattle.nap_reader.specs.NextBytes.{CanAdvance, IsNextByte, Reads, SameComes, next_bytes};
+    ghost use Rattle.nap_reader.specs.NextBytes.{CanAdvance, IsNextByte, Moves, Reads, next_bytes};
     ghost use Rattle.nap_reader.specs.Framed.{placed_at};
     ghost use Rattle.nap_reader.specs.ReadingStates.{reading_state_by};
     ghost use Rattle.nap_reader.specs.Pieces.{Goes, StopsFrom, TakesSlice};
+    ghost use Rattle.nap_reader.specs.Stored.{StoreState};
     ghost use Rattle.nap_reader.specs.Steps.{IsLive, Refuses, StopsByte};
 
     /// Consumes bytes of the body that is being defined, if one is, until it ends or no byte is left.
@@ -46,8 +48,7 @@ impl<S: Sink> Machine<S> {
         place: u64,
         piece: &[u8],
     ) -> Result<(), Refused>
-        requires live { taken.request ≢ Request.Stop → IsLive self.old }
-        requires turn { (old : Machine S S.Sink) × TakesSlice old self.old input.old piece.now taken.count taken.request place }
+        requires { (old : Machine S S.Sink) × TakesSlice old self.old input.old piece.now taken.count taken.request place }
         ensures live { OnOk result (IsLive self.new) }
         ensures run { OnOk result (self.old.open_run ≡ None → self.new.open_run ≡ None) }
         ensures ends { OnOk result ((input.new.body ≡ None) ⊎ (next_bytes input.new piece.now ≡ [])) }
@@ -97,7 +98,7 @@ impl<S: Sink> Machine<S> {
     ) -> Result<(), Refused>
         requires { CanAdvance input.old 1 }
         ensures answer { result ≡ Err (record {}) }
-        ensures stops { (count : ℕ) (start : Input) (piece : List ℕ) (byte at : ℕ) → SameComes start input.old → IsNextByte start piece byte at → fault ≢ Fault.Sink →
+        ensures stops { (count : ℕ) (start : Input) (piece : List ℕ) (byte at : ℕ) (store : StoreState) (opened : Option OpenBody) → Moves start input.old 0 [] store opened → IsNextByte start piece byte at → fault ≢ Fault.Sink →
             StopsByte S.Sink self.old.sink [] (reading_state_by self.old start) (placed_at byte at) self.old.sink (refusal fault place) →
             MatchResult result (λ _. Goes piece count self.old start self.new input.new) (λ _. StopsFrom piece self.old start self.new input.new) }
     {

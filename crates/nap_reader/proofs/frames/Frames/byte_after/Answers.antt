@@ -1,29 +1,32 @@
-use Rattle.nap_reader.proofs.{Frame, List, [], ap, arith, bytes_after, following_in_body, following_in_piece, eqb-false, eqb-true, inl, inr, length, nil_from_length, none_following, slice_index_or, subst, sym, ℕ, ◌-◌, ◌<◌, ◌∙◌, ◌∷◌, ◌≡◌, ◌≢◌, ◌≤◌}
+use Rattle.nap_reader.proofs.{All-pop, drop_of_length-le, eqb-true, Frame, IsFrame, List, Some, [], ap, ap₂, arith, bytes_of, drop, drop_more, following_in_body, get_or, get_or_append_left, length, length-append, nil_from_length, slice_index_or, subst, sym, unread, ℕ, ◌++◌, ◌+◌, ◌-◌, ◌<◌, ◌∙◌, ◌∷◌, ◌≡◌}
 use Rattle.nap_reader.proofs.frames.Frames.byte_after.Goals as goal
 
 pub returns-then-frames-gt1 : goal.returns-then-frames-gt1
-returns-then-frames-gt1 c text fed place comes =
+returns-then-frames-gt1 c before frame last =
     let stored = c.args.bytes.now in
     let frames = c.args.self.now.stack.items in
+    let following = drop c.args.at c.args.piece.now in
     let d : Frame = record { next = 0; end = 0; place = 0 } in
-    let more : 1 < length frames = omega (arith, c.if-frames-gt1.true, ap length c.as_slice-frames.ensures) in
-    subst (λ (fs : List Frame). (rest : List ℕ) × (bytes_after stored frames c.args.piece.now c.args.at text ≡ slice_index_or stored (slice_index_or fs (length fs - 2) d).next 0 ∷ rest)) (sym c.as_slice-frames.ensures)
-    (following_in_body stored frames c.requires.framed c.args.piece.now text c.args.at place (comes.of_body (λ none. absurd (omega (arith, more, ap length none)))) d more)
+    let count = ap (λ (fs : List Frame). length fs) last ∙ length-append before (frame ∷ []) in
+    let more : 0 < length before = omega (arith, c.if-frames-gt1.true, ap length c.as_slice-frames.ensures, count) in
+    let (rest, is) = following_in_body stored before (All-pop (IsFrame (length stored)) frames before (Some frame) last c.requires.framed).0 d more in
+    let outer : get_or frames (length frames - 2) d ≡ get_or before (length before - 1) d = ap₂ (λ (fs : List Frame) (i : ℕ). get_or fs i d) last (omega (arith, count)) ∙ get_or_append_left before (frame ∷ []) d (length before - 1) (omega (arith, more)) in
+    subst (λ (fs : List Frame). (rest : List ℕ) × (bytes_of (unread stored before) ++ following ≡ slice_index_or stored (slice_index_or fs (length fs - 2) d).next 0 ∷ rest)) (sym c.as_slice-frames.ensures)
+    (rest ++ following, ap (λ (bs : List ℕ). bs ++ following) is ∙ ap (λ (f : Frame). get_or stored f.next 0 ∷ (rest ++ following)) (sym outer))
 
 pub returns : goal.returns
-returns c text fed place comes =
-    let frames = c.args.self.now.stack.items in
-    let some : frames ≢ [] = λ none. absurd (omega (arith, eqb-false _ 0 (sym c.is_empty.ensures ∙ c.if-is_empty.false), ap length c.as_slice-frames.ensures, ap length none)) in
-    following_in_piece c.args.bytes.now frames c.args.piece.now text c.args.at place (comes.of_body some) (omega (arith, c.if-frames-gt1.false, ap length c.as_slice-frames.ensures)) (omega (arith, c.requires.within, c.if-at-piece.false))
+returns c before frame last =
+    let none = nil_from_length before (omega (arith, c.if-frames-gt1.false, ap length c.as_slice-frames.ensures, ap (λ (fs : List Frame). length fs) last, length-append before (frame ∷ []))) in (
+      drop (c.args.at + 1) c.args.piece.now,
+      ap (λ (fs : List Frame). bytes_of (unread c.args.bytes.now fs) ++ drop c.args.at c.args.piece.now) none ∙ drop_more c.args.piece.now c.args.at 0 (omega (arith, c.requires.within, c.if-at-piece.false)),
+    )
 
 pub returns-then-is_empty : goal.returns-then-is_empty
-returns-then-is_empty c text fed place comes =
-    let frames = c.args.self.now.stack.items in
-    let one : length frames ≤ 1 = omega (arith, c.if-frames-gt1.false, ap length c.as_slice-frames.ensures) in
+returns-then-is_empty c before frame last =
+    let count = ap (λ (fs : List Frame). length fs) last ∙ length-append before (frame ∷ []) in
+    let none : before ≡ [] = nil_from_length before (omega (arith, c.if-frames-gt1.false, ap length c.as_slice-frames.ensures, count)) in
     elim c.then-is_empty.branch [
-      | goal.then-is_empty-via-then-is_empty w ↦
-          none_following c.args.bytes.now frames c.args.piece.now text c.args.at fed place one
-          (inl (nil_from_length frames (omega (arith, eqb-true _ 0 (sym c.is_empty.ensures ∙ w.if-is_empty.true), ap length c.as_slice-frames.ensures)))) comes
+      | goal.then-is_empty-via-then-is_empty w ↦ absurd (omega (arith, count, eqb-true _ 0 (sym c.is_empty.ensures ∙ w.if-is_empty.true), ap length c.as_slice-frames.ensures))
       | goal.then-is_empty-via-else-is_empty+then-at-piece w ↦
-          none_following c.args.bytes.now frames c.args.piece.now text c.args.at fed place one (inr (omega (arith, w.if-at-piece.true))) comes
+          ap (λ (fs : List Frame). bytes_of (unread c.args.bytes.now fs) ++ drop c.args.at c.args.piece.now) none ∙ drop_of_length-le c.args.piece.now (omega (arith, w.if-at-piece.true))
     ]

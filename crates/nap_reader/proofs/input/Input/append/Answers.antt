@@ -1,28 +1,13 @@
-use Rattle.nap_reader.proofs.{Frame, List, [], ap, ap₂, arith, bytes_of, next_bytes, drop, store_grown, grown, length, length-append, length-take, sublist, part_inside, refl, same-frame, sym, take, taken_next, ℕ, ◌++◌, ◌+◌, ◌-◌, ◌∙◌, ◌∷◌, ◌≡◌, ◌≤◌}
+use Rattle.nap_reader.proofs.{Frame, List, Placed, ap, arith, bytes_of, bytes_of-placed, drop, grown, last-frame, length, length-take, placed_from, refl, store_grown, sublist, sym, take, take-map, taken_inside, unread, ℕ, ◌++◌, ◌+◌, ◌-◌, ◌∙◌, ◌≡◌}
 use Rattle.std.proofs.lemmas.Result.{on_ok_weaker}
 use Rattle.nap_reader.proofs.input.Input.append.Goals as goal
-use Rattle.nap_reader.proofs.input.Input.append.Goals.{After-next}
-
--- the index of the bytes in the store
-lies : (c : After-next) → (next : ℕ) → (before : List Frame) (frame : Frame) → c.args.self.now.frames.stack.items ≡ before ++ frame ∷ [] → next ≡ frame.next →
-    (next + c.args.count ≤ length c.args.self.now.store.bytes)
-    × (sublist c.args.self.now.store.bytes next (next + c.args.count) ≡ bytes_of (take c.args.count (next_bytes c.args.self.now c.args.piece.now)))
-lies c next before frame last is =
-    let input = c.args.self.now in
-    let frames = input.frames.stack.items in
-    let can = c.requires.next in
-    let inner = can.comes.of_body (λ none. omega (arith, ap length (sym none ∙ last), length-append before (frame ∷ []))) in
-    let same : inner.frame.next ≡ next = ap (λ (f : Frame). f.next) (same-frame frames inner.before before inner.frame frame inner.last last) ∙ sym is in
-    let there = part_inside input.store.bytes frames can.text can.place inner input.framed c.args.count can.few in (
-      omega (arith, there.0, same),
-      ap (λ (n : ℕ). sublist input.store.bytes n (n + c.args.count)) (sym same) ∙ there.1
-          ∙ sym (taken_next input c.args.piece.now can.text can.place can.comes c.args.count can.few),
-    )
 
 pub extend_within-requires-clause-within : goal.extend_within-requires-clause-within
 extend_within-requires-clause-within c =
+    let input = c.args.self.now in
     let (before, frame, last, is) = c.in-Some.ensures in
-    (lies (goal.at.extend_within-requires-clause-within c).After-next c.in-Some.next before frame last is).0
+    let in_store = last-frame (length input.store.bytes) input.frames.stack.items before frame last input.framed in
+    omega (arith, is, in_store.1, c.requires.next.of_body before frame last)
 
 pub invariant_of-self : goal.invariant_of-self
 invariant_of-self c =
@@ -33,22 +18,21 @@ invariant_of-self c =
 
 pub returns-in-Some-clause-ok : goal.returns-in-Some-clause-ok
 returns-in-Some-clause-ok c =
-    let (before, frame, last, there) = c.in-Some.ensures in
-    let bytes = (lies (goal.at.returns-in-Some-clause-ok c).After-next c.in-Some.next before frame last there).1 in
-    on_ok_weaker c.extend_within.result (λ grown. record {
-      still = record { same = record { budget = refl; at = refl; fed = refl; turns = refl }; frames = refl; charged = refl };
-      store_is = grown ∙ ap (store_grown c.args.self.now.store) bytes;
-      body = refl;
-    }) c.extend_within.ensures.ok
+    let input = c.args.self.now in
+    let count = c.args.count in
+    let (before, frame, last, next) = c.in-Some.ensures in
+    let in_store = last-frame (length input.store.bytes) input.frames.stack.items before frame last input.framed in
+    let following = placed_from input.fed (drop input.at c.args.piece.now) in
+    let bytes = ap (λ (n : ℕ). sublist input.store.bytes n (n + count)) next ∙ taken_inside input.store.bytes before frame following count in_store (c.requires.next.of_body before frame last)
+    ∙ ap (λ (frames : List Frame). bytes_of (take count (unread input.store.bytes frames ++ following))) (sym last) in
+    on_ok_weaker c.extend_within.result (λ grown. record { frames = refl; at = refl; fed = refl; turns = refl; budget = refl; charged = refl; store_is = grown ∙ ap (store_grown input.store) bytes; body = refl }) c.extend_within.ensures.ok
 
 pub returns-in-None-clause-ok : goal.returns-in-None-clause-ok
 returns-in-None-clause-ok c =
     let input = c.args.self.now in
-    let can = c.requires.next in
-    let bytes : take (input.at + c.args.count - input.at) (drop input.at c.args.piece.now) ≡ bytes_of (take c.args.count (next_bytes input c.args.piece.now)) =
-    ap₂ take (omega arith) (sym (can.comes.of_piece c.in-None.ensures).0) ∙ sym (taken_next input c.args.piece.now can.text can.place can.comes c.args.count can.few) in
-    on_ok_weaker c.extend.result (λ grown. record {
-      still = record { same = record { budget = refl; at = refl; fed = refl; turns = refl }; frames = refl; charged = refl };
-      store_is = grown ∙ ap (store_grown input.store) bytes;
-      body = refl;
-    }) c.extend.ensures.ok
+    let count = c.args.count in
+    let following = drop input.at c.args.piece.now in
+    let same : input.at + count - input.at ≡ count = omega arith in
+    let bytes = ap (λ (n : ℕ). take n following) same ∙ ap (take count) (sym (bytes_of-placed input.fed following)) ∙ take-map (λ (x : Placed). x.byte) count (placed_from input.fed following)
+    ∙ ap (λ (frames : List Frame). bytes_of (take count (unread input.store.bytes frames ++ placed_from input.fed following))) (sym c.in-None.ensures) in
+    on_ok_weaker c.extend.result (λ grown. record { frames = refl; at = refl; fed = refl; turns = refl; budget = refl; charged = refl; store_is = grown ∙ ap (store_grown input.store) bytes; body = refl }) c.extend.ensures.ok

@@ -1,4 +1,4 @@
-use Rattle.nap_reader.proofs.{Frame, FramesIn, List, Shows, [], all_at, ap, arith, body_of, frames-push, inl, inr, length, length-sublist, length-unread-push, nil_from_length, refl, subst, sym, unread, unread-push, ℕ, ◌++◌, ◌+◌, ◌∙◌, ◌∷◌, ◌≡◌}
+use Rattle.nap_reader.proofs.{Frame, FramesIn, List, Moves, [], all_at, ap, arith, body_of, frames-push, inl, inr, length, length-all_at, length-sublist, length-unread-push, nil_from_length, refl, rules, same_input, subst, sym, unread, unread-push, ℕ, ◌++◌, ◌+◌, ◌∙◌, ◌∷◌, ◌≡◌}
 use Rattle.nap_reader.proofs.input.Input.call.Goals as goal
 use Rattle.nap_reader.proofs.input.Input.call.Goals.{After-span-span}
 
@@ -30,21 +30,12 @@ pub returns-then-count-eq0 : goal.returns-then-count-eq0
 returns-then-count-eq0 c =
     let input = c.args.self.now in
     let none : body_of input.store.names c.args.name ≡ [] = nil_from_length (body_of input.store.names c.args.name) (omega (arith, counted (goal.at.returns-then-count-eq0 c).After-span-span, c.if-count-eq0.true)) in
-    subst (λ (bytes : List ℕ). Shows input input input.store input.body bytes c.args.place) (sym none) (record {
-      few = omega arith;
-      charged = omega arith;
-      unread = refl;
-      names = refl;
-      stored = refl;
-      open_bytes = refl;
-      body = refl;
-      same = record { budget = refl; at = refl; fed = refl; turns = refl };
-    })
+    subst (λ (bytes : List ℕ). Moves input input 0 (all_at c.args.place bytes) input.store input.body) (sym none) (same_input refl)
 
 pub returns-then-count-budget_left : goal.returns-then-count-budget_left
 returns-then-count-budget_left c = record {
   reason = inl (refl, omega (arith, counted (goal.at.returns-then-count-budget_left c).After-span-span, c.budget_left.ensures.left, c.if-count-budget_left.true));
-  still = record { same = record { budget = refl; at = refl; fed = refl; turns = refl }; frames = refl; charged = refl };
+  still = search rules;
 }
 
 pub returns-in_default : goal.returns-in_default
@@ -52,7 +43,7 @@ returns-in_default c =
     let count = counted (goal.at.returns-in_default c).After-span-span in
     record {
       reason = inr (refl, omega (arith, count, c.if-count-eq0.false), omega (arith, count, c.budget_left.ensures.left, c.if-count-budget_left.false));
-      still = record { same = record { budget = refl; at = refl; fed = refl; turns = refl }; frames = c.reserve.ensures.items; charged = refl };
+      still = search rules;
     }
 
 pub returns : goal.returns
@@ -62,13 +53,13 @@ returns c =
     let frame : Frame = record { next = span.start; end = span.end; place = c.args.place } in
     let count = counted (goal.at.returns c).After-span-span in
     record {
-      few = omega (arith, count, c.budget_left.ensures.left, c.if-count-budget_left.false);
-      charged = omega (arith, count);
-      unread = ap (unread input.store.bytes) (c.push_reserved.ensures ∙ ap (λ (fs : List Frame). fs ++ frame ∷ []) c.reserve.ensures.items) ∙ unread-push input.store.bytes input.frames.stack.items frame
+      rest = ap (unread input.store.bytes) (c.push_reserved.ensures ∙ ap (λ (fs : List Frame). fs ++ frame ∷ []) c.reserve.ensures.items) ∙ unread-push input.store.bytes input.frames.stack.items frame
           ∙ ap (λ (bytes : List ℕ). all_at c.args.place bytes ++ unread input.store.bytes input.frames.stack.items) c.span-span.ensures.body;
-      names = refl;
-      stored = refl;
-      open_bytes = refl;
+      at = omega arith;
+      fed = omega arith;
+      turns = omega arith;
+      budget = refl;
+      charged = omega (arith, count, length-all_at c.args.place (body_of input.store.names c.args.name));
+      store_is = refl;
       body = refl;
-      same = record { budget = refl; at = refl; fed = refl; turns = refl };
     }

@@ -1,4 +1,4 @@
-use Rattle.nap_reader.proofs.{Frame, FramesIn, List, Placed, StoreState, [], all_at, ap, arith, frame_bytes, frames-push, frames-store, IsFrame, length, length-append, refl, sublist_at, unread, unread_of, unread-push, unread-store, ℕ, ◌++◌, ◌+◌, ◌∙◌, ◌∷◌, ◌≡◌}
+use Rattle.nap_reader.proofs.{Frame, FramesIn, IsFrame, List, Placed, StoreState, [], all_at, ap, arith, frame_bytes, frames-push, frames-store, grown, length, length-append, refl, sublist_at, unread, unread-push, unread-store, unread_of, ℕ, ◌++◌, ◌+◌, ◌∙◌, ◌∷◌, ◌≡◌}
 use Rattle.nap_reader.proofs.StreamLemmas.{length-all_at}
 use Rattle.nap_reader.proofs.input.Input.show.Goals as goal
 
@@ -37,12 +37,12 @@ returns c =
     let many = length-append input.store.body (0x1B ∷ c.args.ender ∷ []) in
     let read = next_read input.store c.show.new.self _ _ _ _ (ap (λ (t : StoreState). t.bytes) ok) (rw c.reserve.ensures.items at c.push_reserved.ensures) input.framed c.in-Ok-show.ensures.within in
     record {
-      few = omega (arith, many, c.open_len.ensures.count, c.budget_left.ensures.left, c.if-count-budget_left.false);
-      charged = omega (arith, many, c.open_len.ensures.count);
-      unread = read.1 ∙ ap (λ (bs : List ℕ). all_at c.args.place bs ++ unread_of input) c.in-Ok-show.ensures.next;
-      names = ap (λ (t : StoreState). t.names) ok;
-      stored = ap (λ (t : StoreState). t.stored) ok;
-      open_bytes = ap (λ (t : StoreState). t.body) ok;
+      rest = read.1 ∙ ap (λ (bs : List ℕ). all_at c.args.place bs ++ unread_of input) c.in-Ok-show.ensures.next;
+      at = omega arith;
+      fed = omega arith;
+      turns = omega arith;
+      budget = refl;
+      charged = omega (arith, many, c.open_len.ensures.count, length-all_at c.args.place (input.store.body ++ 0x1B ∷ c.args.ender ∷ []));
+      store_is = ok;
       body = refl;
-      same = record { budget = refl; at = refl; fed = refl; turns = refl };
     }

@@ -1,4 +1,4 @@
-use Rattle.nap_reader.proofs.{Err, Lexes, List, alone_acts, alone_nothing, alone_stops, ap, arith, code_of, draw_fault, first_byte, front_made, lexes_alone, refl, sink_fault, sym, ℕ, length}
+use Rattle.nap_reader.proofs.{Lexes, alone_acts, alone_nothing, alone_stops, ap, arith, first_byte, front_made, length, lexes_alone, refl, sym}
 use Rattle.nap_codes.specs.declared.code.Code.TheVariants as code
 use Rattle.nap_reader.proofs.machine.Machine.code.Goals as goal
 use Rattle.nap_reader.proofs.machine.Machine.code.Goals.{In-Effector}
@@ -17,9 +17,7 @@ returns-in-Characters g c = c.text.ensures c.args.ended
 
 pub returns-in-Shift : goal.returns-in-Shift
 returns-in-Shift g c =
-    let (n, after, front, counted, lexer) = code_of _ c.args.self.now.lexer c.in-Some.byte.now code.Shifted c.shift.new.self c.shift.ensures in
-    alone_nothing {c = code.Shifted} {after = after} (sym c.in-Some.ensures.value) (record { closed = c.requires.closed; whole = rw counted at front })
-    (record { before = c.requires.closed; closed = c.requires.closed; work_is = refl; lexer_is = lexer }) refl refl c.requires.live
+    alone_nothing {c = code.Shifted} {after = c.shift.new.self.sets} (sym c.in-Some.ensures.value) (grind arith) (grind arith) refl refl c.requires.live
 
 pub control-requires-clause-made : goal.control-requires-clause-made
 control-requires-clause-made g c = front_made _ _ (code.Step c.in-Effector.step) _ _ c.in-Effector.ensures.1
@@ -31,14 +29,8 @@ effector g c = lexes_alone c.requires.closed c.in-Effector.ensures.0 c.in-Effect
 pub returns-in-Ok : goal.returns-in-Ok
 returns-in-Ok g c =
     let acted = c.in-Ok.ensures.acts in
-    alone_acts (sym c.in-Some.ensures.value) (effector g (goal.at.returns-in-Ok g c).In-Effector)
-    (record { before = c.requires.closed; closed = c.requires.closed; work_is = refl; lexer_is = ap (λ (half : List ℕ). record c.args.self.now.lexer { half = half }) c.in-Effector.ensures.0 }) refl
-    (record { is = acted.1; took = acted.2; clear = c.in-Ok.ensures.clear }) (record { live = c.requires.live.live; agrees = acted.4 }) g.met.S.Sink.took_more
+    alone_acts (sym c.in-Some.ensures.value) (effector g (goal.at.returns-in-Ok g c).In-Effector) (grind arith) refl {entries = acted.0} (grind arith) (grind arith) g.met.S.Sink.took_more
 
 pub returns-in-Err : goal.returns-in-Err
 returns-in-Err g c =
-    let fault = c.in-Err.fault in
-    rw c.from.ensures
-    (alone_stops (sym c.in-Some.ensures.value) (effector g (goal.at.returns-in-Err g c).In-Effector) refl refl
-    (record { drew = c.in-Err.ensures.acts.1; wants = λ memory. c.in-Err.ensures.memory (ap Err memory); gives = λ device. c.in-Err.ensures.gives (ap Err device) })
-    (λ is. c.in-Err.ensures.failed (ap Err (sink_fault fault is)), λ works fails. ap draw_fault (c.in-Err.ensures.kept works fails)))
+    rw c.from.ensures (alone_stops (sym c.in-Some.ensures.value) (effector g (goal.at.returns-in-Err g c).In-Effector) {fault = c.in-Err.fault} refl refl (grind arith) (grind arith))

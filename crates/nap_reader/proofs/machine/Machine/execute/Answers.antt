@@ -1,4 +1,4 @@
-use Rattle.nap_reader.proofs.{Err, None, RuleResult, [], ap, asked_is, draw_fault, refl, sink_fault, with_machine}
+use Rattle.nap_reader.proofs.{None, RuleResult, [], arith, asked_is, refl, with_machine}
 use Rattle.nap_reader.proofs.machine.Machine.execute.Goals as goal
 
 pub returns-in-Ok : goal.returns-in-Ok
@@ -23,7 +23,4 @@ returns-in-Ok g c =
 pub returns-in-Err : goal.returns-in-Err
 returns-in-Err g c =
     let acts = rw c.deref.ensures.value at c.in-Err.ensures.acts in
-    rw c.from.ensures (
-      (λ h between. record { open_run = c.args.open_run; between = between; is = c.requires.run; fault = c.in-Err.fault; why = refl; drew = rw c.requires.run acts.1 }),
-      (λ is. c.in-Err.ensures.failed (ap Err (sink_fault c.in-Err.fault is)), λ works fails. ap draw_fault (c.in-Err.ensures.kept works fails)),
-    )
+    rw c.from.ensures (λ h between. record { open_run = c.args.open_run; between = between; is = c.requires.run; fault = c.in-Err.fault; why = refl; drew = rw c.requires.run acts.1 }, grind arith)

@@ -1,4 +1,4 @@
-use Rattle.nap_reader.proofs.{Err, RuleResult, RunsWhole, ap, arith, draw_fault, drop, length, length-drop, opcode_acts, opcode_stops, refl, sink_fault, take_all, ◌-◌}
+use Rattle.nap_reader.proofs.{RuleResult, RunsWhole, arith, drop, length, length-drop, opcode_acts, opcode_stops, refl, take_all, ◌-◌}
 use Rattle.nap_reader.proofs.machine.Machine.opcode.Goals as goal
 use Rattle.nap_reader.proofs.machine.Machine.opcode.Goals.{In-Some}
 
@@ -12,12 +12,7 @@ pub returns-in-Ok : goal.returns-in-Ok
 returns-in-Ok g c =
     let acted = c.in-Ok.ensures.acts in
     let drawn : RuleResult = record { entries = acted.0; work = c.act.new.self; clears = c.in-Ok.clears } in
-    opcode_acts (runs_whole g (goal.at.returns-in-Ok g c).In-Some) drawn (record { before = c.requires.closed; closed = c.requires.closed; work_is = refl; lexer_is = refl })
-    (record { is = acted.1; took = acted.2; clear = c.in-Ok.ensures.clear }) (record { live = c.requires.live.live; agrees = acted.4 }) g.met.S.Sink.took_more
+    opcode_acts (runs_whole g (goal.at.returns-in-Ok g c).In-Some) drawn (grind arith) (grind arith) (grind arith) g.met.S.Sink.took_more
 
 pub returns-in-Err : goal.returns-in-Err
-returns-in-Err g c =
-    let fault = c.in-Err.fault in
-    rw c.from.ensures
-    (opcode_stops (runs_whole g (goal.at.returns-in-Err g c).In-Some) fault refl c.in-Err.ensures.acts.1
-    (λ is. c.in-Err.ensures.failed (ap Err (sink_fault fault is)), λ works fails. ap draw_fault (c.in-Err.ensures.kept works fails)))
+returns-in-Err g c = rw c.from.ensures (opcode_stops (runs_whole g (goal.at.returns-in-Err g c).In-Some) c.in-Err.fault refl c.in-Err.ensures.acts.1 (grind arith))

@@ -1,4 +1,4 @@
-use Rattle.nap_reader.proofs.{Reads, ReadsTo, StopsFrom, TakesSlice, ap, arith, comes_rested, err_from_is_err_and, leaves_live, length-placed_by_step, smaller, stops_then, subst, sym, turn_is, turn_less, ℕ, ◌*◌, ◌+◌, ◌-◌, ◌∙◌, ◌≡◌}
+use Rattle.nap_reader.proofs.{Reads, ReadsTo, StopsFrom, TakesSlice, ap, arith, comes_rested, err_from_is_err_and, length-placed_by_step, smaller, stops_then, subst, sym, turn_is, turn_less, ℕ, ◌*◌, ◌+◌, ◌-◌, ◌∙◌, ◌≡◌}
 use Rattle.nap_reader.proofs.machine.Machine.read.Goals as goal
 use Rattle.nap_reader.proofs.machine.Machine.read.Goals.{After-place_of-place}
 
@@ -16,7 +16,7 @@ loop-slice-init g c = record {
   live = c.in_ok-define.ensures.live;
   reads = c.in_ok-define.ensures.goes.counts.reads;
   ends = c.in_ok-define.ensures.ends;
-  goes = λ old before by. c.in_ok-define.ensures.goes.on old before (subst (λ i. ReadsTo {S = g.row.S.Denot} {g = g.S.Sink} old c.args.piece.now c.args.self.now i) (sym c.begin_piece.ensures) by);
+  goes = λ old by. c.in_ok-define.ensures.goes.on old (subst (λ i. ReadsTo {S = g.row.S.Denot} {g = g.S.Sink} old c.args.piece.now c.args.self.now i) (sym c.begin_piece.ensures) by);
 }
 
 pub returns-in_err-define-clause-reads : goal.returns-in_err-define-clause-reads
@@ -27,11 +27,8 @@ returns-in_err-define-clause-reads g c =
 pub place_of-place-requires : goal.place_of-place-requires
 place_of-place-requires g c = omega (arith, c.take-taken.ensures.takes.within, length-placed_by_step c.in-Some.slice.place c.in-Some.slice.step c.in-Some.slice.bytes.now, c.saturating_sub.ensures)
 
-pub answer-requires-clause-live : goal.answer-requires-clause-live
-answer-requires-clause-live g c = λ other. leaves_live c.loop-slice.self c.take-taken.new.self c.take-taken.result.request c.take-taken.ensures.takes.leaves other
-
-pub answer-requires-clause-turn : goal.answer-requires-clause-turn
-answer-requires-clause-turn g c = (c.loop-slice.self, turned g (goal.at.answer-requires-clause-turn g c).After-place_of-place)
+pub answer-requires : goal.answer-requires
+answer-requires g c = (c.loop-slice.self, turned g (goal.at.answer-requires g c).After-place_of-place)
 
 pub loop-slice-preserved : goal.loop-slice-preserved
 loop-slice-preserved g c =
@@ -40,7 +37,7 @@ loop-slice-preserved g c =
       live = c.in_ok-answer.ensures.live;
       reads = goes.counts.reads;
       ends = c.in_ok-answer.ensures.ends;
-      goes = λ old before by. goes.on old before (c.loop-slice.invariant.goes old before by);
+      goes = λ old by. goes.on old (c.loop-slice.invariant.goes old by);
     }
 
 pub loop-slice-smaller : goal.loop-slice-smaller

@@ -1,4 +1,4 @@
-use Rattle.nap_reader.proofs.{All, All-head, Codes, IsGraphic, IsTextByte, IsTextOf, List, None, Option, Some, TextStep, [], ap, arith, drop, first_byte, format_effector, format_effector_front, get_or, is_of_text, length, prefix_len, refl, slice_index, subst, sym, take, take-append-drop, text_halts, text_taken, ℕ, ◌++◌, ◌<◌, ◌∙◌, ◌∷◌, ◌≡◌, ◌≤◌}
+use Rattle.nap_reader.proofs.{All, All-head, Codes, IsGraphic, IsTextByte, IsTextOf, List, None, Option, Some, TextStep, ap, arith, drop, first_byte, format_effector, format_effector_front, get_or, is_of_text, prefix_len, refl, subst, sym, take, take-append-drop, text_halts, text_taken, ℕ, ◌++◌, ◌∙◌, ◌≡◌, ◌≤◌}
 use Rattle.nap_reader.proofs.machine.Machine.text.Goals as goal
 use Rattle.nap_reader.proofs.machine.Machine.text.Goals.{Else-text-lt2}
 
