@@ -1,7 +1,7 @@
 """The clauses and definitions of the crates, and a sum over them.
 
-What a wrong body is refused by are the clauses of src/ (requires, ensures, ghost fields and members, constants) and the
-definitions of specs/, of its crate and of all crates below. Bodies, tests, comments and the layout don't count.
+What a wrong body is refused by are the clauses of src/ and the definitions of specs/, of its crate and of all crates
+below. So all of a source counts but the bodies of its functions, comments and the layout. Tests don't count.
 """
 import hashlib
 import re
@@ -10,16 +10,49 @@ from typing import Dict, Iterator, List, NamedTuple, Set, Tuple
 
 # A comment, a text or a character; a lifetime has no second quote.
 UNREAD = re.compile(
-    r"//[^\n]*|/\*.*?\*/|b?r(?P<hashes>#*)\".*?\"(?P=hashes)|b?\"(?:\\.|[^\"\\])*\"|b?'(?:\\[^']+|[^'\\])'", re.DOTALL
+    r"//[^\n]*|/\*.*?\*/|b?r(?P<hashes>#*)\".*?\"(?P=hashes)|b?\"(?:\\.|[^\"\\])*\"|b?'(?:\\.[^']*|[^'\\])'", re.DOTALL
 )
+MARKS = re.compile(r"(?P<begins>/\*)|\*/")
+TOKEN = re.compile(rf"{UNREAD.pattern}|\w+|\S", re.DOTALL)
 CLAUSE = re.compile(r"\b(?:requires|ensures|decreases)\b(?:\s+\w+)?\s*\{")
-FUNCTION = re.compile(r"\bfn\s+(?P<name>\w+)")
 ITEM = re.compile(
-    r"^[ \t]*(?:pub(?:\([^)]*\))?\s+)?"
-    r"(?:(?P<const>const)\s+\w+\s*:|(?P<owner>struct|enum|trait|impl)\b|(?P<ghost>ghost)\b)"
-    r"|\b(?P<function>fn)\s+\w+",
-    re.MULTILINE,
+    r"^(?P<owner>(?:pub(?:\([^)]*\))?\s+)?(?:unsafe\s+)?(?:trait|impl)\b)|\bfn\s+(?P<function>\w+)", re.MULTILINE
 )
+
+
+def end_of_comment(text: str, start: int, marks: "re.Pattern[str]") -> int:
+    """The place after a comment that may have others within it, by the marks that begin one and end one; -1 if it has
+    no end."""
+    depth = 0
+    for found in marks.finditer(text, start):
+        depth += 1 if found["begins"] else -1
+        if depth == 0:
+            return found.end()
+    return -1
+
+
+def unread_in(text: str) -> Iterator[Tuple[int, int]]:
+    """The places of the comments, texts and characters of a source."""
+    at = 0
+    while True:
+        found = UNREAD.search(text, at)
+        if not found:
+            return
+        at = found.end()
+        if found[0].startswith("/*"):
+            at = max(at, end_of_comment(text, found.start(), MARKS))
+        yield found.start(), at
+
+
+class Function(NamedTuple):
+    """A function: what it stands in (the head of an impl or a trait, or nothing), its name, what stands in the braces
+    of each of its clauses, and where its body begins and ends, which are the same place where it has none."""
+
+    owner: str
+    name: str
+    clauses: List[str]
+    start: int
+    end: int
 
 
 class Source(NamedTuple):
@@ -32,11 +65,13 @@ class Source(NamedTuple):
     def of(cls, text: str) -> "Source":
         """The source with this text."""
 
-        def blank(found: "re.Match[str]") -> str:
-            return re.sub(r"[^\n]", " ", found[0])
-
-        kept = UNREAD.sub(lambda found: blank(found) if found[0].startswith("/") else found[0], text)
-        return cls(kept, UNREAD.sub(blank, text))
+        kept, shape, at = [], [], 0
+        for start, end in unread_in(text):
+            blank = re.sub(r"[^\n]", " ", text[start:end])
+            kept += [text[at:start], blank if text[start] == "/" else text[start:end]]
+            shape += [text[at:start], blank]
+            at = end
+        return cls("".join([*kept, text[at:]]), "".join([*shape, text[at:]]))
 
     def part(self, start: int, end: int) -> str:
         """The text between two places, with single blanks."""
@@ -52,7 +87,7 @@ class Source(NamedTuple):
         return len(self.shape)
 
     def end_of_head(self, start: int) -> int:
-        """The place of the brace or the semicolon after a function's signature and clauses."""
+        """The place of the brace or the semicolon after the head of an item or a loop, and after its clauses."""
         at, depth = start, 0
         while at < len(self.shape):
             clause = CLAUSE.match(self.shape, at)
@@ -66,56 +101,40 @@ class Source(NamedTuple):
             at += 1
         return at
 
-    def end_of_member(self, start: int) -> int:
-        """The place of what ends a ghost item or a constant: a semicolon, a comma, or the brace around it."""
-        at, depth = start, 0
-        while at < len(self.shape):
-            sign = self.shape[at]
-            if depth == 0 and sign in ";,}":
-                return at
-            depth += (sign in "({[") - (sign in ")}]")
-            at += 1
-        return at
+    def functions(self) -> Iterator[Function]:
+        """The functions in their order, but for those within others."""
+        owner, owned, at = "", 0, 0
+        while True:
+            item = ITEM.search(self.shape, at)
+            if not item:
+                return
+            start, at = item.end(), self.end_of_head(item.end())
+            if item["owner"]:
+                owner, owned = self.part(item.start(), at), self.closing(at)
+                continue
+            heads = CLAUSE.finditer(self.shape, start, at)
+            clauses = [self.part(head.end(), self.closing(head.end() - 1) - 1) for head in heads]
+            end = self.closing(at) if self.shape[at : at + 1] == "{" else at
+            yield Function(owner if start < owned else "", item["function"], clauses, at, end)
+            at = end
+
+    def without_bodies(self) -> str:
+        """The tokens that aren't in the bodies of functions, with single blanks."""
+        cut, at = [], 0
+        for function in self.functions():
+            cut.append(self.kept[at : function.start])
+            at = function.end
+        return tokens("".join([*cut, self.kept[at:]]))
 
 
-def clauses_of(text: str) -> List[str]:
-    """The clauses of a source: ghost items, constants, and signatures with clauses, each after its owner's name."""
-    source = Source.of(text)
-    found: List[str] = []
-    owner, owned, at = "", 0, 0
-    while True:
-        item = ITEM.search(source.shape, at)
-        if not item:
-            return found
-        if item.start() >= owned:
-            owner = ""
-        if item["owner"]:
-            at = source.end_of_head(item.end("owner"))
-            owner, owned = source.part(item.start(), at), source.closing(at)
-        elif item["function"]:
-            at = source.end_of_head(item.end())
-            if CLAUSE.search(source.shape, item.start(), at):
-                found.append(f"{owner} | {source.part(item.start(), at)}")
-            at = source.closing(at) if source.shape[at : at + 1] == "{" else at
-        else:
-            at = source.end_of_member(item.end())
-            found.append(f"{owner} | {source.part(item.start(), at)}")
-
-
-class Function(NamedTuple):
-    """A function's name, and what stands in the braces of each of its clauses."""
-
-    name: str
-    clauses: List[str]
+def tokens(kept: str) -> str:
+    """The tokens of a text without comments, with single blanks."""
+    return " ".join(found[0] for found in TOKEN.finditer(kept))
 
 
 def functions_of(text: str) -> Iterator[Function]:
     """The functions of a source in their order."""
-    source = Source.of(text)
-    for found in FUNCTION.finditer(source.shape):
-        end = source.end_of_head(found.end())
-        heads = CLAUSE.finditer(source.shape, found.end(), end)
-        yield Function(found["name"], [source.part(head.end(), source.closing(head.end() - 1) - 1) for head in heads])
+    return Source.of(text).functions()
 
 
 def definitions_of(text: str) -> List[str]:
@@ -127,15 +146,6 @@ def definitions_of(text: str) -> List[str]:
 def is_tested(path: Path) -> bool:
     """Whether a file of src/ is one of tests."""
     return "tests" in path.parts or path.name == "tests.rt"
-
-
-def told_by(crate: Path) -> Iterator[str]:
-    """All that a crate's clauses and definitions say, in an order that doesn't hang on files' names."""
-    sources = [path for path in (crate / "src").rglob("*.rt") if not is_tested(path.relative_to(crate))]
-    yield from sorted(clause for path in sources for clause in clauses_of(path.read_text("utf-8")))
-    for path in sorted((crate / "specs").rglob("*.antt")):
-        yield f"specs {path.relative_to(crate)}"
-        yield from definitions_of(path.read_text("utf-8"))
 
 
 def crates_in(root: Path) -> Dict[str, List[str]]:
@@ -154,11 +164,31 @@ def below(name: str, crates: Dict[str, List[str]]) -> Set[str]:
     return deps.union(*(below(dep, crates) for dep in deps))
 
 
-def sum_of(root: Path, name: str) -> str:
-    """A sum over all that decides whether a crate's wrong bodies are refused."""
-    crates = crates_in(root)
-    parts: List[Tuple[str, str]] = []
-    for each in sorted({name} | below(name, crates)):
-        told = "\n".join(told_by(root / "crates" / each))
-        parts.append((each, hashlib.sha256(told.encode()).hexdigest()))
-    return hashlib.sha256(repr(parts).encode()).hexdigest()
+def _said_by(crate: Path) -> Iterator[str]:
+    """All that a crate's clauses and definitions say, in an order that doesn't hang on the names of sources."""
+    sources = [path for path in (crate / "src").rglob("*.rt") if not is_tested(path.relative_to(crate))]
+    yield from sorted(Source.of(path.read_text("utf-8")).without_bodies() for path in sources)
+    for path in sorted((crate / "specs").rglob("*.antt")):
+        yield f"specs {path.relative_to(crate)}"
+        yield from definitions_of(path.read_text("utf-8"))
+
+
+class Sums:
+    """The sums over the clauses and definitions of a repository, each made once."""
+
+    def __init__(self, root: Path) -> None:
+        self.crates = crates_in(root)
+        self._root = root
+        self._own: Dict[str, str] = {}
+
+    def own(self, name: str) -> str:
+        """A sum over a crate's own clauses and definitions."""
+        if name not in self._own:
+            said = "\n".join(_said_by(self._root / "crates" / name))
+            self._own[name] = hashlib.sha256(said.encode()).hexdigest()
+        return self._own[name]
+
+    def of(self, name: str) -> str:
+        """A sum over all clauses and definitions that can refuse a crate's wrong bodies."""
+        parts = [(each, self.own(each)) for each in sorted({name} | below(name, self.crates))]
+        return hashlib.sha256(repr(parts).encode()).hexdigest()

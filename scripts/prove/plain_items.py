@@ -1,21 +1,20 @@
 """The public items of a source, each with the sentence above it, and what is wrong with that sentence.
 
-An item is a function, a type, a trait with its functions, a field, a variant, a constant or a module, where it is `pub`
-without a narrower reach. What stands in a module of tests isn't looked at.
+An item is a function, a type, a trait with its functions, a field, a variant or a constant, where it is `pub` without a
+narrower reach. Lines are read in the layout of `rt fmt`: an enum or a trait ends with a brace that begins a line, and
+what it holds is indented by four blanks. A module says at its top what it holds, and is none.
 """
 import re
 from typing import Iterator, List, NamedTuple, Optional
 
-from prove.clauses import Source
-
 ITEM = re.compile(
-    r"^(?P<indent>[ \t]*)pub[ \t]+(?:(?:const|unsafe|extern)[ \t]+)*(?P<kind>fn|struct|enum|trait|type|static|mod)"
-    r"[ \t]+(?P<name>\w+)|^[ \t]*pub[ \t]+(?P<const>const)[ \t]+(?P<constant>\w+)[ \t]*:"
-    r"|^[ \t]*pub[ \t]+(?P<field>\w+)[ \t]*:(?!:)",
-    re.MULTILINE,
+    r" *pub (?:(?:(?:const|unsafe|extern(?: \"\w+\")?) )*"
+    r"(?P<kind>fn|struct|enum|trait|type|static) |(?P<const>const) )?(?P<name>\w+)(?P<field>:(?!:))?"
 )
-MEMBER = re.compile(r"^[ \t]*(?:(?:const|unsafe)[ \t]+)*fn[ \t]+(?P<name>\w+)", re.MULTILINE)
-ATTRIBUTE = re.compile(r"\s*#\[")
+# What an enum and a trait hold, by their kind.
+INSIDE = {"enum": re.compile(r" {4}(?P<name>[A-Za-z_]\w*)"), "trait": re.compile(r" {4}(?:unsafe )?fn (?P<name>\w+)")}
+MEMBERS = {"enum": "variant", "trait": "fn"}
+GIVES_BOOL = re.compile(r"(?:(?!\b(?:requires|ensures|decreases)\b)[^{])*-> bool\b")
 # Words that end like a verb in the third person, and are none.
 NO_VERBS = ("This", "Its", "Bytes", "Entries", "Lines", "Opcodes", "Points", "Operands", "Limits", "Words", "Colours",
             "Always", "Perhaps", "Yes", "Codes", "Characters", "Pieces", "Places", "As", "Less")
@@ -62,63 +61,17 @@ def sentence_above(lines: List[str], line: int) -> str:
     return " ".join(found)
 
 
-def variants_of(shape: str, start: int, end: int) -> Iterator[int]:
-    """The places of the names of an enum's variants, which stand between two places."""
-    depth, at, fresh = 0, start, True
-    while at < end:
-        attribute = ATTRIBUTE.match(shape, at) if depth == 0 else None
-        if attribute and fresh:
-            at = shape.index("]", attribute.end()) + 1
-            continue
-        sign = shape[at]
-        if depth == 0 and fresh and (sign.isalpha() or sign == "_"):
-            yield at
-            fresh = False
-        depth += (sign in "({[<") - (sign in ")}]>")
-        fresh = fresh or (depth == 0 and sign == ",")
-        at += 1
-
-
-class _Reader:
-    """A source that is looked through for items."""
-
-    def __init__(self, text: str) -> None:
-        self.source = Source.of(text)
-        self.lines = text.split("\n")
-
-    def item(self, kind: str, name: str, at: int) -> Item:
-        """The item whose name stands at a place."""
-        line = self.source.shape.count("\n", 0, at)
-        gives = self.source.part(at, self.source.end_of_head(at)) if kind == "fn" else ""
-        head = re.split(r"\b(?:requires|ensures|decreases)\b", gives)[0]
-        return Item(kind, name, line + 1, sentence_above(self.lines, line), head.rstrip().endswith("-> bool"))
-
-    def inside(self, kind: str, at: int) -> Iterator[Item]:
-        """The variants of an enum, or the functions of a trait, whose name ends at a place."""
-        opening = self.source.end_of_head(at)
-        end = self.source.closing(opening) - 1
-        if kind == "enum":
-            for place in variants_of(self.source.shape, opening + 1, end):
-                name = re.compile(r"\w+").match(self.source.shape, place)
-                yield self.item("variant", name[0] if name else "", place)
-            return
-        at = opening + 1
-        while found := MEMBER.search(self.source.shape, at, end):
-            yield self.item("fn", found["name"], found.start("name"))
-            at = self.source.end_of_head(found.end())
-            at = self.source.closing(at) if self.source.shape[at] == "{" else at
-
-
 def items_of(text: str) -> Iterator[Item]:
-    """The public items of a source in their order. A module that says at its top what it holds needs no sentence where
-    it is named, so that modules aren't among them."""
-    reader = _Reader(text)
-    for found in ITEM.finditer(reader.source.shape):
-        if found["field"]:
-            yield reader.item("field", found["field"], found.start("field"))
-        elif found["const"]:
-            yield reader.item("const", found["constant"], found.start("constant"))
-        elif found["kind"] != "mod":
-            yield reader.item(found["kind"], found["name"], found.start("name"))
-            if found["kind"] in ("enum", "trait"):
-                yield from reader.inside(found["kind"], found.end())
+    """The public items of a source in their order."""
+    lines, holder = text.split("\n"), ""
+    for at, line in enumerate(lines):
+        found, kind = ITEM.match(line), ""
+        if found:
+            kind = found["kind"] or found["const"] or ("field" if found["field"] else "")
+        elif holder and (found := INSIDE[holder].match(line)):
+            kind = MEMBERS[holder]
+        if found and kind:
+            is_bool = kind == "fn" and GIVES_BOOL.match("\n".join(lines[at : at + 20])) is not None
+            yield Item(kind, found["name"], at + 1, sentence_above(lines, at), is_bool)
+        if kind in INSIDE and "}" not in line or line.startswith("}"):
+            holder = kind

@@ -5,12 +5,12 @@ instead. plain-words-stay.tsv has the places where a word stays: the row's name 
 the place matches, and why. A pattern that begins with `^` minds capitals, others don't. The kinds are `comments` of
 sources, definitions and edits, `lemmas` (the comments of proofs), `names`, `documents` and `scripts`.
 """
-import ast
 import csv
 import fnmatch
 import io
 import re
 import tokenize
+from itertools import groupby
 from pathlib import Path
 from typing import Iterator, List, NamedTuple, Optional, Tuple
 
@@ -23,11 +23,16 @@ NAME = re.compile(r"[A-Za-z][\w'+-]*")
 TEXT = re.compile(r'b?"(?:\\.|[^"\\])*"')
 FENCE = re.compile(r"^ *```")
 SPAN = re.compile(r"`[^`]*`")
+ENTRY = re.compile(r"\s*(?:- |\||#|\d+\. )")
 MACRO = re.compile(r"^[.'][A-Za-z]+ ?|\\f[BIRP]|\\")
-DOCUMENTS = ("*.md", "docs/*.md", "scripts/*.md", "scripts/*/*.md", "library/*.md", "python/*.md", "vectors/*.md",
-             "crates/*/data/*.md", "man/*.1")
-# Tables of streams, whose lines of `#` say what each shows.
-TABLES = ("crates/*/data/*.rows", "vectors/*.rows")
+DOCSTRING = re.compile(r'r?"""(.*)"""', re.DOTALL)
+# What is looked through, but for what was built. (Of tables of streams these are lines of `#`, which say what each
+# shows.)
+FILES = (
+    "crates/*/*/**/*.rt", "crates/*/*/**/*.antt", "crates/*/*/*.edit", "crates/*/data/*.rows", "crates/*/data/*.md",
+    "*.md", "docs/*.md", "scripts/**/*", "library/**/*", "python/*.md", "vectors/*.md", "vectors/*.rows", "man/*.1",
+    "docs/wrong-bodies.tsv",
+)
 
 
 class Text(NamedTuple):
@@ -106,19 +111,15 @@ def stays_in(folder: Path = FOLDER) -> List[Stay]:
 
 def comments_in(text: str, kind: str, file: str) -> Iterator[Text]:
     """The comments of a source or of an edit; lines of comments below one another are one."""
-    words: List[str] = []
-    began, last = 0, ""
-    for number, line in enumerate([*text.split("\n"), ""], 1):
-        found = COMMENT.match(line)
-        mark = found["mark"] if found and not found["before"].strip() else ""
-        if words and mark != last:
-            yield Text(kind, file, began, " ".join([last, *words]))
-            words = []
-        if mark and found:
-            began, last = began if words else number, mark
-            words.append((found["words"] or "").strip())
-        elif found and found["before"].count('"') % 2 == 0:
-            yield Text(kind, file, number, f"{found['mark']} {found['words'] or ''}")
+    found = [(number, COMMENT.match(line)) for number, line in enumerate(text.split("\n"), 1)]
+    for mark, group in groupby(found, lambda it: it[1]["mark"] if it[1] and not it[1]["before"].strip() else ""):
+        block = [(number, it["before"], it["mark"], (it["words"] or "").strip()) for number, it in group if it]
+        if mark:
+            yield Text(kind, file, block[0][0], " ".join([mark, *(words for _, _, _, words in block)]))
+            continue
+        for number, before, own, words in block:
+            if before.count('"') % 2 == 0:
+                yield Text(kind, file, number, f"{own} {words}")
 
 
 def spaced(name: str) -> str:
@@ -145,11 +146,9 @@ def prose_in(text: str, file: str) -> Iterator[Text]:
     is_code, began = False, 0
     for number, line in enumerate([*text.split("\n"), ""], 1):
         if FENCE.match(line):
-            is_code = not is_code
-            line = ""
+            is_code, line = not is_code, ""
         plain = MACRO.sub("", line) if file.endswith(".1") else line
-        starts = bool(re.match(r"\s*(?:- |\||#|\d+\. )", plain))
-        if words and (is_code or not plain.strip() or starts):
+        if words and (is_code or not plain.strip() or ENTRY.match(plain)):
             yield Text("documents", file, began, SPAN.sub("`", " ".join(words)))
             words = []
         if plain.strip() and not is_code and not line.startswith("    "):
@@ -160,48 +159,38 @@ def prose_in(text: str, file: str) -> Iterator[Text]:
 def python_words(text: str, file: str) -> Iterator[Text]:
     """The comments and docstrings of a script."""
     for token in tokenize.generate_tokens(io.StringIO(text).readline):
-        if token.type == tokenize.COMMENT:
-            yield Text("scripts", file, token.start[0], token.string)
-    for node in ast.walk(ast.parse(text)):
-        if isinstance(node, (ast.FunctionDef, ast.ClassDef, ast.AsyncFunctionDef, ast.Module)):
-            words = ast.get_docstring(node)
-            line = 1 if isinstance(node, ast.Module) else node.lineno
-            if words:
-                yield Text("scripts", file, line, " ".join(words.split()))
+        begins = token.type == tokenize.STRING and not token.line[: token.start[1]].strip()
+        said = DOCSTRING.fullmatch(token.string) if begins else None
+        if said or token.type == tokenize.COMMENT:
+            yield Text("scripts", file, token.start[0], " ".join((said[1] if said else token.string).split()))
 
 
-def texts_of_crates(top: Path) -> Iterator[Text]:
-    """The comments and names of all crates, and the names and comments of their edits."""
-    for path in sorted(top.glob("crates/*/*/**/*")):
-        file, folder = str(path.relative_to(top)), path.relative_to(top).parts[2]
-        if folder == "out":
-            continue
-        if path.suffix in (".rt", ".antt"):
-            text = path.read_text("utf-8")
-            yield from comments_in(text, "lemmas" if folder == "proofs" else "comments", file)
-            yield from names_in(text, file)
-        elif path.suffix == ".edit":
-            yield Text("names", file, 1, spaced(path.stem))
-            for one in comments_in(re.sub(r"(?m)^(?:old|new):", "", path.read_text("utf-8")), "comments", file):
-                yield one
+def texts_in(file: str, text: str) -> Iterator[Text]:
+    """What is looked through of a file: comments, names, paragraphs, or what its lines say."""
+    path, lines = Path(file), enumerate(text.splitlines(), 1)
+    if path.suffix in (".rt", ".antt"):
+        yield from comments_in(text, "lemmas" if "/proofs/" in file else "comments", file)
+        yield from names_in(text, file)
+    elif path.suffix == ".edit":
+        yield Text("names", file, 1, spaced(path.stem))
+        yield from comments_in(re.sub(r"(?m)^(?:old|new):", "", text), "comments", file)
+    elif path.suffix in (".md", ".1"):
+        yield from prose_in(text, file)
+    elif path.suffix == ".rows":
+        yield from (Text("documents", file, number, line) for number, line in lines if line.startswith("#"))
+    elif path.suffix == ".tsv":
+        yield from (Text("documents", file, number, SPAN.sub("`", line.split("\t")[-1])) for number, line in lines)
+    elif path.suffix == ".py" or text.startswith("#!/usr/bin/python3"):
+        yield from python_words(text, file)
 
 
-def texts_of_documents(top: Path) -> Iterator[Text]:
-    """The paragraphs of all documents, what tables of streams and the list of wrong bodies say, and the comments of
-    scripts."""
-    for path in sorted(path for pattern in DOCUMENTS for path in top.glob(pattern)):
-        yield from prose_in(path.read_text("utf-8"), str(path.relative_to(top)))
-    for number, line in enumerate((top / "docs" / "wrong-bodies.tsv").read_text("utf-8").splitlines(), 1):
-        yield Text("documents", "docs/wrong-bodies.tsv", number, SPAN.sub("`", line.split("\t")[-1]))
-    for path in sorted(path for pattern in TABLES for path in top.glob(pattern)):
-        for number, line in enumerate(path.read_text("utf-8").splitlines(), 1):
-            if line.startswith("#"):
-                yield Text("documents", str(path.relative_to(top)), number, line)
-    for path in sorted(path for folder in ("scripts", "library") for path in (top / folder).rglob("*")):
-        if path.is_file() and "__pycache__" not in path.parts and not path.suffix == ".md":
-            text = path.read_text("utf-8")
-            if path.suffix == ".py" or text.startswith("#!/usr/bin/python3"):
-                yield from python_words(text, str(path.relative_to(top)))
+def files_in(top: Path) -> Iterator[str]:
+    """The files that are looked through, by their paths below the top."""
+    for path in sorted({path for pattern in FILES for path in top.glob(pattern)}):
+        file = path.relative_to(top)
+        of_script = file.parts[0] in ("scripts", "library") and file.suffix in (".tsv", ".rows", ".rt", ".1")
+        if path.is_file() and not {"out", "__pycache__"} & {*file.parts} and not of_script:
+            yield str(file)
 
 
 def findings_in(text: Text, rules: List[Rule], stays: List[Stay]) -> Iterator[Finding]:

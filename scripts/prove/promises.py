@@ -7,14 +7,13 @@ import csv
 import re
 import textwrap
 from collections import Counter
+from itertools import zip_longest
 from pathlib import Path
-from typing import Dict, Iterator, List, NamedTuple, Optional, Tuple
+from typing import Dict, Iterator, List, NamedTuple, Optional
 
 LIST = "docs/wrong-bodies.tsv"
 PROMISES = "docs/PROMISES.md"
-COLUMNS = ["crate", "edit", "file", "function", "place", "shows", "breaks", "does"]
-# What the list says of an edit that no clause refuses that a caller sees.
-WITHIN = "refused within the crate alone"
+COLUMNS = ["crate", "edit", "file", "function", "place", "kept", "breaks", "does"]
 NO_EDIT = "-"
 LEAD = "Refused is a body that\n\n"
 BODIES = re.compile(rf"{LEAD}(?:- .*\n(?:  .*\n)*)+\n?")
@@ -31,7 +30,7 @@ class Row(NamedTuple):
     file: str
     function: str
     place: str
-    shows: str
+    kept: str
     breaks: str
     does: str
 
@@ -55,8 +54,7 @@ def _places(rows: List[Row], names: Dict[Row, str]) -> str:
     """Where the bodies of some rows are refused, and their names."""
     told: Dict[str, List[str]] = {}
     for row in sorted(rows, key=lambda row: PLACE_ORDER.index(row.place)):
-        word = f"{row.place}, within" if row.shows == WITHIN else row.place
-        told.setdefault(word, []).extend([] if row.edit == NO_EDIT else [f"`{names[row]}`"])
+        told.setdefault(row.place, []).extend([] if row.edit == NO_EDIT else [f"`{names[row]}`"])
     return "; ".join(f"{word}: {', '.join(edits)}" if edits else word for word, edits in told.items())
 
 
@@ -113,9 +111,7 @@ def faults_of_promises(root: Path) -> Iterator[Optional[str]]:
 
 def _differences(there: List[str], wanted: List[str]) -> Iterator[Optional[str]]:
     """The first line of the page that isn't as the list wants it, or None."""
-    pairs: Iterator[Tuple[int, Tuple[str, str]]] = enumerate(zip([*there, ""], [*wanted, ""]), 1)
+    pairs = enumerate(zip_longest(there, wanted), 1)
     first = next((number for number, (one, other) in pairs if one != other), 0)
-    if not first and len(there) != len(wanted):
-        first = min(len(there), len(wanted)) + 1
     again = "run scripts/prove/write-promises"
     yield f"{PROMISES}:{first}: the wrong bodies aren't those of {LIST}: {again}" if first else None

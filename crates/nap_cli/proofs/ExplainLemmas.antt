@@ -1,11 +1,14 @@
-use Rattle.std.proofs.Common.{◌≡◌, ◌≢◌, ◌∙◌, ◌||◌, inr, ℕ, List, [], true, Err}
+use Rattle.std.proofs.Common.{◌≡◌, ◌≢◌, ◌∙◌, ◌||◌, ◌&&◌, inl, inr, ℕ, zero, suc, Bool, List, [], ◌∷◌, Option, Result, true, false, Ok, Err, take, refl}
 use Rattle.std.proofs.Math.Bool.{or-true}
 use Rattle.clap.specs.declared.error.kind.ErrorKind.{ErrorKind}
 use Rattle.clap.specs.declared.error.kind.ErrorKind.TheVariants as kind
 use Rattle.nap_command.specs.declared.failure.Failure.{Failure}
 use Rattle.nap_command.specs.declared.failure.Failure.TheVariants as failure
 use Rattle.nap_command.specs.Devices.{Takes}
-use Rattle.nap_cli.specs.Explaining.{Explains, FlushesOnce, Outputs, ShowsHelp, ShowsText, LacksMemory}
+use Rattle.std.specs.List.{list_all}
+use Rattle.std.specs.Io.KnownBytes.{Appends}
+use Rattle.nap_cli.specs.Explaining.{Explains, FlushesOnce, Outputs, ReportsWrong, ShowsHelp, ShowsText, LacksMemory}
+use Rattle.nap_cli.specs.Plain.{IsPlain, is_plain}
 
 -- words of any kind, if memory runs out
 
@@ -44,3 +47,31 @@ shows_failing before after text (failure.Line number column) h e once = absurd h
 shows_failing before after text (failure.Misfit number) h e once = absurd h
 shows_failing before after text (failure.Open number opening) h e once = absurd h
 shows_failing before after text failure.Memory h e once = absurd h
+
+-- words that are wrong
+pub explains_wrong : (k : ErrorKind) (before after : Outputs) (status : ℕ) → k ≢ kind.DisplayHelp → k ≢ kind.DisplayVersion → k ≢ kind.OutOfMemory →
+    ReportsWrong before after status → Explains k before after status
+explains_wrong kind.DisplayHelp before after status a b c h = absurd (a refl)
+explains_wrong kind.DisplayVersion before after status a b c h = absurd (b refl)
+explains_wrong kind.OutOfMemory before after status a b c h = absurd (c refl)
+explains_wrong _ before after status a b c h = inl h
+
+and-both : (a b : Bool) → (a && b) ≡ true → (a ≡ true) × (b ≡ true)
+and-both true b h = (refl, h)
+and-both false b h = let bad : ⊥ = cc in absurd bad
+
+and-of : (a b : Bool) → a ≡ true → b ≡ true → (a && b) ≡ true
+and-of true b h k = k
+and-of false b h k = let bad : ⊥ = cc in absurd bad
+
+-- a part of plain text is plain
+pub plain_part : (n : ℕ) (text : List ℕ) → IsPlain text → IsPlain (take n text)
+plain_part zero text h = refl
+plain_part (suc n) [] h = refl
+plain_part (suc n) (x ∷ xs) h = let both = and-both (is_plain x) (list_all is_plain xs) h in and-of (is_plain x) (list_all is_plain (take n xs)) both.0 (plain_part n xs both.1)
+
+-- what standard error took of plain text is plain
+pub takes_plain : (old new : Option (List ℕ)) (text : List ℕ) (r : Result (Unit {0}) Failure) → Takes old new text r → IsPlain text → (e : List ℕ) × Appends old new e × IsPlain e
+takes_plain old new text (Ok done) h plain = (text, h, plain)
+takes_plain old new text (Err (failure.Write n)) h plain = (take n text, h.1, plain_part n text plain)
+takes_plain old new text (Err _) h plain = absurd h

@@ -10,6 +10,7 @@ use Rattle.nap_command.specs.declared.failure.Failure.{Failure}
 use Rattle.nap_command.specs.declared.failure.Failure.TheVariants as failure
 use Rattle.nap_command.specs.Devices.{Devices, Takes}
 use Rattle.nap_command.specs.Commands.{Reports}
+use Rattle.nap_cli.specs.Plain.{IsPlain}
 
 -- The two outputs of a command: the bytes that they took, if they tell them; whether the first was flushed after its
 -- last write, and the number of flushes; which have failed, and whether a write of the first has.
@@ -86,11 +87,12 @@ pub record LacksMemory (before after : Outputs) (status : ℕ) : Type 0 where
   pub reported : Appends before.reported after.reported e
   pub tells : Reports e after.errors_failed (Err failure.Memory) status
 
--- Standard error took clap's report of the words, and nothing was printed.
+-- Standard error took clap's report of the words, on which no terminal acts, and nothing was printed.
 pub record ReportsWrong (before after : Outputs) (status : ℕ) : Type 0 where
   pub unprinted : Unprinted before after
   pub e : List ℕ
   pub reported : Appends before.reported after.reported e
+  pub plain : IsPlain e
   pub status_is : status ≡ 2
 
 -- the answer to words that ask for no command, by what clap finds: help, lack of memory, or what is wrong

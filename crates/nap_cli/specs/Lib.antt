@@ -1,2 +1,4 @@
+pub mod Plain
 pub mod Explaining
 pub mod CommandLine
+pub mod Reporting

@@ -32,11 +32,11 @@ fn explain<O: Outlet, E: Outlet>(
         return (output, report(Failure::Memory, errors));
     }
     if error.use_stderr() {
-        let _ = write_whole(errors, text.as_bytes());
+        let _ = write_whole(errors, text.as_slice());
         return (output, 2);
     }
     let mut output = output;
-    match write_whole(&mut output, text.as_bytes()) {
+    match write_whole(&mut output, text.as_slice()) {
         Ok(()) => (output, 0),
         Err(fault) => {
             let status = report(fault, errors);

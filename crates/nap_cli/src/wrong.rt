@@ -1,5 +1,9 @@
 //! Reports of a wrong command line.
+ghost use Rattle.std.specs.Prelude.{IfOk};
+ghost use Rattle.nap_cli.specs.Plain.{IsPlain};
 
+use crate::plain::{escaped, is_printable};
+use crate::words::parse;
 use clap::Error;
 use clap::error::ErrorKind;
 use nap_reader::Budget;
@@ -9,7 +13,10 @@ use std::alloc::{AllocError, Global};
 const COMMANDS: &str = "The commands are list, check, canon, make and batch.\n";
 
 /// Appended to clap's report if a word may be meant as the file of a page.
-const HINT: &str = "A page is read from standard input: naplps check < FILE\n";
+const PAGE_HINT: &str = "A page is read from standard input: naplps check < FILE\n";
+
+/// Appended to clap's report if a word may be meant as the file of the lines of `make`.
+const LINES_HINT: &str = "Lines are read from standard input: naplps make < FILE\n";
 
 /// Whether a word may be meant as the file of a page: one that clap took for a command, but not after `help`; or one
 /// after a command that isn't an option.
@@ -27,6 +34,14 @@ fn names_file(words: &[String], kind: ErrorKind) -> bool {
     }
 }
 
+/// Returns how the input is given to the command that the first of these words names.
+fn hint_for(words: &[String]) -> &'static str {
+    match words.first() {
+        Some(first) if first.as_str() == "make" => LINES_HINT,
+        _ => PAGE_HINT,
+    }
+}
+
 /// Returns clap's report of a wrong value of `--budget`, with the allowed range instead of what follows its last colon.
 fn with_range(alloc: Global, said: &str) -> Result<String, AllocError> {
     match said.rsplit_once(": ") {
@@ -38,10 +53,37 @@ fn with_range(alloc: Global, said: &str) -> Result<String, AllocError> {
     }
 }
 
+/// Returns these words with escapes for all but printable characters of ASCII.
+fn escaped_words(alloc: Global, words: &[String]) -> Result<Vec<String>, AllocError> {
+    let mut shown = Vec::with_capacity(alloc, words.len())?;
+    for word in words {
+        let mut text = String::new(alloc);
+        for byte in escaped(alloc, word.as_bytes(), false)? {
+            text.push(char::from(byte))?;
+        }
+        shown.push(text)?;
+    }
+    Ok(shown)
+}
+
+/// Returns what clap says of these words, as if they had been given with their escapes.
+fn said_of(alloc: Global, words: &[String], error: &Error) -> Result<String, AllocError> {
+    if words.iter().all(|word| word.as_bytes().iter().all(|&byte| is_printable(byte))) {
+        return error.to_string(alloc);
+    }
+    let words = escaped_words(alloc, words)?;
+    match parse(alloc, words.as_slice()) {
+        Ok(_) => error.to_string(alloc),
+        Err(error) => error.to_string(alloc),
+    }
+}
+
 /// Returns clap's report of these words, followed by help.
-pub fn text_of(alloc: Global, words: &[String], error: &Error) -> Result<String, AllocError> {
+pub fn text_of(alloc: Global, words: &[String], error: &Error) -> Result<Vec<u8>, AllocError>
+    ensures { IfOk result (λ text. IsPlain text.items) }
+{
     let kind = error.kind();
-    let mut text = error.to_string(alloc)?;
+    let mut text = said_of(alloc, words, error)?;
     if kind == ErrorKind::ValueValidation {
         text = with_range(alloc, text.as_str())?;
     }
@@ -49,7 +91,7 @@ pub fn text_of(alloc: Global, words: &[String], error: &Error) -> Result<String,
         text.push_str(COMMANDS)?;
     }
     if names_file(words, kind) {
-        text.push_str(HINT)?;
+        text.push_str(hint_for(words))?;
     }
-    Ok(text)
+    escaped(alloc, text.as_bytes(), true)
 }

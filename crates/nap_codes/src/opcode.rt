@@ -8,7 +8,7 @@ use std::fmt;
 /// The byte of the first opcode of the PDI set. The variants of `Opcode` are in the order of their bytes.
 pub const FIRST_OPCODE: u8 = 0x20;
 
-/// An opcode of the PDI set, by its name in the standard (PROFILE.md, Opcodes).
+/// An opcode of the PDI set, named as in the standard (PROFILE.md, Opcodes).
 #[derive(Clone, Copy, PartialEq, Eq, Debug, Drop)]
 pub enum Opcode {
     /// RESET: resets parts of the drawing state.

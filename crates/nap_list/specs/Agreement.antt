@@ -38,7 +38,7 @@ pub record Agrees (d shown : Drawing) : Type 0 where
   pub mode : ModeZeroIsBase d.base d.colour
   pub texture : TextureFits shown.texture (Some d.texture)
 
--- both have the same open definition, and the saved attributes agree
+-- both have the same open definition, and their saved attributes agree
 abbrev pub DefinitionsAgree : Option OpenDefinition → Option OpenDefinition → Type 0
 DefinitionsAgree None None = ⊤
 DefinitionsAgree (Some opened) (Some shown) = (opened.what ≡ shown.what) × Agrees opened.saved shown.saved

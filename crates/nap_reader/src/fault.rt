@@ -27,7 +27,7 @@ pub enum Fault {
     LeftOut(Left),
     /// DOMAIN in three dimensions: b6 of its word is set.
     ThreeD,
-    /// A required operand of an opcode is missing entirely.
+    /// A required operand of an opcode is missing.
     Missing,
     /// SET COLOR with more than one operand.
     ManyColours,

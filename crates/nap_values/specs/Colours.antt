@@ -1,6 +1,6 @@
 use Rattle.std.specs.Prelude.{ℕ, ◌<◌}
 
--- the green, red and blue components of a colour
+-- a colour as its green, red and blue components
 pub record Components : Type 0 where
   pub g : ℕ
   pub r : ℕ

@@ -21,7 +21,7 @@ impl Model for Word {
 }
 
 impl Word {
-    /// The word whose bits are all zero.
+    /// The word with all bits zero.
     pub const ZERO: Word = Word(0);
 
     /// Every word is below this limit.

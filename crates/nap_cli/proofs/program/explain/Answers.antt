@@ -1,10 +1,11 @@
-use Rattle.std.proofs.Common.{◌∙◌, [], Ok, Err, refl, rules}
+use Rattle.std.proofs.Common.{◌≡◌, ◌∙◌, [], Ok, Err, refl, rules, subst, sym}
 use Rattle.std.proofs.KnownBytes.{Appends-nil}
 use Rattle.std.proofs.Math.Bool.{or-false}
 use Rattle.clap.specs.Values.{kind_of}
 use Rattle.nap_command.specs.declared.answer.Verdict.TheVariants as verdict
 use Rattle.nap_cli.specs.Explaining.{outputs}
-use Rattle.nap_cli.proofs.ExplainLemmas.{explains_help, explains_memory, shows_failing}
+use Rattle.nap_cli.specs.Plain.{IsPlain}
+use Rattle.nap_cli.proofs.ExplainLemmas.{explains_help, explains_memory, explains_wrong, shows_failing, takes_plain}
 use Rattle.nap_cli.proofs.OptionLemmas.{true_or_false}
 use Rattle.nap_cli.proofs.program.explain.Goals as goal
 
@@ -17,7 +18,7 @@ pub returns-in-Ok-write_whole : goal.returns-in-Ok-write_whole
 returns-in-Ok-write_whole g c =
     let write = c.in-Ok-write_whole.ensures in
     explains_help (kind_of c.args.error) _ _ _ (λ h. true_or_false c.use_stderr.result c.if-use_stderr.false (c.use_stderr.ensures.1 h)) (record {
-      text = c.as_bytes-2.result.now;
+      text = c.as_slice-2.result.now;
       e = [];
       ended = Ok verdict.Accepted;
       shown = (write.takes, write.failed ∙ or-false _, write.sent, write.flushes);
@@ -32,13 +33,23 @@ returns g c =
     let before = outputs g.O.Outlet g.E.Outlet c.args.output c.args.errors.now in
     let after = outputs g.O.Outlet g.E.Outlet c.write_whole-2.new.output c.report-status.new.errors in
     explains_help (kind_of c.args.error) before after _ (λ h. true_or_false c.use_stderr.result c.if-use_stderr.false (c.use_stderr.ensures.1 h)) (record {
-      text = c.as_bytes-2.result.now;
+      text = c.as_slice-2.result.now;
       e = t.0;
       ended = Err c.in-Err.fault;
-      shown = shows_failing before after c.as_bytes-2.result.now c.in-Err.fault write.takes write.failed write.flushes;
+      shown = shows_failing before after c.as_slice-2.result.now c.in-Err.fault write.takes write.failed write.flushes;
       reported = t.1;
       tells = t.2;
     })
 
 pub returns-then-use_stderr : goal.returns-then-use_stderr
-returns-then-use_stderr g c = search rules
+returns-then-use_stderr g c =
+    let plain : IsPlain c.as_slice.result.now = subst IsPlain (sym c.as_slice.ensures.value) c.in-Ok.ensures in
+    let e = takes_plain _ _ _ _ c.write_whole.ensures.takes plain in
+    let kinds = c.use_stderr.ensures.0 c.if-use_stderr.true in
+    explains_wrong (kind_of c.args.error) _ _ _ kinds.0 kinds.1 (λ h. search rules) (record {
+      unprinted = record { taken = refl; sent = refl; failed = refl; write_failed = refl; flushes = refl };
+      e = e.0;
+      reported = e.1;
+      plain = e.2;
+      status_is = refl;
+    })

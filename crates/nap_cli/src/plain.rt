@@ -1,0 +1,48 @@
+//! Text that a terminal shows and doesn't act on.
+ghost use Rattle.std.specs.Prelude.{◌≡◌, ◌<◌, true, IfOk};
+ghost use Rattle.nap_cli.specs.Plain.{is_plain, IsPlain};
+
+use std::alloc::{AllocError, Global};
+
+/// Whether a byte is a printable character of ASCII.
+pub fn is_printable(byte: u8) -> bool
+    ensures { result ≡ true → is_plain byte ≡ true }
+{
+    matches!(byte, b' '..=b'~')
+}
+
+/// Returns the hexadecimal digit of a number.
+fn digit(number: u8) -> u8
+    requires { number < 16 }
+    ensures { is_plain result ≡ true }
+{
+    if number < 10 {
+        b'0' + number
+    } else {
+        b'a' - 10 + number
+    }
+}
+
+/// Appends the escape of a byte.
+fn push_escape(plain: &mut Vec<u8>, byte: u8) -> Result<(), AllocError>
+    requires { IsPlain plain.old.items }
+    ensures { IfOk result (λ done. IsPlain plain.new.items) }
+{
+    plain.extend_from_slice(&[b'\\', b'x', digit(byte / 16), digit(byte % 16)])
+}
+
+/// Returns a text in which each byte but those of printable characters of ASCII is an escape, as `\x1b`. Its line ends
+/// stay if they end `lines`.
+pub fn escaped(alloc: Global, text: &[u8], lines: bool) -> Result<Vec<u8>, AllocError>
+    ensures { IfOk result (λ plain. IsPlain plain.items) }
+{
+    let mut plain = Vec::with_capacity(alloc, text.len())?;
+    for &byte in text {
+        if is_printable(byte) || (lines && byte == b'\n') {
+            plain.push(byte)?;
+        } else {
+            push_escape(&mut plain, byte)?;
+        }
+    }
+    Ok(plain)
+}

@@ -1,0 +1,53 @@
+"""Tests of what is read of plants, and of the streams of edits."""
+import unittest
+
+from prove.plants import Finding, differences, known_in, planted_in
+from prove.streams import stream_of
+
+SAID = """\
+rt: checking the crate as it stands
+proves      src/points.rt:12 Points::with_capacity: { Points::new(alloc) }
+proves      src/a.rt:3 <Half<T> as Halves>::put: { if a || b { 1 } else { 2 } }  (and in 3 more impls)
+no-ensures  src/io.rt:7 low::log()
+note: some words
+plants crate=low planted-in=9 untested=0 no-ensures=1 proves=2 same=0 refused=8 elsewhere=0 not-judged=0 not-run=0
+"""
+PAGE = """\
+| Crate | Kind | Function | Body | Verdict |
+|---|---|---|---|---|
+| nap_low | proves | `Points::with_capacity` | `{ Points::new(alloc) }` | harmless: the capacity isn't seen |
+| nap_low | proves | `<Half<T> as Halves>::put` | `{ if a \\|\\| b { 1 } else { 2 } }` | harmless: the same |
+| nap_low | no-ensures | `low::log` | | not excluded yet |
+"""
+
+
+class Plants(unittest.TestCase):
+    """A crate with three findings."""
+
+    def test_what_was_found_is_what_is_known(self) -> None:
+        planted = planted_in("nap_low", SAID)
+        assert planted is not None
+        self.assertEqual((len(planted.findings), planted.functions, planted.is_whole), (3, 9, True))
+        self.assertEqual(planted.findings, known_in(PAGE))
+        self.assertEqual(list(differences("nap_low", planted, known_in(PAGE))), [])
+
+    def test_what_is_new_or_gone(self) -> None:
+        planted, another = planted_in("nap_low", SAID), Finding("nap_low", "untested", "low::other", "")
+        assert planted is not None
+        known = known_in(PAGE) - {Finding("nap_low", "no-ensures", "low::log", "")} | {another}
+        new, gone = differences("nap_low", planted, known)
+        self.assertTrue(new.endswith("\n| nap_low | no-ensures | `low::log` |  | .. |"))
+        self.assertTrue(gone.endswith("\n| nap_low | untested | `low::other` |  | .. |"))
+        self.assertEqual(len(list(differences("nap_low", planted._replace(is_whole=False), known))), 1)
+
+    def test_a_run_that_did_not_end(self) -> None:
+        self.assertIsNone(planted_in("nap_low", SAID.rpartition("plants")[0]))
+        self.assertIsNone(planted_in("nap_low", ""))
+
+    def test_streams_are_bytes_and_texts(self) -> None:
+        self.assertEqual(stream_of('"POINT 0" 0A (26 52)*2 00*3'), b"POINT 0\n&R&R\0\0\0")
+        self.assertEqual(stream_of("-"), b"")
+
+
+if __name__ == "__main__":
+    unittest.main()
