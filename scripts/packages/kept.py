@@ -2,11 +2,14 @@
 import hashlib
 import os
 import re
+import shutil
 import subprocess
 import sys
 from pathlib import Path
 from typing import Dict, List, NamedTuple, Optional, Tuple
 
+from packages.keeping import keeping
+from prove.sums import Unread, sum_of
 from shared.layout import TOP
 
 KEPT = TOP / "dist" / "x86_64-linux-gnu"
@@ -14,6 +17,8 @@ MADE = KEPT / "MADE"
 PROGRAM, ARCHIVE, HEAP = "naplps", "libnap_c.a", "liblibc_c.a"
 MODES = {PROGRAM: 0o755, ARCHIVE: 0o644, HEAP: 0o644}
 BUILT = TOP / "crates" / "nap_cli" / "out" / "nap_cli"
+# The LLVM code of which the archive was compiled once the gate had passed.
+CODE = TOP / "crates" / "nap_c" / "out" / "nap_c.bc"
 VERDICT = re.compile(r"logic=proved functions=\d+ .*")
 LOGIC = re.compile(r".* logic (\S+)")
 
@@ -60,8 +65,16 @@ def ask(*words: object, folder: Path = TOP, errors: Optional[int] = None) -> str
 
 
 def sources_sum(crate: str) -> str:
-    """The checksum of what a crate is made from."""
-    return ask(TOP / "scripts" / "prove" / "sources-sum", crate)
+    """The checksum of what a crate is made from, without comments and layout; raises NotProved."""
+    try:
+        return sum_of(TOP, crate)
+    except Unread as error:
+        raise NotProved(str(error)) from None
+
+
+def files_sum(crate: str) -> str:
+    """The checksum of the files that a crate is made from, byte by byte."""
+    return ask(TOP / "scripts" / "prove" / "files-sum", crate)
 
 
 def file_sum(path: Path) -> str:
@@ -114,8 +127,10 @@ def kept_library() -> Optional[Tuple[Path, Path]]:
 
 def archive_after_gate() -> Path:
     """The archive of nap_c, once `rt ci` has passed: it is proved again over the libraries that `rt ci` left in the
-    crates, and compiled. (`rt lib` doesn't take those, and would prove each crate below a second time.) Where libraries
-    of other commands stand there, `rt lib` makes it."""
+    crates, and compiled. (`rt lib` doesn't take those, and would prove each crate below a second time.) The LLVM code
+    of that is left beside it, as CODE. Where libraries of other commands stand there, `rt lib` makes the archive, and
+    there is no CODE."""
+    CODE.unlink(missing_ok=True)
     libraries = {name: TOP / "crates" / name / "out" / "rlib" for name in below("nap_c")[:-1]}
     if any((rlib / "stamp").exists() or not (rlib / f"{name}.rlib").is_dir() for name, rlib in libraries.items()):
         return archive()
@@ -126,11 +141,16 @@ def archive_after_gate() -> Path:
     for rlib in libraries.values():
         words += ["-L", f"dependency={rlib}"]
     words += ["--antt-project", f"{kit}/rattle/logic/antt-project.json", "--logic-built", f"{kit}/logic_built"]
-    words += ["--links", "nap_c=", "--jobs", "2", "--crate-type", "staticlib", "--toolchain", f"{kit}/toolchain"]
+    words += ["--links", "nap_c=", "--jobs", "2", "--crate-type", "staticlib", "--backend", "llvm"]
     (folder / "out").mkdir(exist_ok=True)
     made = folder / "out" / ARCHIVE
     made.unlink(missing_ok=True)
-    said = ask(*words, "--backend", "llvm", "-o", made, folder=folder, errors=subprocess.STDOUT)
+    with keeping(kit / "toolchain") as tools:
+        words += ["--toolchain", str(tools.toolchain), "-o", str(made)]
+        said = ask(*words, folder=folder, errors=subprocess.STDOUT)
+        modules = tools.modules()
+        if len(modules) == 1:
+            shutil.copy(modules[0], CODE)
     verdicts = [line for line in said.splitlines() if VERDICT.fullmatch(line)]
     if len(verdicts) != 1 or not made.is_file():
         raise NotProved("rattle build told no verdict on nap_c")

@@ -9,8 +9,10 @@ from typing import Dict
 
 SCRIPTS = Path(__file__).resolve().parents[1]
 COPIED = (
-    "keep", "packages/__init__.py", "packages/kept.py", "packages/test-kept", "pages/__init__.py", "pages/parts.py",
-    "prove/sources-sum", "shared/__init__.py", "shared/judging.py", "shared/layout.py", "shared/suite.py",
+    "keep", "packages/__init__.py", "packages/for_browsers.py", "packages/for_pages.py", "packages/keeping.py",
+    "packages/kept.py", "packages/test-kept", "packages/webassembly.py", "pages/__init__.py", "pages/parts.py",
+    "prove/__init__.py", "prove/clauses.py", "prove/files-sum", "prove/lexing.py", "prove/sources-sum", "prove/sums.py",
+    "shared/__init__.py", "shared/judging.py", "shared/layout.py", "shared/suite.py",
 )
 CRATES = "nap_low: arrayvec\nnap_c staticlib: nap_low\nnap_cli: nap_low clap\nnap_tests: nap_low\n"
 RT = r"""#!/bin/sh
@@ -52,6 +54,10 @@ class Kept(unittest.TestCase):
         for name in COPIED:
             (self.top / "scripts" / name).parent.mkdir(parents=True, exist_ok=True)
             shutil.copy(SCRIPTS / name, self.top / "scripts" / name)
+        for name in ("naplps", "naplps_pages"):  # (what the page for browsers is made of)
+            shutil.copytree(SCRIPTS.parent / "python" / name, self.top / "python" / name,
+                            ignore=shutil.ignore_patterns("__pycache__"))
+        shutil.copy(SCRIPTS.parent / "VERSION", self.top)
         (self.top / "crates.txt").write_text(CRATES, "ascii")
         for crate, file in (("nap_low", "lib"), ("nap_c", "lib"), ("nap_cli", "main"), ("nap_tests", "lib")):
             self.source(crate, file, crate)
@@ -61,6 +67,7 @@ class Kept(unittest.TestCase):
             tool.write_text(text, "ascii")
             tool.chmod(0o755)
         (self.folder / "kit" / "c").mkdir(parents=True)
+        (self.folder / "kit" / "toolchain" / "bin").mkdir(parents=True)
         (self.folder / "kit" / "c" / "liblibc_c.a").write_text("heap\n", "ascii")
         self.dist = self.top / "dist" / "x86_64-linux-gnu"
 
@@ -82,9 +89,9 @@ class Kept(unittest.TestCase):
         self.assertEqual(said.returncode, 0, said.stdout)
         return dict(line.split(": ", 1) for line in (self.dist / "MADE").read_text("ascii").splitlines())
 
-    def compares(self, wanted: bool, **told: str) -> str:
+    def compares(self, wanted: bool, *words: str, **told: str) -> str:
         """Compares, and looks whether all is well as it should be."""
-        said = self.run_script("packages/test-kept", **told)
+        said = self.run_script("packages/test-kept", *words, **told)
         self.assertEqual(said.returncode == 0, wanted, said.stdout)
         self.assertEqual(said.stdout.endswith(", 0 failed\n"), wanted, said.stdout)
         return said.stdout
@@ -111,6 +118,22 @@ class Kept(unittest.TestCase):
         self.assertNotIn("nap_tests", made)
         self.compares(True)
         self.assertEqual(self.keep(), made)
+
+    def test_comments(self) -> None:
+        """A comment asks for no proof: MADE alone is renewed, by --comments, and only where no token changed."""
+        self.source("nap_cli", "main", "nap_cli // the program")
+        made = self.keep()
+        self.source("nap_cli", "main", "/* the /* whole */ */\n\n  nap_cli")
+        self.assertIn("1 of its runs\nok: the bytes", self.compares(False))
+        said = self.run_script("keep", "--comments")
+        self.assertEqual(said.returncode, 0, said.stdout)
+        self.compares(True)
+        renewed = (self.dist / "MADE").read_text("ascii")
+        changed = [line for line in renewed.splitlines() if line.split(": ", 1)[1] != made[line.split(": ")[0]]]
+        self.assertEqual(changed, [f"program-files: {self.run_script('prove/files-sum', 'nap_cli').stdout.strip()}"])
+        self.source("nap_cli", "main", "another")
+        self.assertIn("more than comments and layout changed", self.run_script("keep", "--comments").stdout)
+        self.assertEqual((self.dist / "MADE").read_text("ascii"), renewed)
 
     def test_refuses_what_is_not_proved(self) -> None:
         """Where `rt ci` fails, or the library isn't proved, or a source changes meanwhile, nothing is kept."""
@@ -162,6 +185,21 @@ class Kept(unittest.TestCase):
         (self.top / "crates" / "nap_low" / "proofs").mkdir()
         (self.top / "crates" / "nap_low" / "proofs" / "Lib.antt").write_text("lemma\n", "ascii")
         self.compares(False)
+
+    def test_a_verdict_of_made_that_is_another(self) -> None:
+        """A verdict of MADE that isn't that of the run is found, and one that says that nothing is proved without a
+        run."""
+        self.keep()
+        path, log = self.dist / "MADE", self.folder / "log"
+        log.write_text("== nap_low\nlogic=proved functions=3 sum=0\n", "ascii")
+        self.compares(True, "--proved", str(log))
+        made = path.read_text("ascii")
+        for old, new in (("functions=3", "functions=4"), ("sum=0", "axioms=14 sum=0")):
+            path.write_text(made.replace(old, new), "ascii")
+            self.assertIn("rt ci said", self.compares(False, "--proved", str(log)))
+        for new in ("unproved", "assumed"):
+            path.write_text(made.replace("proved", new, 1), "ascii")
+            self.assertIn("no verdict on nap_low", self.compares(False))
 
     def test_altered(self) -> None:
         """A changed byte of each file is found, also where MADE has the checksum of what it was changed to."""
