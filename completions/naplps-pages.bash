@@ -1,7 +1,7 @@
 # Completion of naplps-pages for bash.
 _naplps_pages() {
     local word=${COMP_WORDS[COMP_CWORD]} before=${COMP_WORDS[COMP_CWORD - 1]} command='' words index
-    local commands='check list canon explain look play text cures split census make scan merge equal refused convert status files find report serve'
+    local commands='check list canon explain look play text describe cures split carve census make source diff near scan merge equal refused convert status files find report serve'
     for ((index = 1; index < COMP_CWORD; index++)); do
         if [[ " $commands " = *" ${COMP_WORDS[index]} "* ]]; then
             command=${COMP_WORDS[index]}
@@ -11,8 +11,8 @@ _naplps_pages() {
     case $before in
         # (numbers are for the user to say)
         --budget | --seconds | --processes | --part | --most | --number | --reason | --kind | --refused | --sketches | \
-            --port) return ;;
-        --into | --svg | --sheet | --after)
+            --least | --port) return ;;
+        --into | -o | --svg | --sheet | --after)
             compopt -o filenames
             mapfile -t COMPREPLY < <(compgen -f -- "$word")
             return
@@ -25,10 +25,15 @@ _naplps_pages() {
         canon) words='--into --after --budget --seconds --help' ;;
         explain) words='--full --after --budget --seconds --help' ;;
         text) words='--after --budget --seconds --help' ;;
+        describe) words='--html --after --budget --seconds --help' ;;
         look) words='--svg --sheet --into --png --past --after --budget --seconds --help' ;;
         play) words='--into --after --budget --seconds --help' ;;
+        carve) words='--into --dry-run --least --json --budget --seconds --help' ;;
         cures | split) words='--json --into --budget --seconds --help' ;;
-        make) words='--into --look --seconds --help' ;;
+        make) words='--into -o --look --seconds --help' ;;
+        source) words='--budget --seconds --help' ;;
+        near) words='--json --budget --seconds --help' ;;
+        diff) words='--html --budget --seconds --help' ;;
         scan) words='--into --processes --on --part --most --again --cures --words --budget --seconds --help' ;;
         merge) words='--unfinished --help' ;;
         equal) words='--copies --treated --guesses --verify --null --json --csv --seconds --help' ;;

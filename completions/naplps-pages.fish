@@ -7,10 +7,15 @@ complete -c naplps-pages -n __fish_use_subcommand -a explain -d 'Show each entry
 complete -c naplps-pages -n __fish_use_subcommand -a look -d 'Make a sketch of a page as SVG'
 complete -c naplps-pages -n __fish_use_subcommand -a play -d 'Make one HTML file that plays a page'
 complete -c naplps-pages -n __fish_use_subcommand -a text -d 'Print the text of pages'
+complete -c naplps-pages -n __fish_use_subcommand -a describe -d 'Print pages in words'
 complete -c naplps-pages -n __fish_use_subcommand -a cures -d 'Try treatments that make a refused page readable'
 complete -c naplps-pages -n __fish_use_subcommand -a split -d 'Cut a capture into its pages, each a file'
+complete -c naplps-pages -n __fish_use_subcommand -a carve -d 'Find pages inside files of any kind'
 complete -c naplps-pages -n __fish_use_subcommand -a census -d 'Count the codes that stop pages'
 complete -c naplps-pages -n __fish_use_subcommand -a make -d 'Make pages of text that people write, or of lines of list'
+complete -c naplps-pages -n __fish_use_subcommand -a source -d 'Print a page as people write it, for make'
+complete -c naplps-pages -n __fish_use_subcommand -a diff -d 'Print two pages side by side'
+complete -c naplps-pages -n __fish_use_subcommand -a near -d 'Print pages that are almost equal'
 complete -c naplps-pages -n __fish_use_subcommand -a scan -d 'Ask about all pages in folders, and keep the answers'
 complete -c naplps-pages -n __fish_use_subcommand -a merge -d 'Join stores, as those of the parts of a scan'
 complete -c naplps-pages -n __fish_use_subcommand -a equal -d 'Print groups of pages that draw the same'
@@ -21,19 +26,23 @@ complete -c naplps-pages -n __fish_use_subcommand -a files -d 'Print each file w
 complete -c naplps-pages -n __fish_use_subcommand -a find -d 'Find pages by their words, and print the lines'
 complete -c naplps-pages -n __fish_use_subcommand -a report -d 'Make one HTML file that shows what a scan found'
 complete -c naplps-pages -n __fish_use_subcommand -a serve -d 'Show it to browsers of this machine'
-complete -c naplps-pages -n '__fish_seen_subcommand_from check list cures split census equal refused convert status files find' -l json \
+complete -c naplps-pages -n '__fish_seen_subcommand_from check list cures split carve census near equal refused convert status files find' -l json \
     -d 'Print JSON, an object on each line'
 complete -c naplps-pages -n '__fish_seen_subcommand_from equal refused convert status files find' -l csv -d 'Print the table as CSV'
 complete -c naplps-pages -n '__fish_seen_subcommand_from equal refused files find' -l null -d 'Print only names, each ended by NUL'
-complete -c naplps-pages -n '__fish_seen_subcommand_from canon look play cures split make scan convert report' -l into -r \
+complete -c naplps-pages -n '__fish_seen_subcommand_from canon look play cures split carve make scan convert report' -l into -r \
     -d 'The folder or file to write into, or the store of a scan'
 complete -c naplps-pages -n '__fish_seen_subcommand_from explain report serve' -l full -d 'A row for each character'
-complete -c naplps-pages -n '__fish_seen_subcommand_from check list explain look play text' -l after -r \
+complete -c naplps-pages -n '__fish_seen_subcommand_from check list explain look play text describe' -l after -r \
     -d 'A page that comes before'
+complete -c naplps-pages -n '__fish_seen_subcommand_from describe diff' -l html -d 'Print a document for a browser'
 complete -c naplps-pages -n '__fish_seen_subcommand_from look' -l sheet -r -d 'Write one picture of all pages to this file'
 complete -c naplps-pages -n '__fish_seen_subcommand_from look' -l png -d 'Make PNG instead of SVG'
 complete -c naplps-pages -n '__fish_seen_subcommand_from look' -l past -d 'Draw also what stands behind a refusal, by guess'
 complete -c naplps-pages -n '__fish_seen_subcommand_from look' -l svg -r -d 'Write the sketch to this file'
+complete -c naplps-pages -n '__fish_seen_subcommand_from carve' -l dry-run -d 'Print what would be made'
+complete -c naplps-pages -n '__fish_seen_subcommand_from carve' -l least -x -d 'How many entries a page has at least'
+complete -c naplps-pages -n '__fish_seen_subcommand_from make' -s o -r -d 'Write the page to this file'
 complete -c naplps-pages -n '__fish_seen_subcommand_from make' -l look -d 'Make a sketch of the page, too'
 complete -c naplps-pages -n '__fish_seen_subcommand_from scan report' -l processes -x -d 'How many processes work'
 complete -c naplps-pages -n '__fish_seen_subcommand_from scan' -l on -r -d 'Work on Dask: the address or file of its scheduler'
@@ -53,9 +62,9 @@ complete -c naplps-pages -n '__fish_seen_subcommand_from equal' -l guesses \
 complete -c naplps-pages -n '__fish_seen_subcommand_from equal' -l verify -d 'Read all files again, and compare canonical bytes'
 complete -c naplps-pages -n '__fish_seen_subcommand_from refused' -l number -x -d 'Only this refusal'
 complete -c naplps-pages -n '__fish_seen_subcommand_from refused' -l reason -x -d 'Only this refusal or code'
-complete -c naplps-pages -n '__fish_seen_subcommand_from check list canon explain look play text cures split census scan' -l budget -x \
+complete -c naplps-pages -n '__fish_seen_subcommand_from check list canon explain look play text describe cures split carve census source diff near scan' -l budget -x \
     -d 'How many bytes of macro bodies a page may be charged'
-complete -c naplps-pages -n '__fish_seen_subcommand_from check list canon explain look play text cures split census make scan equal convert report serve' \
+complete -c naplps-pages -n '__fish_seen_subcommand_from check list canon explain look play text describe cures split carve census make source diff near scan equal convert report serve' \
     -l seconds -x \
     -d 'How many seconds the program may take for a page'
 complete -c naplps-pages -n '__fish_seen_subcommand_from report' -l sketches -x -d 'How many pages have a sketch'

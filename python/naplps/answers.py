@@ -1,5 +1,6 @@
 """What the program says of a page, and the one reader of what `naplps batch` prints."""
 import hashlib
+import io
 import re
 from dataclasses import dataclass, field, replace
 from typing import Callable, List, NamedTuple, Optional, Sequence, Union
@@ -180,7 +181,8 @@ class AnswerParser:
     _answer: Optional[Answer] = None
     _length: int = 0
     _lacks: int = 0
-    _body: List[bytes] = field(default_factory=list)
+    # (its bytes are handed out without another copy)
+    _body: io.BytesIO = field(default_factory=io.BytesIO)
     _hash: "hashlib._Hash" = field(default_factory=hashlib.sha256)
 
     def take(self, piece: bytes) -> bool:
@@ -202,12 +204,12 @@ class AnswerParser:
             if self.most is None:
                 self._hash.update(part)
             else:
-                self._body.append(part)
+                self._body.write(part)
             if not self._lacks:
                 assert self._answer is not None
                 if self.most is not None:
-                    self.answers.append(HashedAnswer(with_body(self.call, self._answer, b"".join(self._body))))
-                    self._body = []
+                    self.answers.append(HashedAnswer(with_body(self.call, self._answer, self._body.getvalue())))
+                    self._body = io.BytesIO()
                 else:
                     canon = self._hash.digest() if self._length else None
                     self.answers.append(HashedAnswer(self._answer, canon, self._length or None))

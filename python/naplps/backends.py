@@ -7,6 +7,7 @@ from .library_backend import SONAME, LibraryBackend
 from .program import find
 from .program_backend import ProgramBackend
 from .protocols import Answerer
+from .surroundings import library
 
 # The folder in which this package stands.
 FOLDER = os.path.dirname(os.path.dirname(os.path.realpath(__file__)))
@@ -30,9 +31,9 @@ def look() -> Answerer:
         if not os.path.isfile(path):
             raise Unavailable(f"NAPLPS_LIBRARY names no library, nor a folder with {SONAME}: {named}")
         return _loaded(path)
-    library = _library() if named is None else None
-    if library is not None:
-        return library
+    found_library = _library() if named is None else None
+    if found_library is not None:
+        return found_library
     try:
         return ProgramBackend(find(_command()))
     except NoProgram as error:
@@ -41,17 +42,14 @@ def look() -> Answerer:
 
 
 def _library() -> Optional[LibraryBackend]:
-    """The library: under the same prefix, that of the sources, or the one that the system finds."""
+    """The library: under the same prefix, that of the sources, or the system's. The loader isn't asked for it, since
+    LD_LIBRARY_PATH may name any folder."""
     top = os.path.dirname(FOLDER)
     for path in (os.path.join(top, SONAME), os.path.join(top, "out", SONAME)):
         if os.path.isfile(path):
             return _loaded(path)
-    try:
-        return LibraryBackend(SONAME)
-    except OSError as error:
-        if "No such file" in str(error):
-            return None
-        raise WrongLibrary(f"the library can't be loaded: {error}") from None
+    found = library(SONAME)
+    return None if found is None else _loaded(found)
 
 
 def _loaded(path: str) -> LibraryBackend:

@@ -33,6 +33,12 @@ class Ending:
             if signal.getsignal(number) is not signal.SIG_IGN:
                 signal.signal(number, self._stop)
 
+    def forget(self) -> None:
+        """Has signals do what they do by default again, since Python's own end is no place for an exception."""
+        for number in SIGNALS:
+            if signal.getsignal(number) == self._stop:
+                signal.signal(number, signal.SIG_DFL)
+
     def _stop(self, number: int, _: Optional[FrameType]) -> None:
         if not self.is_starting:
             raise Stopped(number)

@@ -49,13 +49,13 @@ def _lent(page: Data) -> Tuple[object, int]:
     if isinstance(page, memoryview) and (page.readonly or not page.c_contiguous):
         page = page.tobytes()
     if isinstance(page, bytes):
-        return page, len(page)
-    length = memoryview(page).nbytes
-    return ctypes.byref(ctypes.c_char.from_buffer(page)) if length else None, length
+        return page, bytes.__len__(page)
+    view = memoryview(page)  # (while there is one, no thread can make a bytearray shorter)
+    return ctypes.byref(ctypes.c_char.from_buffer(view)) if view.nbytes else None, view.nbytes
 
 
 class LibraryBackend:
-    """The library at a path, or of a name that the system finds. Raises OSError and WrongLibrary."""
+    """The library at a path. Raises OSError and WrongLibrary."""
 
     def __init__(self, path: str) -> None:
         self.backend = Backend("library", path)

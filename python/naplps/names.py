@@ -36,9 +36,12 @@ def _shown(each: str) -> str:
 
 
 def quoted(name: str) -> str:
-    """The name as a shell reads it; PAGE where it can't be shown on one line as it is, or is standard input."""
+    """The name as a shell and a command read it, never as an option; PAGE where it can't be shown on one line as it is,
+    or is standard input."""
     import shlex  # (which few commands need)
-    return "PAGE" if name == "-" or shown(name) != name else shlex.quote(name)
+    if name == "-" or shown(name) != name:
+        return "PAGE"
+    return shlex.quote(f"./{name}" if name.startswith("-") else name)
 
 
 def as_json(name: str) -> Members:

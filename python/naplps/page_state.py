@@ -36,6 +36,16 @@ class Attributes(NamedTuple):
     texture: Texture = PLAIN_TEXTURE
     text: Look = PLAIN_LOOK
 
+    def can_have_colour(self, colour: Colour) -> bool:
+        """Whether an entry can have the colour here: some are gone once another was set."""
+        if colour.kind in ("own-start", "own-reset"):
+            return colour == self.base
+        return colour.kind not in ("reset-2", "reset-3") or colour == self.colour
+
+    def can_have_texture(self, texture: Texture) -> bool:
+        """Whether an entry can have the texture here: once a mask has a size, none is without."""
+        return texture.mask is not None or self.texture.mask is None
+
 
 @dataclass
 class PageState:
@@ -117,12 +127,12 @@ class PageState:
         if isinstance(pen, str) and pen != now.pen:
             reasons.append("pen=%s doesn't stand here, pen=%s does" % (pen, shown_pen(now.pen)))
         colour: Optional[Colour] = getattr(entry, "colour", None)
-        if colour is not None and colour.kind in ("own-start", "own-reset") and colour != now.base:
-            reasons.append(f"colour={colour} is gone once a colour was set, and the base is {now.base} here")
-        if colour is not None and colour.kind in ("reset-2", "reset-3") and colour != now.colour:
-            reasons.append(f"colour={colour} doesn't stand here, colour={now.colour} does")
+        if colour is not None and not now.can_have_colour(colour):
+            reasons.append(f"colour={colour} is gone once a colour was set, and the base is {now.base} here"
+                           if colour.kind in ("own-start", "own-reset") else
+                           f"colour={colour} doesn't stand here, colour={now.colour} does")
         texture: Optional[Texture] = getattr(entry, "texture", None)
-        if texture is not None and texture.mask is None and now.texture.mask is not None:
+        if texture is not None and not now.can_have_texture(texture):
             reasons.append("a mask has a size here, so texture=../none can't stand any more")
         return reasons
 

@@ -65,8 +65,7 @@ def places(data: Data, budget: int = USUAL_BUDGET) -> Places:
     """
     told = _told("places", data, budget)
     try:
-        rows = placed(told.text)
-        return Places([(place, read_line(line)) for place, line in rows], told.refused)
+        return Places([(place, read_line(line)) for place, line in placed(told.text)], told.refused)
     except NotALine as error:
         raise _no_line(error) from None
 

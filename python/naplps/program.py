@@ -12,6 +12,7 @@ from .answers import NotAnswered
 from .ending import ENDING
 from .faults import NoProgram
 from .limits import Limits
+from .surroundings import for_child, on_path, runs
 
 PIECE = 1 << 16
 MOST_COMPLAINT = 2048
@@ -27,43 +28,35 @@ def find(command: str) -> str:
     """The path of naplps for the command that stands at this path: NAPLPS, beside it, the sources', then PATH."""
     named = os.environ.get("NAPLPS")
     if named:
-        path = shutil.which(named) if os.path.dirname(named) else on_path(named)
+        path, why = (shutil.which(named), "") if os.path.dirname(named) else on_path(named)
         if path is None:
-            raise NoProgram(f"NAPLPS names no program: {named}")
+            raise NoProgram(why or f"NAPLPS names no program: {named}")
         return os.path.abspath(path)
     here = os.path.dirname(command)
     top = os.path.dirname(here)
     beside = os.path.join(here, "naplps")
-    if _runs(beside):
+    if runs(beside):
         return beside
-    launcher, why = os.path.join(top, "naplps"), ""
-    if _runs(launcher) and os.path.isdir(os.path.join(top, "crates")):
-        path, why = _ask_launcher(launcher)
+    launcher, untold = os.path.join(top, "naplps"), ""
+    if runs(launcher) and os.path.isdir(os.path.join(top, "crates")):
+        path, untold = _ask_launcher(launcher)
         if path:
             return path
-    found = on_path("naplps")
+    found, unsafe = on_path("naplps")
     if found is not None:
-        return os.path.abspath(found)
-    raise NoProgram(why or "there is no program naplps: put it beside this command or on PATH, or name it in NAPLPS")
-
-
-def on_path(name: str) -> Optional[str]:
-    """A program by PATH. Folders of it that are the current one or below it don't count: anybody may fill them."""
-    return shutil.which(name, path=os.pathsep.join(filter(os.path.isabs, os.get_exec_path())))
+        return found
+    raise NoProgram("; ".join(filter(None, (untold, unsafe))) or
+                    "there is no program naplps: put it beside this command or on PATH, or name it in NAPLPS")
 
 
 def _ask_launcher(launcher: str) -> Tuple[str, str]:
     """The path of the program of the sources that stand there, or nothing and why there is none. Nothing is built."""
-    said = subprocess.run([launcher], env=dict(os.environ, NAPLPS_WHERE="1"), stdin=subprocess.DEVNULL,
+    said = subprocess.run([launcher], env=for_child(NAPLPS_WHERE="1"), stdin=subprocess.DEVNULL,
                           stdout=subprocess.PIPE, stderr=subprocess.PIPE)
     if said.returncode == 0:
         return os.fsdecode(said.stdout)[:-1], ""
     lines = [line.partition(b": ")[2].decode("utf-8", "replace") for line in said.stderr.splitlines()]
     return "", "; ".join(lines)
-
-
-def _runs(path: str) -> bool:
-    return os.path.isfile(path) and os.access(path, os.X_OK)
 
 
 class ChildProcess:
@@ -79,7 +72,7 @@ class ChildProcess:
             with ENDING.starting(self):
                 self.process = subprocess.Popen(
                     command, stdin=source, stdout=subprocess.PIPE, stderr=subprocess.PIPE, bufsize=0,
-                    start_new_session=True)
+                    start_new_session=True, env=for_child())
         except OSError as error:
             raise ProcessFailure(f"the program can't be started: {command[0]}: {error.strerror}") from None
         for what, most in ((resource.RLIMIT_AS, limits.memory), (resource.RLIMIT_CORE, 0)):

@@ -5,10 +5,11 @@ from typing import NamedTuple, Optional, Protocol, Union
 from .faults import Refused
 
 Data = Union[bytes, bytearray, memoryview]
+WHOLE = slice(None)
 
 
 class Backend(NamedTuple):
-    """What answers: its kind, "library" or "program", and its path, or the name by which the system finds it."""
+    """What answers: its kind, "library" or "program", and its path."""
 
     kind: str
     path: str
@@ -57,7 +58,13 @@ class Answerer(Protocol):
 
 
 def taken(data: Data) -> Data:
-    """The data as they are. Raises TypeError for what is no bytes, bytearray or memoryview."""
-    if isinstance(data, (bytes, bytearray, memoryview)):
+    """The data, without what a class of the caller's own says of their length or their bytes. Raises TypeError for what
+    is no bytes, bytearray or memoryview.
+    """
+    if type(data) in (bytes, bytearray, memoryview):
         return data
+    if isinstance(data, bytes):
+        return bytes.__getitem__(data, WHOLE)
+    if isinstance(data, bytearray):
+        return bytearray.__getitem__(data, WHOLE)
     raise TypeError(f"a page is bytes, bytearray or memoryview, not {type(data).__name__}")

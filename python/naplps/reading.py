@@ -1,7 +1,8 @@
 """Reads entries from the lines that `naplps list` prints, as docs/PROFILE.md has them."""
+import io
 import re
 from functools import lru_cache
-from typing import Callable, Dict, Iterable, Iterator, List, Match, Pattern, Sequence, Tuple
+from typing import Callable, Dict, Iterable, Iterator, Match, Pattern, Sequence, Tuple
 
 from .answers import MOST_DIGITS
 from .entry import (
@@ -185,12 +186,15 @@ class Entries:
             yield kept.get(number) or read_line(line)
 
 
-def placed(body: bytes) -> List[Tuple[int, str]]:
-    """The lines in the body of `places`, each after its place. Raises NotALine."""
-    rows: List[Tuple[int, str]] = []
-    for row in body.decode("ascii").splitlines():
+def placed(body: bytes) -> Iterator[Tuple[int, str]]:
+    """The lines in the body of `places`, each after its place, one after another. Raises NotALine."""
+    for row in lines_in(body):
         place, _, line = row.partition(" ")
         if not place.isdigit() or len(place) > MOST_DIGITS:
             raise NotALine(row[:200])
-        rows.append((int(place), line))
-    return rows
+        yield int(place), line
+
+
+def lines_in(body: bytes) -> Iterator[str]:
+    """The lines in the body of `list`, one after another: of millions no more than one is held beside the body."""
+    return (line.decode("ascii").removesuffix("\n") for line in io.BytesIO(body))

@@ -9,7 +9,7 @@ the texture and the text attributes.
 import math
 from contextlib import contextmanager
 from dataclasses import replace
-from typing import Iterable, Iterator, List, Optional, Sequence, Tuple
+from typing import Iterator, List, Optional, Sequence, Tuple
 
 from . import letters
 from .entry import (

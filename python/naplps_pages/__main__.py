@@ -14,17 +14,25 @@ from .console import FAILED, tell
 
 def run(command: str) -> NoReturn:
     """The command as a process: ended by a closed pipe or a signal as other filters are, and the program with it."""
+    try:
+        ENDING.watch()
+        _run(command)
+    except Stopped as stopped:
+        ENDING.end_all()
+        _end_by(stopped.args[0])
+
+
+def _run(command: str) -> NoReturn:
     if sys.stdout is None:
         tell(f"standard output: {os.strerror(errno.EBADF)}")
         sys.exit(FAILED)
-    ENDING.watch()
     try:
         _end(main(sys.argv[1:], command))
     except BrokenPipeError:
         _end_by(signal.SIGPIPE)
-    except Stopped as stopped:
-        ENDING.end_all()
-        _end_by(stopped.args[0])
+    except ImportError as error:  # (modules are imported when a command needs them, and the system's may be too large)
+        tell(f"the tool lacks something of its own or of Python, or memory for it: {error}")
+        os._exit(FAILED)
 
 
 def _end(status: int) -> NoReturn:
@@ -37,6 +45,7 @@ def _end(status: int) -> NoReturn:
         if status != FAILED:
             tell(f"standard output: {error.strerror}")
         os._exit(FAILED)  # (a usual end would flush again)
+    ENDING.forget()
     gc.freeze()  # (else the end looks for cycles among all that was imported, which takes long)
     sys.exit(status)
 

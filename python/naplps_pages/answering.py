@@ -1,15 +1,15 @@
 """The commands check, list and canon: the program's answers for files."""
-from typing import List, Optional
+from typing import Iterable
 
 from naplps.answers import Accepted, Answer, Refusal, Unanswered
 from naplps.entry_json import members_of
-from naplps.names import Members, shown
-from naplps.reading import read_line
+from naplps.names import shown
+from naplps.reading import lines_in, read_line
 
 from . import file_kinds
 from .console import tell
-from .json_lines import dumps
-from .listing import command_of, rows_of
+from .json_lines import AT_ONCE, dumps, pieces_of
+from .listing import Row, command_of, rows_of
 from .new_files import make_folder, put_inside
 from .page_session import Session
 from .schema import answered
@@ -28,7 +28,7 @@ def check(session: Session) -> int:
         elif there and isinstance(answer, (Accepted, Refusal)):
             more = "" if it.kind == file_kinds.PAGE else file_kinds.told(it)
             session.output.line(session.front(page.name) + answer.line + more)
-    return session.each(work, more=("kind", "looks_like"))
+    return session.each(work, more=("kind", "looks_like", "pages"))
 
 
 def list_entries(session: Session) -> int:
@@ -49,7 +49,8 @@ def _list_lines(session: Session, page: Page) -> None:
     elif isinstance(answer, Accepted):
         front = session.front(page.name)
         if front:
-            session.output.text("".join(front + line + "\n" for line in answer.body.decode("ascii").splitlines()))
+            for line in lines_in(answer.body):
+                session.output.line(front + line)
         else:
             session.output.bytes(answer.body)
 
@@ -67,17 +68,25 @@ def _list_after(session: Session, page: Page) -> None:
 
 
 def _list_json(session: Session, page: Page) -> None:
+    rows: Iterable[Row] = ()
     if session.earlier.names:
         told = session.heard(page).last
-        answer, entries = told.answer, told.rows or []
+        answer, rows = told.answer, told.rows or ()
     else:
         answer = _limited(session.program.ask(command_of(page), page))
-        entries = rows_of(page, answer.body) if isinstance(answer, Accepted) else []
+        if isinstance(answer, Accepted):
+            rows = rows_of(page, answer.body)
+            if answer.entries > AT_ONCE:  # (nothing is printed of what isn't a list)
+                for _, line in rows_of(page, answer.body):
+                    read_line(line)
     session.answered(page, answer)
-    rows: Optional[List[Members]] = None
-    if isinstance(answer, Accepted):
-        rows = [members_of(read_line(line), place) for place, line in entries]
-    session.output.line(dumps({**answered(page.name, answer), "list": rows}))
+    if not isinstance(answer, Accepted):
+        session.output.line(dumps({**answered(page.name, answer), "list": None}))
+        return
+    written = (members_of(read_line(line), place) for place, line in rows)
+    for piece in pieces_of(answered(page.name, answer), "list", written):
+        session.output.text(piece)
+    session.output.line("")
 
 
 def _limited(answer: Answer) -> Answer:

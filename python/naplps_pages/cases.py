@@ -1,6 +1,6 @@
 """Which common case a refusal is, by the bytes of the page: the cases of refusals.txt."""
 from naplps.answers import Refusal
-from naplps.treating.captures import seems_a_capture
+from naplps.treating.borders import pages_in
 from naplps.treating.changes import EIGHTH, ODD
 from naplps.treating.treatments import MOST_BEHIND_END, MOST_FRONT, leading
 
@@ -10,6 +10,8 @@ def case_of(data: bytes, answer: Refusal) -> str:
     if answer.fault == "EighthBit":
         bits = data.translate(EIGHTH).count(1)
         return "mark" if bits == len(data) else "parity" if has_parity(data) else ""
+    if answer.code == "SDC" and pages_in(data):
+        return "several pages"
     if answer.code == "SDC" and len(data) - answer.place <= MOST_BEHIND_END + 1:
         return "at the end"
     if answer.fault == "BadEscape" or answer.code in ("CAN", "NSR"):
@@ -18,7 +20,7 @@ def case_of(data: bytes, answer: Refusal) -> str:
 
 
 def _of_leading_codes(data: bytes, answer: Refusal) -> str:
-    if answer.code != "CAN" and seems_a_capture(data):
+    if pages_in(data):
         return "several pages"
     return "at the front" if _is_in_front(data, answer.place) else ""
 

@@ -57,11 +57,12 @@ class Census:
 
     def note(self, names: List[str]) -> None:
         """Notes the codes that stop a page."""
-        for name, times in Counter(names).items():
+        counts = Counter(names)
+        for name, times in counts.items():
             row = self.rows.setdefault(name, Row())
             row.times += times
             row.pages += 1
-            row.only += len(set(names)) == 1
+            row.only += len(counts) == 1
 
     def sorted(self) -> List["tuple[str, Row]"]:
         """The codes, those on most pages first."""

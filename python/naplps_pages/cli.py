@@ -20,20 +20,24 @@ LEAST_SECONDS, MOST_SECONDS = 0.01, 1e6
 # Processes of a report.
 MOST_DRAWING = 64
 # The commands on a page after others; canon says why it can't be one of them.
-AFTER = ("check", "list", "canon", "explain", "look", "play", "text")
+AFTER = ("check", "list", "canon", "explain", "look", "play", "text", "describe")
 NO_CANON = ("not for canon: a canonical stream begins where nothing stands, so a page after others has none; `cat` "
             "joins pages to one that has")
+# The commands that take one page.
+ALONE_ON_PAGE = ("explain", "play", "source")
 # The options that a session has.
-OPTIONS = ("json", "into", "svg", "full", "past", "png", "sheet", "look")
+OPTIONS = ("json", "into", "svg", "full", "past", "png", "sheet", "look", "output_file", "html", "least")
 # The commands on pages whose answers may be as long as they are.
 AT_LENGTH = ("list", "canon", "make")
 # The functions that are the commands on pages, by their modules.
 ON_PAGES = {
     "check": "answering.check", "list": "answering.list_entries", "canon": "answering.canon",
     "explain": "explaining.explain", "look": "showing.look", "play": "playing.play", "text": "showing.text",
-    "cures": "curing.cures", "split": "splitting.split", "census": "census.census", "make": "making.make"}
+    "cures": "curing.cures", "split": "splitting.split", "census": "census.census", "make": "making.make",
+    "source": "making.source", "describe": "describing.describe_pages", "diff": "comparing.diff",
+    "near": "near_pages.near", "carve": "carving.carve"}
 # The commands on pages that take a store too.
-OF_STORES = ("look", "cures", "census")
+OF_STORES = ("look", "cures", "census", "near", "split")
 # What is said where another command on pages is given a store, which it would read as a page, or where these have it
 # among pages. (`check` says of any file what it is.)
 ALONE = "it is a store, which is taken alone, without other pages"
@@ -44,15 +48,23 @@ FOR_STORES = {
     "explain": "it is a store: `naplps-pages refused STORE` tells the reasons of one",
     "play": "it is a store: `naplps-pages serve STORE` plays the pages of one",
     "text": "it is a store: `naplps-pages find WORD STORE` finds words in one",
-    "split": "it is a store: `naplps-pages files STORE` prints the files of one"}
+    "carve": "it is a store: `naplps-pages files STORE` prints the files of one",
+    "source": "it is a store: `naplps-pages files STORE` prints the files of one",
+    "describe": "it is a store: `naplps-pages files STORE` prints the files of one",
+    "diff": "it is a store: `naplps-pages files STORE` prints the files of one"}
 # The commands of reports.
 REPORTING = ("report", "serve")
 EPILOG = ("No file is overwritten. Status: 0 all pages are accepted, 1 some are refused, 2 the command line is wrong, "
           "3 something couldn't be read, asked or written. The program that is asked is the one that NAPLPS names, or "
           "naplps next to this command, or on PATH.")
-OF_SOURCES = ("No file is overwritten. docs/MAKING.md teaches what stands in a source. Status: 0 all pages are made, "
-              "1 something in a source is wrong, 2 the command line is wrong, 3 something couldn't be read, asked or "
+OF_SOURCES = ("No file is overwritten. docs/MAKING.md says how a page is written. Status: 0 all pages are made, 1 "
+              "something in a source is wrong, 2 the command line is wrong, 3 something couldn't be read, asked or "
               "written.")
+OF_CARVING = ("No file is overwritten. The same command continues a search that was stopped. Status: 0 pages are found "
+              "in each file, 1 in some there are none, 2 the command line is wrong, 3 something couldn't be read, "
+              "asked or written.")
+OF_DIFF = ("Status: 0 the pages draw the same, 1 they differ or one is refused, 2 the command line is wrong, 3 "
+           "something couldn't be read or asked.")
 OF_COLLECTIONS = ("Status: 0, or 1 if something couldn't be read, got no answer or has changed, 2 the command line is "
                   "wrong, 3 the store, the program or the output failed.")
 OF_REPORTS = ("Status: 0, or 1 if a page in the report has changed since it was scanned, 2 the command line is wrong, "
@@ -157,10 +169,11 @@ def parser(named: str = "") -> Parser:
 def _page_options(one: Parser) -> None:
     """The options of a command on pages."""
     title = one.prog.split()[-1]
-    one.add_argument("pages", metavar="PAGE", nargs=1 if title in ("explain", "play") else "+", type=name,
+    count: Any = 1 if title in ALONE_ON_PAGE else 2 if title == "diff" else "+"
+    one.add_argument("pages", metavar="PAGE", nargs=count, type=name,
                      help="a file, PACK!MEMBER for a member of a pack, or - for standard input" + (
                          "; or a STORE, for the files that it has" if title in OF_STORES else ""))
-    if title in ("check", "list", "cures", "split", "census"):
+    if title in ("check", "list", "cures", "split", "census", "near"):
         one.add_argument("--json", action="store_true", help="print JSON, an object on each line")
     where: Any = one.add_mutually_exclusive_group() if title == "look" else one
     if title in ("canon", "look", "cures", "split"):
@@ -174,14 +187,17 @@ def _page_options(one: Parser) -> None:
         where.add_argument("--sheet", metavar="FILE", type=name,
                            help=f"write one picture of all pages, of {MOST_PAGES} at most, to this file")
         one.add_argument("--png", action="store_true", help="make PNG instead of SVG, by rsvg-convert of librsvg")
-        one.add_argument("--past", action="store_true", help="of a refused page draw what stands behind the refusal "
-                         "too, by guess: hatched, and told as a guess")
+        one.add_argument("--past", action="store_true", help="of a refused page draw what comes after the refusal "
+                         "too, by guess: hatched, and marked as a guess")
     if title == "explain":
         one.add_argument("--full", action="store_true", help=FULL_HELP)
+    if title in ("describe", "diff"):
+        one.add_argument("--html", action="store_true", help="print a document for a browser" + (
+            ", with both pictures" if title == "diff" else " or a screen reader"))
     if title in AFTER:
         one.add_argument("--after", metavar="PAGE", type=name, action="append", default=[],
                          help=NO_CANON if title == "canon" else "a page that comes before, whose macros, colours and "
-                         "sets stand; several in their order, each with --after")
+                         "sets stay; several in their order, each with --after")
     _asking_options(one)
 
 
@@ -195,13 +211,31 @@ def _asking_options(one: Parser, budget: bool = True) -> None:
                      help="how many seconds the program may take for a page; the default is 20")
 
 
+def _carve_options(one: Parser) -> None:
+    from .page_finder import LEAST_ENTRIES
+    one.add_argument("pages", metavar="FILE", nargs="+", type=name,
+                     help="a file of any kind, as the image of a disk, PACK!MEMBER for a member of a pack, or - for "
+                     "standard input")
+    where = one.add_mutually_exclusive_group(required=True)
+    where.add_argument("--into", metavar="FOLDER", type=name, help="make a file for each page in this folder")
+    where.add_argument("--dry-run", action="store_true", help="print what would be made, and make nothing")
+    one.add_argument("--least", metavar="N", type=partial(whole_number, least=1, most=1_000_000), default=LEAST_ENTRIES,
+                     help="how many entries a page has at least, of which a quarter are shapes; the default is "
+                     f"{LEAST_ENTRIES}")
+    one.add_argument("--json", action="store_true", help="print JSON, an object on each line")
+    _asking_options(one)
+
+
 def _make_options(one: Parser) -> None:
     one.add_argument("pages", metavar="FILE", nargs="+", type=name,
                      help="a page as people write it, PACK!MEMBER for a member of a pack, or - for standard input")
-    one.add_argument("--into", metavar="FOLDER", type=name,
-                     help="make a file for each page in this folder, with the ending .nap")
+    where = one.add_mutually_exclusive_group()
+    where.add_argument("--into", metavar="FOLDER", type=name,
+                       help="make a file for each page in this folder, with the ending .nap")
+    where.add_argument("-o", metavar="FILE", type=name, dest="output_file",
+                       help="write the one page to this file, and nothing where it can't be made")
     one.add_argument("--look", action="store_true",
-                     help="print the sketch of the page in its place; with --into, put it beside the page")
+                     help="make the sketch of the page instead of the page; with --into, make both")
     one.set_defaults(budget=USUAL_BUDGET)
     _asking_options(one, budget=False)
 
@@ -277,7 +311,8 @@ def _files_options(one: Parser) -> None:
     from .reason_arguments import reason_or_any
     _store_option(one)
     one.add_argument("--kind", metavar="KIND", type=name,
-                     help="only pages of this kind, page, text or blank; or refused files that look so, as GIF")
+                     help="only pages of this kind: page, text or blank; or refused files that are a capture, or "
+                     "look like this format, as GIF")
     one.add_argument("--refused", metavar="REASON", type=reason_or_any,
                      help="only refused files: by number, name or code, as `refused --reason`; or any")
     _form_options(one, FORMS[1:])
@@ -337,10 +372,15 @@ COMMANDS = {
                     _page_options),
     "play": Command("make one HTML file that plays a page as it came down the line", EPILOG, _page_options),
     "text": Command("print the text of pages", EPILOG, _page_options),
+    "describe": Command("print pages in words: their texts, areas and changes", EPILOG, _page_options),
     "cures": Command("try treatments that make a refused page readable", EPILOG, _page_options),
     "split": Command("cut a capture into its pages, each a file in a folder", EPILOG, _page_options),
+    "carve": Command("find pages inside files of any kind, each a file in a folder", OF_CARVING, _carve_options),
     "census": Command("count the codes that stop pages", EPILOG, _page_options),
     "make": Command("make pages of text that people write, or of lines of list", OF_SOURCES, _make_options),
+    "diff": Command("print two pages side by side, as people write them", OF_DIFF, _page_options),
+    "near": Command("print pages that are almost equal, or beginnings of others", EPILOG, _page_options),
+    "source": Command("print a page as people write it, for `make`", EPILOG, _page_options),
     "scan": Command("ask about all pages in folders, and keep the answers in a store", OF_COLLECTIONS,
                     _scan_options),
     "merge": Command("join stores, as those of the parts of a scan, in a new one", OF_COLLECTIONS, _merge_options),

@@ -8,7 +8,7 @@ from typing import Dict, List, Optional
 from naplps.answers import Accepted, Answer, Refusal, Unanswered
 from naplps.names import Members, as_json, quoted, shown
 from naplps.program import version
-from naplps.treating.captures import seems_a_capture
+from naplps.treating.borders import pages_in
 from naplps.treating.changes import AROUND, WITHIN, Change
 from naplps.treating.search import Cure, TreatmentSearch
 from naplps.version import VERSION
@@ -63,10 +63,11 @@ def _report(session: Session, page: Page, answer: Answer, cure: Optional[Cure], 
 
 
 def _several(page: Page) -> List[str]:
-    """What is told of a file that seems to hold several pages."""
-    if page.data is None or not seems_a_capture(page.data):
+    """What is told of a capture."""
+    pages = pages_in(page.data) if page.data is not None else 0
+    if not pages:
         return []
-    return [f"it seems to hold several pages, which this cuts apart: {TOOL} split {quoted(page.name)} --into pages"]
+    return [f"it is a capture of {pages} pages, which this cuts apart: {TOOL} split {quoted(page.name)} --into pages"]
 
 
 def _told(page: Page, cure: Cure) -> List[str]:

@@ -3,11 +3,12 @@ import re
 from typing import IO, Iterable, Iterator, NamedTuple, Optional, Tuple
 
 from naplps.answers import Accepted, Answer, Refusal
-from naplps.treating.captures import LEADING_ON
+from naplps.treating.borders import pages_in
+from naplps.treating.page_codes import LEADING_ON
 
 from .source import PIECE, Page
 
-PAGE, TEXT, BLANK = "page", "text", "blank"
+PAGE, TEXT, BLANK, CAPTURE = "page", "text", "blank", "capture"
 # The number of bytes of a file that are looked at for what it looks like.
 MOST_LOOKED_AT = 512
 MAC_HEADER = 128
@@ -44,17 +45,22 @@ BEHIND = tuple(magic for magic in MAGIC if magic.offset)
 
 
 class Description(NamedTuple):
-    """The kind of an accepted page; or what a refused file looks like, where it is a format that is known here."""
+    """The kind of an accepted page, or of a capture with the number of its pages; or what a refused file looks like,
+    where it is a format that is known here."""
 
     kind: Optional[str] = None
     looks_like: Optional[str] = None
+    pages: Optional[int] = None
 
 
 def described(page: Page, answer: Answer) -> Description:
     """What a file is; nothing where there is no answer."""
     if isinstance(answer, Accepted):
         return Description(kind((page.data,) if page.data is not None else _pieces(page.file), answer))
-    return Description(looks_like=looks_like(*_beginning(page))) if isinstance(answer, Refusal) else Description()
+    if not isinstance(answer, Refusal):
+        return Description()
+    pages = pages_in(page.data) if page.data is not None else 0
+    return Description(CAPTURE if pages else None, looks_like(*_beginning(page)), pages or None)
 
 
 def kind(pieces: Iterable[bytes], answer: Accepted) -> str:
@@ -108,6 +114,8 @@ def _pieces(file: Optional[IO[bytes]]) -> Iterator[bytes]:
 
 def told(it: Description) -> str:
     """What stands after the line of an answer: nothing for a page."""
+    if it.pages:
+        return f" (capture of {it.pages} pages)"
     if it.looks_like:
         return f" (looks like {it.looks_like})"
     return f" ({it.kind})" if it.kind in (TEXT, BLANK) else ""

@@ -4,6 +4,8 @@ import subprocess
 import sys
 from typing import List
 
+from naplps.surroundings import for_child
+
 # The folder in which this package stands.
 FOLDER = os.path.dirname(os.path.dirname(os.path.abspath(__file__)))
 START = ("import sys; sys.path.insert(0, sys.argv[1]); from importlib import import_module; "
@@ -24,4 +26,4 @@ def start(module: str, descriptor: int, folder: str = FOLDER) -> "subprocess.Pop
     """Starts an interpreter that calls `main` of a module with the descriptor of a connection, and has no other."""
     return subprocess.Popen(interpreter(module, descriptor, folder=folder), pass_fds=[descriptor],
                             stdin=subprocess.DEVNULL, stdout=subprocess.DEVNULL, stderr=subprocess.DEVNULL,
-                            start_new_session=True)
+                            start_new_session=True, env=for_child())

@@ -1,12 +1,12 @@
 """The entries of a page with their places, where they are few enough to be shown."""
 from dataclasses import dataclass
 from functools import cached_property
-from typing import List, Optional, Tuple, Union
+from typing import Iterator, List, Optional, Tuple, Union
 
 from naplps.answers import NONSENSE, Accepted, Answer, Refusal, Unanswered
 from naplps.client import Client
 from naplps.limits import MOST_LISTED, Limits
-from naplps.reading import Entries, placed
+from naplps.reading import Entries, lines_in, placed
 
 from .source import Page
 
@@ -72,7 +72,7 @@ def _listed(program: Client, page: Page, answer: Answer) -> Listed:
 
 
 def _with_rows(command: str, answer: Answer, told: Union[Accepted, Refusal]) -> Listed:
-    rows = _rows(command, told.body)
+    rows = [*_rows(command, told.body)]
     return Listed(answer, rows if len(rows) <= MOST_LISTED else None)
 
 
@@ -81,10 +81,12 @@ def command_of(page: Page) -> str:
     return LIST if page.data is None else PLACES
 
 
-def rows_of(page: Page, body: bytes) -> List[Row]:
-    """The entries that the answer to that command has."""
+def rows_of(page: Page, body: bytes) -> Iterator[Row]:
+    """The entries that the answer to that command has, one after another."""
     return _rows(command_of(page), body)
 
 
-def _rows(command: str, body: bytes) -> List[Row]:
-    return [(None, line) for line in body.decode("ascii").splitlines()] if command == LIST else [*placed(body)]
+def _rows(command: str, body: bytes) -> Iterator[Row]:
+    if command == LIST:
+        return ((None, line) for line in lines_in(body))
+    return ((place, line) for place, line in placed(body))

@@ -1,14 +1,16 @@
-"""The command make: pages of sources, and what is wrong with these."""
+"""The commands make and source: pages of sources, what is wrong with these, and the sources of pages."""
 import os
 from typing import List, Optional, Tuple
 
-from naplps.answers import Accepted, Unanswered, WrongLine
+from naplps.answers import Accepted, Refusal, Unanswered, WrongLine
+from naplps.limits import MOST_LISTED
 from naplps.names import printable, shown
 
 from .authoring.mistakes import Mistake, quoted
 from .authoring.translating import MOST_MISTAKES, Translation, misfit, translate
+from .authoring.writing import source_lines
 from .console import REFUSED, tell, tell_line
-from .new_files import make_folder, put_inside
+from .new_files import make_folder, put, put_inside
 from .page_session import Session
 from .showing import sketch
 from .source import Page
@@ -45,10 +47,13 @@ def _put(session: Session, name: str, answer: Accepted) -> None:
     """Prints the page, or with --look its sketch; or puts the page into the folder, and its sketch beside it."""
     picture = sketch(session, Page(name, answer.body)) if session.look else None
     if session.into is None:
-        if not session.look:
-            session.output.bytes(answer.body)
-        elif picture is not None:
-            session.output.text(picture)
+        made = answer.body if not session.look else None if picture is None else picture.encode("utf-8")
+        if made is None:
+            return
+        if session.output_file is None:
+            session.output.bytes(made)
+        else:
+            put(session.output_file, made)
         return
     path = os.path.splitext(session.path_for(name))[0] + ENDING
     put_inside(path, answer.body)
@@ -86,3 +91,19 @@ def _tell(session: Session, name: str, mistakes: List[Mistake]) -> None:
     if len(mistakes) >= MOST_MISTAKES:
         tell(f"{shown(name)}: no more than {MOST_MISTAKES} mistakes are told")
     session.fail(REFUSED)
+
+
+def source(session: Session) -> int:
+    """The source of each page: what `make` makes the same canonical bytes of."""
+    def work(page: Page) -> None:
+        heard = session.heard(page).last
+        answer, entries = heard.answer, heard.entries
+        if not session.answered(page, answer):
+            return
+        if isinstance(answer, Refusal):
+            tell(f"{shown(page.name)}: {answer.line}; only an accepted page has a source")
+        elif entries is None:
+            session.complain(page.name, f"it has more than {MOST_LISTED} entries, too many for a source")
+        else:
+            session.output.text("".join(line + "\n" for line in source_lines(list(entries))))
+    return session.each(work)

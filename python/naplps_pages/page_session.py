@@ -33,6 +33,9 @@ class Session:
     png: bool = False
     sheet: Optional[str] = None
     look: bool = False
+    least: int = 0
+    output_file: Optional[str] = None
+    html: bool = False
     # (what is told of a store in place of a page, where that isn't asked about as any file)
     of_store: str = ""
     earlier: Earlier = field(default_factory=Earlier)

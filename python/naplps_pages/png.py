@@ -2,7 +2,7 @@
 import os
 import subprocess
 
-from naplps.program import on_path
+from naplps.surroundings import for_child, on_path
 
 PROGRAM = "rsvg-convert"
 WANTING = f"PNG needs {PROGRAM}, which isn't there (Debian: apt-get install librsvg2-bin)"
@@ -14,9 +14,9 @@ class NoPng(Exception):
 
 def find() -> str:
     """The program. Raises NoPng."""
-    path = on_path(PROGRAM)
+    path, why = on_path(PROGRAM)
     if path is None:
-        raise NoPng(WANTING)
+        raise NoPng(why or WANTING)
     return path
 
 
@@ -25,7 +25,7 @@ def png_of(svg: bytes, seconds: float) -> bytes:
     try:
         # (a picture may have more bytes than libxml takes by itself)
         said = subprocess.run([find(), "--unlimited"], input=svg, stdout=subprocess.PIPE, stderr=subprocess.PIPE,
-                              timeout=seconds, check=False)
+                              timeout=seconds, check=False, env=for_child())
     except subprocess.TimeoutExpired:
         raise NoPng(f"{PROGRAM} didn't end in {seconds:g} s") from None
     except OSError as error:

@@ -2,15 +2,15 @@
 import hashlib
 import json
 import os
-from typing import List
+from typing import List, NamedTuple
 
 from naplps.answers import Accepted, Answer, Refusal, Unanswered
-from naplps.names import Members, as_json, leaf, shown
+from naplps.names import Members, as_json, shown
 from naplps.program import version
-from naplps.treating.captures import Piece, pieces
+from naplps.treating.borders import Piece, pieces, text_length
 from naplps.version import VERSION
 
-from . import TOOL
+from . import TOOL, file_kinds
 from .console import FAILED, REFUSED
 from .json_lines import dumps
 from .new_files import make_folder, put_inside, require_free
@@ -20,14 +20,28 @@ from .source import Page
 
 # A capture of more pages isn't cut.
 MOST_PAGES = 100_000
+NO_BORDER = ("no page is cut: there is no border, which is NSR, CAN, 1A or an announcer with bytes that draw on both "
+             "sides of it")
+NONE_ACCEPTED = "nothing is written: of %d parts none is accepted as a page"
+
+
+class CutPart(NamedTuple):
+    """A part of a capture: its bytes, those before it and after it that are in no part, and the program's answer."""
+
+    piece: Piece
+    data: bytes
+    before: bytes
+    after: bytes
+    answer: Answer
+
+    @property
+    def is_page(self) -> bool:
+        """Whether it is accepted, and a page."""
+        return isinstance(self.answer, Accepted) and file_kinds.kind((self.data,), self.answer) == file_kinds.PAGE
 
 
 def split(session: Session) -> int:
     """Cuts captures into their pages."""
-    assert session.into is not None
-    folder = session.into
-    make_folder(folder)
-
     def work(page: Page) -> None:
         if page.data is None:
             session.complain(page.name, "the capture is longer than 16 MiB")
@@ -35,57 +49,79 @@ def split(session: Session) -> int:
         some = pieces(page.data)
         if len(some) > MOST_PAGES:
             session.complain(page.name, "it would be cut into %d pages, and %d are the most" % (len(some), MOST_PAGES))
-        elif len(some) < 2:
-            session.output.line("%sno page is cut: there is neither NSR nor 1B 22 or 1B 25 before a page" % (
-                session.front(page.name)))
-            session.fail(REFUSED)
+        elif not some:
+            _fail(session, page, NO_BORDER)
         else:
-            _write(session, folder, page, some)
+            _cut(session, page, some)
     return session.each(work)
 
 
-def _write(session: Session, folder: str, page: Page, some: List[Piece]) -> None:
+def _fail(session: Session, page: Page, why: str) -> None:
+    if session.json:
+        session.complain(page.name, why)
+    else:
+        session.output.line(session.front(page.name) + why)
+    session.fail(REFUSED)
+
+
+def _cut(session: Session, page: Page, some: List[Piece]) -> None:
+    """Asks about the parts of a capture, and writes them where a page is among them."""
     assert page.data is not None
-    counts = {Accepted: 0, Refusal: 0, Unanswered: 0}
-    source = {**{"source_" + key: value for key, value in as_json(page.name).items()},
-              "source": {"bytes": len(page.data), "sha256": hashlib.sha256(page.data).hexdigest()},
-              "pages": len(some), "program": version(session.program.path, session.program.limits),
-              "tool": f"{TOOL} {VERSION}"}
-    for number, piece in enumerate(some, 1):
-        path = os.path.join(folder, _name(page.name, number, len(some)))
-        data = page.data[piece.offset:piece.offset + piece.length]
-        answer = session.program.ask("check", data)
-        counts[type(answer)] += 1
-        if isinstance(answer, Unanswered):
-            session.complain(path, answer.reason)
-        note = _note(source, number, piece, data)
-        require_free(path, data)
-        put_inside(path + ".json", (json.dumps(note, indent=2) + "\n").encode("ascii"))
-        put_inside(path, data)
-        _tell(session, path, piece, answer)
+    parts: List[CutPart] = []
+    for piece in some:
+        data = page.data[piece.offset:piece.end]
+        after = page.data[piece.end:] if piece is some[-1] else b""
+        parts.append(CutPart(piece, data, page.data[piece.offset - piece.before:piece.offset], after,
+                          session.program.ask("check", data)))
+    lacking = [each.answer for each in parts if isinstance(each.answer, Unanswered)]
+    if not any(part.is_page for part in parts) and not lacking:
+        _fail(session, page, NONE_ACCEPTED % len(parts))
+        return
+    _write(session, page, parts)
     if not session.json:
-        session.output.line("%s%d pages: %d accepted, %d refused" % (
-            session.front(page.name), len(some), counts[Accepted], counts[Refusal]))
-    if counts[Unanswered]:
+        accepted, refused = (sum(isinstance(part.answer, kind) for part in parts) for kind in (Accepted, Refusal))
+        session.output.line("%s%d parts: %d accepted, %d refused" % (
+            session.front(page.name), len(parts), accepted, refused))
+    if lacking:
         session.fail(FAILED)
 
 
-def _name(name: str, number: int, most: int) -> str:
-    """The name of a page: that of the capture, and a number before its ending."""
-    stem, ending = os.path.splitext(leaf(name))
-    return "%s-%0*d%s" % (stem, max(3, len(str(most))), number, ending or ".nap")
+def _write(session: Session, page: Page, parts: List[CutPart]) -> None:
+    """Writes the parts, each after its note."""
+    assert page.data is not None
+    source = {**{"source_" + key: value for key, value in as_json(page.name).items()},
+              "source": {"bytes": len(page.data), "sha256": hashlib.sha256(page.data).hexdigest()},
+              "pages": len(parts), "program": version(session.program.path, session.program.limits),
+              "tool": f"{TOOL} {VERSION}"}
+    stem, ending = os.path.splitext(session.path_for(page.name))
+    if session.into is not None:
+        make_folder(session.into)
+    for number, part in enumerate(parts, 1):
+        path = "%s-%0*d%s" % (stem, max(3, len(str(len(parts)))), number, ending or ".nap")
+        if isinstance(part.answer, Unanswered):
+            session.complain(path, part.answer.reason)
+        require_free(path, part.data)
+        put_inside(path + ".json", (json.dumps(_note(source, number, part), indent=2) + "\n").encode("ascii"))
+        put_inside(path, part.data)
+        _tell(session, path, part)
 
 
-def _note(source: Members, number: int, piece: Piece, data: bytes) -> Members:
-    """Where a page comes from."""
-    return {**source, "page": number, "offset": piece.offset, "cut_at": piece.cut_at,
-            "copy": {"bytes": len(data), "sha256": hashlib.sha256(data).hexdigest()}}
+def _note(source: Members, number: int, part: CutPart) -> Members:
+    """Where a part comes from, and what stands before it in the capture, or after the last one."""
+    return {**source, "page": number, "offset": part.piece.offset, "cut_at": part.piece.cut_at,
+            "before": part.before.hex(), "after": part.after.hex(),
+            "copy": {"bytes": len(part.data), "sha256": hashlib.sha256(part.data).hexdigest()}}
 
 
-def _tell(session: Session, path: str, piece: Piece, answer: Answer) -> None:
+def _tell(session: Session, path: str, part: CutPart) -> None:
+    piece, answer = part.piece, part.answer
     if session.json:
         session.output.line(dumps({**answered(path, answer), "offset": piece.offset, "bytes": piece.length,
-                                   "cut_at": piece.cut_at}))
+                                   "cut_at": piece.cut_at, "before": part.before.hex(), "after": part.after.hex()}))
     elif isinstance(answer, (Accepted, Refusal)):
-        session.output.line("%s: %d bytes at %d, cut at %s: %s" % (
-            shown(path), piece.length, piece.offset, piece.cut_at, answer.line))
+        texts = "".join(", %d bytes of text %s it" % (text_length(some), where) for some, where in (
+            (part.before, "before"), (part.after, "after")) if text_length(some))
+        said = answer.line if part.is_page or isinstance(answer, Refusal) else (
+            "%s (%s)" % (answer.line, file_kinds.kind((part.data,), answer)))
+        session.output.line("%s: %d bytes at %d, cut at %s%s: %s" % (
+            shown(path), piece.length, piece.offset, piece.cut_at, texts, said))

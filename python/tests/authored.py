@@ -13,12 +13,12 @@ def fraction(units: int) -> str:
     return "%.8f" % (units / nap.ONE)
 
 
-def number(chance: Random, text: str) -> str:
-    return fraction(int(text)) if chance.random() < 0.5 else text
-
-
 def position(chance: Random, text: str) -> str:
-    return ",".join(number(chance, part) for part in text.split(","))
+    """Both numbers as fractions, or both as units, as they have to be; zero may be written either way."""
+    parts = [int(part) for part in text.split(",")]
+    as_fraction = chance.random() < 0.5
+    return ",".join(fraction(part) if as_fraction and (part or chance.random() < 0.5) else str(part)
+                    for part in parts)
 
 
 def hexadecimal(parts) -> str:
@@ -48,6 +48,40 @@ def field(chance: Random, word: str) -> str:
         value = "/".join(position(chance, part) if "," in part and at == 1 else part
                          for at, part in enumerate(value.split("/")))
     return f"{name}={value}"
+
+
+class LeftOut:
+    """What a line draws with where it has no field: what the last line with that field drew with; the page's pen.
+
+    Of values that no page can have any more the page's own is drawn with.
+    """
+
+    def __init__(self) -> None:
+        self.page, self.last = PageState(), {}
+
+    def take(self, entry: nap.Entry) -> None:
+        """An entry comes."""
+        self.page.take(entry)
+        self.last.update({name: getattr(entry, name) for name in ("pel", "colour", "texture", "text")
+                          if hasattr(entry, name)})
+
+    def __getattr__(self, name: str):
+        now = getattr(self.page.drawing, name)
+        last = self.last.get(name, at_first(name))
+        if name == "pen":
+            return now
+        if name == "colour":
+            own, reset = ("own-start", "own-reset"), ("reset-2", "reset-3")
+            if last.kind in own and last != self.page.drawing.base or last.kind in reset and last != now:
+                return now
+        if name == "texture" and last.mask is None and now.mask is not None:
+            return now
+        return last
+
+
+def at_first(name: str):
+    """What a page begins with."""
+    return getattr(PageState().drawing, name)
 
 
 def line(chance: Random, entry: nap.Entry, stands) -> str:
@@ -84,12 +118,12 @@ def texts(entries) -> List[str]:
 
 def source(chance: Random, entries) -> str:
     """The list as people might write it."""
-    state, lines = PageState(), []
+    state, lines = LeftOut(), []
     for row in texts(entries):
         if chance.random() < 0.1:
             lines.append(chance.choice(("", "# a comment", "   ", "#")))
         first = row[0] if isinstance(row, list) else row
-        written = line(chance, first, state.drawing)
+        written = line(chance, first, state)
         if isinstance(row, list):
             letters = "".join(chr(each.code) for each in row).replace("\\", "\\\\").replace('"', '\\"')
             fields = [word for word in written.split() if "=" in word]

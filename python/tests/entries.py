@@ -13,6 +13,8 @@ SIZES, FLAGS = ("small", "medium", "normal", "tall", "double"), (False, True)
 SETS, MOVES = ("primary", "supplementary", "mosaic", "drcs"), ("APB", "APF", "APD", "APU", "APR", "APH", "APS")
 # Points of arcs and polygons: the fewest and the most.
 LEAST, MOST_POINTS = {nap.Arc: 3, nap.Poly: 2}, 2001
+# A list ends where so many entries in a row can't come.
+MOST_MISFITS = 1_000
 
 
 def near(chance: Random, ends, most):
@@ -113,11 +115,13 @@ def entry(chance: Random, kind=None):
 
 def legal_list(chance: Random, length: int) -> List[nap.Entry]:
     """A list of entries of which each can come where it stands. What is held is often what stands, as in pages."""
-    state, found = PageState(), []
+    state, found, misfits = PageState(), [], 0
     kinds = chance.sample(list(MAKERS), chance.randrange(3, len(MAKERS)))
-    while len(found) < length:
+    while len(found) < length and misfits < MOST_MISFITS:  # (there may be no kind left that can come)
         made = MAKERS[chance.choice(kinds)](chance, Holding(chance, state.drawing, 0.7))
+        misfits += 1
         if state.misfit(made) is None:
             found.append(made)
             state.take(made)
+            misfits = 0
     return found + [nap.DefEnd()] * (state.saved is not None)

@@ -1,5 +1,10 @@
 """Small pages with known answers."""
+import os
 import shutil
+
+import pytest
+
+BROWSERS = ("chromium", "firefox-esr")
 
 POINT = bytes.fromhex("0E 26 52 40 40")
 POINT_LINE = "POINT 4194304,4194304 pel=0,0 colour=own-start"
@@ -18,6 +23,16 @@ def with_parity(data: bytes, odd: bool = False) -> bytes:
     return bytes(byte | 0x80 if (bin(byte).count("1") % 2 == 1) != odd else byte for byte in data)
 
 
+def lack(command: str) -> str:
+    """Why a command can't be run here; empty where it can."""
+    if command in BROWSERS and os.environ.get("NAPLPS_BROWSERS") == "no":
+        return "no browser is asked for (scripts/test-program --browsers)"
+    return "" if shutil.which(command) else f"there is no {command}"
+
+
 def has(command: str) -> bool:
-    """Whether a command is there."""
-    return shutil.which(command) is not None
+    """Whether a command can be run here."""
+    return not lack(command)
+
+
+needs_chromium = pytest.mark.skipif(not has("chromium"), reason=lack("chromium"))

@@ -74,6 +74,8 @@ def earlier(store, path):
     for name in tables:
         some = ", ".join(row[1] for row in made.execute(f"PRAGMA main.table_info({name})"))
         made.execute(f"INSERT INTO main.{name} SELECT {some} FROM new.{name}")
+    made.execute("UPDATE main.pages SET kind = NULL WHERE state = 1")
+    made.execute("DELETE FROM main.meta WHERE key IN ('cures', 'words')")
     made.execute("UPDATE main.meta SET value = ? WHERE key = 'schema'", (str(schemas.EARLIER),))
     made.close()
     return path

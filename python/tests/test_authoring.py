@@ -32,7 +32,7 @@ def wrong(source):
 
 @pytest.mark.parametrize("source, line", [
     ("POINT 0.5,0.25", "POINT 4194304,2097152 pel=0,0 colour=own-start"),
-    ("LINE 0,0 1,1", f"LINE 0,0 1,1 {INK}"), ("LINE 1.0,0.0 .5,1", f"LINE 8388607,0 4194304,1 {INK}"),
+    ("LINE 0,0 1,1", f"LINE 0,0 1,1 {INK}"), ("LINE 1.0,0.0 .5,0", f"LINE 8388607,0 4194304,0 {INK}"),
     ("ARC-FILLED 0,0 1,1 0,0", f"ARC-FILLED 0,0 1,1 0,0 {INK}"),
     ("ARC-OUTLINED 0,0 1,1 2,2 3,3", f"ARC-OUTLINED 0,0 1,1 2,2 3,3 {INK}"),
     ("POLY-FILLED 0,0 1,1", f"POLY-FILLED 0,0 1,1 {INK}"),
@@ -86,6 +86,65 @@ def test_parts_that_are_left_out_stand():
     assert made("RECT-FILLED 1,2 3,4 colour=red pel=5,6\nTEXT \"A\"\nCLEAR") == [
         "RECT-FILLED 1,2 3,4 pel=5,6 colour=direct:0,65535,0 texture=0/none",
         "CHAR primary 41 pen=3,2 colour=direct:0,65535,0 text=0,0/normal/----", "CLEAR pen=after"]
+
+
+def test_what_the_page_sets_changes_nothing_that_is_left_out():
+    line = "LINE 0,0 1,1 pel={} colour={} texture={}".format
+    assert made("LINE 0,0 1,1 colour=blue\nMAP 1/16 red\nLINE 0,0 1,1\nMAP 1/16 red\nLINE 0,0 1,1") == [
+        line("0,0", "direct:0,0,65535", "0/none"), "MAP 1048576 0,65535,0",
+        *[line("0,0", "direct:0,0,65535", "0/none")] * 2]
+    assert made("LINE 0,0 1,1 colour=red pel=5,6 texture=3\nRESET 63 63\nLINE 0,0 1,1") == [
+        line("5,6", "direct:0,65535,0", "3/none"), "RESET 63 63 pen=1,1", line("5,6", "direct:0,65535,0", "3/none")]
+    assert made("MASK A\nLINE 0,0 1,1 colour=red texture=1\nEND\nLINE 0,0 1,1")[-1] == line(
+        "0,0", "direct:0,65535,0", "1/none")
+    assert made('TEXT "A" text=small/-u--\nGLYPH 41\nEND\nTEXT "B"')[-1] == (
+        "CHAR primary 42 pen=after colour=own-start text=0,0/small/-u--")
+
+
+def test_what_a_page_cannot_have_again_is_its_own():
+    ink = "LINE 0,0 1,1 pel=0,0 colour={} texture=0/none".format
+    assert made("LINE 0,0 1,1\nRESET 2 0\nLINE 0,0 1,1")[-1] == ink("own-reset")
+    assert made("LINE 0,0 1,1\nLINE 0,0 1,1 colour=red\nRESET 2 0\nLINE 0,0 1,1")[-1] == ink("direct:0,65535,0")
+    assert made("RESET 4 0\nLINE 0,0 1,1 colour=reset-2\nMAP 1 red\nLINE 0,0 1,1")[-1] == ink("front:1")
+    assert made("MASK A\nLINE 0,0 1,1 texture=1/3,4\nEND\nLINE 0,0 1,1 texture=2/none\nLINE 0,0 1,1")[-1] == (
+        "LINE 0,0 1,1 pel=0,0 colour=own-start texture=2/none")
+
+
+@pytest.mark.parametrize("written, word", [
+    ("solid", 0), ("dotted", 1), ("dashed", 2), ("dot-dashed", 3), ("edge", 4), ("vertical", 8), ("horizontal", 16),
+    ("cross", 24), ("mask-a", 32), ("mask-d", 56), ("dashed+edge+cross", 30), ("mask-b+dotted", 41)])
+def test_names_of_textures(written, word):
+    assert made(f"LINE 0,0 1,1 texture={written}") == [f"LINE 0,0 1,1 pel=0,0 colour=own-start texture={word}/none"]
+
+
+@pytest.mark.parametrize("written, points", [
+    ("CIRCLE 0.5,0.25 0.25", "2097152,2097152 6291456,2097152 2097152,2097152"), ("CIRCLE 5,1 5", "0,1 10,1 0,1"),
+    ("CIRCLE 8388606,0 1", "8388605,0 8388607,0 8388605,0")])
+def test_circles(written, points):
+    assert made(written) == [f"ARC-OUTLINED {points} {INK}"]
+    assert made(written.replace("CIRCLE", "CIRCLE-FILLED")) == [f"ARC-FILLED {points} {INK}"]
+
+
+@pytest.mark.parametrize("source, column, message", [
+    ("LINE 0,0 1,0.78", 10, "expected 1.0, not '1': 0.78 beside it is a fraction"),
+    ("LINE 0,0 0.5,1", 14, "expected 1.0, not '1': 0.5 beside it is a fraction"),
+    ("POINT 300,top", 7, "expected a fraction, not '300': top beside it is a fraction"),
+    ("POINT 0,0 pel=-1,0.5", 15, "expected -1.0, not '-1': 0.5 beside it is a fraction"),
+    ("POINT top,0", 7, "expected a point x,y"),
+    ("LINE 0,0 1,1 colour=front", 21, "expected a colour (black"),
+    ("LINE 0,0 1,1 colour=pair", 21, "expected a colour (black"),
+    ("LINE 0,0 1,1 colour=direct", 21, "expected a colour (black"),
+    ("LINE 0,0 1,1 texture=dotty", 22, "expected a texture by its names"),
+    ("LINE 0,0 1,1 texture=dotted+dashed", 29, "dashed can't be joined to another of its kind"),
+    ("LINE 0,0 1,1 texture=edge+edge", 27, "edge can't be joined"),
+    ("LINE 0,0 1,1 texture=cross+mask-a", 28, "mask-a can't be joined"),
+    (" CIRCLE 0.1,0.5 0.2", 2, "the circle leaves the unit screen"),
+    ("CIRCLE 0.9,0.5 0.1", 1, "the circle leaves the unit screen"), ("CIRCLE 5,5 0", 12, "expected a radius"),
+    ("CIRCLE 5,5 0.6", 12, "expected a radius"), ("CIRCLE 5,5 1,1", 12, "expected a radius")])
+def test_mistakes_of_values(source, column, message):
+    number, found, said = wrong(source)
+    assert (number, found) == (1, column) and said.startswith(message)
+    assert 1 <= found <= len(source) + 1
 
 
 def test_what_is_set():

@@ -38,7 +38,10 @@ def shell(folder, words):
 
 def test_the_tour(archive):
     shown = re.findall(r"^    (naplps-pages .*)\n((?:    # .*\n)+)", TEXT, re.MULTILINE)
-    assert len(shown) == 8
+    assert len(shown) == 10
+    with open(os.path.join(TOP, "examples", "gallery", "logo.nap"), "rb") as logo, open(
+            os.path.join(archive, "disk.img"), "wb") as disk:
+        disk.write((bytes(100_000) + logo.read() + b"\x1a").ljust(164_000, b"\xe5"))
     for words, printed in shown:
         assert shell(archive, words) == printed.replace("    # ", "")
 
@@ -91,14 +94,12 @@ def scripted(folder, name, *words):
     return said.stdout, said.returncode
 
 
-def test_two_lists_side_by_side(archive):
-    tree(archive, {"a.nap": b"\x0fHELLO\x07 ALL", "b.nap": b"\x0fHELLO\x07 YOU", "c.nap": b"\x0f\x1f"})
-    look = "colour=own-start text=0,0/normal/----"
-    assert scripted(archive, "diff", "a.nap", "b.nap") == (
-        '3c3\n< CHAR " ALL" pen=after %s\n---\n> CHAR " YOU" pen=after %s\n' % (look, look), 1)
-    with open(os.path.join(archive, "one.list"), encoding="ascii") as folded:
-        assert folded.read() == 'CHAR "HELLO" pen=start %s\nBELL\nCHAR " ALL" pen=after %s\n' % (look, look)
-    assert scripted(archive, "diff", "a.nap", "a.nap") == ("", 0)
+def test_pages_side_by_side_and_near_each_other(archive):
+    line = re.search(r"^    (naplps-pages diff --html .*) > two.html$", TEXT, re.MULTILINE)[1]
+    said = subprocess.run(["sh", "-c", line], cwd=archive, capture_output=True, text=True)
+    assert (said.returncode, said.stderr) == (1, "") and said.stdout.startswith("<!DOCTYPE html>")
+    (line,) = re.findall(r"^    (naplps-pages near .*)$", TEXT, re.MULTILINE)
+    assert shell(archive, f"naplps-pages scan pages --into pages.db > scan.txt 2>&1; {line}") == ""
 
 
 @pytest.mark.skipif(not has("sha256sum"), reason="there is no sha256sum")

@@ -181,14 +181,14 @@ def test_verify_trusts_no_hash(run, store, pages):
 
 def test_pages_of_one_hash_and_other_bytes(fake, pages, monkeypatch):
     monkeypatch.setattr(verify, "hashed", lambda data: b"hash")
-    spellings = [Spelling(hashlib.sha256(FILES[name]).digest(), [Place(os.fsencode(pages), name.encode())])
-                 for name in ("a point", "cut")]
+    spellings = [Spelling(hashlib.sha256(FILES[name]).digest(),
+                          [Place(os.fsencode(pages), name.encode(), len(FILES[name]))]) for name in ("a point", "cut")]
     told = []
     program = Client(fake(FAKE))
     left = verify.verified(program, Group(b"hash", "2", 1, 11, spellings), lambda name, why: told.append((name, why)))
     program.close()
-    assert left.spellings == spellings[:1] and told == [
-        (pages + "/cut", "its canonical bytes differ from those of %s/a point, though the hash is the same" % pages)]
+    assert (left.spellings, told) == (spellings[:1], [
+        (pages + "/cut", "its canonical bytes differ from those of %s/a point, though the hash is the same" % pages)])
 
 
 @pytest.mark.parametrize("target", ["/proc", "a file"])

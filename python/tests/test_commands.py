@@ -44,7 +44,7 @@ def test_check_in_json(run, tmp_path):
     said = run(["check", "--json", "good", "bad", "none"], cwd=str(tmp_path))
     rows = [json.loads(line) for line in said.stdout.splitlines()]
     empty = {"number": None, "fault": None, "code": None, "place": None, "entries": None, "reason": None,
-             "kind": None, "looks_like": None}
+             "kind": None, "looks_like": None, "pages": None}
     assert rows == [
         {**empty, "name": "good", "status": "accepted", "entries": 1, "kind": "page"},
         {**empty, "name": "bad", "status": "refused", "number": 6, "fault": "LeftOut", "code": "CAN", "place": 0},

@@ -1,12 +1,16 @@
 """Scans on Dask's distributed: the same tables, workers and schedulers that end, and workers that aren't alike."""
 import json
 import os
+import re
+import signal
 import socket
 import subprocess
+import threading
 
 import pytest
 
 from conftest import COMMAND
+from naplps_pages.cli import main
 from naplps_pages.collection.cluster import ClusterFailed, address_of
 from naplps_pages.collection.remote import alike, difference
 from naplps_pages.collection.tables import hashed
@@ -164,6 +168,110 @@ def test_a_worker_with_another_program_is_told_before_any_work(run, fake, tmp_pa
     assert (said.stdout, said.returncode) == (b"", 3) and not os.path.exists(store)
     assert said.stderr.decode().endswith(": %s is another program there\n" % program)
     assert said.stderr.count(b"is another program there") == 1
+
+
+def as_another(cluster, *words):
+    """Starts a worker by these words of a shell, after which its own follow."""
+    process = subprocess.Popen(
+        ["unshare", "-m", "sh", "-c", " ".join(words) + ' && exec "$@"', "sh", PYTHON, "-I", "-m", *WORKER,
+         "--scheduler-file", cluster.file, "--no-dashboard", "--host", "127.0.0.1", "--local-directory",
+         cluster.folder], stdout=subprocess.DEVNULL, stderr=subprocess.DEVNULL, stdin=subprocess.DEVNULL)
+    cluster.processes.append(process)
+    cluster.workers += 1
+    cluster.wait_for_workers()
+    return process
+
+
+@pytest.fixture
+def mounts():
+    """Skips where nothing can be mounted."""
+    if subprocess.run(["unshare", "-m", "true"], capture_output=True).returncode:
+        pytest.skip("nothing can be mounted here")
+
+
+WRITES = "cp -a '{0}/d3/.' '{1}' && mount --bind '{1}' '{0}/d3'"
+
+
+@pytest.mark.parametrize("mount", ["mount -t tmpfs none '{0}/d3'", "mount --bind '{0}/d2' '{0}/d3'", WRITES,
+                                   "mount -t tmpfs none '{0}'", "mount --bind '{0}/d3' '{0}/d3/sub'"])
+def test_a_folder_that_is_another_one_on_a_worker(run, tmp_path, store, cluster, mounts, mount):
+    """Nothing of it is taken, whatever stands in it, and the worker is named."""
+    top = tree(os.path.join(str(tmp_path), "pages"), {
+        "d%d/%03d" % (at % 5, at): b"page %d" % at for at in range(100)})
+    tree(top, {"d3/sub/x": POINT})
+    other = os.path.join(str(tmp_path), "other")
+    os.mkdir(other)
+    as_another(cluster, mount.format(top, other))
+    said = run(["scan", top, "--into", store, "--on", cluster.file])
+    assert (said.stdout, said.returncode) == (b"", 3), said
+    told = said.stderr.decode()
+    assert "naplps-pages: tcp://127.0.0.1:" in told and "is another folder there" in told
+    assert not os.path.exists(store) or count(store) == 0
+    again = run(["scan", top, "--into", store])
+    assert again.returncode == 0 and again.stdout.startswith(b"101 files: 101 accepted")
+
+
+def as_nobody(cluster):
+    """Starts a worker that has no rights."""
+    return as_another(cluster, 'exec setpriv --reuid=65534 --regid=65534 --clear-groups "$@"; true')
+
+
+@pytest.mark.parametrize("others", [0, 1])
+def test_what_a_worker_may_not_read_another_is_asked_for(run, run_as_nobody, tmp_path, store, cluster, others):
+    top = tree(os.path.join(str(tmp_path), "pages"), {
+        "d%d/%03d" % (at % 5, at): b"page %d" % at for at in range(100)})
+    pack(os.path.join(top, "secret.tar"), {"a": POINT})
+    os.chmod(os.path.join(top, "d3"), 0o700)
+    for name in ("d4/004", "d4/009", "secret.tar"):
+        os.chmod(os.path.join(top, name), 0o600)
+    os.chmod(cluster.folder, 0o777)
+    os.chmod(cluster.file, 0o644)
+    for folder in (top, os.path.dirname(top)):
+        os.chmod(folder, 0o755)
+    as_nobody(cluster)
+    if others:
+        cluster.worker()
+    said = run(["scan", top, "--into", store, "--on", cluster.file])
+    if b"Permission denied" in said.stderr and not said.stdout and others == 0:
+        pytest.skip("the tool can't be read by another user here")
+    told = said.stderr.decode().splitlines()
+    named = [line for line in told if line.startswith("naplps-pages: tcp://127.0.0.1:")]
+    if others:
+        assert said.returncode == 0 and told == named and len(named) <= 1
+        assert all(line.endswith(": some files can't be read there; another worker is asked") for line in named)
+        assert table(store) == plain(run, top, store)
+    else:
+        assert said.returncode == 1 and len(named) == 1 and named[0].endswith(": some files can't be read there")
+        shut = ("d4/004", "d4/009", "secret.tar", *("d3/%03d" % at for at in range(3, 100, 5)))
+        assert sorted(set(told) - set(named)) == sorted(
+            "naplps-pages: %s/%s: Permission denied" % (top, name) for name in shut)
+
+
+def test_a_worker_that_is_silent_is_named_and_left_out(monkeypatch, capfd, fake, run, tmp_path, store, cluster):
+    top = tree(os.path.join(str(tmp_path), "pages"), {
+        "%02d/%04d" % (at // 100, at): b"page %d" % at for at in range(6000)})
+    program = fake(slow(0.001))
+    first = cluster.worker()
+    cluster.worker()
+    monkeypatch.setattr("naplps_pages.collection.cluster.SILENT", 8.0)
+    monkeypatch.setattr("naplps_pages.collection.cluster.LOOK", 0.5)
+    monkeypatch.setattr("naplps_pages.collection.cluster.MOST_FILES", 200)
+    monkeypatch.setattr("naplps_pages.collection.scan.MOST_FILES", 200)
+    monkeypatch.setenv("NAPLPS", program)
+
+    def stops():
+        wait_until(lambda: os.path.exists(store) and count(store) > 0, None)
+        first.send_signal(signal.SIGSTOP)
+    stopper = threading.Thread(target=stops)
+    stopper.start()
+    assert main(["scan", top, "--into", store, "--on", cluster.file], COMMAND) == 0
+    stopper.join()
+    first.send_signal(signal.SIGCONT)
+    said = capfd.readouterr()
+    assert said.out.startswith("6000 files: 6000 accepted ")
+    assert re.fullmatch(r"naplps-pages: tcp://127\.0\.0\.1:\d+: this worker has been silent for 8 s: what it has is "
+                        r"given to others\n", said.err), said.err
+    assert table(store) == plain(run, top, store, program=program)
 
 
 def test_what_has_to_be_the_same(tmp_path):

@@ -2,6 +2,7 @@
 import glob
 import os
 import re
+import shutil
 import subprocess
 from urllib.parse import unquote
 from urllib.request import urlopen
@@ -41,9 +42,11 @@ def folder(tmp_path, naplps):
     for to, name in ((os.path.join(TOP, "examples"), "examples"), (COMMAND, "pages/naplps-pages"), (naplps, "naplps")):
         os.symlink(to, os.path.join(made, name))
     for name, data in (("page.nap", with_parity(logo())), ("other.nap", POINT), ("pages/page.nap", POINT),
-                       ("first.nap", POINT),
+                       ("first.nap", POINT), ("disk.img", bytes(100000) + logo() + bytes(63623)),
                        ("capture.nap", POINT + b"\x1f" + POINT)):
         file(made, name, data)
+    for name in ("hello.nap", "glyph.nap", "point.nap", "point again.nap"):
+        shutil.copy(os.path.join(TOP, "examples", "pages", name), os.path.join(made, "pages"))
     for name in ("old.tar", "more.zip"):
         pack(os.path.join(made, name), {"disk 3/logo.nap": logo()})
     return made

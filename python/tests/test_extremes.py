@@ -13,6 +13,7 @@ from naplps_pages import unexpected
 from naplps_pages.cli import main
 from naplps_pages.collection import tables
 from naplps_pages.collection.pack_reader import PackScan
+from naplps_pages.collection.rows import FolderFiles
 from naplps_pages.collection.store import open_to_write
 from naplps_pages.collection.writer import Terms, Writer
 from naplps_pages.packs.member import PackLimits
@@ -39,7 +40,7 @@ class KeptRows:
         """The rows of a pack of these bytes, by name, and the member that is read again by each."""
         path = os.fsencode(written(os.path.join(self.folder, name), data))
         number, _ = self.writer.folder(inside(path), tables.READ, None)
-        scan = PackScan((number, inside(path), (b"",)), PackLimits(1 << 20))
+        scan = PackScan(FolderFiles(number, inside(path), (b"",)), PackLimits(1 << 20))
         members = {seen.file.name: seen.file for seen in scan.members()}
         self.writer.take((tuple(members.values()), ()))
         self.writer.take(((scan.own,), ()))

@@ -6,7 +6,7 @@ import xml.etree.ElementTree as ET
 import pytest
 
 import gallery
-from conftest import COMMAND, TOP
+from conftest import COMMAND
 from gallery import AUTHORED, FOLDER, PRINTED, SPELLED, stored
 from naplps import backends
 from naplps.program_backend import ProgramBackend

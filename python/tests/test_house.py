@@ -9,7 +9,7 @@ import sys
 
 import pytest
 
-from conftest import PACKAGES, TOP, file
+from conftest import COMMAND, PACKAGES, TOP, file
 from naplps_pages import refusals
 from samples import POINT, has
 
@@ -17,7 +17,7 @@ TOOL = os.path.join(PACKAGES, "naplps_pages")
 MODULE = os.path.join(PACKAGES, "naplps")
 OF_THE_MODULE, OF_THE_TOOL = (sorted(glob.glob(os.path.join(folder, "**", "*.py"), recursive=True))
                               for folder in (MODULE, TOOL))
-SOURCES = [*OF_THE_MODULE, *OF_THE_TOOL, os.path.join(TOP, "pages", "naplps-pages")]
+SOURCES = [*OF_THE_MODULE, *OF_THE_TOOL, COMMAND]
 ALL = SOURCES + sorted(glob.glob(os.path.join(PACKAGES, "tests", "*.py")))
 
 
@@ -89,13 +89,6 @@ def test_no_class_name_stands_in_two_modules():
     assert [name for name, number in found.items() if number > 1] == []
 
 
-def test_names_say_what_there_is():
-    names = {name for path in ALL for name in classes(path)}
-    assert not names & {"Taker", "Hearing", "Ahead", "Said", "Told", "How", "Hand", "Telling"}
-    files = {os.path.basename(path)[:-3] for path in SOURCES}
-    assert not files & {"looking", "known", "settled", "choice", "drawers", "words", "ahead"}
-
-
 def starts(call, word):
     """Whether a call starts the program with this word."""
     lists = [each for each in call.args if isinstance(each, ast.List)]
@@ -112,73 +105,92 @@ def test_one_client_and_one_parser_of_answers():
     assert [os.path.relpath(path, PACKAGES) for path in patterns] == ["naplps/answers.py"]
 
 
+# Runs a command from its first line to its end, and counts then: functions of ours that ran, files that these are in,
+# modules of ours that were imported, and all modules.
 COUNTED = """
-import os, sys
-sys.path.insert(0, sys.argv[1])
-from naplps_pages import answering, cli, page_session
-seen = set()
+import atexit, inspect, os, runpy, sys, threading
+packages, command = map(os.path.realpath, sys.argv[1:3])
+began, seen = set(sys.modules), set()
 def hook(frame, event, _):
     code = frame.f_code
-    if event == "call" and code.co_filename.startswith(sys.argv[1]) and not code.co_name.startswith("<"):
+    is_function = code.co_flags & inspect.CO_OPTIMIZED and not code.co_name.startswith("<")
+    if event == "call" and is_function and os.path.realpath(code.co_filename).startswith(packages):
         seen.add((code.co_filename, code.co_firstlineno))
+def report():
+    sys.setprofile(None)
+    loaded = set(sys.modules) - began
+    own = {name for name in loaded if name.split(".")[0] in ("naplps", "naplps_pages")}
+    print(len(seen), len({path for path, _ in seen}), len(own), len(loaded), file=sys.stderr)
+atexit.register(report)
+sys.argv = sys.argv[2:]
+threading.setprofile(hook)
 sys.setprofile(hook)
-status = cli.main(["check", sys.argv[2]], "naplps-pages")
-sys.setprofile(None)
-print(status, len(seen), len({path for path, _ in seen}))
+runpy.run_path(command, run_name="__main__")
 """
+# What a check may take: functions, files, modules of ours, and all modules.
+MOST = (50, 16, 50, 120)
 
 
-def test_a_check_goes_through_few_functions(naplps, tmp_path):
-    said = subprocess.run([sys.executable, "-B", "-c", COUNTED, PACKAGES, file(tmp_path, "page", POINT)],
-                          env={**os.environ, "NAPLPS": naplps}, capture_output=True, text=True)
-    assert said.stderr == ""
-    answer, counts = said.stdout.splitlines()
-    status, functions, files = map(int, counts.split())
-    assert (answer, status) == ("accepted 1 entries", 0) and functions <= 35 and files <= 10
+def test_a_check_takes_few_functions_and_modules_from_its_first_line_on(naplps, tmp_path):
+    page = file(tmp_path, "page", POINT)
+    ran = subprocess.run([sys.executable, "-BES", "-c", COUNTED, PACKAGES, COMMAND, "check", page],
+                         env={**os.environ, "NAPLPS": naplps}, capture_output=True, text=True)
+    assert (ran.returncode, ran.stdout) == (0, "accepted 1 entries\n"), ran.stderr
+    counts = tuple(map(int, ran.stderr.split()))
+    assert counts[0] > 20 and all(map(int.__le__, counts, MOST)), counts
 
 
 @pytest.mark.skipif(not has("mypy"), reason="there is no mypy")
 def test_types(tmp_path):
     words = ["mypy", "--strict", "--scripts-are-modules", "--python-version", "3.9", "--cache-dir", str(tmp_path)]
-    said = subprocess.run([*words, MODULE, TOOL], capture_output=True, text=True, cwd=PACKAGES)
+    said = subprocess.run([*words, MODULE, TOOL, COMMAND], capture_output=True, text=True, cwd=PACKAGES)
     assert said.returncode == 0, said.stdout
 
 
-@pytest.mark.skipif(not has("ruff"), reason="there is no ruff")
-def test_ruff():
-    said = subprocess.run(["ruff", "check", "--no-cache", "naplps", "naplps_pages"], capture_output=True, text=True,
-                          cwd=PACKAGES)
-    assert said.returncode == 0, said.stdout
+# What apt-get prints before it installs.
+APT = """#!/bin/sh
+echo "$@" >> "$0.asked"
+echo '0 upgraded, 112 newly installed, 0 to remove and 0 not upgraded.'
+echo 'Need to get 97.3 MB/98.1 MB of archives.'
+echo 'After this operation, 402 MB of additional disk space will be used.'
+case "$*" in update | *--print-uris*) exit 0 ;; *) exit %d ;; esac
+"""
+FIRST = "gcc libc6-dev binutils python3-pytest python3-hypothesis mypy pyflakes3 librsvg2-bin sqlite3 file parallel " \
+        "python3-distributed python3-venv python3-setuptools python3-wheel"
+SIZE = "with what they need 112 packages, 97.3 MB/98.1 MB to download, 402 MB on disk"
 
 
-def script_without_tools(tmp_path, script):
-    """The script as it is where none of the tools is there, and a note of what apt-get is asked."""
-    note, binary = os.path.join(str(tmp_path), "asked"), os.path.join(str(tmp_path), "bin")
-    os.mkdir(binary)
-    with open(os.path.join(TOP, "scripts", script), encoding="ascii") as source:
-        text = source.read().replace("/usr/", "/nowhere/")
-    for name, lines in (("script", text), ("apt-get", '#!/bin/sh\necho "$@" >> %s\n' % note)):
-        with open(os.path.join(binary, name), "w", encoding="ascii") as made:
+def tools(folder, *words, status=0):
+    """What scripts/test/tools prints where none of the tools is there, and what it asks apt-get."""
+    with open(os.path.join(TOP, "scripts", "test", "tools"), encoding="ascii") as source:
+        text = source.read().replace('"/usr/', '"/nowhere/')
+    for name, lines in (("tools", text), ("apt-get", APT % status)):
+        path = os.path.join(str(folder), name)
+        with open(path, "w", encoding="ascii") as made:
             made.write(lines)
-        os.chmod(os.path.join(binary, name), 0o755)
-    return os.path.join(binary, "script"), note
+        os.chmod(path, 0o755)
+    ran = subprocess.run([os.path.join(str(folder), "tools"), *words], capture_output=True, text=True,
+                         env=dict(os.environ, PATH=f"{folder}:{os.environ['PATH']}"))
+    assert (ran.returncode, ran.stderr) == (0, "")
+    with open(os.path.join(str(folder), "apt-get.asked"), encoding="ascii") as asked:
+        return ran.stdout, [line for line in asked.read().splitlines() if "--print-uris" not in line]
 
 
-LINE = ("install -y --no-install-recommends gcc libc6-dev binutils python3-pytest python3-hypothesis mypy chromium "
-        "librsvg2-bin sqlite3 file parallel python3-distributed python3-venv python3-setuptools python3-wheel")
+@pytest.mark.parametrize("words, packages", [([], FIRST), (["--browsers"], FIRST + " chromium nodejs binaryen")])
+def test_missing_tools_are_printed_with_their_size_and_installed_only_when_that_is_asked(tmp_path, words, packages):
+    line = f"install -y --no-install-recommends {packages}"
+    printed, asked = tools(tmp_path, *words)
+    assert asked == [] and printed == (f"missing for some tests: {packages}\n  {SIZE}\n"
+                                       f"  as root on Debian: apt-get update; apt-get {line}\n")
+    if os.geteuid() == 0:
+        printed, asked = tools(tmp_path, "--install", *words)
+        assert (printed, asked) == (f"installing {packages}: {SIZE}\n", ["update", line])
 
 
-@pytest.mark.parametrize("words", [[], ["--install"]])
-def test_missing_tools_are_installed_only_when_that_is_asked(tmp_path, words):
-    script, note = script_without_tools(tmp_path, "test/tools")
-    env = dict(os.environ, PATH=os.path.dirname(script) + ":" + os.environ["PATH"])
-    said = subprocess.run([script, *words], env=env, capture_output=True, text=True)
-    assert said.returncode == 0
-    if words and os.geteuid() == 0:
-        with open(note, encoding="ascii") as asked:
-            assert asked.read() == LINE + "\n"
-    else:
-        assert not os.path.exists(note) and said.stdout.endswith("  as root on Debian: apt-get %s\n" % LINE)
+@pytest.mark.skipif(os.geteuid() != 0, reason="root alone installs")
+def test_what_cannot_be_installed_is_named_in_one_line(tmp_path):
+    printed, asked = tools(tmp_path, "--install", status=100)
+    assert len(asked) == 2 and printed.splitlines()[1].startswith(f"couldn't be installed: {FIRST}")
 
 
 def test_the_manual_page_names_each_member_of_json():

@@ -29,6 +29,21 @@ def test_no_line_is_the_empty_page(run):
     assert run(["make", "-"], b"# nothing\n").stdout == bytes.fromhex("0E215F")
 
 
+def test_only_a_made_page_is_written_to_a_file(run, tmp_path):
+    path, into = file(tmp_path, "notice.txt", NOTICE), str(tmp_path / "a.nap")
+    said = run(["make", path, "-o", into])
+    assert (said.returncode, said.stdout, said.stderr) == (0, b"", b"")
+    assert held(into) == run(["make", path]).stdout
+    bad, other = file(tmp_path, "bad.txt", b"LIEN 0,0"), str(tmp_path / "b.nap")
+    said = run(["make", bad, "-o", other])
+    assert (said.returncode, said.stdout) == (1, b"") and not os.path.exists(other)
+    assert run(["make", path, "--look", "-o", other]).returncode == 0
+    assert held(other) == run(["make", path, "--look"]).stdout
+    assert run(["make", file(tmp_path, "c.txt", b"BELL"), "-o", into]).returncode == 3 and held(into) != b"BELL"
+    assert run(["make", path, path, "-o", into]).returncode == 2
+    assert run(["make", path, "-o", into, "--into", str(tmp_path)]).returncode == 2
+
+
 def test_a_picture_is_printed_in_its_place(run, tmp_path):
     path = file(tmp_path, "notice.txt", NOTICE)
     page = file(tmp_path, "notice.nap", run(["make", path]).stdout)

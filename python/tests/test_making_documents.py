@@ -58,13 +58,14 @@ def test_the_notice_is_that_of_the_gallery(folder):
 def test_the_commands(folder):
     text = re.sub(r"^```.*?^```", "", TEXT, flags=re.MULTILINE | re.DOTALL)
     shown = re.findall(r"^    ((?:naplps-pages|python3) .*)\n((?:    # .*\n)*)", text, re.MULTILINE)
-    assert len(shown) == 5
+    assert len(shown) == 6
     os.unlink(folder / "wrong.txt")
     os.unlink(folder / "glyph.txt")
     for words, printed in shown:
         told = shell(folder, words.replace("python3", sys.executable))
         assert not printed or told == printed.replace("    # ", "")
-    assert sorted(os.listdir(folder / "pages")) == ["notice.nap", "notice.nap.svg"]
+    assert shell(folder, "cmp pages/page.nap pages/notice.nap") == ""
+    assert sorted(os.listdir(folder / "pages")) == ["notice.nap", "notice.nap.svg", "page.nap", "page.nap.svg"]
     assert shell(folder, "naplps-pages check boat.nap") == "accepted 18 entries\n"
 
 

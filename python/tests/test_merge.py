@@ -99,12 +99,13 @@ def test_many_differences(run, fake, here):
     assert told(said)[-1] == "all.db: isn't made: 30 pages with two answers under one budget and version"
 
 
-def test_an_answer_counts_more_than_none(run, fake, here, monkeypatch):
-    program = fake(FAKE.replace("page == b'die'", "page == b'die' and 'DIES' in os.environ"))
+def test_an_answer_counts_more_than_none(run, fake, here):
+    program = fake(FAKE.replace("page == b'die'", "page == b'die' and 'dies' in sys.argv[0]"))
+    dies = shutil.copy(program, os.path.join(os.path.dirname(program), "dies"))
     tree("one", {"dies": b"die", "fine": b"fine"})
     tree("two", {"copy": b"die"})
     scan(run, program, "one", "one.db")
-    said = run(["scan", "two", "--into", "two.db"], program=program, env={"DIES": "yes"})
+    said = run(["scan", "two", "--into", "two.db"], program=dies)
     assert said.returncode == 1 and statuses("two.db")["copy"][0] == "no answer"
     for name, words in (("a.db", ["one.db", "two.db"]), ("b.db", ["two.db", "one.db"])):
         said = run(["merge", name, *words])
@@ -112,14 +113,13 @@ def test_an_answer_counts_more_than_none(run, fake, here, monkeypatch):
         assert statuses(name)["copy"] == statuses(name)["dies"] == ("accepted", None)
 
 
-def test_unfinished_parts(run, fake, here, monkeypatch):
+def test_unfinished_parts(run, fake, here):
     tree("pages", {"%02d/%03d" % (number // 100, number): b"page %d" % number for number in range(400)})
     program = fake(FAKE.replace("    fail(page)\n", """    fail(page)
-    if page and 'SLOW' in os.environ: time.sleep(0.2)
+    if page and 'slow' in sys.argv[0]: time.sleep(0.2)
 """))
-    monkeypatch.setenv("SLOW", "yes")
-    work = start(["scan", "pages", "--into", "0.db", "--part", "0/2", "--processes", "1"], program)
-    monkeypatch.delenv("SLOW")
+    slow = shutil.copy(program, os.path.join(os.path.dirname(program), "slow"))
+    work = start(["scan", "pages", "--into", "0.db", "--part", "0/2", "--processes", "1"], slow)
     wait_until(lambda: count("0.db") > 0, work)
     scan(run, program, "pages", "1.db", "--part", "1/2")
     said = run(["merge", "all.db", "0.db", "1.db"])
@@ -223,14 +223,14 @@ def test_what_is_no_store(run, here):
     made_up("part.db", 0, 20)
     made_up("other.db", 0, 20)
     with sqlite3.connect("other.db") as connection:
-        connection.execute("UPDATE meta SET value = 3 WHERE key = 'schema'")
+        connection.execute("UPDATE meta SET value = 4 WHERE key = 'schema'")
     connection.close()
     connection = sqlite3.connect("foreign.db")
     connection.execute("CREATE TABLE other(x)")
     connection.close()
     tree(".", {"text.db": b"what is this?" * 100, "short.db": open("part.db", "rb").read()[:5000]})
     os.mkdir("folder.db")
-    for name, reason in (("other.db", "is a store of schema 3, and this tool knows schemas 1 and 2"),
+    for name, reason in (("other.db", "is a store of schema 4, and this tool knows schemas 2 and 3"),
                          ("foreign.db", "is a database of something else, and no store of naplps-pages"),
                          ("text.db", "file is not a database"), ("short.db", "database disk image is malformed"),
                          ("folder.db", "isn't a file"), ("none.db", "No such file or directory")):
@@ -331,7 +331,7 @@ def test_progress_on_a_terminal(naplps, large):
     words = [sys.executable, "-c", TELLING, "merge", "all.db", *large]
     said = subprocess.run(["script", "-qec", " ".join(map(shlex.quote, words)), "/dev/null"], capture_output=True,
                           env=dict(os.environ, NAPLPS=naplps, PYTHONPATH=PACKAGES))
-    told_of = re.findall(rb"\r\x1b\[K([0-9]+) of 8 MiB, [0-9,]+ a second", said.stdout)
+    told_of = re.findall(rb"\r\x1b\[K([0-9]+) of 9 MiB, [0-9,]+ a second", said.stdout)
     assert told_of and [int(each) for each in told_of] == sorted(int(each) for each in told_of)
     assert said.returncode == 0 and said.stdout.endswith((
         b"40000 files: 40000 accepted (40000 pages), 0 refused; from 2 stores\r\n"))

@@ -219,6 +219,9 @@ def test_a_refusal_of_a_piece_stays(kind):
 def test_checkers_that_are_dropped(kind):
     for _ in range(2000):
         nap.Checker().feed(MACRO)
+    kept = nap.Checker()
+    kept.feed(MACRO)
+    assert kept.finish() == 1
 
 
 def test_vectors(kind):

@@ -1,12 +1,10 @@
 """What the module naplps asks, and what it says where that fails, isn't there or is something else."""
 import os
-import subprocess
-import sys
 
 import pytest
 
 import naplps as nap
-from conftest import PACKAGES, file
+from conftest import file
 from libraries import library_path, made_up
 from naplps import backends
 from naplps.library_backend import SONAME, LibraryBackend
@@ -42,13 +40,6 @@ def test_the_library_comes_first(bare):
         bare.setattr(backends, "SONAME", SONAME)
         bare.setenv("NAPLPS_LIBRARY", named)
         assert nap.backend() == ("library", path) and nap.check(POINT) == 1
-
-
-def test_the_library_of_the_system(naplps):
-    told = {"LD_LIBRARY_PATH": os.path.dirname(library_path()), "PYTHONPATH": PACKAGES, "PATH": os.environ["PATH"]}
-    words = [sys.executable, "-B", "-c", "import naplps; print(naplps.backend().kind, naplps.is_plain(b''))"]
-    said = subprocess.run(words, env=told, capture_output=True, cwd="/")
-    assert said.stdout + said.stderr == b"library True\n"
 
 
 def test_the_library_under_the_same_prefix(bare, tmp_path):

@@ -10,6 +10,7 @@ import pytest
 from conftest import COMMAND, TOP, file
 from naplps.answers import Accepted
 from naplps.client import Client
+from naplps.treating.borders import pieces
 from naplps.treating.treatments import grade_of
 from old_files import LOOKS, STOPS, box
 from packers import pack
@@ -65,7 +66,8 @@ def checked(ask):
 
 def test_each_file_has_its_kind(files, checked):
     for name, each in files.items():
-        assert checked[name]["kind"] == KINDS.get(each.sort), name
+        pages = each.data.count(b"\x0c\x0e") if each.sort == "capture" else None
+        assert (checked[name]["kind"], checked[name]["pages"]) == ("capture" if pages else KINDS.get(each.sort), pages)
         if each.sort == "junk":
             assert checked[name]["status"] == "refused", name
             assert checked[name]["looks_like"] == LOOKS.get(name.split(" ")[1]), name
@@ -137,10 +139,10 @@ def test_captures_are_cut_into_pages_that_are_readable(files, ask, tmp_path, fol
         parts = [each for each in made if each.startswith(stem)]
         data = files[name].data
         assert len(parts) == data.count(b"\x0c\x0e")
-        assert b"".join(read(os.path.join(to, part)) for part in parts) == data
-    said = ask("cures", "--json", names=[os.path.join(to, each) for each in made])
-    rows = list(map(json.loads, said.stdout.splitlines()))
-    assert len(rows) == len(made) and all(row["cure"]["grade"] == "around" for row in rows)
+        notes = [json.loads(read(os.path.join(to, part + ".json"))) for part in parts]
+        assert b"".join(bytes.fromhex(note["before"]) + read(os.path.join(to, part)) + bytes.fromhex(note["after"])
+                        for part, note in zip(parts, notes)) == data
+    assert ask("check", names=[os.path.join(to, each) for each in made]).returncode == 0
 
 
 def test_a_scan_leaves_out_the_notes_of_this_tool_alone(run, tmp_path):
@@ -152,7 +154,7 @@ def test_a_scan_leaves_out_the_notes_of_this_tool_alone(run, tmp_path):
     for name, text in (("x.json", b'{\n  "source_name": "y",\n  "tool": "another 1.0"\n}\n'), ("y.json", b"{}"),
                        ("z.txt", read(os.path.join(top, "a.nap.json")))):
         file(top, name, text)
-    wanted = [b"a.nap", b"b\xff.nap", b"tape-001.nap", b"tape-002.nap", b"tape.nap", b"x.json", b"y.json", b"z.txt"]
+    wanted = [b"a.nap", b"b\xff.nap", b"tape-001.nap", b"tape-002.nap", b"x.json", b"y.json", b"z.txt"]
     assert sorted(os.listdir(os.fsencode(top))) == sorted(wanted + [
         each + b".json" for each in wanted if each.endswith(b".nap")])
     for number in (0, len(wanted)):
@@ -177,9 +179,10 @@ def store(files, naplps, folder, tmp_path_factory):
     said = asked(naplps, "scan", folder, "--into", path, "--cures", "--seconds", "600")
     kinds = Counter(KINDS[each.sort] for each in files.values() if each.sort in KINDS and each.sort != "note")
     notes = sum(each.sort == "note" for each in files.values())
-    line = "%d files: %d accepted (%d pages, %d texts, %d blank), %d refused; " % (
+    captures = sum(each.sort == "capture" for each in files.values())
+    line = "%d files: %d accepted (%d pages, %d texts, %d blank), %d refused (%d captures); " % (
         len(files) - notes, sum(kinds.values()), kinds["page"], kinds["text"], kinds["blank"],
-        len(files) - notes - sum(kinds.values()))
+        len(files) - notes - sum(kinds.values()), captures)
     assert notes > 50 and said.decode().startswith(line)
     return path
 
@@ -356,11 +359,17 @@ def test_the_walk_of_the_documents(files, naplps, tmp_path):
     some = [each for each in some if each.sort != "note"]
     assert said["scan"].startswith(f"{len(some)} files: ") and "\nkinds" not in said["scan"]
     assert "SDC" in said["reasons"] and "What stops pages" in said["reasons"]
-    cut = len([path for path in (room / "work" / "pages").iterdir() if path.suffix != ".json"])
-    assert cut >= sum(each.data.count(b"\x0c\x0e") for each in some if each.sort == "capture") > 10
+    parts = [path.read_bytes() for path in (room / "work" / "pages").rglob("*")
+             if path.is_file() and path.suffix != ".json"]
+    pages = [each.data[piece.offset:piece.end] for each in some if each.sort == "capture"
+             for piece in pieces(each.data)]
+    assert sorted(parts) == sorted(pages)
+    cut = len(parts)
+    assert cut == sum(each.data.count(b"\x0c\x0e") for each in some if each.sort == "capture") > 10
+    assert (room / "captures.txt").read_text().count(" pages\n") == sum(each.sort == "capture" for each in some)
     assert said["captures"].startswith(f"{len(some) + cut} files: ")
     copies = [path.name for path in (room / "treated").rglob("*") if path.is_file() and path.suffix != ".json"]
-    assert {each.name for each in some if each.treatments} < set(copies) and len(copies) <= len(some) + cut
+    assert {each.name for each in some if each.treatments} <= set(copies) and len(copies) <= len(some) + cut
     assert len([path for path in (room / "pictures").rglob("*.svg")]) == len(some) + cut
     assert "treated by" in said["groups"] and "within" in (room / "equal.csv").read_text()
     assert (room / "box.html").stat().st_size > 100_000

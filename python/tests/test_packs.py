@@ -362,27 +362,10 @@ def test_names_that_are_longer_than_those_of_files(run, at, store, length):
     assert run(["equal", store, "--copies", "--verify"]).returncode == 0
 
 
-# The view of a store that was made before packs were known.
-EARLIER = """\
-CREATE VIEW listing AS SELECT CAST(d.path || CASE WHEN substr(d.path, -1) = x'2F' THEN x'' ELSE x'2F' END || f.name
-        AS TEXT) AS name,
-    CASE f.state WHEN 0 THEN CASE p.state WHEN 0 THEN 'accepted' WHEN 1 THEN 'refused' ELSE 'no answer' END
-        WHEN 1 THEN 'unreadable' WHEN 2 THEN 'vanished' WHEN 3 THEN 'too long' WHEN 4 THEN 'not a file'
-        WHEN 5 THEN 'changed' ELSE 'gone' END AS status,
-    p.number, (SELECT t.name FROM faults t WHERE t.number = p.number) AS fault, p.left_out AS code, p.place, p.entries,
-    coalesce(f.why, p.why) AS reason, f.size, nullif(lower(hex(p.own)), '') AS hash,
-    nullif(lower(hex(p.canon)), '') AS canonical,
-    p.canon_size AS canonical_size
-    FROM files f JOIN folders d ON d.id = f.folder LEFT JOIN pages p ON p.id = f.page AND f.state = 0;
-"""
-
-
 def test_a_store_of_an_earlier_version(run, at, store):
     tree(at, {"page": POINT})
     scan(run, at, "--into", store + ".new")
-    connection = sqlite3.connect(earlier(store + ".new", store))
-    connection.executescript("DROP VIEW listing; " + EARLIER)
-    connection.close()
+    earlier(store + ".new", store)
     assert run(["equal", store]).returncode == 0
     pack(os.path.join(at, "pack.tar"), FILES)
     assert scan(run, at, "--into", store).returncode == 0

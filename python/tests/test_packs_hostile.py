@@ -3,6 +3,7 @@ import gzip
 import io
 import os
 import resource
+import struct
 import subprocess
 import sys
 import tarfile
@@ -13,6 +14,7 @@ from hypothesis import given, settings
 from hypothesis import strategies as st
 
 from conftest import COMMAND, PACKAGES
+from extremes import pax, record, summed
 from naplps_pages.collection import tables
 from naplps_pages.packs.member import PackLimits
 from naplps_pages.packs.reading import open_file, open_pack
@@ -213,14 +215,90 @@ def with_size(block, size):
     (header("x", 512, type=tarfile.XHDTYPE) + b"9" * 512) * 1500,
     header("x", 30, type=tarfile.XHDTYPE) + b"30 GNU.sparse.map=1,2,3,4,5,\n".ljust(512, b"\0"),
     header("x", 28, type=tarfile.XHDTYPE) + b"28 GNU.sparse.major=" .ljust(512, b"\0"),
-    header("x", 512, type=tarfile.GNUTYPE_SPARSE), b"\xff" * 512], ids=range(13))
+    header("x", 512, type=tarfile.GNUTYPE_SPARSE) + bytes(512), b"\xff" * 512, pax(b"9" * 20_000),
+    pax(b"9" * 1_000_000), pax(record("comment", b"x" * 70_000)), pax(record("size", b"9" * 5000)),
+    pax(record("path", b"")) * 16 + pax(record("path", b"other")),
+    b"".join(pax(record("comment", b"x" * 9000), record("path", b"other")) for _ in range(8)),
+    header("x", 0, type=tarfile.XGLTYPE) * 40, header("x", 5, type=tarfile.XGLTYPE) + b"what?".ljust(512, b"\0")],
+    ids=range(21))
 def test_headers_that_are_made_up(at, head):
     path = written(os.path.join(at, "made up.tar"), member("first", POINT) + head + member("last", POINT) + END)
     before = resource.getrusage(resource.RUSAGE_SELF).ru_maxrss
     members, made = members_of(path)
-    assert members[0].name == b"first" and (made.why or len(members) == 2)
-    assert len(members) >= 2
+    assert members[0].name == b"first" and (made.why or len(members) >= 2)
+    assert members[-1].name == b"last" and len(members) >= 2
     assert resource.getrusage(resource.RUSAGE_SELF).ru_maxrss - before < 32 << 10
+
+
+@pytest.mark.parametrize("head, number", [
+    (pax(record("path", b"other")), 16), (header("x", 6, type=LONGNAME) + b"other\0".ljust(512, b"\0"), 16),
+    (header("x", 0, type=tarfile.XGLTYPE), 16), (header("x", 0, type=LONGNAME), 16),
+    (header("x", 0, type=tarfile.GNUTYPE_LONGLINK), 16), (pax(record("comment", b"x" * 15_000)), 4)], ids=range(6))
+def test_how_much_may_stand_before_a_member(at, head, number):
+    """So many headers, or 64 KiB, are used; where one more stands there, none is, and the pack has its reason."""
+    name = b"other" if b"other" in head else b"last"
+    for ending, place in ((".tar", written), (".tar.gz", squeezed)):
+        path = place(os.path.join(at, "most" + ending), head * number + member("last", POINT) + END)
+        members, made = members_of(path)
+        assert [(each.name, each.state) for each in members] == [(name, tables.READ)] and made.why is None
+        path = place(os.path.join(at, "more" + ending),
+                     member("first", POINT) + head * (number + 1) + member("last", POINT) + member("b", POINT) + END)
+        members, made = members_of(path)
+        assert [each.name for each in members] == [b"first", b"last", b"b"]
+        assert made.why == "it is damaged at byte 1024"
+        with open_file(os.fsencode(path)) as file:
+            again = open_pack(file, os.fsencode(path), PackLimits(MOST), goes_back=True)
+            assert [again.member_at(each.at) for each in members] == members
+
+
+def test_what_a_header_says_of_a_member(at):
+    """The first of several headers counts, and a name that ends with '/' is a folder where the old form has it."""
+    long = header("x", 6, type=LONGNAME) + b"other\0".ljust(512, b"\0")
+    old = with_type(header("short/", 0), b"\0")
+    data = (long + pax(record("path", b"second")) + member("a", POINT) + old + pax(record("path", b"b/c"))
+            + with_type(header("b/", 5), b"\0") + POINT.ljust(512, b"\0") + pax(record("size", b"5"))
+            + header("c", 600) + POINT.ljust(512, b"\0") + header("d", 5, type=tarfile.CONTTYPE)
+            + POINT.ljust(512, b"\0") + END)
+    members, made = members_of(written(os.path.join(at, "said.tar"), data))
+    assert [(each.name, each.data) for each in members] == [
+        (b"other", POINT), (b"b/c", POINT), (b"c", POINT), (b"d", POINT)] and made.why is None
+
+
+def with_type(block, letter):
+    """The header with another type."""
+    return summed(block[:156] + letter + block[157:])
+
+
+def test_names_of_the_forms_of_tar(at):
+    """Where GNU tar's own form has times, that of POSIX has the front of a name."""
+    posix = tarfile.TarInfo("front/" * 18 + "name").tobuf(tarfile.USTAR_FORMAT)
+    gnu = bytearray(header("name", 0))
+    gnu[345:357] = b"13700000000\0"
+    members, made = members_of(written(os.path.join(at, "forms.tar"), posix + summed(bytes(gnu)) + END))
+    assert [each.name for each in members] == [b"front/" * 18 + b"name", b"name"] and made.why is None
+
+
+def entries_at(places, data=POINT):
+    """A zip file of members that have these places, each by itself; a place is a number or none for the next."""
+    body = rows = b""
+    for number, place in enumerate(places):
+        local, front, rest = entry(b"%d" % number, data, len(data), 0)
+        rows += front + struct.pack("<L", len(body) if place is None else place) + rest
+        body += local if place is None else b""
+    end = struct.pack("<HHHHLLH", 0, 0, len(places), len(places), len(rows), len(body), 0)
+    return body + rows + b"PK\5\6" + end
+
+
+@pytest.mark.parametrize("data, names", [
+    (entries_at([None, None, None]), b"012"), (entries_at([None, 0, None]), b"2"),
+    (entries_at([None, None, 3, None]), b"13"), (entries_at([None] * 3 + [0] * 400), b"12"),
+    (zip_of([entry(b"0", POINT, 5, 0), (entry(b"1", b"", 1 << 20, 0)[0], *entry(b"1", bytes(1 << 20), 5, 0)[1:])]),
+     b"0")], ids=range(5))
+def test_members_of_a_zip_file_that_overlap(at, data, names):
+    members, made = members_of(written(os.path.join(at, "overlap.zip"), data))
+    assert b"".join(each.name for each in members if each.state == tables.READ) == names and made.why is None
+    reason = "it overlaps another member, or the directory"
+    assert {each.why for each in members if each.state != tables.READ} <= {reason}
 
 
 SCAN = """

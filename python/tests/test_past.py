@@ -72,7 +72,7 @@ def test_a_guess_is_hatched_and_told_as_one(run):
     caption = "Sketch of 1 entry; then refused 6 LeftOut CAN at 5; then a guess of 1 entry"
     assert texts(svg) == [caption, HATCHED + "code at 5."]
     assert elements(svg, "title")[0].text == caption
-    assert elements(svg, "desc")[0].text == HATCHED + "code at 5."
+    assert elements(svg, "desc")[0].text == "1 smaller shape or line; " + HATCHED + "code at 5."
     group, = [each for each in elements(svg, "g") if "mask" in each.attrib]
     assert group.attrib["aria-label"] == "a guess"
     assert said.returncode == 1 and said.stderr.decode() == (
@@ -89,8 +89,8 @@ def test_without_the_option_nothing_is_guessed(run):
 
 @pytest.mark.parametrize("command", sorted({*cli.COMMANDS} - {"look"}))
 def test_no_other_command_guesses(run, command):
-    words = ["--into", "x"] if command in ("play", "split", "scan", "convert", "report") else []
-    said = run([command, "a", *(["b"] if command in ("find", "merge") else []), *words, "--past"])
+    words = ["--into", "x"] if command in ("play", "split", "carve", "scan", "convert", "report") else []
+    said = run([command, "a", *(["b"] if command in ("find", "merge", "diff") else []), *words, "--past"])
     assert said.returncode == 2 and b"unrecognized arguments: --past\n" in said.stderr and said.stdout == b""
 
 
@@ -100,7 +100,7 @@ def test_a_guess_changes_no_answer_of_a_store(run, tmp_path):
     run(["look", page, "--past", "--into", os.path.join(str(tmp_path), "to")])
     assert run(["scan", page, os.path.join(str(tmp_path), "other"), "--into", store]).returncode == 0
     assert run(["equal", store]).stdout == b""
-    assert b"page: refused 6 LeftOut CAN at 5\n" in run(["files", store]).stdout
+    assert b"page: refused 6 LeftOut CAN at 5, capture of 2 pages\n" in run(["files", store]).stdout
 
 
 def test_an_accepted_page_has_no_guess(run):

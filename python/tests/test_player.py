@@ -20,11 +20,11 @@ from naplps_pages.player import limits
 from naplps_pages.player.played import played
 from naplps_pages.source import Page
 from players import how_like, like, play, want
-from samples import POINT, has
+from samples import POINT, needs_chromium
 from stream_writer import StreamWriter
 from test_sketch_bounds import bomb
 
-pytestmark = pytest.mark.skipif(not has("chromium"), reason="there is no chromium")
+pytestmark = needs_chromium
 FOLDER = os.path.join(TOP, "examples", "gallery")
 PAGES = gallery.NAMES
 SIZE = (1024, 800)
@@ -109,7 +109,7 @@ def test_the_end_is_the_sketch_and_without_any_shape_it_is_not(shown, name):
 def test_at_each_moment_what_has_come_is_shown(shown, program, name):
     path = os.path.join(FOLDER, name)
     with open(path, "rb") as data:
-        rows = placed(program.ask("places", data.read()).body)
+        rows = [*placed(program.ask("places", data.read()).body)]
     page = shown(path, bypass=True)
     still(page)
     length = page.run("player.line.length")

@@ -12,14 +12,14 @@ import gallery
 from conftest import TOP
 from no_connect import forbid_connect
 from pngs import apart, greys
-from samples import has
+from samples import lack
 
 FOLDER = os.path.join(TOP, "examples", "gallery")
 WIDE, HIGH = 512, 414
 MOST_APART = 4.0
 ON_X86 = platform.machine() == "x86_64"
-pytestmark = pytest.mark.skipif(not (has("chromium") and has("rsvg-convert")),
-                                reason="there is no chromium or rsvg-convert")
+MISSING = lack("chromium") or lack("rsvg-convert")
+pytestmark = pytest.mark.skipif(bool(MISSING), reason=MISSING)
 
 
 def by_librsvg(svg, folder):

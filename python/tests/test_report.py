@@ -1,10 +1,8 @@
 """What a report holds: names, sketches, reasons; how it is made, and why it isn't."""
 import base64
 import hashlib
-import json
 import os
 import re
-import zlib
 
 import pytest
 

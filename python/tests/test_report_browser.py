@@ -11,10 +11,10 @@ from browser import Browser
 from conftest import COMMAND
 from contrasts import FAINT
 from reports import HOSTILE, MARKUP, SPELLED, collection, words
-from samples import OUTSIDE, POINT, has
+from samples import OUTSIDE, POINT, needs_chromium
 from scans import start, wait_until
 
-pytestmark = pytest.mark.skipif(not has("chromium"), reason="there is no chromium")
+pytestmark = needs_chromium
 NAMES = "[...document.querySelectorAll('#files td:first-child button')].map((each) => each.textContent)"
 TOLD = "document.querySelector('#%s-pager span').textContent"
 OPEN = "document.getElementById('details').open"

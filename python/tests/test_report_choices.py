@@ -10,11 +10,11 @@ from conftest import COMMAND
 from naplps_pages.report import making
 from naplps_pages.report.drawing import Drawing
 from reports import words
-from samples import OUTSIDE, POINT, SPELLED, has, with_parity
+from samples import OUTSIDE, POINT, SPELLED, needs_chromium, with_parity
 from scans import start, tree
 from test_report_browser import CLICK, LEAVES, OPEN, TOLD, WALL_TOLD, choose
 
-pytestmark = pytest.mark.skipif(not has("chromium"), reason="there is no chromium")
+pytestmark = needs_chromium
 FILES = {"a page.nap": words("MENU"), "blank.nap": b"", "gif.nap": b"GIF89a\x81" * 9, "one.nap": POINT,
          "out.nap": OUTSIDE, "parity.nap": with_parity(words("NEWS")), "two.nap": SPELLED,
          "long " * 40 + "/text.nap": b"\x0fhello"}

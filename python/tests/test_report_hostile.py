@@ -10,11 +10,11 @@ from conftest import COMMAND
 from packers import pack
 from players import play
 from reports import HOSTILE, words
-from samples import has
+from samples import needs_chromium
 from scans import start, tree, wait_until
 from test_report_browser import OPEN, TITLE
 
-pytestmark = pytest.mark.skipif(not has("chromium"), reason="there is no chromium")
+pytestmark = needs_chromium
 LONGEST = 4000
 # Names of members of a pack, which may be longer than those of files.
 NAMES = ["w" * LONGEST, "\u05d0\u202e" * 300, "a b " * 900, "\x1b[31m" * 100, "<img src=x onerror=hacked=1>" * 50,

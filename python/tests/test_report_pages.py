@@ -9,13 +9,13 @@ from browser import Browser
 from old_files import midst
 from pictures import picture
 from reports import words
-from samples import OUTSIDE, POINT, SPELLED, has, with_parity
+from samples import OUTSIDE, POINT, SPELLED, needs_chromium, with_parity
 from scans import start, tree
 from stream_writer import StreamWriter
 from test_report_browser import LEAVES, OPEN, choose
 from test_report_choices import made, report
 
-pytestmark = pytest.mark.skipif(not has("chromium"), reason="there is no chromium")
+pytestmark = needs_chromium
 LINES = StreamWriter().clear().domain().at(0.1, 0.2, "SCORES", "normal").at(0.1, 0.6, "ICE HOCKEY", "normal").made()
 FILES = {"accents.nap": b"\x0fMontr\x19\x42eal est belle", "can.nap": midst(picture(Random(5), 1), b"\x18"),
          "one.nap": POINT, "out.nap": OUTSIDE, "parity.nap": with_parity(words("NEWS")), "sub/lines.nap": LINES,

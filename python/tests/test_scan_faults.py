@@ -13,6 +13,7 @@ from naplps_pages.collection import tables
 from naplps_pages.collection.header import APPLICATION
 from naplps_pages.collection.lock import Lock, is_held
 from naplps_pages.collection.pool import NoWorkers, Pool
+from naplps_pages.collection.rows import FolderFiles
 from naplps_pages.collection.store import keep_log
 from naplps_pages.collection.worker import Worker, WorkerOptions
 from samples import OUTSIDE, POINT
@@ -85,7 +86,7 @@ def main(descriptor):
     line.send(("alive", None))
     line.recv()
     while True:
-        for folder, path, names in line.recv():
+        for folder, path, names, _ in line.recv():
             for name in names:
                 if name == b"hangs": time.sleep(600)
                 if name == b"fails": line.send(("failed", "MemoryError")); os._exit(1)
@@ -101,7 +102,7 @@ def test_workers_that_fail(tmp_path):
     names = tuple(sorted([b"%03d" % number for number in range(300)] + [b"150 and more", b"hangs", b"fails", b"dies"]))
     pool = Pool(2, (), 5.0, "odd_worker", str(tmp_path))
     try:
-        chunks = [((1, b"/x", names[at:at + 50]),) for at in range(0, len(names), 50)]
+        chunks = [(FolderFiles(1, b"/x", names[at:at + 50]),) for at in range(0, len(names), 50)]
         found = [file for piece in pool.run(iter(chunks)) if piece for file in piece[0]]
     finally:
         pool.close()
@@ -112,7 +113,7 @@ def test_workers_that_fail(tmp_path):
         b"dies": "the worker that looked at it ended with status 7"}
     pool = Pool(2, (), 600.0, "no_worker", str(tmp_path))
     with pytest.raises(NoWorkers, match="workers can't be started: .* ended with status 1"):
-        list(pool.run(iter([((1, b"/x", (b"a",)),)] * 9)))
+        list(pool.run(iter([(FolderFiles(1, b"/x", (b"a",)),)] * 9)))
     pool.close()
 
 
@@ -132,7 +133,7 @@ def test_a_worker_that_is_killed_in_its_first_moment_is_replaced(tmp_path, monke
     os.symlink(os.path.join(PACKAGES, "naplps_pages"), os.path.join(str(tmp_path), "naplps_pages"))
     pool = Pool(1, ("much" * 100_000,), 600.0, "odd_worker", str(tmp_path))
     try:
-        chunks = [((1, b"/x", (b"%d" % number,)),) for number in range(9)]
+        chunks = [(FolderFiles(1, b"/x", (b"%d" % number,)),) for number in range(9)]
         found = [file.name for piece in pool.run(iter(chunks)) if piece for file in piece[0]]
     finally:
         pool.close()
@@ -182,7 +183,8 @@ def test_files_and_folders_that_vanish_before_they_are_looked_at(fake, tmp_path)
     tree(tmp_path, {"a": POINT, "c": OUTSIDE})
     worker = Worker(WorkerOptions(fake(FAKE), 0, 600, 1 << 20), lambda hashes: set())
     here, away = os.fsencode(tmp_path), os.path.join(os.fsencode(tmp_path), b"away")
-    files = [file for piece in worker.pieces(((1, here, (b"a", b"b", b"c")), (2, away, (b"d",)))) for file in piece[0]]
+    files = [file for piece in worker.pieces((
+        FolderFiles(1, here, (b"a", b"b", b"c")), FolderFiles(2, away, (b"d",)))) for file in piece[0]]
     worker.close()
     assert [(file.folder, file.name, file.state, file.why) for file in files] == [
         (1, b"a", tables.READ, None), (1, b"b", tables.VANISHED, "it vanished while it was looked at"),
@@ -245,7 +247,7 @@ def test_a_signal_stops_it_in_order(run, fake, tmp_path, store, number):
 @pytest.mark.parametrize("make", ["other schema", "other database", "no database", "the table of the recipe", "folder"])
 def test_a_file_that_is_no_store(run, tmp_path, store, make):
     foreign = "is a database of something else, and no store of naplps-pages"
-    reason = {"other schema": "is a store of schema 3, and this tool knows schemas 1 and 2", "folder": "isn't a file",
+    reason = {"other schema": "is a store of schema 4, and this tool knows schemas 2 and 3", "folder": "isn't a file",
               "no database": "file is not a database"}.get(make, foreign)
     if make == "folder":
         os.mkdir(store)
@@ -255,7 +257,7 @@ def test_a_file_that_is_no_store(run, tmp_path, store, make):
         connection = sqlite3.connect(store)
         connection.executescript({
             "other schema": "PRAGMA application_id = %d; CREATE TABLE meta(key, value); "
-                            "INSERT INTO meta VALUES('schema', 3);" % APPLICATION,
+                            "INSERT INTO meta VALUES('schema', 4);" % APPLICATION,
             "other database": "CREATE TABLE other(x);",
             "the table of the recipe": "CREATE TABLE pages (page TEXT PRIMARY KEY, hash TEXT, entries INTEGER);"}[make])
         connection.close()

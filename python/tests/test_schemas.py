@@ -18,7 +18,8 @@ from stores import COMMANDS, earlier
 SEVERAL = POINT + bytes.fromhex("1B40 21 1F 0C") + b"\x0f another\x1b\x45"
 FILES = {"a/point.nap": POINT, "b/point.nap": SPELLED, "text": b"hello\r\n", "several": SEVERAL,
          "first": SEVERAL[len(POINT):] + POINT, "blank": b"", "nothing": b"\x0f\x0e", "out": OUTSIDE,
-         "parity": with_parity(POINT), "cancel": b"\x0f" + POINT + b"\x18" + POINT,
+         "parity": with_parity(POINT), "cancel": b"\x0f" + POINT + b"\x0fA\x18B",
+         "capture": POINT + b"\x18" + POINT, "twice": POINT + b"\x0c" + POINT,
          "pic.gif": b"GIF89a\x01\x02\x81", "gif.zip ": b"PK\x03\x04\x99"}
 STOPPED = (["equal"], ["equal", "--copies"], ["refused"], ["refused", "--json"], ["census"], ["status", "--csv"])
 WORDS = "SELECT type, name, sql FROM sqlite_master WHERE sql IS NOT NULL ORDER BY 1, 2"
@@ -66,7 +67,20 @@ def test_each_page_has_its_kind(store):
         "point.nap": ["page", None, 0], "text": ["text", None, 0], "several": ["page", None, 1],
         "first": ["page", None, 0], "blank": ["blank", None, 0], "nothing": ["blank", None, 0],
         "out": [None, None, None], "parity": [None, None, None], "cancel": [None, None, None],
+        "capture": ["capture", None, None], "twice": ["page", None, 1],
         "pic.gif": [None, "GIF", None], "gif.zip ": [None, "ZIP", None]}
+
+
+def test_a_capture_has_the_number_of_its_pages(store, run):
+    assert listed(store, "pages")["capture"] == [2] and listed(store, "pages")["twice"] == [None]
+    said = run(["files", store, "--kind", "capture", "--json"])
+    (row,) = map(json.loads, said.stdout.splitlines())
+    assert row["name"].endswith("/capture") and (row["kind"], row["pages"], row["treatments"]) == ("capture", 2, None)
+    assert b"1: capture, of 2 pages" in run(["status", store]).stdout
+    it = json.loads(run(["status", store, "--json"]).stdout)
+    assert it["captures"] == {"files": 1, "pages": 2}
+    assert json.loads(run(["check", "--json", row["name"]]).stdout)["pages"] == 2
+    assert run(["check", row["name"]]).stdout == b"refused 6 LeftOut CAN at 5 (capture of 2 pages)\n"
 
 
 def test_a_treated_page_has_what_its_copy_draws(store, run, tmp_path):
@@ -118,30 +132,61 @@ def test_a_scan_renews_it(old, store, run, pages):
         b"1 file: 1 accepted (1 page)"))
     assert rows(old, WORDS) == rows(store, WORDS) and rows(old, "SELECT value FROM meta WHERE key = 'schema'") == [
         (str(schemas.SCHEMA),)]
-    assert listed(old, "kind")["text"] == [None]
+    assert listed(old, "kind", "pages")["capture"] == [None, None]
+    assert b"13 of unknown kind" in run(["status", old]).stdout
     said = run(["scan", pages, "--into", old, "--cures"])
-    assert b"; 1 known, 11 pages asked about" in said.stdout
+    assert b"; 1 known, 13 pages asked about" in said.stdout
     assert listed(old, "*") == listed(store, "*")
-    assert b"; 12 known, 0 pages asked about" in run(["scan", pages, "--into", old, "--cures"]).stdout
+    assert b"; 14 known, 0 pages asked about" in run(["scan", pages, "--into", old, "--cures"]).stdout
 
 
-def test_treatments_of_the_schema_before_are_tried_again_where_they_are_asked_for(old, run, pages):
-    assert b"; 0 known, 12 pages" in run(["scan", pages, "--into", old]).stdout
-    assert b"; 12 known, 0 pages" in run(["scan", pages, "--into", old]).stdout
-    assert listed(old, "grade")["parity"] == [None]
-    assert b"; 10 known, 2 pages" in run(["scan", pages, "--into", old, "--cures"]).stdout
-    assert listed(old, "grade")["parity"] == ["around"]
-
-
-@pytest.mark.parametrize("name", ["texts", "words", "words_data"])
-def test_what_stands_in_the_way_of_a_renewal_is_told(old, run, pages, name):
-    connection = sqlite3.connect(old)
-    connection.execute(f"CREATE TABLE {name}(mine TEXT)")
+def test_copies_that_may_lack_a_page_are_unknown_until_they_are_made_anew(store, tmp_path, run, pages):
+    connection = sqlite3.connect(store)
+    connection.execute("UPDATE cures SET treatments = 'tail+header' WHERE treatments = 'parity'")
+    connection.commit()
     connection.close()
-    said = run(["scan", pages, "--into", old])
-    assert said.returncode == 3 and said.stderr.decode() == (
-        f"naplps-pages: {old}: has a table {name} of its own, where schema 2 has another: give that a new name\n")
-    assert run(["status", old]).returncode == 0
+    old = earlier(store, os.path.join(str(tmp_path), "old.db"))
+    said = run(["equal", old, "--treated"])
+    assert b"parity" not in said.stdout and b"of treated copies of 1 refused page it isn't known" in said.stderr
+    assert b"parity: treated by tail+header" in run(["equal", store, "--treated"]).stdout
+    assert run(["scan", pages, "--into", old]).returncode == 0
+    assert b"parity: treated by parity (around)" in run(["equal", old, "--treated"]).stdout
+
+
+@pytest.mark.parametrize("words", [["--cures"], ["--words"], ["--cures", "--words"]])
+def test_a_scan_keeps_to_the_options_of_those_before(run, tmp_path, pages, words):
+    store, whole, merged = (os.path.join(str(tmp_path), name) for name in ("kept.db", "whole.db", "merged.db"))
+    assert run(["scan", os.path.join(pages, "a"), "--into", store, *words]).returncode == 0
+    assert run(["scan", pages, "--into", store]).returncode == 0
+    assert run(["scan", pages, "--into", whole, *words]).returncode == 0
+    for table in ("cures", "texts"):
+        counts = [rows(path, f"SELECT count(*) FROM {table}") for path in (store, whole)]
+        assert counts[0] == counts[1]
+        assert (counts[0] != [(0,)]) == ({"cures": "--cures", "texts": "--words"}[table] in words)
+    assert run(["merge", merged, store]).returncode == 0
+    keys = "SELECT key FROM meta WHERE key IN ('cures', 'words') ORDER BY 1"
+    renewed = earlier_and_renewed(store, tmp_path, run, pages)
+    assert rows(store, keys) == rows(merged, keys) == rows(renewed, keys) == [
+        (word[2:],) for word in words]
+    assert b"left:            nothing" in run(["status", store]).stdout
+
+
+def earlier_and_renewed(store, tmp_path, run, pages):
+    """The store as one of the schema before had it, after another scan."""
+    old = earlier(store, os.path.join(str(tmp_path), "before.db"))
+    assert run(["scan", pages, "--into", old]).returncode == 0
+    return old
+
+
+def test_pages_without_a_text_are_told(run, tmp_path, pages):
+    parts = [os.path.join(str(tmp_path), name) for name in ("one.db", "other.db", "all.db")]
+    assert run(["scan", os.path.join(pages, "a"), "--into", parts[0]]).returncode == 0
+    assert run(["scan", os.path.join(pages, "text"), "--into", parts[1], "--words"]).returncode == 0
+    assert run(["merge", parts[2], *parts[:2]]).returncode == 0
+    assert b"1 without their text" in run(["status", parts[2]]).stdout
+    said = run(["find", "hello", parts[2]])
+    assert said.stdout.endswith(b"text: hello\n") and said.returncode == 0 and (
+        b"1 page has no text kept, and can't be found: a scan with --words keeps it" in said.stderr)
 
 
 def test_a_merge_takes_both_schemas(old, store, run, tmp_path, pages):
@@ -151,9 +196,10 @@ def test_a_merge_takes_both_schemas(old, store, run, tmp_path, pages):
     for order in ((old, second), (second, old)):
         assert run(["merge", merged, *order]).returncode == 0
         kinds = dict(rows(merged, "SELECT name, kind FROM listing"))
-        assert kinds[more + "/text"] == kinds[pages + "/text"] == "text" and kinds[pages + "/blank"] is None
+        assert kinds[more + "/text"] == kinds[pages + "/text"] == "text" and kinds[pages + "/capture"] is None
         grades = dict(rows(merged, "SELECT name, grade FROM listing"))
-        assert grades[more + "/parity"] == grades[pages + "/parity"] == "around" and grades[pages + "/cancel"] is None
+        assert grades[more + "/parity"] == grades[pages + "/parity"] == "around"
+        assert grades[pages + "/cancel"] == "within"
         assert rows(merged, WORDS) == rows(store, WORDS)
         os.unlink(merged)
 
@@ -200,7 +246,9 @@ def test_an_index_of_words_that_is_another(store):
             open_to_read(bad).close()
 
 
-WRONG = ["UPDATE pages SET kind = 3 WHERE state = 0", "UPDATE pages SET kind = 'page' WHERE state = 0",
+WRONG = ["UPDATE pages SET kind = 3 WHERE state = 0", "UPDATE pages SET holds = 2 WHERE state = 0",
+         "UPDATE pages SET holds = 1 WHERE kind = 3", "UPDATE pages SET holds = 2 WHERE number = 10",
+         "UPDATE pages SET holds = -1", "UPDATE pages SET kind = 'page' WHERE state = 0",
          "UPDATE pages SET kind = 0 WHERE state = 1", "UPDATE pages SET looks_like = 'GIF' WHERE state = 0",
          "UPDATE pages SET looks_like = x'00' WHERE state = 1", "UPDATE pages SET several = 7",
          "UPDATE cures SET grade = 2 WHERE treatments IS NOT NULL",

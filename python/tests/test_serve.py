@@ -4,14 +4,17 @@ import http.client
 import json
 import os
 import re
+import resource
 import signal
 import socket
 import subprocess
+import time
 from concurrent.futures import ThreadPoolExecutor
 
 import pytest
 
 from conftest import COMMAND, file
+from naplps_pages.report.connections import HEAD_SECONDS
 from naplps_pages.report.server import MOST_DRAWERS
 from naplps_pages.report.sketch_workers import ENDED
 from reports import SPELLED
@@ -439,3 +442,115 @@ def test_it_ends_amid_a_drawing(slow, number):
         # (the server may end before it can tell that nothing is drawn, or after that)
         lost = long.exception()
         assert isinstance(lost, (OSError, http.client.HTTPException, AssertionError)) or long.result()["why"] == ENDED
+
+
+def _memory(process):
+    """The memory of a process, in MiB."""
+    with open(f"/proc/{process.pid}/status", encoding="ascii") as status:
+        return int(re.search(r"VmRSS:\s+(\d+)", status.read())[1]) >> 10
+
+
+def _processor(process):
+    """The seconds of a processor that a process took."""
+    with open(f"/proc/{process.pid}/stat", encoding="ascii") as stat:
+        words = stat.read().rpartition(")")[2].split()
+    return (int(words[11]) + int(words[12])) / os.sysconf("SC_CLK_TCK")
+
+
+def _connected(port, number):
+    return [socket.create_connection((HOST, port), 60) for _ in range(number)]
+
+
+def _trickle(clients):
+    """Each of the clients that are still connected sends a byte."""
+    for each in clients:
+        try:
+            each.send(b"a")
+        except OSError:
+            pass
+
+
+def test_long_heads_take_no_memory(own):
+    """97 headers of 65,000 bytes each, without a key, took 45 MB a connection, and kept them."""
+    before, more = _memory(own.process), b"".join(b"X%d: " % number + b"a" * 65000 + b"\r\n" for number in range(97))
+    for _ in range(2):
+        clients = _connected(own.port, 20)
+        for each in clients:
+            try:
+                each.sendall(b"GET /nokey/ HTTP/1.1\r\nHost: x\r\n" + more + b"\r\n")
+            except OSError:
+                pass  # (it is closed as soon as it has sent 16 KiB)
+        assert own.ask("/")[0] == 200
+        assert _memory(own.process) < before + 40
+        for each in clients:
+            each.close()
+
+
+@pytest.mark.parametrize("most", [None, 64])
+def test_slow_clients_lock_nobody_out(own, most):
+    """Also where the server has few descriptors: the user with the key is answered while 200 others send on."""
+    if most is not None:
+        resource.prlimit(own.process.pid, resource.RLIMIT_NOFILE, (most, most))
+    clients = _connected(own.port, 200)
+    before = _processor(own.process)
+    for _ in range(5):
+        _trickle(clients)
+        assert own.ask("/")[0] == own.ask(FILES)[0] == 200
+        time.sleep(1)
+    assert _processor(own.process) - before < 4
+    for each in clients:
+        each.close()
+
+
+def test_a_kept_connection_that_had_the_key_outlives_others(own):
+    kept = http.client.HTTPConnection(HOST, own.port, timeout=60)
+    kept.request("GET", own.key + "/")
+    assert kept.getresponse().read()
+    own_socket = kept.sock
+    clients = _connected(own.port, 150)
+    time.sleep(0.5)
+    kept.request("GET", own.key + "/")
+    assert kept.getresponse().status == 200 and kept.sock is own_socket
+    for each in clients:
+        each.close()
+
+
+def test_a_head_has_ten_seconds(own):
+    """In all, and not for each byte of it."""
+    start = time.monotonic()
+    (client,) = _connected(own.port, 1)
+    client.sendall(b"GET / HTTP/1.1\r\n")
+    client.settimeout(1.0)
+    while time.monotonic() - start < 60:
+        try:
+            client.send(b"a")
+            if client.recv(1) == b"":
+                break
+        except socket.timeout:
+            continue
+        except OSError:
+            break
+    assert HEAD_SECONDS - 1 < time.monotonic() - start < HEAD_SECONDS + 20
+
+
+@pytest.mark.parametrize("end", [b"\r\n", b"\n"])
+def test_requests_that_come_in_one_piece_or_byte_by_byte(own, end):
+    lines = [b"GET " + own.key.encode() + FILES.encode() + b" HTTP/1.1", b"Host: 127.0.0.1:%d" % own.port, b"", b""]
+    request = end.join(lines)
+    (client,) = _connected(own.port, 1)
+    client.sendall(b"\r\n" + request * 3)
+    for number in range(len(request)):
+        client.sendall(request[number:number + 1])
+    client.shutdown(socket.SHUT_WR)
+    told = b"".join(iter(lambda: client.recv(65536), b""))
+    assert told.count(b"HTTP/1.1 200 ") == told.count(b"HTTP/1.1") == 4
+
+
+@pytest.mark.parametrize("length, status", [(0, 403), (15_000, 403), (17_000, 431), (100_000, 431)])
+def test_a_head_of_a_length(own, length, status):
+    (client,) = _connected(own.port, 1)
+    try:
+        client.sendall(b"GET / HTTP/1.1\r\nHost: 127.0.0.1:%d\r\nX: " % own.port + b"a" * length + b"\r\n\r\n")
+        assert client.recv(100).startswith(b"HTTP/1.1 %d " % status)
+    except ConnectionError:
+        assert status == 431

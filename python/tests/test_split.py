@@ -10,7 +10,7 @@ from hypothesis import given
 from hypothesis import strategies as st
 
 from conftest import file
-from naplps.treating.captures import pieces
+from naplps.treating.borders import pieces
 from pictures import picture
 from samples import POINT, POINT_AND_BELL
 
@@ -32,6 +32,7 @@ def test_a_capture_is_cut_where_its_pages_begin(run, tmp_path, name):
     assert sorted(os.listdir(to)) == sorted(made + [each + ".json" for each in made])
     offset = 0
     for number, (each, data) in enumerate(zip(made, some), 1):
+        data, offset = data[len(front):], offset + len(front)
         with open(os.path.join(to, each), "rb") as page:
             assert page.read() == data
         with open(os.path.join(to, each + ".json"), encoding="ascii") as note:
@@ -41,37 +42,50 @@ def test_a_capture_is_cut_where_its_pages_begin(run, tmp_path, name):
             "bytes": len(whole), "sha256": hashlib.sha256(whole).hexdigest()}
         assert (row["page"], row["pages"], row["offset"]) == (number, 20, offset)
         assert row["copy"] == {"bytes": len(data), "sha256": hashlib.sha256(data).hexdigest()}
-        assert set(row) >= {"program", "tool", "cut_at"}
+        assert set(row) >= {"program", "tool", "cut_at"} and (row["before"], row["after"]) == (front.hex(), "")
         offset += len(data)
     lines = said.stdout.decode().splitlines()
-    assert lines[-1] == "20 pages: 0 accepted, 20 refused" and len(lines) == 21
-    treated = os.path.join(str(tmp_path), "treated")
-    assert run(["cures", *(os.path.join(to, each) for each in made), "--into", treated]).returncode == 1
-    assert run(["check", *(os.path.join(treated, each) for each in made)]).returncode == 0
+    assert lines[-1] == "20 parts: 20 accepted, 0 refused" and len(lines) == 21
+    assert run(["check", *(os.path.join(to, each) for each in made)]).returncode == 0
 
 
 def test_what_is_told(run, tmp_path):
-    file(tmp_path, "tape", CLEAR + b"\x1f\x41\x42" + CLEAR + b"\x1b\x22\x46" + CLEAR)
+    file(tmp_path, "tape", b"HELLO\x18" + CLEAR + b"\x1f\x41\x42" + CLEAR + b"\x1b\x22\x46BYE\x1a" + CLEAR + b"\x1aEND")
     said = run(["split", "tape", "--into", "to"], cwd=str(tmp_path))
     assert said.stdout.decode().splitlines() == [
-        "to/tape-001.nap: 6 bytes at 0, cut at the beginning: accepted 2 entries",
-        "to/tape-002.nap: 9 bytes at 6, cut at NSR: refused 6 LeftOut NSR at 0",
-        "to/tape-003.nap: 9 bytes at 15, cut at 1B 22: refused 2 BadEscape at 1", "3 pages: 1 accepted, 2 refused"]
+        "to/tape-001.nap: 6 bytes at 6, cut at the beginning, 5 bytes of text before it: accepted 2 entries",
+        "to/tape-002.nap: 6 bytes at 15, cut at NSR: accepted 2 entries",
+        "to/tape-003.nap: 3 bytes at 24, cut at 1B 22: accepted 3 entries (text)",
+        "to/tape-004.nap: 6 bytes at 28, cut at 1A, 3 bytes of text after it: accepted 2 entries",
+        "4 parts: 4 accepted, 0 refused"]
     said = run(["split", "tape", "--into", "to", "--json"], cwd=str(tmp_path))
     rows = [json.loads(line) for line in said.stdout.splitlines()]
-    assert [(row["name"], row["status"], row["offset"], row["bytes"], row["cut_at"]) for row in rows] == [
-        ("to/tape-001.nap", "accepted", 0, 6, "the beginning"), ("to/tape-002.nap", "refused", 6, 9, "NSR"),
-        ("to/tape-003.nap", "refused", 15, 9, "1B 22")]
+    assert [(row["name"], row["status"], row["offset"], row["bytes"], row["cut_at"], row["before"], row["after"])
+            for row in rows] == [
+        ("to/tape-001.nap", "accepted", 6, 6, "the beginning", "48454c4c4f18", ""),
+        ("to/tape-002.nap", "accepted", 15, 6, "NSR", "1f4142", ""),
+        ("to/tape-003.nap", "accepted", 24, 3, "1B 22", "1b2246", ""),
+        ("to/tape-004.nap", "accepted", 28, 6, "1A", "1a", "1a454e44")]
+
+
+def test_nothing_is_written_where_no_part_is_a_page(run, tmp_path):
+    path = file(tmp_path, "tape", (CLEAR + b"\x1b\x51\x1f") * 3)
+    said = run(["split", path, "--into", os.path.join(str(tmp_path), "to")])
+    assert said.stdout == b"nothing is written: of 3 parts none is accepted as a page\n" and said.returncode == 1
+    assert os.listdir(str(tmp_path)) == ["tape"]
+    said = run(["split", "--json", path, "--into", os.path.join(str(tmp_path), "to")])
+    assert said.stdout == b"" and b"none is accepted" in said.stderr and said.returncode == 3
 
 
 @pytest.mark.parametrize("data", [
-    CLEAR + CLEAR, CLEAR + b"\x18" + CLEAR, b"\x1f" + CLEAR, CLEAR + b"\x1b\x22\x46A", CLEAR + b"\x1b\x20\x43" + CLEAR,
+    CLEAR + CLEAR, CLEAR + b"\x18A", b"\x1f" + CLEAR, CLEAR + b"\x1b\x22\x46A", b"HELLO\x18" + CLEAR,
     b"", CLEAR + b"\x1b\x40A\x1f\x1b\x45" + CLEAR, b"\x18\x1b\x22\x46" + CLEAR])
 def test_nothing_else_is_a_place_to_cut(run, tmp_path, data):
     assert len(pieces(data)) < 2
     said = run(["split", file(tmp_path, "page", data), "--into", os.path.join(str(tmp_path), "to")])
-    assert said.stdout == b"no page is cut: there is neither NSR nor 1B 22 or 1B 25 before a page\n"
-    assert said.returncode == 1 and os.listdir(os.path.join(str(tmp_path), "to")) == []
+    assert said.stdout == (b"no page is cut: there is no border, which is NSR, CAN, 1A or an announcer with bytes that "
+                           b"draw on both sides of it\n")
+    assert said.returncode == 1 and not os.path.exists(os.path.join(str(tmp_path), "to"))
 
 
 def test_nothing_is_written_over_and_nothing_too_long_is_read(run, tmp_path):
@@ -88,7 +102,7 @@ def test_nothing_is_written_over_and_nothing_too_long_is_read(run, tmp_path):
 
 
 def test_a_capture_of_too_many_pages(run, tmp_path):
-    path = file(tmp_path, "many", b"\x1fA\n" * 100_001)
+    path = file(tmp_path, "many", POINT + (b"\x1f" + POINT) * 100_000)
     said = run(["split", path, "--into", os.path.join(str(tmp_path), "to")])
     assert said.returncode == 3 and said.stderr.endswith(
         b"many: it would be cut into 100001 pages, and 100000 are the most\n")
@@ -99,10 +113,9 @@ SOME = st.one_of(st.sampled_from([*FRONTS.values(), b"\x1b\x40A", b"\x1b\x45", b
 
 
 @given(st.lists(SOME, max_size=20).map(b"".join))
-def test_pieces_have_all_bytes_and_begin_with_codes_before_a_page(data):
+def test_pieces_begin_behind_codes_that_stand_before_a_page(data):
     some = pieces(data)
-    assert b"".join(data[each.offset:each.offset + each.length] for each in some) == data
     for each in some[1:]:
-        assert re.match(rb"\x18|\x1f|\x1b[\x20-\x27]", data[each.offset:])
-    outside = re.sub(rb"(?s)\x1b[\x40\x41][^\x1b].*?(?=\x1b[\x40-\x45]|$)", b"", data)
-    assert len(some) <= 1 + outside.count(b"\x1f") + outside.count(b"\x1b\x22") + outside.count(b"\x1b\x25")
+        before = data[each.offset - each.before:each.offset]
+        assert re.search(rb"\x18|\x1a|\x1f|\x1b[\x20-\x27]", before)
+    assert b"".join(data[each.offset - each.before:each.end] for each in some) == data[:some[-1].end if some else 0]

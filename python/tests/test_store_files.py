@@ -59,7 +59,7 @@ def test_a_store_is_known_by_its_header(store, tmp_path):
 
 
 @pytest.mark.parametrize("command, other", [("list", "files"), ("canon", "convert"), ("explain", "refused"),
-                                            ("play", "serve"), ("text", "find"), ("split", "files")])
+                                            ("play", "serve"), ("text", "find"), ("source", "files")])
 def test_a_store_in_place_of_a_page_is_told_with_the_command_that_takes_one(run, store, tmp_path, command, other):
     where = ["--into", os.path.join(str(tmp_path), "made")] if command in ("play", "split") else []
     said = run([command, store, *where])

@@ -112,13 +112,73 @@ def test_a_table_that_is_not_there(made, table):
 
 
 def test_foreign_tables_and_indices_are_left_alone(made):
-    words = ("CREATE TABLE notes(text TEXT); INSERT INTO notes VALUES('mine'); CREATE INDEX by_size ON files(size);"
-             "CREATE INDEX notes_by_text ON notes(text); ANALYZE")
+    words = ("CREATE TABLE notes(text TEXT CHECK(length(text) < 9), twice AS (text || text)); INSERT INTO notes "
+             "VALUES('mine'); CREATE UNIQUE INDEX notes_by_text ON notes(text, (length(text))) WHERE text > 'a'; "
+             "CREATE TABLE numbers(id INTEGER PRIMARY KEY AUTOINCREMENT, of INTEGER UNIQUE); ANALYZE")
     for command in COMMANDS:
         made.change(words)
         assert made.run(command).status in (0, 1), command
         assert rows(made.bad, "SELECT text FROM notes") == [("mine",)]
-        assert len(rows(made.bad, "SELECT 1 FROM sqlite_master WHERE name IN ('by_size', 'notes_by_text')")) == 2
+        assert len(rows(made.bad, "SELECT 1 FROM sqlite_master WHERE name IN ('numbers', 'notes_by_text')")) == 2
+
+
+SCHEMA = "PRAGMA writable_schema = ON; UPDATE sqlite_schema SET sql = '%s' WHERE name = 'evil'"
+LONG = "(instr(printf(''%.*c'', 100000000, ''a''), printf(''%.*c'', 50000000, ''a'') || ''c''))"
+# Each kind of object that a schema may have beside the store's own tables, and that acts as these are written or read.
+ACTING = {
+    "index plain": "CREATE INDEX plain ON files(size)", "index unique": "CREATE UNIQUE INDEX \"unique\" ON pages(id)",
+    "index evil": "CREATE INDEX evil ON runs((1 + 1)); " + SCHEMA % ("CREATE INDEX evil ON runs(" + LONG + ")"),
+    "index part": "CREATE INDEX part ON pages(state) WHERE canon > hex(own)",
+    "index capitals": "CREATE INDEX capitals ON FILES(size)", "index cased": "CREATE INDEX cased ON files(hex(name))",
+    "index collated": "CREATE INDEX collated ON faults(name COLLATE NOCASE)",
+    "index of_roots": "CREATE INDEX of_roots ON roots(why)", "index of_meta": "CREATE INDEX of_meta ON meta(value)",
+    "index of_terms": "CREATE INDEX of_terms ON terms((abs(budget)))",
+    "index of_cures": "CREATE INDEX of_cures ON cures((length(copy)))",
+    "index of_folders": "CREATE INDEX of_folders ON folders((length(path)))",
+    "view v": "CREATE VIEW v AS SELECT 1", "trigger t": "CREATE TRIGGER t AFTER DELETE ON files BEGIN SELECT 1; END",
+    "trigger of_view": "CREATE TRIGGER of_view INSTEAD OF INSERT ON listing BEGIN SELECT 1; END",
+    "table found": "CREATE VIRTUAL TABLE found USING fts5(text)",
+    "table of_words": "CREATE VIRTUAL TABLE of_words USING fts5(text, content='texts', content_rowid='page')",
+    "table boxes": "CREATE VIRTUAL TABLE boxes USING rtree(id, a, b)"}
+# A row of the schema whose words make something else than the row says: SQLite refuses them, or they are seen.
+LYING = ("CREATE TABLE evil(x); " + SCHEMA % "CREATE INDEX evil ON runs((1 + 1))",
+         "CREATE TABLE evil(x); " + SCHEMA % "CREATE TRIGGER evil AFTER INSERT ON runs BEGIN SELECT 1; END",
+         "CREATE TABLE evil(x); " + SCHEMA % "CREATE VIEW evil AS SELECT 1",
+         "CREATE TABLE notes(x); CREATE INDEX evil ON notes(x); " + SCHEMA % "CREATE INDEX evil ON runs((1 + 1))",
+         "CREATE TABLE evil(x); " + SCHEMA % " create index evil on runs((1 + 1))")
+
+
+@pytest.mark.parametrize("what", ACTING)
+def test_what_would_act_on_the_stores_own_tables_is_refused(made, what):
+    try:
+        made.change(ACTING[what])
+    except sqlite3.OperationalError as error:
+        pytest.skip(str(error))
+    commands = COMMANDS if what == "index evil" else (["status"], ["scan"], ["merge"], ["equal", "OTHER"])
+    with open(made.bad, "rb") as file:
+        before = file.read()
+    for command in commands:
+        said = made.run(command)
+        assert said.status == 3 and said.err.decode() == FOREIGN % tuple(what.split(" ")), (command, said)
+        with open(made.bad, "rb") as file:
+            assert file.read() == before, command
+
+
+@pytest.mark.parametrize("words", LYING, ids=range(5))
+def test_a_row_of_a_schema_that_lies_is_refused(made, words):
+    made.change(words)
+    for command in (["status"], ["scan"], ["merge"]):
+        said = made.run(command)
+        assert said.status == 3 and said.err.startswith(b"naplps-pages: bad.db: "), (command, said)
+
+
+@pytest.mark.parametrize("shadow", [*word_index.SHADOWS, "texts"])
+def test_an_index_of_what_keeps_the_words_is_refused(indexed, shadow):
+    column = {"words_data": "block", "words_idx": "term", "words_docsize": "sz", "words_config": "v", "texts": "text"}
+    indexed.change("CREATE INDEX evil ON %s((length(%s)))" % (shadow, column[shadow]))
+    for command in (["status"], ["scan", "--words"], ["merge"]):
+        said = forked(words_of(command, "bad.db", "", indexed.pages), indexed.folder, indexed.naplps, 60)
+        assert said.status == 3 and said.err.decode() == FOREIGN % ("index", "evil"), (command, said)
 
 
 def test_functions_of_a_schema_are_not_trusted(made):

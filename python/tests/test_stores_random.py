@@ -16,7 +16,10 @@ import pytest
 
 from forked import begun, counted, ended, forked, require_told, rounds
 from naplps_pages.collection import kinds
+from naplps_pages.collection.beside import ENDINGS
+from packers import written
 from stores import COMMANDS, archive, clean, copied, words_of
+from test_beside_stores import KINDS, hashes, taken_away
 
 ROUNDS = 40
 PATHS = ("/", "/dev/zero!/", "/proc/self/mem", "../../x", "/etc/passwd!/", "a/b")
@@ -24,7 +27,12 @@ OBJECTS = ("CREATE VIEW v AS SELECT 1", "CREATE TRIGGER t AFTER DELETE ON pages 
            "CREATE TABLE more(x)", "CREATE INDEX more_by ON files(state)", "DROP TABLE cures", "DROP VIEW listing",
            "DROP INDEX files_by_page", "DELETE FROM meta", "PRAGMA user_version = 7", "PRAGMA application_id = 7",
            "ALTER TABLE runs ADD COLUMN x", "CREATE UNIQUE INDEX u ON files(state)", "VACUUM",
-           "PRAGMA journal_mode = WAL", "PRAGMA auto_vacuum = 1", "CREATE VIRTUAL TABLE w USING fts5(x)", "REINDEX")
+           "PRAGMA journal_mode = WAL", "PRAGMA auto_vacuum = 1", "CREATE VIRTUAL TABLE w USING fts5(x)", "REINDEX",
+           "CREATE INDEX e ON runs((abs(id)))", "CREATE INDEX f ON pages(state) WHERE canon > hex(own)", "ANALYZE",
+           "CREATE TABLE own(a INTEGER PRIMARY KEY AUTOINCREMENT, b AS (a + 1), CHECK(b > a))",
+           "CREATE TABLE \"FILES of\"(x); CREATE INDEX g ON \"FILES of\"((hex(x)))")
+# What a command may make or change, by how its name begins.
+MADE = ("bad.db", "more.db", "kept.db", "canonical", "report.html", "merged.db", "out", "err")
 
 
 @pytest.fixture(scope="module")
@@ -36,6 +44,7 @@ def folder(tmp_path_factory, naplps):
         assert forked(["scan", pages, "--into", store, "--cures"], at, naplps).status == 0
     copied(os.path.join(at, "other.db"), os.path.join(at, "more.db"),
            "UPDATE roots SET path = x'2F6F74686572'; UPDATE folders SET path = CAST('/other/' || id AS BLOB)")
+    written(os.path.join(at, "victim"), b"precious" * 1000)
     return at
 
 
@@ -65,7 +74,7 @@ def changed(chance, connection):
             chance.choice(("'part'", "'schema'", "'hash'", "'tool'")),
             chance.choice(("'1/2'", "'0/2'", "1", value(chance)))))
     elif kind < 0.92:
-        connection.execute(chance.choice(OBJECTS))
+        connection.executescript(chance.choice(OBJECTS))
     else:
         connection.execute("PRAGMA writable_schema = ON")
         connection.execute("UPDATE sqlite_master SET %s WHERE abs(random()) %% 4 = 0" % chance.choice((
@@ -83,9 +92,17 @@ def damaged(chance, path):
             file.write(chance.randbytes(chance.choice((1, 1, 2, 4, 100))))
         if chance.random() < 0.05:
             file.truncate(chance.randrange(size))
-    if chance.random() < 0.1:
-        with open(path + chance.choice(("-wal", "-journal", "-shm")), "wb") as file:
-            file.write(chance.choice((b"", chance.randbytes(5000), bytes.fromhex("D9D505F920A163D7") * 100)))
+
+
+def beside(chance, victim):
+    """What stands beside a store by chance: by its ending, what makes it at a path."""
+    some = {}
+    while chance.random() < 0.15:
+        data = chance.choice((b"", b"99\n", chance.randbytes(5000), bytes(4096), b"SQLite format 3\0" + bytes(84), *(
+            bytes.fromhex(each) * 100 for each in ("D9D505F920A163D7", "377F0682002DE218", "18E22D0000000000"))))
+        kind = chance.choice((*KINDS.values(), *[lambda path, _, data=data: written(path, data)] * 8))
+        some[chance.choice(ENDINGS)] = lambda path, kind=kind: kind(path, victim)
+    return some
 
 
 def make(chance, good, path):
@@ -151,20 +168,27 @@ def served(folder, naplps, seed, counts):
     counts["serve", said.status] += 1
 
 
+def untouched(folder):
+    """What stands in the folder, with hashes, but for what commands make."""
+    return {name: what for name, what in hashes(folder).items() if not name.startswith(MADE)}
+
+
 def test_random_stores(folder, naplps):
     counts = collections.Counter()
     bad, pages = os.path.join(folder, "bad.db"), os.path.join(folder, "pages")
     for seed, chance in rounds(ROUNDS):
+        for each in ENDINGS:
+            taken_away(bad + each)
         make(chance, os.path.join(folder, "good.db"), bad)
-        beside = [each for each in ("-wal", "-journal", "-shm") if os.path.exists(bad + each)]
-        for each in ("", *beside):
-            shutil.copy(bad + each, os.path.join(folder, "kept.db" + each))
+        shutil.copy(bad, os.path.join(folder, "kept.db"))
+        some = beside(chance, os.path.join(folder, "victim"))
+        before = untouched(folder)
         for command in chance.sample((*COMMANDS, None), 5):
-            for each in ("-wal", "-journal", "-shm"):
-                if os.path.lexists(bad + each):
-                    os.unlink(bad + each)
-            for each in ("", *beside):
-                shutil.copy(os.path.join(folder, "kept.db" + each), bad + each)
+            for each in ENDINGS:
+                taken_away(bad + each)
+            shutil.copy(os.path.join(folder, "kept.db"), bad)
+            for ending, place in some.items():
+                place(bad + ending)
             clean(folder)
             if command is None:
                 served(folder, naplps, seed, counts)
@@ -172,5 +196,8 @@ def test_random_stores(folder, naplps):
             said = forked(words_of(command, "bad.db", "more.db", pages), folder, naplps)
             require_told(said, command, seed)
             counts[command[0], said.status] += 1
+        for each in ENDINGS:
+            taken_away(bad + each)
+        assert untouched(folder) == before, seed
     counted(counts, "random stores")
     assert sum(counts.values()) >= 5 * ROUNDS and len({status for _, status in counts}) > 1

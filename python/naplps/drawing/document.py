@@ -14,10 +14,11 @@ GUESS = "a guess"
 
 
 class Captions(NamedTuple):
-    """What a sketch says of itself: its caption, and lines below that."""
+    """What a sketch says of itself: its caption, lines below that, and the page in words for who doesn't see it."""
 
     caption: str
     below: Tuple[str, ...] = ()
+    described: str = ""
 
 
 def document(paper: Paper, words: Captions) -> str:
@@ -25,7 +26,8 @@ def document(paper: Paper, words: Captions) -> str:
     above = WIDTH - HEIGHT if is_tall(paper) else 0
     lines = [words.caption, *words.below]
     foot = CAPTION * len(lines)
-    notes: List[str] = list(paper.notes)
+    notes: List[str] = [words.described] if words.described else []
+    notes += paper.notes
     if above:
         notes.append("the page draws above the part of the square that screens show")
     described = f"<desc>{escaped('; '.join(notes))}</desc>" if notes else ""

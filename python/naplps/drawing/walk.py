@@ -10,6 +10,7 @@ from ..entry import (
 from ..reading import Entries, read_line
 from .cells import Saved
 from .colours import BLACK, Palette
+from .description import describe
 from .document import Captions, document
 from .paper import Full, Paper
 from .shapes import Shapes
@@ -211,7 +212,9 @@ def _prefix_of(entries: Entries) -> str:
 def draw(lines: Lines, said: str = "", guess: Optional[Guess] = None) -> Sketch:
     """The sketch of the page with these lines or entries. `said` is what else it has to say of itself."""
     made = drawn(lines, said, guess)
-    return Sketch(document(made.paper, made.captions), made.drawn)
+    entries = entries_of(lines)
+    described = describe([entries[number] for number in range(min(made.drawn, guess.start if guess else made.drawn))])
+    return Sketch(document(made.paper, made.captions._replace(described=described.short())), made.drawn)
 
 
 def empty(said: str) -> Sketch:

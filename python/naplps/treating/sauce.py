@@ -1,6 +1,6 @@
 """SAUCE records, which painting programs put after a file: a record of 128 bytes, and comments before it."""
 from dataclasses import dataclass
-from typing import Dict, Optional
+from typing import Dict, Optional, Tuple
 
 from ..names import shown
 
@@ -13,10 +13,14 @@ NUMBER_OF_LINES = 104
 
 @dataclass(frozen=True)
 class Sauce:
-    """How many bytes at the end the record has, with its comments and the 1A before it; and what its fields say."""
+    """How many bytes at the end the record has, with its comments and the 1A before it; and what its fields say.
+
+    `said` has the bytes of the fields and of the comments.
+    """
 
     length: int
     fields: Dict[str, str]
+    said: Tuple[bytes, ...] = ()
 
 
 def find(data: bytes) -> Optional[Sauce]:
@@ -25,14 +29,16 @@ def find(data: bytes) -> Optional[Sauce]:
     if len(record) < RECORD or not record.startswith(MARK):
         return None
     length = RECORD
+    texts = tuple(record[at:at + size] for at, size in FIELDS.values())
     lines = record[NUMBER_OF_LINES]
     comments = length + len(COMMENTS) + LINE * lines
     if lines and len(data) >= comments and data.startswith(COMMENTS, len(data) - comments):
         length = comments
+        texts += (data[-comments + len(COMMENTS):-RECORD],)
     if data[-length - 1:-length] == b"\x1a":
         length += 1
     said = {name: _said(record[at:at + size]) for name, (at, size) in FIELDS.items()}
-    return Sauce(length, {name: text for name, text in said.items() if text})
+    return Sauce(length, {name: text for name, text in said.items() if text}, texts)
 
 
 def _said(field: bytes) -> str:

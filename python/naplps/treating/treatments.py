@@ -1,10 +1,14 @@
 """Named treatments of bytes that aren't read as a page: each takes away or rewrites something, and tells what."""
 import re
+from itertools import islice
 from typing import Callable, Dict, Iterator, List, NamedTuple, Optional, Tuple
 
 from . import eight_bit, sauce
-from .captures import BEGINS, CLEAR, END_OF_BODY, LEADING_ON, outside, seems_a_capture, tokens
+from .borders import (
+    BEGINS, CLEAR, END_OF_BODY, content, draws, is_read, is_uniform, outside, pieces, text_length, tokens,
+)
 from .changes import AROUND, EIGHTH, ODD, PLAIN, WITHIN, Change, Edit, NotSure, Treated
+from .page_codes import LEADING_ON
 
 # How many bytes after a refusal may belong to a header, and how many starts of a page are tried among them.
 MOST_HEADER = 4096
@@ -58,15 +62,19 @@ def mark(data: bytes, place: int) -> Iterator[Change]:
 
 
 def tail(data: bytes, place: int) -> Iterator[Change]:
-    """Cuts a run of 1A, of 00 or of line ends off the end; or all from the mark of the end of a file on."""
+    """Cuts a run of 1A, of 00 or of line ends off the end; or all from the mark of the end of a file on.
+
+    What comes after the mark has to be bytes that don't draw.
+    """
     for run, name in ((b"\x1a", "1A"), (b"\x00", "00"), (b"\r\n", "line ends")):
         length = len(data) - len(data.rstrip(run))
         if length:
             yield _cut("tail", len(data) - length, length, f"{length} bytes at the end: {name}")
-    begin = _end_mark(data)
-    if begin is not None and data[begin:].strip(b"\x1a"):
-        length = len(data) - begin
-        yield _cut("tail", begin, length, f"{length} bytes at the end: 1A, which ends a file, and what is behind it")
+    begin = None if is_uniform(data) else _end_mark(data)
+    if begin is not None and data[begin:].strip(b"\x1a") and not draws(content(data[begin:])):
+        length, text = len(data) - begin, text_length(data[begin:])
+        rest = f"{text} bytes of text" if text else "what is behind it"
+        yield _cut("tail", begin, length, f"{length} bytes at the end: 1A, which ends a file, and {rest}")
 
 
 def _end_mark(data: bytes) -> Optional[int]:
@@ -131,26 +139,33 @@ def leading(data: bytes, at: int) -> Optional[Tuple[str, int]]:
 def header(data: bytes, place: int) -> Iterator[Change]:
     """Cuts off what stands before the first code of a page, after the place: CS, or SO with an opcode.
 
-    What is left has to have a picture code with an operand, else the end of any file may look like a page. What comes
-    before the place has none of such first codes, and what is cut no codes that stand before a page.
+    What is left has to have a picture code with an operand, else the end of any file may look like a page. What is cut
+    has no bytes that draw: a header of a record, of any bytes, or text.
     """
-    if place > MOST_BEFORE or BEGINS.search(data, 0, place):
-        return
-    found, plain = 0, data.translate(PLAIN)
-    for at in range(place + 1, min(len(data), place + 1 + MOST_HEADER)):
-        if BEGINS.match(data, at):
-            if not PICTURE.search(plain, at) or seems_a_capture(data[:at + 1]):
-                return
-            yield _cut("header", 0, at, f"{at} bytes before the first code")
-            found += 1
-            if found == MOST_STARTS:
-                return
+    if place > MOST_BEFORE or is_uniform(data):
+        return  # (parity bits and marks come off first)
+    plain = data.translate(PLAIN)
+    for at in islice(_starts(data, place + 1), MOST_STARTS):
+        if not PICTURE.search(plain, at) or draws(content(data[:at])):
+            return
+        text = text_length(data[:at])
+        yield _cut("header", 0, at, f"{at} bytes before the first code{f': {text} bytes of text' if text else ''}")
+
+
+def _starts(data: bytes, begin: int) -> Iterator[int]:
+    """Where a page may begin, from an offset on, but for codes of a page that begins before."""
+    last = -1
+    for found in BEGINS.finditer(data, begin, begin + MOST_HEADER + 2):
+        at = found.start()
+        if last < 0 or not is_read(data[last:at]):
+            last = at
+            yield at
 
 
 def record(data: bytes, place: int) -> Iterator[Change]:
     """Cuts a SAUCE record off the end, with its comments and the 1A before it, and tells what it says."""
     found = sauce.find(data)
-    if found:
+    if found and not any(map(draws, found.said)):
         said = ", ".join("%s %r" % each for each in found.fields.items())
         yield Change("sauce", AROUND, "%d bytes at the end: SAUCE%s" % (found.length, said and ", " + said),
                      (Edit(len(data) - found.length, found.length),), record=found.fields)
@@ -175,6 +190,7 @@ def _without(name: str, data: bytes, what: str) -> Iterator[Change]:
     """Takes codes out of the page, but not out of the bodies of its macros."""
     if len(data) > MOST_WITHIN:
         raise NotSure(f"the page is longer than {MOST_WITHIN} bytes")
+    another = next((each.offset for each in pieces(data)[1:] if each.draws and BEGINS.match(data, each.offset)), None)
     edits: List[Edit] = []
     for found in outside(data, IN_THE_MIDDLE[name]):
         if len(edits) == MOST_EDITS:
@@ -182,6 +198,8 @@ def _without(name: str, data: bytes, what: str) -> Iterator[Change]:
         if found.start() and data.startswith(CLEAR, found.end()):
             raise NotSure(f"another page seems to begin at {found.start()}")
         edits.append(Edit(found.start(), found.end() - found.start()))
+    if edits and another is not None:
+        raise NotSure(f"another page seems to begin at {another}")
     if edits:
         length = sum(edit.length for edit in edits)
         yield Change(name, WITHIN, f"{length} bytes of the page: {what}", tuple(edits))

@@ -3,13 +3,13 @@ from difflib import get_close_matches
 from typing import Any, Callable, Dict, NamedTuple, Sequence, Tuple
 
 from naplps.entry import (
-    Arc, Bell, Blink, BlinkEnd, BlinkMark, Char, Clear, Cursor, DefEnd, Entry, Field, GlyphStart, Line, Map, MaskStart,
-    Point, Poly, Position, Rect, Reset, TextMove, ToEol, Wait,
+    ONE, Arc, Bell, Blink, BlinkEnd, BlinkMark, Char, Clear, Cursor, DefEnd, Entry, Field, GlyphStart, Line, Map,
+    MaskStart, Point, Poly, Position, Rect, Reset, TextMove, ToEol, Wait,
 )
 from naplps.page_state import Attributes
 
 from . import values
-from .mistakes import expected, quoted
+from .mistakes import NotUnderstood, expected, quoted
 
 # The most points of a shape.
 MOST_POINTS = 2001
@@ -68,6 +68,16 @@ def _shape(name: str, least: int, make: Callable[[Tuple[Position, ...], Attribut
                     MOST_POINTS)
 
 
+def _circle(name: str, filled: bool) -> LineKind:
+    def make(it: Sequence[Any], by: Attributes) -> Entry:
+        (x, y), radius = it
+        if not radius <= x < ONE - radius:
+            raise NotUnderstood(0, "the circle leaves the unit screen at its left or its right")
+        left, right = (x - radius, y), (x + radius, y)
+        return Arc(filled, (left, right, left), by.pel, by.colour, by.texture)
+    return LineKind(name + " x,y r", (POINT, Operand(values.A_RADIUS, values.radius)), INK, make)
+
+
 def _rect(name: str, filled: bool) -> LineKind:
     return LineKind(name + " x,y x,y", (POINT, POINT), INK,
                     lambda it, by: Rect(filled, it[0], it[1], by.pel, by.colour, by.texture))
@@ -80,6 +90,7 @@ KINDS: Dict[str, LineKind] = {
                      lambda it, by: Line(it[0], it[1], by.pel, by.colour, by.texture)),
     "ARC-OUTLINED": _shape("ARC-OUTLINED", 3, lambda it, by: Arc(False, it, by.pel, by.colour, by.texture)),
     "ARC-FILLED": _shape("ARC-FILLED", 3, lambda it, by: Arc(True, it, by.pel, by.colour, by.texture)),
+    "CIRCLE": _circle("CIRCLE", False), "CIRCLE-FILLED": _circle("CIRCLE-FILLED", True),
     "RECT-OUTLINED": _rect("RECT-OUTLINED", False),
     "RECT-FILLED": _rect("RECT-FILLED", True),
     "POLY-OUTLINED": _shape("POLY-OUTLINED", 2, lambda it, by: Poly(False, it, by.pel, by.colour, by.texture)),

@@ -6,7 +6,7 @@ from typing import Any, Callable, Dict, Iterator, List, NamedTuple, Optional, Tu
 
 from naplps import letters
 from naplps.entry import Char, Colour, Entry, Pen, Position
-from naplps.page_state import Attributes, PageState
+from naplps.page_state import HELD, Attributes, PageState
 
 from . import values
 from .kinds import HAND, SET, TEXT, LineKind, kind_of, surplus
@@ -47,10 +47,14 @@ class MadeEntry(NamedTuple):
 
 
 class Translator:
-    """Reads a source line by line. What lines leave out is what `SET` says, or what stands."""
+    """Reads a source line by line. What lines leave out is what `SET` says, or what the last line with it drew with.
+
+    The pen alone is that of the page; MAP, RESET and END change the page's state, but nothing that is left out.
+    """
 
     def __init__(self) -> None:
         self.state = PageState()
+        self.last = self.state.drawing
         self.presets = NO_FIELDS
         self.mistakes: List[Mistake] = []
 
@@ -63,11 +67,25 @@ class Translator:
                 for column, entry in self._entries(line.removesuffix("\n").removesuffix("\r")):
                     if not self.state.repeats(entry):
                         yield MadeEntry(entry, number, column + 1)
-                        self.state.take(entry)
+                        self.take(entry)
             except NotUnderstood as error:
                 self.mistakes.append(Mistake(number, error.offset + 1, error.message))
                 if len(self.mistakes) == MOST_MISTAKES:
                     return
+
+    def take(self, entry: Entry) -> None:
+        """An entry comes: the state after it, and what lines after it may leave out."""
+        self.state.take(entry)
+        held = {name: getattr(entry, name) for name in HELD.get(type(entry), ()) if name != "pen"}
+        if held:
+            self.last = self.last._replace(**held)
+
+    def left_out(self) -> Attributes:
+        """What a line draws with where it says nothing: the current value where no page can have the last one again."""
+        now, last = self.state.drawing, self.last
+        colour = last.colour if now.can_have_colour(last.colour) else now.colour
+        texture = last.texture if now.can_have_texture(last.texture) else now.texture
+        return Attributes(now.pen, last.pel, now.base, colour, texture, last.text)
 
     def _entries(self, line: str) -> Iterator[Tuple[int, Entry]]:
         """The entries of a line, each after its column, from 0. Raises NotUnderstood."""
@@ -83,7 +101,8 @@ class Translator:
             kind = self._kind(first, rest)
             operands, given = _parted(rest, kind.fields, kind.shown)
             end = _end(rest[-1] if rest else first)
-            yield first.column, kind.make(_read(kind, operands, end), self._attributes(given))
+            read, by = _read(kind, operands, end), self._attributes(given)
+            yield first.column, inner(lambda _: kind.make(read, by), first.column, "")
 
     def _kind(self, first: LinePart, rest: List[LinePart]) -> LineKind:
         try:
@@ -92,14 +111,14 @@ class Translator:
             raise NotUnderstood(first.column, error.message) from None
 
     def _attributes(self, given: Fields) -> Attributes:
-        """What is given; else what was set; else what stands."""
-        now, preset = self.state.drawing, self.presets
+        """What is given; else what was set; else what the last line drew with."""
+        left, preset = self.left_out(), self.presets
         if given is NO_FIELDS and preset is NO_FIELDS:
-            return now
+            return left
         return Attributes(
-            now.pen if given.pen is None else given.pen, given.pel or preset.pel or now.pel, now.base,
-            given.colour or preset.colour or now.colour, given.texture.over(preset.texture.over(now.texture)),
-            given.text.over(preset.text.over(now.text)))
+            left.pen if given.pen is None else given.pen, given.pel or preset.pel or left.pel, left.base,
+            given.colour or preset.colour or left.colour, given.texture.over(preset.texture.over(left.texture)),
+            given.text.over(preset.text.over(left.text)))
 
     def _set(self, rest: List[LinePart]) -> None:
         """Sets what stands for fields that are left out; nothing forgets what was set."""

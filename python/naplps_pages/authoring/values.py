@@ -5,7 +5,7 @@ from typing import Callable, Dict, List, NamedTuple, Optional, Tuple, TypeVar, U
 
 from naplps.entry import ONE, Colour, Look, Pen, Position, Texture
 
-from .mistakes import NotUnderstood, expected
+from .mistakes import NotUnderstood, expected, quoted
 
 MOST_WORD, MOST_PART, ADDRESSES = 63, 65535, 1 << 24
 # Digits of a whole number, and of a fraction.
@@ -17,6 +17,7 @@ NAMED: Dict[str, Tuple[int, int, int]] = {
     "black": (0, 0, 0), "white": (255, 255, 255), "red": (255, 0, 0), "green": (0, 255, 0), "blue": (0, 0, 255),
     "yellow": (255, 255, 0), "cyan": (0, 255, 255), "magenta": (255, 0, 255), "grey": (128, 128, 128),
     "gray": (128, 128, 128)}
+POINT = "."
 _WHOLE = re.compile("[0-9]+")
 _FRACTION = re.compile(r"(-?)([0-9]*)\.([0-9]+)")
 _SIGNED = re.compile("-?[0-9]+")
@@ -28,7 +29,16 @@ A_COLOUR = ("a colour (" + ", ".join(sorted(set(NAMED) - {"gray"})) + ", #rrggbb
             "own-start, own-reset, reset-2 or reset-3)")
 AN_ADDRESS = f"an address of the colour map, from 0 to {ADDRESSES - 1} or as 1/16"
 A_LOOK = "a size (small, medium, normal, tall, double or x,y), SIZE/FLAGS or W,W/SIZE/FLAGS, as 0,0/double/-u--"
-A_TEXTURE = "a texture word from 0 to 63, WORD/none or WORD/x,y"
+A_TEXTURE = ("a texture by its names (solid, dotted, dashed, dot-dashed; edge; vertical, horizontal, cross, mask-a to "
+             "mask-d), joined by +; a word from 0 to 63; or either with /none or /x,y")
+A_RADIUS = f"a radius, from 1 to {ONE // 2} or a fraction up to 0.5"
+# The height of the part of the unit screen that screens show, 25/32 of the side, and its name.
+TOP, TOP_NAME = ONE * 25 // 32, "top"
+# The names in a texture by their parts of its word. One name of the first four and one of the last seven can stand.
+TEXTURES: Dict[str, int] = {
+    "solid": 0, "dotted": 1, "dashed": 2, "dot-dashed": 3, "edge": 4, "vertical": 8, "horizontal": 16, "cross": 24,
+    "mask-a": 32, "mask-b": 40, "mask-c": 48, "mask-d": 56}
+LINE_BITS, EDGE_BIT, FILL_BITS = 3, 4, 56
 Kept = TypeVar("Kept")
 
 
@@ -80,7 +90,26 @@ def _position(text: str, least: int, what: str) -> Position:
     def read(part: str) -> int:
         return _coordinate(part, least, what)
     (_, x), (at, y) = _split(text, ",", 2, what)
-    return read(x), inner(read, at, y)
+    found = read(x), TOP if y == TOP_NAME else inner(read, at, y)
+    _check_units(x, y, 0)
+    _check_units(y, x, at)
+    return found
+
+
+def _check_units(text: str, other: str, offset: int) -> None:
+    """Raises NotUnderstood for units beside a fraction: whoever writes 1 there means 1.0. Zero is both."""
+    if (POINT in other or other == TOP_NAME) and POINT not in text and text != TOP_NAME and int(text):
+        meant = f"{text}.0" if text in ("1", "-1") else "a fraction"
+        raise NotUnderstood(offset, f"expected {meant}, not {quoted(text)}: {other} beside it is a fraction, and a "
+                            "number without a point is one of units")
+
+
+def radius(text: str) -> int:
+    """A radius in units."""
+    found = _coordinate(text, 0, A_RADIUS)
+    if not 0 < found <= ONE // 2:
+        raise expected(A_RADIUS, text)
+    return found
 
 
 def point(text: str) -> Position:
@@ -166,10 +195,12 @@ def colour(text: str) -> Colour:
     shown = _shown_colour(text)
     if shown is not None:
         return shown
-    kind, _, rest = text.partition(":")
+    kind, colon, rest = text.partition(":")
     at = len(kind) + 1
     if text in ("own-start", "own-reset", "reset-2", "reset-3"):
         return Colour(text)
+    if not colon:
+        raise expected(A_COLOUR, text)
     if kind == "front":
         return Colour(kind, (inner(address, at, rest),))
     if kind == "pair":
@@ -210,10 +241,25 @@ NO_TEXTURE_PARTS = TextureParts()
 def texture(text: str) -> TextureParts:
     """A texture, whose mask may be left out."""
     number, between, mask = text.partition("/")
-    value = _whole_as(number, MOST_WORD, A_TEXTURE)
+    value = _whole_as(number, MOST_WORD, A_TEXTURE) if number[:1].isdigit() else _named_texture(number)
     if not between:
         return TextureParts(value)
     return TextureParts(value, True, None if mask == "none" else inner(size, len(number) + 1, mask))
+
+
+def _named_texture(text: str) -> int:
+    """The word of a texture by its names."""
+    word, at = 0, 0
+    taken = 0
+    for name in text.split("+"):
+        if name not in TEXTURES:
+            raise expected(A_TEXTURE, name, at)
+        part = TEXTURES[name]
+        bits = EDGE_BIT if part == EDGE_BIT else LINE_BITS if part <= LINE_BITS else FILL_BITS
+        if taken & bits:
+            raise NotUnderstood(at, f"{name} can't be joined to another of its kind: the names are {A_TEXTURE}")
+        word, taken, at = word | part, taken | bits, at + len(name) + 1
+    return word
 
 
 class LookParts(NamedTuple):

@@ -11,7 +11,7 @@ import sys
 import time
 from collections import deque
 from queue import Empty, SimpleQueue
-from typing import Any, Deque, Dict, Iterator, List, Optional, Set, cast
+from typing import Any, Deque, Dict, FrozenSet, Iterator, List, NamedTuple, Optional, Set, Tuple, cast
 
 from naplps.names import shown
 
@@ -22,6 +22,7 @@ from .pool import count, ending, halves, next_of
 from .remote import Alike, Done, Given
 from .rows import Chunk, File, Piece
 from .tables import UNREADABLE
+from .unread import UnreadFiles, is_here
 from .worker import WorkerOptions
 
 WORDS = interpreter("naplps_pages.collection.remote")
@@ -30,8 +31,9 @@ MOST_OUT = 64
 MOST_FILES, MOST_NAMES = 2000, 256 << 10
 # How long is waited at once; for the scheduler; for a first worker; for a result; and for the end, in seconds.
 TURN, CONNECT, JOIN, FETCH, END = 0.25, 10, 30, 5, 3
-# After so long without a result it is looked whether there are workers.
-SILENCE = 20.0
+# After so long without a result it is looked whether there are workers; so often it is looked which have been silent,
+# and one that is for so long gets nothing any more.
+SILENCE, LOOK, SILENT = 20.0, 5.0, 60.0
 NOT_INSTALLED = "Dask's distributed isn't there for %s (Debian: apt-get install python3-distributed)"
 
 
@@ -68,6 +70,14 @@ def _distributed() -> Any:
     return library
 
 
+class Task(NamedTuple):
+    """A chunk, which workers couldn't read it, and to which alone it is given; to any without one."""
+
+    chunk: Chunk
+    tried: FrozenSet[str] = frozenset()
+    workers: FrozenSet[str] = frozenset()
+
+
 class Cluster:
     """The workers of a scheduler. Raises ClusterFailed, also where a worker has another program or package."""
 
@@ -79,9 +89,11 @@ class Cluster:
             self.client = library.Client(self.address, timeout=CONNECT, set_as_default=False, name="naplps-pages")
         except (OSError, ValueError, TypeError) as error:
             raise ClusterFailed(f"{self.address}: no scheduler answers: {_first_line(error)}") from None
-        self.out: Dict[Any, Chunk] = {}
+        self.out: Dict[Any, Task] = {}
         self.done: "SimpleQueue[Any]" = SimpleQueue()
-        self.again: Deque[Chunk] = deque()
+        self.again: Deque[Task] = deque()
+        self.watch = Watch(self.client)
+        self.told: Set[str] = set()
         self.suspects: Set[Chunk] = set()
         self.heard = time.monotonic()
         try:
@@ -115,10 +127,14 @@ class Cluster:
         while more or self.again or self.out:
             given: Optional[Chunk] = None
             while (more or self.again) and given != () and len(self.out) < MOST_OUT:
-                given = self.again.popleft() if self.again else next_of(chunks)
+                if self.again:
+                    self._give(self.again.popleft())
+                    continue
+                given = next_of(chunks)
                 if given:
-                    self._give(given)
+                    self._give(Task(given))
                 more = more and given is not None
+            self._look_after()
             try:
                 future = self.done.get(timeout=TURN if self.out and given != () else 0.001)
             except Empty:
@@ -146,14 +162,35 @@ class Cluster:
             tell(f"{self.address}: there are no workers any more; the scan waits for some")
             self.heard = math.inf
 
-    def _give(self, chunk: Chunk) -> None:
-        future = self.client.submit(subprocess.run, WORDS, **self._input(chunk), pure=False)
-        self.out[future] = chunk
+    def _give(self, task: Task) -> None:
+        workers = task.workers or (self.watch.live if self.watch.silent else frozenset())
+        only = {"workers": sorted(workers)} if workers else {}
+        future = self.client.submit(subprocess.run, WORDS, **self._input(task.chunk), pure=False, **only)
+        self.out[future] = task._replace(workers=workers)
         future.add_done_callback(self.done.put)
+
+    def _look_after(self) -> None:
+        """Gives what a worker has that is silent, or has gone, to others. It is named."""
+        if not self.watch.look():
+            return
+        while self.watch.found:
+            worker = self.watch.found.pop()
+            tell(f"{worker}: this worker has been silent for {SILENT:.0f} s: what it has is given to others")
+        for worker in self.watch.silent:  # (the scheduler may still give it what it took from another)
+            self._give_again(self.watch.keys_of(worker))
+        gone = [future for future, task in self.out.items() if task.workers and not task.workers & self.watch.live]
+        self._give_again({future.key for future in gone})
+
+    def _give_again(self, keys: Set[str]) -> None:
+        for future in [each for each in self.out if each.key in keys]:
+            self.again.append(self.out.pop(future)._replace(workers=frozenset()))
+            future.cancel()
 
     def _take(self, future: Any) -> Iterator[Piece]:
         """What came of a task."""
         self._look()
+        if future not in self.out:
+            return  # it was given to another
         self.heard = time.monotonic()
         if future.status not in ("finished", "error"):
             future.add_done_callback(self.done.put)  # its worker ended; the scheduler gives it to another
@@ -164,28 +201,50 @@ class Cluster:
             self._look()
             future.add_done_callback(self.done.put)
             return
-        chunk = self.out.pop(future)
-        future.release()
+        task = self.out.pop(future)
         done = _done(said)
         if done is None:
-            yield from self._lose(chunk, f"the process that looked at it {_failure(said)}")
+            future.release()
+            yield from self._lose(task.chunk, f"the process that looked at it {_failure(said)}")
             return
-        if done.differs:
-            raise ClusterFailed(f"a worker of {self.address}: {done.differs}")
+        yield from self._read(future, task, done)
+        future.release()
+
+    def _read(self, future: Any, task: Task, done: Done) -> Iterator[Piece]:
+        """What a worker has read. What it couldn't read another is asked for, if there is one."""
+        others = next(filter(is_here, done.others), None)
+        if done.differs or others:
+            raise ClusterFailed("%s: %s" % (self.watch.worker_of(future) or f"a worker of {self.address}",
+                                            done.differs or f"{shown(os.fsdecode(cast(Any, others).path))} is another "
+                                                            "folder there, or isn't there"))
         if done.left:
-            self.again.append(done.left)
-        yield from done.pieces
+            self.again.append(Task(done.left))
+        unread = UnreadFiles(task.chunk, done.pieces)
+        if not unread:
+            yield from done.pieces
+            return
+        worker = self.watch.worker_of(future)
+        tried = task.tried | {worker}
+        left = self.watch.now() - tried
+        if worker and worker not in self.told:
+            self.told.add(worker)
+            tell(f"{worker}: some files can't be read there" + ("; another worker is asked" if left else ""))
+        if left and worker:
+            self.again.append(Task(unread.chunk, tried, left))
+            yield from unread.others
+        else:
+            yield from unread.final
 
     def _lose(self, chunk: Chunk, why: str) -> Iterator[Piece]:
         """Asks again for a chunk that ended its process, in halves; one file that does it twice has a row."""
         if count(chunk) > 1:
-            self.again.extend(halves(chunk))
+            self.again.extend(map(Task, halves(chunk)))
         elif chunk in self.suspects:
-            folder, _, names = chunk[0]
-            yield (File(folder, names[0], UNREADABLE, why),), ()
+            lost = chunk[0]
+            yield (File(lost.folder, lost.names[0], UNREADABLE, why),), ()
         else:
             self.suspects.add(chunk)
-            self.again.append(chunk)
+            self.again.append(Task(chunk))
 
     def close(self) -> None:
         """Leaves the cluster. What its workers are at is forgotten."""
@@ -194,6 +253,59 @@ class Cluster:
             self.client.close(timeout=END)
         except Exception:  # pylint: disable=broad-except
             pass  # nobody is there any more
+
+
+class Watch:
+    """Which workers there are, as the scheduler says, and which have been silent for long."""
+
+    def __init__(self, client: Any) -> None:
+        self.client = client
+        self.live: FrozenSet[str] = frozenset()
+        self.silent: Set[str] = set()
+        self.found: List[str] = []
+        self.seen: Dict[str, Tuple[object, float]] = {}
+        self.looked = 0.0
+
+    def look(self) -> bool:
+        """Looks now and then; whether it did. `found` has the workers that have become silent, until they are named."""
+        now = time.monotonic()
+        if now - self.looked < LOOK:
+            return False
+        self.looked = now
+        try:
+            workers = self.client.scheduler_info()["workers"]
+        except Exception:  # pylint: disable=broad-except
+            return False  # the scheduler is about to go
+        for worker, it in workers.items():
+            last, since = self.seen.get(worker, (None, now))
+            if last != it.get("last_seen"):
+                self.seen[worker] = it.get("last_seen"), now
+                self.silent.discard(worker)
+            elif now - since > SILENT and worker not in self.silent:
+                self.found.append(worker)
+                self.silent.add(worker)
+        self.live = frozenset(workers) - self.silent
+        return True
+
+    def now(self) -> FrozenSet[str]:
+        """The workers that there are now."""
+        self.looked = 0.0
+        self.look()
+        return self.live
+
+    def keys_of(self, worker: str) -> Set[str]:
+        """The keys of the tasks that a worker has."""
+        try:
+            return set(self.client.processing([worker]).get(worker, ()))
+        except Exception:  # pylint: disable=broad-except
+            return set()
+
+    def worker_of(self, future: Any) -> str:
+        """Which worker has the result of a task; nothing where that isn't known."""
+        try:
+            return next((str(each) for some in self.client.who_has([future]).values() for each in some), "")
+        except Exception:  # pylint: disable=broad-except
+            return ""
 
 
 def _done(said: Any) -> Optional[Done]:

@@ -34,6 +34,7 @@ class Counts(NamedTuple):
     asked: int
     packs: int = 0
     kinds: Kinds = {}
+    captures: int = 0
 
     @property
     def met(self) -> int:
@@ -43,7 +44,8 @@ class Counts(NamedTuple):
     def plus(self, other: "Counts") -> "Counts":
         """Both together."""
         return Counts(_sum(self.files, other.files), _sum(self.pages, other.pages), self.folders + other.folders,
-                      self.asked + other.asked, self.packs + other.packs, _sum(self.kinds, other.kinds))
+                      self.asked + other.asked, self.packs + other.packs, _sum(self.kinds, other.kinds),
+                      self.captures + other.captures)
 
     def line(self, known: int) -> str:
         """The counts of a scan for people, with the number of those that were known."""
@@ -55,6 +57,8 @@ class Counts(NamedTuple):
                  for state in (tables.ACCEPTED, tables.REFUSED)]
         if self.pages.get(tables.ACCEPTED):
             parts[0] += f" ({told_kinds(self.kinds)})"
+        if self.captures:
+            parts[1] += f" ({numbered(self.captures, 'capture')})"
         if self.pages.get(tables.NO_ANSWER):
             parts.append(f"{self.pages[tables.NO_ANSWER]} without an answer")
         parts += [f"{self.files[state]} {word}" for state, word in WORDS.items() if self.files.get(state)]
@@ -87,14 +91,17 @@ def counted(connection: sqlite3.Connection, run: int) -> Counts:
     files: Dict[int, int] = dict(connection.execute(FILES, {"run": run, "gone": tables.GONE}))
     pages: Dict[int, int] = {}
     kinds: Kinds = {}
+    captures = 0
     for state, kind, number in connection.execute(OTHERS, {"run": run, "page": tables.PAGE}):
         pages[state] = pages.get(state, 0) + number
         if state == tables.ACCEPTED:
             kinds[kind] = number
+        elif kind == tables.CAPTURE:
+            captures = number
     kinds[tables.PAGE] = files.get(tables.READ, 0) - sum(pages.values())
     pages[tables.ACCEPTED] = sum(kinds.values())
-    return Counts(files, pages, _one(connection, FOLDERS, (run, tables.UNREADABLE)), _one(
-        connection, "SELECT count(*) FROM pages WHERE run = ?", (run,)), _one(connection, PACKS, (run,)), kinds)
+    asked, packs = _one(connection, "SELECT count(*) FROM pages WHERE run = ?", (run,)), _one(connection, PACKS, (run,))
+    return Counts(files, pages, _one(connection, FOLDERS, (run, tables.UNREADABLE)), asked, packs, kinds, captures)
 
 
 def _one(connection: sqlite3.Connection, words: str, values: Tuple[int, ...]) -> int:

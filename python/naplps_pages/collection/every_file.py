@@ -16,19 +16,19 @@ from .store import kept
 FACTS = ("status", "number", "fault", "code", "place", "entries", "reason", "size", "mtime_ns", "hash", "canonical",
          "canonical_size", "form", "budget", "kind", "looks_like", "perhaps_several", "stops", "tried", "treatments",
          "grade", "treated_entries", "treated_hash", "treated_canonical", "treated_canonical_size", "first_words",
-         "text_source")
+         "text_source", "pages")
 COLUMNS = [*NAME, *FACTS]
 FILES = f"""SELECT d.path, f.name, f.inode, f.state, coalesce(f.why, p.why), f.size, f.mtime_ns, p.state, p.number,
     n.name, p.left_out, p.place, p.entries, p.own, p.canon, p.canon_size, t.form, t.budget, p.kind,
     nullif(p.looks_like, ''), p.several, nullif(p.stop, ''), c.page IS NOT NULL, c.treatments, c.grade, c.entries,
-    c.copy, c.canon, c.canon_size, x.first, x.source
+    c.copy, c.canon, c.canon_size, x.first, x.source, p.holds
     FROM files f CROSS JOIN folders d ON d.id = f.folder LEFT JOIN pages p ON p.id = f.page AND f.state = {tables.READ}
     LEFT JOIN terms t ON t.id = p.terms LEFT JOIN faults n ON n.number = p.number
     LEFT JOIN cures c ON c.page = p.id AND c.terms = p.terms LEFT JOIN texts x ON x.page = p.id AND x.terms = p.terms
     WHERE {tables.IS_FILE} %s ORDER BY d.path, f.name"""
 FILE = "path name inode? state:file_state why? size? mtime_ns? page_state? number? fault? left_out? place? entries? " \
     "own? canon? canon_size? form? budget? kind? looks_like? several? stop? tried:flag treatments? grade? entries? " \
-    "copy? canon? canon_size? first? source?"
+    "copy? canon? canon_size? first? source? holds?"
 ANY = Reason(0)
 
 
@@ -66,6 +66,7 @@ class FileFacts(NamedTuple):
     treated_canon_size: Optional[int]
     first: Optional[str]
     source: Optional[int]
+    holds: Optional[int]
 
     @property
     def at_path(self) -> Place:
@@ -97,7 +98,7 @@ def load(connection: sqlite3.Connection, kind: Optional[str], refused: Optional[
 
 
 def kind_of(file: FileFacts) -> Optional[str]:
-    """The kind of an accepted page, or what a refused one looks like."""
+    """The kind of an accepted page or of a capture, or what another refused file looks like."""
     return file.looks_like if file.kind is None else tables.KINDS[file.kind]
 
 
@@ -114,7 +115,8 @@ def members(file: FileFacts) -> Members:
             "grade": None if file.grade is None else tables.GRADES[file.grade],
             "treated_entries": file.treated_entries, "treated_hash": _hex(file.treated),
             "treated_canonical": _hex(file.treated_canon), "treated_canonical_size": file.treated_canon_size,
-            "first_words": file.first, "text_source": None if file.source is None else tables.SOURCES[file.source]}
+            "first_words": file.first, "text_source": None if file.source is None else tables.SOURCES[file.source],
+            "pages": file.holds or None}
 
 
 def _hex(value: Optional[bytes]) -> Optional[str]:
@@ -140,7 +142,8 @@ def _line(file: FileFacts) -> str:
         return f"{file.status}: {file.why}" if file.why else file.status
     more = [said.line]
     if kind_of(file):
-        more.append(f"looks like {file.looks_like}" if file.kind is None else tables.KINDS[file.kind])
+        more.append(f"looks like {file.looks_like}" if file.kind is None else
+                    f"capture of {file.holds} pages" if file.holds else tables.KINDS[file.kind])
     if file.treatments:
         more.append(f"readable by {graded(file.treatments)}")
     return ", ".join(more)

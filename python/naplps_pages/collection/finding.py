@@ -19,6 +19,9 @@ FOUND = """SELECT d.path, f.name, p.own, x.source, x.text FROM {} CROSS JOIN pag
 WITH_INDEX = FOUND.format("words w CROSS JOIN texts x ON x.page = w.rowid", "words MATCH ?")
 WITHOUT = FOUND.format("texts x", "x.text IS NOT NULL AND ? IS NOT NULL")
 FILE = "path name own source text"
+LACK = f"""SELECT count(*) FROM pages p WHERE p.state < 2 AND NOT {tables.HAS_TEXT}
+    AND EXISTS(SELECT 1 FROM present f WHERE f.page = p.id)"""
+LACKING = "%s no text kept, and can't be found: a scan with --words keeps it"
 NO_TEXTS = "has no texts: `naplps-pages scan --words` keeps them"
 
 
@@ -67,6 +70,12 @@ def show(printer: Printer, page: FoundPage) -> None:
     else:
         for line in page.lines:
             printer.line(f"{shown(page.place.path)}: {line}")
+
+
+def without_text(connection: sqlite3.Connection) -> int:
+    """How many pages of files that are there have no text kept, and so can't be found."""
+    number, = connection.execute(LACK).fetchone()
+    return int(number)
 
 
 def why_not(connection: sqlite3.Connection) -> Optional[str]:

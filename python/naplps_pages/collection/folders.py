@@ -1,7 +1,7 @@
 """Folders by their descriptors: paths may be longer than the system takes at once."""
 import errno
 import os
-from typing import Iterator, Optional
+from typing import Iterator, NamedTuple, Optional
 
 from ..packs.naming import pack_of
 
@@ -44,6 +44,51 @@ def opened(path: bytes, follow: bool = False) -> int:
     finally:
         if at is not None:
             os.close(at)
+
+
+class FolderIdentity(NamedTuple):
+    """Which folder a path led to: whether it was named, so that it may be a link; its device and its number there; and
+    whether a file system begins at it.
+    """
+
+    is_root: bool
+    device: int
+    inode: int
+    is_mount: bool
+
+
+class Replaced(Exception):
+    """Another folder, or something else, has the path of one that was met."""
+
+
+def identity_of(descriptor: int, is_root: bool) -> FolderIdentity:
+    """Which folder is open."""
+    status = os.fstat(descriptor)
+    try:
+        is_mount = os.stat("..", dir_fd=descriptor).st_dev != status.st_dev
+    except OSError:  # (as where what is above it mayn't be looked at)
+        is_mount = False
+    return FolderIdentity(is_root, status.st_dev, status.st_ino, is_mount)
+
+
+def opened_again(path: bytes, identity: Optional[FolderIdentity], elsewhere: bool = False) -> int:
+    """A descriptor of a folder that was met before. Raises OSError, or Replaced where it isn't that any more.
+
+    A link is followed only to a folder that was named. Elsewhere, on another machine, devices have other numbers.
+    """
+    is_root = identity is not None and identity.is_root
+    try:
+        descriptor = opened(path, follow=is_root)
+    except OSError as error:
+        if identity and error.errno in (errno.ELOOP, errno.ENOTDIR):
+            raise Replaced from None
+        raise
+    if identity:
+        now = identity_of(descriptor, is_root)
+        if now != (identity._replace(device=now.device) if elsewhere else identity):
+            os.close(descriptor)
+            raise Replaced
+    return descriptor
 
 
 def _pieces(path: bytes) -> Iterator[bytes]:

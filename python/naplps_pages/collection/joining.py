@@ -8,15 +8,14 @@ from .sources import Source
 from .store import StoreFailed, attach
 
 # What the schema before hasn't is unknown of its pages. What isn't known of a page counts less than what is.
-UNKNOWN = {name: ", ".join(f"NULL AS {column.split()[0]}" for column in columns)
-           for name, columns in schemas.ADDED.items()}
-KNOWN = {name: ", ".join(column.split()[0] for column in columns) for name, columns in schemas.ADDED.items()}
+KNOWN = {"pages": "kind, looks_like, several, stop, holds", "cures": "grade, canon, canon_size"}
+UNKNOWN = {"pages": "kind, looks_like, several, stop, NULL", "cures": ", ".join(schemas.RENEWED.values())}
 ANSWER = "state, number, left_out, place, entries, canon, canon_size, why, terms, run, " + KNOWN["pages"]
 # A later answer counts more than an earlier one, and any more than none. Under the same terms all are the same.
 # (By +, SQLite sorts the rows by runs that it writes, and needn't jump in their table.)
 PAGES = """INSERT INTO main.pages(own, %s) SELECT own, state, number, left_out, place, entries, canon, canon_size, why,
     {terms}, {run}, {pages} FROM part.pages WHERE true ORDER BY +own ON CONFLICT(own) DO UPDATE SET %s
-    WHERE excluded.state <> %d AND (excluded.terms <> terms OR kind IS NULL AND looks_like IS NULL) OR state = %d""" % (
+    WHERE excluded.state <> %d AND (excluded.terms <> terms OR holds IS NULL) OR state = %d""" % (
         ANSWER, ", ".join("{0} = excluded.{0}".format(each) for each in ANSWER.split(", ")), tables.NO_ANSWER,
         tables.NO_ANSWER)
 # The numbers of its pages and of its folders here.
@@ -46,7 +45,7 @@ FILES = """INSERT INTO main.files(folder, name, state, why, size, mtime_ns, ctim
     FROM temp.place d CROSS JOIN part.files f ON f.folder = d.old LEFT JOIN temp.page n ON n.old = f.page
     ORDER BY d.number, f.name"""
 FAULTS = "INSERT OR REPLACE INTO main.faults(number, name) SELECT number, name FROM part.faults"
-STEPS = (*NUMBERED, FAULTS, PAGES, PAGE, CURES, FOLDERS, PLACE, FILES)
+STEPS = (*NUMBERED, FAULTS, PAGES, PAGE, CURES, FOLDERS, PLACE, FILES, TEXTS)
 LAST_STEPS = ("DROP TABLE temp.page", "DROP TABLE temp.place")
 ROOT = """INSERT INTO roots(run, path, why) VALUES(?, ?, ?) ON CONFLICT(run, path) DO UPDATE
     SET why = coalesce(why, excluded.why)"""
@@ -129,7 +128,9 @@ class Joining:
             self.connection.execute("BEGIN")
             is_earlier = source.schema == schemas.EARLIER
             added = UNKNOWN if is_earlier else KNOWN
-            for step in (*STEPS, *(() if is_earlier else (TEXTS,)), *LAST_STEPS):
+            for each in schemas.OPTIONS.items():
+                self.connection.execute(schemas.KEEP.format(*each, "part"))
+            for step in (*STEPS, *LAST_STEPS):
                 self.connection.execute(step.format(terms=_as("terms", terms), run=_as("run", runs), **added))
             self.connection.execute("COMMIT")
         except sqlite3.DatabaseError as error:

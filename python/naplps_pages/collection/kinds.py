@@ -49,13 +49,13 @@ PATH = Kind("a path", lambda value: NAME.fits(value) and value.startswith(b"/"),
 KINDS: Dict[str, Kind] = {
     **dict.fromkeys(("mtime_ns", "ctime_ns"), NUMBER),
     **dict.fromkeys(("id", "folder", "page", "run", "terms", "place", "entries", "canon_size", "size", "inode",
-                     "budget", "files", "asked", "count"), COUNT),
+                     "budget", "files", "asked", "count", "holds"), COUNT),
     **dict.fromkeys(("why", "left_out", "fault", "treatments", "version", "form", "tool", "began", "ended",
                      "hex", "looks_like", "first", "stop"), TEXT),
     **dict.fromkeys(("own", "canon", "copy", "program_hash"), HASHES), "text": LINES,
     "program": NAME, "name": NAME, "path": PATH, "number": _whole(1, MOST_REFUSAL, "the number of a refusal"),
     "file_state": _whole(0, 6, "the state of a file"), "page_state": _whole(0, 2, "the state of a page"),
-    "kind": _whole(0, 2, "the kind of a page"), "grade": _whole(0, 1, "the grade of treatments"),
+    "kind": _whole(0, 3, "the kind of a page"), "grade": _whole(0, 1, "the grade of treatments"),
     "source": _whole(0, 2, "whose text it is"), **dict.fromkeys(("flag", "several"), _whole(0, 1, "a flag"))}
 # The columns of the tables.
 TABLES = {
@@ -64,7 +64,7 @@ TABLES = {
     "roots": "run path why?",
     "folders": "id path state:file_state why? run",
     "pages": "id own state:page_state number? left_out? place? entries? canon? canon_size? why? terms run "
-             "kind? looks_like? several? stop?",
+             "kind? looks_like? several? stop? holds?",
     "faults": "number name:fault",
     "cures": "page terms treatments? entries? copy? why? grade? canon? canon_size?",
     "texts": "page terms source text? first? why?",
@@ -78,8 +78,9 @@ WHOLE = {"runs": "terms IN (SELECT id FROM terms)", "roots": "run IN (SELECT id 
          "texts": "terms IN (SELECT id FROM terms) AND page IN (SELECT id FROM pages)",
          "pages": "terms IN (SELECT id FROM terms) AND run IN (SELECT id FROM runs) AND CASE state "
                   "WHEN 0 THEN entries IS NOT NULL AND canon IS NOT NULL AND canon_size IS NOT NULL AND number IS NULL "
-                  "AND looks_like IS NULL "
-                  "WHEN 1 THEN number IS NOT NULL AND place IS NOT NULL AND canon IS NULL AND kind IS NULL "
+                  "AND looks_like IS NULL AND (kind IS NULL OR kind < 3) AND (holds IS NULL OR holds = 0) "
+                  "WHEN 1 THEN number IS NOT NULL AND place IS NOT NULL AND canon IS NULL "
+                  "AND (kind IS NULL AND (holds IS NULL OR holds = 0) OR kind IS 3 AND holds >= 2) "
                   "ELSE canon IS NULL AND number IS NULL AND kind IS NULL AND looks_like IS NULL END"}
 
 

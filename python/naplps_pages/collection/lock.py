@@ -1,11 +1,14 @@
 """The lock of a store: one scan at a time."""
 import fcntl
 import os
+import stat
 import time
 from types import TracebackType
 from typing import Optional, Type
 
-ENDING = ".lock"
+from .beside import LOCK, place, require_own, require_own_file
+
+FLAGS = os.O_NOFOLLOW | os.O_NONBLOCK | os.O_NOCTTY | os.O_CLOEXEC
 # Who only asks whether a scan is at work holds the lock for an instant.
 TURNS, TURN = 4, 0.05
 
@@ -18,15 +21,17 @@ class Lock:
     """Holds the lock of a store. Its file is beside the store, and is taken away at the end."""
 
     def __init__(self, store: str) -> None:
-        self.path = _path(store)
+        self.store, self.path = store, place(store, LOCK)
         self.descriptor: Optional[int] = None
 
     def __enter__(self) -> "Lock":
-        """Takes the lock. Raises Busy, or OSError where there can be no such file."""
+        """Takes the lock. Raises Busy, or OSError where there can be no such file, or is one that isn't the store's."""
         left = TURNS
         while self.descriptor is None:
-            descriptor = os.open(self.path, os.O_RDWR | os.O_CREAT | os.O_CLOEXEC | os.O_NOFOLLOW, 0o666)
+            require_own(self.store, LOCK)
+            descriptor = os.open(self.path, os.O_RDWR | os.O_CREAT | FLAGS, 0o666)
             try:
+                require_own_file(descriptor, self.store, LOCK)
                 fcntl.flock(descriptor, fcntl.LOCK_EX | fcntl.LOCK_NB)
                 if self._is_there(descriptor):
                     self.descriptor = descriptor  # (else it was the file of a scan that ended just now)
@@ -59,16 +64,12 @@ class Lock:
     def _let_go(self) -> None:
         if self.descriptor is not None:
             try:
-                os.unlink(self.path)
+                if self._is_there(self.descriptor):
+                    os.unlink(self.path)
             except OSError:
                 pass
             os.close(self.descriptor)
             self.descriptor = None
-
-
-def _path(store: str) -> str:
-    """The file of the lock, which is one however the store is named."""
-    return os.path.realpath(store) + ENDING
 
 
 def _holder(descriptor: int) -> str:
@@ -78,8 +79,11 @@ def _holder(descriptor: int) -> str:
 
 def is_held(store: str) -> bool:
     """Whether a scan is at work on the store."""
+    path = place(store, LOCK)
     try:
-        descriptor = os.open(_path(store), os.O_RDONLY | os.O_CLOEXEC | os.O_NOFOLLOW)
+        if not stat.S_ISREG(os.lstat(path).st_mode):
+            return False
+        descriptor = os.open(path, os.O_RDONLY | FLAGS)
     except OSError:
         return False
     try:

@@ -1,8 +1,10 @@
 """The commands that look into a store: its state, its files, and pages by their words."""
 import argparse
 
-from ..console import COMPLETE
-from .printing import Printer
+from naplps.names import shown
+
+from ..console import COMPLETE, tell
+from .printing import Printer, numbered
 from .store import StoreFailed, open_to_read
 
 Given = argparse.Namespace
@@ -39,6 +41,9 @@ def _find(given: Given, _: str) -> int:
     for page in finding.found(connection, parts):
         finding.show(printer, page)
     printer.flush()
+    lacking = finding.without_text(connection)
+    if lacking:
+        tell(f"{shown(given.store)}: {finding.LACKING % numbered(lacking, 'page has', 'pages have')}")
     return COMPLETE
 
 

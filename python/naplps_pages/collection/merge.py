@@ -8,6 +8,7 @@ from naplps.names import shown
 
 from ..console import Output, tell
 from ..new_files import NotWritten
+from .beside import INDEX, JOURNAL, LOG, MADE, place, require_own
 from .counts import Counts
 from .differing import differing
 from .folders import reason
@@ -17,15 +18,14 @@ from .printing import numbered
 from .progress import Progress
 from .sources import Source, Sources, lacking, require_apart
 from .stopping import Stopping
-from .store import StoreFailed, open_to_write
+from .store import StoreFailed, keep_private, open_to_write
 
-# After the name of the store, while it is made.
-ENDING = ".new"
 # No log is needed: what isn't whole is thrown away.
 FAST = "PRAGMA journal_mode = OFF; PRAGMA synchronous = OFF;"
 # The steps of SQLite between two looks at the clock, and the number of differences that are reported one by one.
 OFTEN, MOST_TOLD = 100_000, 10
 LACKING = "isn't made; with --unfinished it is, of what is there"
+LEFT = "isn't made: what is left of another store stands there, as %s"
 DIFFERENT = "isn't made: %s with two answers under one budget and version"
 
 
@@ -52,6 +52,10 @@ def _looked(into: str, sources: List[Source], unfinished: bool) -> int:
     """Looks whether the stores can be joined; how many faults were reported, with which that is possible."""
     if os.path.lexists(into):
         raise NotWritten(into, "is there already, and isn't written over")
+    for ending in (JOURNAL, LOG, INDEX):
+        require_own(into, ending)
+        if os.path.lexists(place(into, ending)):
+            raise NotWritten(into, LEFT % ending)  # (SQLite would take it for that of the new one)
     for source in sources:
         source.require_right()
     require_apart(sources)
@@ -65,8 +69,9 @@ def _looked(into: str, sources: List[Source], unfinished: bool) -> int:
 
 def _made(into: str, sources: List[Source], finished: bool, stopping: Stopping) -> Optional[Counts]:
     """Makes the store, beside its place first; what it has, or nothing where a signal stops that."""
-    aside = into + ENDING
+    aside = into + MADE
     connection: Optional[sqlite3.Connection] = None
+    require_own(into, MADE)
     try:
         _remove(aside)  # (what a process left that was killed)
         _require_same(into, sources, stopping)
@@ -110,6 +115,8 @@ def _joined(connection: sqlite3.Connection, sources: List[Source], finished: boo
     def look() -> bool:
         progress.show(os.path.getsize(path) >> 20)
         return stopping.number is not None
+    if any(source.number("SELECT count(*) FROM (SELECT 1 FROM texts LIMIT 1)") for source in sources):
+        keep_private(connection)
     connection.executescript(FAST)
     connection.set_progress_handler(look, OFTEN)
     try:

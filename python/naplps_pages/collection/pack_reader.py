@@ -7,9 +7,12 @@ from ..packs.member import Member, PackLimits
 from ..packs.naming import pack_of
 from ..packs.reading import open_file, open_pack
 from .file_reader import OTHER, Marks, Seen, change, marks, with_marks
-from .folders import is_gone, reason
-from .rows import File, Names
+from .folders import Replaced, is_gone, reason
+from .rows import File, FolderFiles
 from .tables import CHANGED, READ, UNREADABLE, VANISHED, hashed
+
+
+REPLACED = "another folder took the place of its own while it was scanned"
 
 
 class _From(NamedTuple):
@@ -41,9 +44,10 @@ class PackScan:
     After the members `own` is the row of the pack itself; but where more are left, `left` says so in place of it.
     """
 
-    def __init__(self, names: Names, limits: PackLimits, members: Optional[int] = None) -> None:
-        self.folder, path, (told,) = names
-        self.path = pack_of(path) or b""
+    def __init__(self, names: FolderFiles, limits: PackLimits, members: Optional[int] = None,
+                 elsewhere: bool = False) -> None:
+        self.folder, path, (told,), self.identity = names
+        self.path, self.elsewhere = pack_of(path) or b"", elsewhere
         self.limits, self.most_members, self.start = limits, members, _from(told)
         self.own = File(self.folder, b"", READ)
         self.left: Optional[bytes] = None
@@ -51,8 +55,10 @@ class PackScan:
     def members(self) -> Iterator[Seen]:
         """The members, as files."""
         try:
-            with open_file(self.path) as file:
+            with open_file(self.path, self.identity, self.elsewhere) as file:
                 yield from self._members(file)
+        except Replaced:
+            self.own, self.left = File(self.folder, b"", CHANGED, REPLACED), None
         except OSError as error:
             state, why = VANISHED, "it vanished while it was looked at"
             if not is_gone(error):

@@ -3,6 +3,7 @@ import sqlite3
 from typing import List, NamedTuple, Optional, Tuple
 
 from .file_reader import Marks
+from .folders import join
 from .kinds import checked, one
 from .tables import GONE, READ, SETTLED, TOO_LONG, UNREADABLE
 
@@ -13,13 +14,22 @@ PACK = """SELECT size, mtime_ns, ctime_ns, inode, state, coalesce(why, '') FROM 
 MEMBERS = """SELECT count(*), total(NOT CASE f.state WHEN {} THEN coalesce({}, 0) WHEN {} THEN f.size > ? ELSE 1 END),
     total(f.state = {}) FROM files f LEFT JOIN pages p ON p.id = f.page
     WHERE f.folder = ? AND f.name <> x'' AND f.state <> {}""".format(READ, SETTLED, TOO_LONG, UNREADABLE, GONE)
-UNREAD = f"SELECT name, coalesce(why, '') FROM files WHERE folder = ? AND name <> x'' AND state = {UNREADABLE}"
+# The number of members of a pack that couldn't be read which are told one by one.
+MOST_BROKEN = 20
+UNREAD = f"""SELECT name, coalesce(why, '') FROM files WHERE folder = ? AND name <> x'' AND state = {UNREADABLE}
+    ORDER BY name LIMIT {MOST_BROKEN}"""
+BROKEN = f"""SELECT d.path, (SELECT count(*) FROM files f WHERE f.folder = d.id AND f.name <> x''
+    AND f.state = {UNREADABLE}) FROM folders d WHERE d.id = ?"""
+MORE = f"%d of its members couldn't be read, of which {MOST_BROKEN} are named; `files` names all"
 
 OWN = "size? mtime_ns? ctime_ns? inode? state:file_state why"
 
 
 class PackState(NamedTuple):
-    """How many members a known pack has; and which of them couldn't be read, and why, with the pack itself."""
+    """How many members a known pack has; and which of them couldn't be read, and why, with the pack itself.
+
+    If there are more than `MOST_BROKEN`, these are the first, and that there are more.
+    """
 
     members: int
     unread: List[Tuple[bytes, str]]
@@ -39,4 +49,11 @@ def settled(connection: sqlite3.Connection, folder: int, marks: Optional[Marks],
     if unsettled:
         return None
     some = [(name, why) for name, why in checked(connection.execute(UNREAD, (folder,)), "name why")] if unread else []
-    return PackState(members, some + ([(b"", row[5])] if row[4] == UNREADABLE else []))
+    some += [(b"", row[5])] if row[4] == UNREADABLE else []
+    return PackState(members, some + ([(b"", MORE % unread)] if unread > MOST_BROKEN else []))
+
+
+def broken(connection: sqlite3.Connection, folder: int) -> Tuple[bytes, str]:
+    """A pack by its path, and how many of its members couldn't be read."""
+    path, number = next(checked(connection.execute(BROKEN, (folder,)), "path count"))
+    return join(path, b""), MORE % number

@@ -10,7 +10,7 @@ from ..source import PACKS, Page
 from .file_reader import look
 from .folders import opened, reason
 from .places import Place
-from .tables import READ, hashed
+from .tables import READ, TOO_LONG, hashed
 
 CHANGED = "it isn't as it was when it was scanned"
 
@@ -29,7 +29,7 @@ def read(place: Place, own: bytes) -> Page:
     except OSError as error:
         raise Otherwise(reason(error)) from None
     try:
-        seen = look(0, at, place.name, 1 << 62, MOST_PAGE)
+        seen = look(0, at, place.name, place.at or 0, MOST_PAGE)  # (nothing is read of one that is longer now)
     finally:
         os.close(at)
     file: Optional[IO[bytes]] = None
@@ -38,7 +38,7 @@ def read(place: Place, own: bytes) -> Page:
     if seen.file.state != READ or seen.file.own != own:
         if file:
             file.close()
-        raise Otherwise(CHANGED if seen.file.state == READ else seen.file.why or CHANGED)
+        raise Otherwise(CHANGED if seen.file.state in (READ, TOO_LONG) else seen.file.why or CHANGED)
     return Page(place.path, seen.data, file)
 
 

@@ -6,7 +6,7 @@ from .folders import join
 
 
 class Place(NamedTuple):
-    """A file, by its folder and its name; or a member of a pack, and where in the pack it began."""
+    """A file, by its folder and its name, and how long it was; or a member of a pack, and where it began there."""
 
     folder: bytes
     name: bytes

@@ -184,8 +184,8 @@ class Pool:
         self.hands.remove(hand)
         left = [chunk for chunk in hand.left() if chunk]
         if left and left[0] in self.suspects:
-            folder, _, names = left.pop(0)[0]
-            yield (File(folder, names[0], UNREADABLE, reason),), ()
+            lost = left.pop(0)[0]
+            yield (File(lost.folder, lost.names[0], UNREADABLE, reason),), ()
         elif left and count(left[0]) == 1:
             self.suspects.add(left[0])  # once may be by chance, as where somebody else ended the worker
         elif left:
@@ -213,7 +213,7 @@ def ending(status: int) -> str:
 
 
 def _is_pack(chunk: Chunk) -> bool:
-    return pack_of(chunk[0][1]) is not None
+    return pack_of(chunk[0].path) is not None
 
 
 def _reported(chunk: Chunk, files: Sequence[File]) -> int:
@@ -223,16 +223,16 @@ def _reported(chunk: Chunk, files: Sequence[File]) -> int:
 
 def count(chunk: Chunk) -> int:
     """How many names a chunk has."""
-    return sum(len(names) for _, _, names in chunk)
+    return sum(len(each.names) for each in chunk)
 
 
 def _behind(chunk: Chunk, number: int) -> Chunk:
     """The chunk without its first files."""
     rest = []
-    for folder, path, names in chunk:
-        if number < len(names):
-            rest.append((folder, path, names[number:]))
-        number = max(0, number - len(names))
+    for each in chunk:
+        if number < len(each.names):
+            rest.append(each._replace(names=each.names[number:]))
+        number = max(0, number - len(each.names))
     return tuple(rest)
 
 
@@ -245,16 +245,16 @@ def halves(chunk: Chunk) -> List[Chunk]:
 def _before(chunk: Chunk, number: int) -> Chunk:
     """The first files of the chunk."""
     some = []
-    for folder, path, names in chunk:
+    for each in chunk:
         if number > 0:
-            some.append((folder, path, names[:number]))
-        number -= len(names)
+            some.append(each._replace(names=each.names[:number]))
+        number -= len(each.names)
     return tuple(some)
 
 
 def _singles(chunk: Chunk, number: int) -> List[Chunk]:
     """The first files of the chunk, a number of them, each as a chunk by itself."""
-    singles: List[Chunk] = [((folder, path, (name,)),) for folder, path, names in chunk for name in names]
+    singles: List[Chunk] = [(each._replace(names=(name,)),) for each in chunk for name in each.names]
     return singles[:number]
 
 

@@ -35,11 +35,12 @@ class Given(NamedTuple):
 
 
 class Done(NamedTuple):
-    """What came of it: what differs here, or the rows, and what is left of a pack."""
+    """What came of it: what differs here, or the rows, what is left of a pack, and which folders are others here."""
 
     differs: Optional[str]
     pieces: List[Piece]
     left: Chunk
+    others: Chunk = ()
 
 
 def main() -> None:
@@ -57,9 +58,10 @@ def _worked(given: Given) -> Done:
     def beat() -> None:
         if os.getppid() != parent:
             sys.exit(1)  # nobody waits for it any more
-    worker = Worker(given.how, lambda hashes: set(), beat, MOST_MEMBERS)
+    worker = Worker(given.how, lambda hashes: set(), beat, MOST_MEMBERS, elsewhere=True)
     try:
-        return Done(None, [piece for piece in worker.pieces(given.chunk) if piece[0]], worker.left)
+        pieces = [piece for piece in worker.pieces(given.chunk) if piece[0]]
+        return Done(None, pieces, worker.left, tuple(worker.others))
     finally:
         worker.close()
 

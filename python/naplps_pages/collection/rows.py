@@ -1,6 +1,8 @@
 """The rows that a scan writes into a store, and how workers are given files and send rows back."""
 from typing import Iterable, List, NamedTuple, Optional, Tuple
 
+from .folders import FolderIdentity
+
 
 class AskAgain(NamedTuple):
     """What of that which is known is asked again all the same."""
@@ -52,7 +54,8 @@ class Answered(NamedTuple):
     """What the program says of bytes: a row of `pages`, with the name of the fault, treatments and text beside it.
 
     An accepted page has its kind, and whether it is perhaps several pages; a refused one has what it looks like, which
-    is nothing where that isn't known, and the code that stops it, where the fault alone doesn't say which.
+    is nothing where that isn't known, and the code that stops it, where the fault alone doesn't say which. A capture
+    has its kind, and how many pages it holds; other files hold 0.
     """
 
     own: bytes
@@ -68,16 +71,27 @@ class Answered(NamedTuple):
     looks_like: Optional[str] = None
     several: Optional[int] = None
     stop: Optional[str] = None
+    holds: Optional[int] = None
     fault: Optional[str] = None
     cured: Optional[Cured] = None
     said: Optional[PageText] = None
 
 
-# Files of one folder: its number in the store, its path, and their names. A pack is a folder with one name: nothing, or
-# from where on it is to be read.
-Names = Tuple[int, bytes, Tuple[bytes, ...]]
+class FolderFiles(NamedTuple):
+    """Files of one folder: its number in the store, its path, and their names; and which folder it was, as it was met.
+
+    A pack is a folder with one name: nothing, or from where on it is to be read. Its identity is that of the folder in
+    which it stands, and none where it was named, so that it may be a link.
+    """
+
+    folder: int
+    path: bytes
+    names: Tuple[bytes, ...]
+    identity: Optional[FolderIdentity] = None
+
+
 # What a worker is given at a time.
-Chunk = Tuple[Names, ...]
+Chunk = Tuple[FolderFiles, ...]
 # What it gives back, in pieces: how many files these are, and the answers to those of their pages that it asked about.
 Piece = Tuple[Tuple[File, ...], Tuple[Answered, ...]]
 # The same as plain tuples, which are sent in fewer bytes and with less work.

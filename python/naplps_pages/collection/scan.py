@@ -5,7 +5,9 @@ import re
 import sqlite3
 import stat
 import sys
-from dataclasses import dataclass
+from collections import Counter
+from dataclasses import dataclass, replace
+from typing import Counter as Counts
 from typing import Iterator, List, Optional, Tuple
 
 from naplps.answers import Unanswered
@@ -18,11 +20,14 @@ from ..console import COMPLETE, FAILED, SOME_LACK, Output, tell
 from ..packs.reading import NO_FILE, SEVERAL
 from ..unexpected import Unexpected
 from . import tables, word_index
+from .beside import LOG
 from .cluster import MOST_FILES, MOST_NAMES, Cluster, ClusterFailed
 from .counts import counted
 from .folders import absolute, is_gone, join, reason
+from .kept_options import keep
 from .lock import Busy, Lock
 from .part import Part, keep_part
+from .pack_state import MOST_BROKEN, broken
 from .pool import NoWorkers, Pool
 from .progress import Counting, Progress
 from .remote import alike
@@ -30,7 +35,7 @@ from .rows import File, Piece
 from .schemas import INDICES
 from .search import Scope, Search, apart
 from .stopping import Stopping
-from .store import StoreFailed, fold, keep_log, open_to_write
+from .store import StoreFailed, fold, keep_log, keep_private, open_to_write
 from .walk import hidden
 from .worker import WorkerOptions
 from .writer import Terms, Writer
@@ -40,6 +45,10 @@ PATIENCE = 60.0
 FORM = re.compile(r"canonical form ([0-9A-Za-z. ]+)")
 KEPT = "what was taken is kept, and the same command goes on"
 STOPPED = "stopped; " + KEPT
+# How long is waited at the end for who reads the store, in seconds; and what is told where he reads on.
+READERS = 5.0
+READ_NOW = ("is being read, so its last rows are in %s: a copy of the store needs both files, until a command on it "
+            "moves them")
 # What may go wrong beside faults of the tool.
 EXPECTED = (OSError, sqlite3.Error, NoWorkers, ClusterFailed, StoreFailed)
 
@@ -93,7 +102,7 @@ def scan(options: ScanOptions) -> int:
         if options.on is not None:
             cluster = Cluster(options.on, options.how, alike(terms.program_hash, roots))
         with Stopping() as stopping, Lock(options.store):
-            run = _scan(options, terms, stopping, roots, cluster)
+            run = _scan_or_stop(options, terms, stopping, roots, cluster)
     except Busy as busy:
         tell(f"{shown(options.store)}: another scan is at work on it: {busy}")
         return FAILED
@@ -108,6 +117,8 @@ def scan(options: ScanOptions) -> int:
         if cluster:
             cluster.close()
     stopping.act()
+    if run is None:
+        return FAILED
     output = Output(sys.stdout.buffer)
     output.line(run.line)
     output.flush()
@@ -123,11 +134,28 @@ def _not_there(root: bytes) -> Optional[str]:
     return None if stat.S_ISDIR(mode) or stat.S_ISREG(mode) else NO_FILE
 
 
+def _scan_or_stop(options: ScanOptions, terms: Terms, stopping: Stopping, roots: List[bytes],
+                  cluster: Optional[Cluster]) -> Optional["ScanRun"]:
+    """One scan; nothing where a signal ended what SQLite was at."""
+    try:
+        return _scan(options, terms, stopping, roots, cluster)
+    except sqlite3.OperationalError:
+        if stopping.number is None:
+            raise
+        tell(STOPPED)
+        return None
+
+
 def _scan(options: ScanOptions, terms: Terms, stopping: Stopping, roots: List[bytes],
           cluster: Optional[Cluster]) -> "ScanRun":
     connection = open_to_write(options.store)
     try:
         keep_part(connection, options.store, options.part, roots)
+        options = replace(options, how=options.how._replace(wanted=keep(connection, options.how.wanted)))
+        if cluster:
+            cluster.how = options.how
+        if options.how.wanted.words:
+            keep_private(connection)
         if not keep_log(connection):
             tell("%s: its file system lets no log stand beside it; it can't be read while it is written"
                  % shown(options.store))
@@ -136,7 +164,8 @@ def _scan(options: ScanOptions, terms: Terms, stopping: Stopping, roots: List[by
         if progress.terminal:
             counting.start()
         if options.how.wanted.words:
-            _keep_words(connection, options.store)
+            with stopping.ends(connection):
+                _keep_words(connection, options.store)
         writer = Writer(connection, os.fsencode(options.how.program), terms)
         run = ScanRun(options, writer, progress, stopping)
         try:
@@ -149,7 +178,8 @@ def _scan(options: ScanOptions, terms: Terms, stopping: Stopping, roots: List[by
     finally:
         if connection.in_transaction:
             connection.execute("ROLLBACK")
-        fold(connection)
+        if not fold(connection, READERS, lambda: stopping.number is not None):
+            tell(f"{shown(options.store)}: {READ_NOW % shown(os.path.basename(options.store) + LOG)}")
         connection.close()
 
 
@@ -172,6 +202,7 @@ class ScanRun:
             scope = scope._replace(files=MOST_FILES, names=MOST_NAMES)
         self.search = Search(writer, scope, self._complain)
         self.found = 0
+        self.broken: Counts[int] = Counter()
         self.status = COMPLETE
         self.line = ""
 
@@ -191,10 +222,15 @@ class ScanRun:
             workers.close()
             self.progress.clear()
         self.writer.write()
-        if self.stopping.number is not None:
+        try:
+            with self.stopping.ends(self.writer.connection):
+                if self.stopping.number is None:
+                    self._finish()
+        except sqlite3.OperationalError:
+            if self.stopping.number is None:
+                raise
+        if not self.line:
             tell(STOPPED)
-        else:
-            self._finish()
 
     @property
     def at_work(self) -> str:
@@ -206,11 +242,20 @@ class ScanRun:
             self.found += sum(1 for file in piece[0] if file.name)
             self.writer.take(piece)
             for file, why in _lacking(piece):
-                path = self.writer.connection.execute("SELECT path FROM folders WHERE id = ?", (file.folder,))
-                self._complain(join(path.fetchone()[0], file.name), why)
+                self._complain_of(file.folder, file.name, why)
         if self.writer.is_due:
             self.writer.write()
         self.progress.show(self.search.known + self.found)
+
+    def _complain_of(self, folder: int, name: bytes, why: str) -> None:
+        """Tells what is wrong with a file; of a pack's members with the first ones."""
+        self.status = SOME_LACK
+        if name and folder in self.writer.packs:
+            self.broken[folder] += 1
+            if self.broken[folder] > MOST_BROKEN:
+                return
+        path, = self.writer.connection.execute("SELECT path FROM folders WHERE id = ?", (folder,)).fetchone()
+        self._complain(join(path, name), why)
 
     def _complain(self, path: bytes, why: str) -> None:
         """Tells what is wrong with a folder or a file."""
@@ -220,8 +265,11 @@ class ScanRun:
     def _finish(self) -> None:
         """Marks what is gone, builds indices, and counts."""
         writer = self.writer
-        for pack, name in writer.doubles():
-            self._complain(join(pack, name), SEVERAL)
+        for folder, name in writer.doubles():
+            self._complain_of(folder, name, SEVERAL)
+        for folder, number in self.broken.items():
+            if number > MOST_BROKEN:
+                self._complain(*broken(writer.connection, folder))
         writer.sweep(self.search.whole)
         writer.connection.executescript(INDICES)
         counts = counted(writer.connection, writer.run)

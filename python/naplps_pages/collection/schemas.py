@@ -3,16 +3,20 @@ view for people.
 """
 from typing import Dict, Iterator, Tuple
 
-from .tables import AROUND, BLANK, IS_FILE, PAGE, TEXT, WITHIN
+from .tables import AROUND, BLANK, CAPTURE, IS_FILE, PAGE, TEXT, WITHIN
 
-SCHEMA, EARLIER = 2, 1
-# What the schema before hasn't: columns at the ends of tables, and a table.
-ADDED = {"pages": ("kind INTEGER", "looks_like TEXT", "several INTEGER", "stop TEXT"),
-         "cures": ("grade INTEGER", "canon BLOB", "canon_size INTEGER")}
-ADDED_TABLE = "texts"
-TEXTS = """CREATE TABLE texts(page INTEGER PRIMARY KEY REFERENCES pages, terms INTEGER NOT NULL REFERENCES terms,
-    source INTEGER NOT NULL, text TEXT, first TEXT, why TEXT);
-"""
+SCHEMA, EARLIER = 3, 2
+# What the schema before hasn't: a column at the end of a table.
+ADDED = {"pages": ("holds INTEGER",)}
+LAST_COLUMNS = {"pages": ", kind INTEGER, looks_like TEXT, several INTEGER, stop TEXT",
+                "cures": ", grade INTEGER, canon BLOB, canon_size INTEGER"}
+# What a copy draws isn't known that a treatment made which took pages away before.
+TOOK = "('+' || treatments || '+') LIKE '%+header+%' OR ('+' || treatments || '+') LIKE '%+tail+%'"
+RENEWED = {column: f"CASE WHEN {TOOK} THEN NULL ELSE {column} END" for column in ("grade", "canon", "canon_size")}
+# The options that a scan keeps to, in the table meta, by what shows that the schema before was scanned with them.
+OPTIONS = {"cures": "cures", "words": "texts"}
+KEEP = ("INSERT OR IGNORE INTO main.meta SELECT '{0}', 1 WHERE EXISTS(SELECT 1 FROM {2}.meta WHERE key = '{0}') "
+        "OR EXISTS(SELECT 1 FROM {2}.{1})")
 TABLES = """
 CREATE TABLE meta(key TEXT PRIMARY KEY, value) WITHOUT ROWID;
 CREATE TABLE terms(id INTEGER PRIMARY KEY, version TEXT NOT NULL, program_hash BLOB NOT NULL, form TEXT NOT NULL,
@@ -32,6 +36,8 @@ CREATE TABLE cures(page INTEGER PRIMARY KEY REFERENCES pages, terms INTEGER NOT 
 CREATE TABLE files(folder INTEGER NOT NULL REFERENCES folders, name BLOB NOT NULL, state INTEGER NOT NULL, why TEXT,
     size INTEGER, mtime_ns INTEGER, ctime_ns INTEGER, inode INTEGER, page INTEGER REFERENCES pages,
     run INTEGER NOT NULL REFERENCES runs, PRIMARY KEY(folder, name)) WITHOUT ROWID;
+CREATE TABLE texts(page INTEGER PRIMARY KEY REFERENCES pages, terms INTEGER NOT NULL REFERENCES terms,
+    source INTEGER NOT NULL, text TEXT, first TEXT, why TEXT);
 """
 LISTING = """CREATE VIEW listing AS SELECT CAST(CASE WHEN f.name = x'' THEN substr(d.path, 1, length(d.path) - 2)
         WHEN substr(d.path, -2) = x'212F' THEN substr(d.path, 1, length(d.path) - 1) || f.name
@@ -42,16 +48,16 @@ LISTING = """CREATE VIEW listing AS SELECT CAST(CASE WHEN f.name = x'' THEN subs
     p.number, (SELECT t.name FROM faults t WHERE t.number = p.number) AS fault, p.left_out AS code, p.place, p.entries,
     coalesce(f.why, p.why) AS reason, f.size, nullif(lower(hex(p.own)), '') AS hash,
     nullif(lower(hex(p.canon)), '') AS canonical,
-    p.canon_size AS canonical_size%s
-    FROM files f JOIN folders d ON d.id = f.folder LEFT JOIN pages p ON p.id = f.page AND f.state = 0%s
-    WHERE {0}""".format(IS_FILE)
-ADDED_TO_LISTING = """,
-    CASE p.kind WHEN {0} THEN 'page' WHEN {1} THEN 'text' WHEN {2} THEN 'blank' END AS kind,
+    p.canon_size AS canonical_size,
+    CASE p.kind WHEN {0} THEN 'page' WHEN {1} THEN 'text' WHEN {2} THEN 'blank'%s END AS kind,
     nullif(p.looks_like, '') AS looks_like, p.several AS perhaps_several, c.treatments,
     CASE c.grade WHEN {3} THEN 'around' WHEN {4} THEN 'within' END AS grade, c.entries AS treated_entries,
     nullif(lower(hex(c.copy)), '') AS treated_hash, nullif(lower(hex(c.canon)), '') AS treated_canonical,
-    c.canon_size AS treated_canonical_size, p.stop AS stops""".format(PAGE, TEXT, BLANK, AROUND, WITHIN)
-CURES_OF_LISTING = "\n    LEFT JOIN cures c ON c.page = p.id AND c.terms = p.terms"
+    c.canon_size AS treated_canonical_size, p.stop AS stops%s
+    FROM files f JOIN folders d ON d.id = f.folder LEFT JOIN pages p ON p.id = f.page AND f.state = 0
+    LEFT JOIN cures c ON c.page = p.id AND c.terms = p.terms
+    WHERE {5}""".format(PAGE, TEXT, BLANK, AROUND, WITHIN, IS_FILE)
+NO_CAPTURES, CAPTURES = ("", ""), (f" WHEN {CAPTURE} THEN 'capture'", ", nullif(p.holds, 0) AS pages")
 # They are built after a first scan, which is faster.
 INDICES = """
 CREATE INDEX IF NOT EXISTS pages_by_canon ON pages(canon) WHERE canon IS NOT NULL;
@@ -62,15 +68,15 @@ CREATE INDEX IF NOT EXISTS files_by_page ON files(page) WHERE state = 0;
 
 def tables(schema: int = SCHEMA) -> str:
     """The tables of a schema."""
-    some: Dict[str, str] = {
-        name: "".join(f", {column}" for column in columns) if schema > EARLIER else ""
-        for name, columns in ADDED.items()}
-    return TABLES.format(**some) + (TEXTS if schema > EARLIER else "")
+    some = dict(LAST_COLUMNS)
+    for name, columns in ADDED.items() if schema > EARLIER else ():
+        some[name] += "".join(f", {column}" for column in columns)
+    return TABLES.format(**some)
 
 
 def listing(schema: int = SCHEMA) -> str:
     """The view of a schema."""
-    return LISTING % ((ADDED_TO_LISTING, CURES_OF_LISTING) if schema > EARLIER else ("", ""))
+    return LISTING % (CAPTURES if schema > EARLIER else NO_CAPTURES)
 
 
 def own(schema: int = SCHEMA) -> Dict[Tuple[str, str], str]:
@@ -84,18 +90,22 @@ def own(schema: int = SCHEMA) -> Dict[Tuple[str, str], str]:
 
 
 def renewal() -> str:
-    """What makes a store of the schema before one of this schema: nothing that it holds is touched.
+    """What makes a store of the schema before one of this schema.
 
-    What is added to a table stands after its other columns, so its words are those of a new store.
+    What is added to a table stands after its other columns, so its words are those of a new store. Of treated copies
+    that may lack a page it isn't known any more what they draw.
     """
+    options = "".join(KEEP.format(*each, "main") + "; " for each in OPTIONS.items())
+    renewed = ", ".join("{} = {}".format(*each) for each in RENEWED.items())
     return "".join(f"ALTER TABLE {name} ADD COLUMN {column}; " for name, column in _added()) + (
-        f"{TEXTS} UPDATE meta SET value = '{SCHEMA}' WHERE key = 'schema';")
+        f"{options} UPDATE cures SET {renewed}; UPDATE meta SET value = '{SCHEMA}' WHERE key = 'schema';")
 
 
 def as_now(name: str) -> str:
-    """A table of the schema before with the columns of this one, of which nothing is known."""
-    if name == ADDED_TABLE:
-        return "SELECT NULL AS page, NULL AS terms, NULL AS source, NULL AS text, NULL AS first, NULL AS why LIMIT 0"
+    """A table of the schema before with the columns of this one, and with what is known by the rules of now."""
+    if name == "cures":
+        return "SELECT page, terms, treatments, entries, copy, why, %s FROM main.cures" % ", ".join(
+            f"{told} AS {column}" for column, told in RENEWED.items())
     return "SELECT *, %s FROM main.%s" % (", ".join(f"NULL AS {column.split()[0]}" for column in ADDED[name]), name)
 
 

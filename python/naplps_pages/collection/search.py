@@ -7,11 +7,11 @@ from typing import Callable, Iterable, Iterator, List, NamedTuple, Optional, Tup
 from ..packs.naming import inside, is_pack, pack_of
 from ..packs.reading import NO_FILE
 from .file_reader import Marks, marks
-from .folders import is_within, join, reason
+from .folders import FolderIdentity, identity_of, is_within, join, opened, reason
 from .kinds import checked
 from .pack_state import PackState, settled
 from .part import Part, below
-from .rows import AskAgain, Chunk, Names
+from .rows import AskAgain, Chunk, FolderFiles
 from .tables import GONE, READ, SETTLED, UNREADABLE
 from .walk import Hidden, Listing, walk
 from .writer import Writer
@@ -41,8 +41,9 @@ class KnownFile(NamedTuple):
     settled: Optional[int]
 
 
-# Files of one folder that may have to be looked at, by its number and its path; now and then no name is ready yet.
-Found = Tuple[int, bytes, Iterator[Optional[bytes]]]
+# Files of one folder that may have to be looked at, by its number, its path and which it is; now and then no name is
+# ready yet.
+Found = Tuple[int, bytes, Iterator[Optional[bytes]], Optional[FolderIdentity]]
 
 
 class Scope(NamedTuple):
@@ -70,14 +71,14 @@ class Search:
 
     def chunks(self, roots: Iterable[bytes]) -> Iterator[Chunk]:
         """The files that a worker has to look at; now and then none, while none is found."""
-        held: List[Names] = []
+        held: List[FolderFiles] = []
         files = length = 0
-        for number, (folder, path, names) in enumerate(each for root in roots for each in self._root(root)):
+        for number, (folder, path, names, which) in enumerate(each for root in roots for each in self._root(root)):
             for some in _cut(names, self.scope):
                 if not some or pack_of(path) is not None:
-                    yield ((folder, path, some),) if some else ()
+                    yield (FolderFiles(folder, path, some, which),) if some else ()
                     continue
-                held.append((folder, path, some))
+                held.append(FolderFiles(folder, path, some, which))
                 files += len(some)
                 length += len(path) + sum(map(len, some))
                 if files >= self.scope.files or length >= self.scope.names:
@@ -109,7 +110,8 @@ class Search:
                 listing = listing._replace(names=self.scope.part.names(below(root, listing.path), listing.names))
             folder, was_known = self.writer.folder(listing.path, listing.state, listing.why)
             if listing.state == READ and not (is_root and why):
-                yield folder, listing.path, self._unknown(folder, listing) if was_known else iter(listing.names)
+                names = self._unknown(folder, listing) if was_known else iter(listing.names)
+                yield folder, listing.path, names, listing.identity
                 yield from self._packs(root, listing)
         if why is None:
             self.whole.append(root)
@@ -135,17 +137,18 @@ class Search:
         self.writer.is_no_folder(root)
         folder, name = os.path.split(os.path.realpath(root))
         if (self.scope.part is None or self.scope.part.takes(b"")) and not self.scope.hides.has(folder, name):
-            yield self.writer.folder_of(folder), folder, iter((name,))
+            yield self.writer.folder_of(folder), folder, iter((name,)), _identity(folder)
 
     def _packs(self, root: bytes, listing: Listing) -> Iterator[Found]:
         """The packs in a folder."""
         for name in listing.packs:
             path = join(listing.path, name)
             if self.scope.part is None or self.scope.part.takes(below(root, path)):
-                yield self._pack(path, name, listing.descriptor)
+                yield self._pack(path, name, listing)
 
-    def _pack(self, path: bytes, name: bytes, descriptor: Optional[int] = None) -> Found:
+    def _pack(self, path: bytes, name: bytes, listing: Optional[Listing] = None) -> Found:
         """A pack, which has to be read as a whole, or is known so. What couldn't be read in it is told again then."""
+        descriptor, which = (listing.descriptor, listing.identity) if listing else (None, None)
         self.path = path
         folder, was_known = self.writer.folder(inside(path), READ, None)
         known: Optional[PackState] = None
@@ -153,11 +156,11 @@ class Search:
             known = settled(self.writer.connection, folder, self._marks(name, descriptor),
                             (*self._asked, self.scope.most))
         if known is None:
-            return folder, inside(path), iter((b"",))
+            return folder, inside(path), iter((b"",)), which
         self.known += known.members
         for member, why in known.unread:
             self.tell(join(inside(path), member), why)
-        return folder, inside(path), iter(())
+        return folder, inside(path), iter(()), which
 
     @property
     def _asked(self) -> Tuple[int, bool, bool]:
@@ -207,6 +210,18 @@ class Search:
             return marks(os.stat(row.name, dir_fd=descriptor, follow_symlinks=False)) == row[2:6]
         except OSError:
             return False
+
+
+def _identity(path: bytes) -> Optional[FolderIdentity]:
+    """Which folder this path leads to; none where it can't be opened, as the worker will find."""
+    try:
+        descriptor = opened(path)
+    except OSError:
+        return None
+    try:
+        return identity_of(descriptor, False)
+    finally:
+        os.close(descriptor)
 
 
 def _rows(connection: sqlite3.Connection, folder: int, asked: Tuple[int, bool, bool]) -> Iterator[KnownFile]:

@@ -7,11 +7,14 @@ from typing import Dict, List, NamedTuple, Optional, Tuple, TypeVar
 from naplps.names import Members, as_json, shown
 
 from . import tables
+from .beside import LOG
 from .counts import UNKNOWN
+from .kept_options import kept
 from .kinds import checked, one
 from .lock import is_held
 from .part import Part, kept_part
 from .printing import Printer
+from .store import log_of
 
 COLUMNS = ["what", "value"]
 RUN = """SELECT r.id, r.began, r.ended, r.tool, r.program, r.terms, t.version, lower(hex(t.program_hash)), t.form,
@@ -19,12 +22,16 @@ RUN = """SELECT r.id, r.began, r.ended, r.tool, r.program, r.terms, t.version, l
 ROOTS = """SELECT path, max(run), (SELECT why FROM roots o WHERE o.path = r.path ORDER BY run DESC LIMIT 1)
     FROM roots r GROUP BY path ORDER BY path"""
 FILES = """SELECT f.state, p.state, coalesce(f.why, p.why), f.state = 0 AND p.terms <> ?, p.kind, p.looks_like,
-    p.several, count(*) FROM files f LEFT JOIN pages p ON p.id = f.page AND f.state = 0 WHERE %s
-    GROUP BY 1, 2, 3, 4, 5, 6, 7""" % tables.IS_FILE
+    p.several, p.holds, count(*) FROM files f LEFT JOIN pages p ON p.id = f.page AND f.state = 0 WHERE %s
+    GROUP BY 1, 2, 3, 4, 5, 6, 7, 8""" % tables.IS_FILE
 PAGES = """SELECT (SELECT count(DISTINCT page) FROM present), (SELECT count(DISTINCT canon) FROM pages p
     WHERE canon IS NOT NULL AND EXISTS(SELECT 1 FROM present f WHERE f.page = p.id))"""
 LAST = "id began ended? tool program terms version hex form budget"
-COUNTED = "state:file_state answer:page_state? why? is_old:flag? kind? looks_like? several? count"
+COUNTED = "state:file_state answer:page_state? why? is_old:flag? kind? looks_like? several? holds? count"
+# Pages that lack what the store keeps, by the option.
+LACKING = {"cures": ("refused without treatments tried", f"p.state = 1 AND NOT {tables.TRIED}"),
+           "words": ("without their text", f"p.state < 2 AND NOT {tables.HAS_TEXT}")}
+LACK = "SELECT count(*) FROM pages p WHERE {} AND EXISTS(SELECT 1 FROM present f WHERE f.page = p.id)"
 PERHAPS_SEVERAL = "perhaps several pages"
 # Reasons that are all alike but for a number.
 NUMBERED = (tables.TOO_LONG,)
@@ -41,6 +48,7 @@ class FilesAlike(NamedTuple):
     kind: Optional[int]
     looks_like: Optional[str]
     several: Optional[int]
+    holds: Optional[int]
     files: int
 
 
@@ -69,6 +77,8 @@ class Tally:
     reasons: Dict[Tuple[str, str], int] = field(default_factory=dict)
     left: Dict[str, int] = field(default_factory=dict)
     several: int = 0
+    captures: int = 0
+    pages: int = 0
 
     def take(self, row: FilesAlike) -> None:
         """Counts files that are alike."""
@@ -81,11 +91,13 @@ class Tally:
         if row.looks_like:
             _add(self.looks, row.looks_like, row.files)
         self.several += row.files if row.several else 0
+        self.captures += row.files if row.holds else 0
+        self.pages += row.files * (row.holds or 0)
         if row.is_old:
             _add(self.left, "answered on other terms", row.files)
         elif row.state in LEFT or row.answer == tables.NO_ANSWER:
             _add(self.left, name, row.files)
-        elif row.answer is not None and row.kind is None and row.looks_like is None:
+        elif row.answer is not None and row.holds is None:
             _add(self.left, UNKNOWN, row.files)
 
     def told_below(self, name: str) -> List[str]:
@@ -95,6 +107,7 @@ class Tally:
             some += [f"{self.kinds[kind]}: {kind}" for kind in (*tables.KINDS, UNKNOWN) if kind in self.kinds]
             some += [f"{self.several}: {PERHAPS_SEVERAL}"] if self.several else []
         if name == tables.PAGE_STATES[tables.REFUSED]:
+            some += [f"{self.captures}: capture, of {self.pages} pages"] if self.captures else []
             some += ["%d: looks like %s" % (many, look) for look, many in _most_first(self.looks)]
         return some
 
@@ -121,6 +134,7 @@ class Status(NamedTuple):
     pages: int
     canonical: int
     part: Optional[Part]
+    log: int = 0
 
     @property
     def counts(self) -> Dict[str, int]:
@@ -138,9 +152,14 @@ def status(connection: sqlite3.Connection, path: str) -> Status:
     shut, = connection.execute("SELECT count(*) FROM folders WHERE state = ?", (tables.UNREADABLE,)).fetchone()
     if shut:
         tally.left["unreadable folders"] = shut
+    for option in sorted(kept(connection)):
+        name, words = LACKING[option]
+        number, = connection.execute(LACK.format(words)).fetchone()
+        if number:
+            tally.left[name] = number
     roots = [(each, why) for each, _, why in checked(connection.execute(ROOTS), "path run why?")]
     pages, canonical = connection.execute(PAGES).fetchone()
-    return Status(path, is_held(path), run, roots, tally, pages, canonical, kept_part(connection))
+    return Status(path, is_held(path), run, roots, tally, pages, canonical, kept_part(connection), log_of(connection))
 
 
 def state_of(it: Status) -> str:
@@ -153,6 +172,8 @@ def state_of(it: Status) -> str:
 def lines(it: Status) -> List[Tuple[str, str]]:
     """What is told of it, as pairs."""
     some = [("store", f"{shown(it.path)}, {os.path.getsize(it.path)} bytes")]
+    if it.log:
+        some.append(("log", f"{it.log} bytes, of the last rows: to copy the store, copy {shown(it.path + LOG)} too"))
     if it.run:
         some += [("scan", f"began {it.run.began} UTC, {state_of(it)}"), ("tool", it.run.tool),
                  ("program", f"{shown(os.fsdecode(it.run.program))}, {it.run.version}"),
@@ -193,6 +214,7 @@ def _object(it: Status) -> Members:
             "run": run or None,
             "folders": [dict(as_json(os.fsdecode(path)), reason=why) for path, why in it.roots],
             "files": it.counts, "kinds": it.tally.kinds, "perhaps_several": it.tally.several,
+            "captures": {"files": it.tally.captures, "pages": it.tally.pages},
             "looks_like": dict(_most_first(it.tally.looks)), "pages": it.pages, "canonical": it.canonical,
             "left": it.tally.left,
             "reasons": [{"status": name, "reason": why, "files": number}

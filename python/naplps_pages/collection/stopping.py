@@ -1,9 +1,13 @@
 """Signals that ask a scan to stop: the first is kept until the scan can stop in order."""
 import os
 import signal
+import sqlite3
+from contextlib import contextmanager
 from types import FrameType, TracebackType
-from typing import Any, Dict, Optional, Type
+from typing import Any, Dict, Iterator, Optional, Type
 
+# The steps of SQLite between two looks whether there was one.
+OFTEN = 100_000
 SIGNALS = (signal.SIGINT, signal.SIGTERM, signal.SIGHUP)
 
 
@@ -33,6 +37,15 @@ class Stopping:
     def __exit__(self, kind: Optional[Type[BaseException]], error: Optional[BaseException],
                  trace: Optional[TracebackType]) -> None:
         self._restore()
+
+    @contextmanager
+    def ends(self, connection: sqlite3.Connection) -> Iterator[None]:
+        """Lets a signal end what SQLite does inside, with sqlite3.OperationalError."""
+        connection.set_progress_handler(lambda: self.number is not None, OFTEN)
+        try:
+            yield
+        finally:
+            connection.set_progress_handler(None, 0)
 
     def act(self) -> None:
         """Lets the signal act that was kept, if one was."""

@@ -2,27 +2,30 @@
 import os
 import sqlite3
 import stat
-from typing import Any, Iterator, Tuple
+import time
+from typing import Any, Callable, Iterator, Optional, Set, Tuple
 
 from naplps.names import printable, shown
 from naplps.version import VERSION
 
 from .. import TOOL
 from . import schemas, tables, word_index
-from .beside import foreign
+from .beside import LOG, foreign, place
 from .header import APPLICATION
 from .kinds import checked
+from .lock import is_held
 
 # A reader may hold a store that has only a rollback journal so long, in seconds.
 PATIENCE = 60
 FOREIGN, OTHERWISE, LACKS = ("isn't a store of %s: " + each for each in (
     "it has a %s of something else: %s", "its %s %s isn't that of a store", "it has no table %s"))
-# The view of version 0.2.0 before it knew packs, by the hash of its words.
-EARLIER_LISTING = "3730a18386522f778df118d0b500e6f19a7edc91e7d62b4c11ee8131648c87e8"
-IN_THE_WAY = "has a table %s of its own, where schema %d has another: give that a new name"
 PLAIN = frozenset(b"/-._~0123456789ABCDEFGHIJKLMNOPQRSTUVWXYZabcdefghijklmnopqrstuvwxyz")
 # What is held of the file, in KiB; and how long its log becomes, in pages.
-CACHE, LOG = 32 << 10, 8000
+CACHE, LOG_PAGES = 32 << 10, 8000
+# What others than the owner may do with a file.
+OF_OTHERS = 0o077
+# How long is waited at once for who reads it, in seconds.
+TURN = 0.1
 
 
 class StoreFailed(Exception):
@@ -57,6 +60,8 @@ def open_to_read(path: str) -> sqlite3.Connection:
     _look(path)
     connection = _checked(path, "rw")
     connection.execute(f"PRAGMA cache_size = {-CACHE}")
+    if connection.execute("PRAGMA journal_mode").fetchone() == ("wal",) and not is_held(path):
+        _fold_again(connection)
     if not show_present(connection):
         connection.execute("CREATE TEMP TABLE found AS SELECT * FROM pages")
         connection.execute("DROP VIEW IF EXISTS temp.pages")
@@ -80,9 +85,10 @@ def attach(connection: sqlite3.Connection, path: str, name: str) -> None:
 def show_present(connection: sqlite3.Connection) -> bool:
     """Gives the files that are there as `present`, in which those of a page are found at once; whether that is cheap.
 
-    Until a scan came to its end there are no indices. Then `present` is a copy that has one.
+    A member of a pack is there with where it begins, and another file with its length, as `Place` has them. Until a
+    scan came to its end there are no indices. Then `present` is a copy that has one.
     """
-    words = f"present AS SELECT folder, name, page, inode AS at FROM files WHERE state = {tables.READ}"
+    words = f"present AS SELECT folder, name, page, {tables.AT} AS at FROM files f WHERE state = {tables.READ}"
     if connection.execute("SELECT 1 FROM sqlite_master WHERE type = 'index' AND name = 'files_by_page'").fetchone():
         connection.execute("CREATE TEMP VIEW " + words)
         return True
@@ -147,9 +153,6 @@ def _renew(path: str, connection: sqlite3.Connection) -> None:
     """
     if schema_of(connection) == schemas.SCHEMA:
         return
-    for name in (schemas.ADDED_TABLE, *word_index.OWN):
-        if connection.execute("SELECT 1 FROM sqlite_master WHERE name = ?", (name,)).fetchone():
-            raise StoreFailed(path, IN_THE_WAY % (name, schemas.SCHEMA))
     connection.executescript(
         f"BEGIN IMMEDIATE; DROP VIEW IF EXISTS listing; {schemas.renewal()} {schemas.listing()}; COMMIT;")
 
@@ -175,35 +178,42 @@ def _checked(path: str, mode: str) -> sqlite3.Connection:
 
 def _show_as_now(connection: sqlite3.Connection) -> None:
     """Lets the tables of the schema before be read as those of this one."""
-    for name in (*schemas.ADDED, schemas.ADDED_TABLE):
+    for name in (*schemas.ADDED, "cures"):
         connection.execute(f"CREATE TEMP VIEW {name} AS {schemas.as_now(name)}")
 
 
 def _check_tables(path: str, connection: sqlite3.Connection, schema: int) -> None:
     """Raises StoreFailed where tables, indices or views aren't those of a store.
 
-    Other tables and indices than the store's own are nobody's matter. But other views and triggers would act where it
-    is read or written. An index of words is there as a whole, or not at all.
+    Other plain tables, and indices of these, are nobody's matter. But other views, triggers and virtual tables, and
+    other indices of the store's own tables, would act where it is read or written. An index of words is there as a
+    whole, or not at all.
     """
     wanted = schemas.own(schema)
     found = set()
-    for kind, name, words in connection.execute("SELECT type, name, sql FROM main.sqlite_master"):
-        own = wanted.get((kind, name)) or (word_index.OWN.get(name) if schema > schemas.EARLIER else None)
-        if own is None and kind not in ("table", "index"):
+    tables_of_own = {name for kind, name in wanted if kind == "table"} | set(word_index.OWN)
+    for kind, name, table, words in connection.execute("SELECT type, name, tbl_name, sql FROM main.sqlite_master"):
+        own = wanted.get((kind, name)) or word_index.OWN.get(name)
+        if own is None and not _is_apart(kind, table, words, tables_of_own):
             raise StoreFailed(path, FOREIGN % (TOOL, kind, name))
-        if own is not None and words != own and not _is_earlier(name, words, schema):
+        if own is not None and words != own:
             raise StoreFailed(path, OTHERWISE % (TOOL, kind, name))
         found.add((kind, name))
-    has_words = schema > schemas.EARLIER and any(("table", name) in found for name in word_index.OWN)
+    has_words = any(("table", name) in found for name in word_index.OWN)
     for name in [*(name for kind, name in wanted if kind == "table"), *(word_index.OWN if has_words else ())]:
         if ("table", name) not in found:
             raise StoreFailed(path, LACKS % (TOOL, name))
 
 
-def _is_earlier(name: str, words: str, schema: int) -> bool:
-    """Whether this is the view that an earlier version made."""
-    return name == "listing" and schema == schemas.EARLIER and (
-        tables.hashed(words.encode("utf-8", "replace")).hex() == EARLIER_LISTING)
+def _is_apart(kind: str, table: str, words: Optional[str], own: Set[str]) -> bool:
+    """Whether what has these words is a plain table, or an index of one, that has nothing to do with a store.
+
+    SQLite makes what the words say, and not in each version what the kind is. An index without words is that of a key.
+    """
+    if words is None:
+        return kind == "index"
+    begins = {"table": ("CREATE TABLE ",), "index": ("CREATE INDEX ", "CREATE UNIQUE INDEX ")}.get(kind, ())
+    return words.startswith(begins) and (kind == "table" or table.lower() not in own)
 
 
 def schema_of(connection: sqlite3.Connection) -> int:
@@ -236,17 +246,62 @@ def kept(connection: sqlite3.Connection, words: str, told: str, **named: str) ->
     return checked(connection.execute("SELECT * FROM kept ORDER BY rowid"), told)
 
 
+def keep_private(connection: sqlite3.Connection) -> None:
+    """Lets only its owner read a store that gets its first texts, as they may be those of pages that others can't read.
+
+    Raises OSError.
+    """
+    if connection.execute("SELECT 1 FROM main.texts LIMIT 1").fetchone() is None:
+        path = connection.execute("PRAGMA database_list").fetchone()[2]
+        mode = stat.S_IMODE(os.stat(path).st_mode)
+        if mode & OF_OTHERS:
+            os.chmod(path, mode & ~OF_OTHERS)
+
+
 def keep_log(connection: sqlite3.Connection) -> bool:
     """Lets the store be read while it is written, by a log beside it; whether its file system can do that."""
     mode = connection.execute("PRAGMA journal_mode = WAL").fetchone()[0]
-    connection.execute(f"PRAGMA wal_autocheckpoint = {LOG}")
+    connection.execute(f"PRAGMA wal_autocheckpoint = {LOG_PAGES}")
     connection.execute("PRAGMA synchronous = FULL")
     return bool(mode == "wal")
 
 
-def fold(connection: sqlite3.Connection) -> None:
-    """Makes the store one file again, that can be copied and be read where nothing can be written."""
+def fold(connection: sqlite3.Connection, seconds: float = 0, stops: Callable[[], bool] = lambda: False) -> bool:
+    """Makes the store one file again, that can be copied and be read where nothing can be written.
+
+    So long is waited for who reads it, unless it is to stop. False where he hinders that, so that rows stay in its log.
+    """
+    connection.execute(f"PRAGMA busy_timeout = {int(TURN * 1000)}")
+    end = time.monotonic() + seconds
     try:
+        while not _is_moved(connection):
+            if stops() or time.monotonic() >= end:
+                return False
         connection.execute("PRAGMA journal_mode = DELETE")
     except sqlite3.OperationalError:
-        pass  # somebody is reading it; what ends last folds the log
+        pass  # somebody has it open, and what ends last takes the log away; or it can't be written
+    return True
+
+
+def _fold_again(connection: sqlite3.Connection) -> None:
+    """Does what the last scan couldn't, since the store was read as it ended; if it still is, the next will."""
+    try:
+        fold(connection)
+    except sqlite3.Error:
+        pass  # as where nothing can be written
+    connection.execute(f"PRAGMA busy_timeout = {PATIENCE * 1000}")
+
+
+def _is_moved(connection: sqlite3.Connection) -> bool:
+    """Moves the rows of the log into the store, if nobody reads them there; whether none is left."""
+    busy, _, _ = connection.execute("PRAGMA wal_checkpoint(TRUNCATE)").fetchone()
+    return not busy
+
+
+def log_of(connection: sqlite3.Connection) -> int:
+    """How many bytes of the store are in its log."""
+    path = connection.execute("PRAGMA database_list").fetchone()[2]
+    try:
+        return os.lstat(place(path, LOG)).st_size
+    except OSError:
+        return 0

@@ -10,7 +10,7 @@ from naplps.limits import Limits
 from naplps.names import shown
 from naplps.program import find
 
-from .. import census, curing, showing
+from .. import census, curing, near_pages, showing, splitting
 from ..console import COMPLETE, FAILED, SOME_LACK, tell
 from ..earlier import Earlier
 from ..page_session import Session
@@ -23,7 +23,7 @@ from .printing import Printer, numbered
 from .progress import Progress
 from .rows import AskAgain
 from .scan import ScanOptions, scan
-from .session import ANSWERED, REFUSED_ALONE, Names, StoreSession, files
+from .session import ACCEPTED_ALONE, ANSWERED, CAPTURES_ALONE, REFUSED_ALONE, Names, StoreSession, files
 from .store import StoreFailed, open_to_read
 from .verify import verified
 from .worker import WorkerOptions
@@ -135,17 +135,16 @@ def _merge(given: Given, command: str) -> int:
 
 
 def of_store(given: Given, client: Client, earlier: Earlier) -> int:
-    """The commands on pages look, cures and census for the files of a store; the status."""
+    """The commands on pages look, cures, census and near for the files of a store; the status."""
     try:
         connection = open_to_read(given.pages[0])
         client.budget = most_budget(given.pages)
         if given.command == "census":
             return _census(given, connection, client)
         run, which = OF_STORE[given.command]
-        return run(StoreSession(
-            client, given.pages, getattr(given, "json", False), given.into, past=getattr(given, "past", False),
-            png=getattr(given, "png", False), sheet=getattr(given, "sheet", None), earlier=earlier,
-            files=files(connection, which), stored=Names(connection)))
+        options = {name: getattr(given, name) for name in ("json", "into", "past", "png", "sheet") if name in given}
+        return run(StoreSession(client, given.pages, **options, earlier=earlier, files=files(connection, which),
+                                stored=Names(connection)))
     except (StoreFailed, sqlite3.Error) as error:
         tell(str(error) if isinstance(error, StoreFailed) else f"{shown(given.pages[0])}: {error}")
     return FAILED
@@ -164,5 +163,6 @@ def _census(given: Given, connection: sqlite3.Connection, client: Client) -> int
 
 
 OF_STORE: Dict[str, Tuple[Callable[[Session], int], str]] = {
-    "look": (showing.look, ANSWERED), "cures": (curing.cures, REFUSED_ALONE)}
+    "look": (showing.look, ANSWERED), "cures": (curing.cures, REFUSED_ALONE),
+    "near": (near_pages.near, ACCEPTED_ALONE), "split": (splitting.split, CAPTURES_ALONE)}
 COMMANDS = {"scan": _scan, "merge": _merge, "equal": _equal, "refused": _refused, "convert": _convert}

@@ -3,7 +3,8 @@ import os
 from typing import FrozenSet, Iterator, List, NamedTuple, Optional, Tuple
 
 from ..packs.naming import is_pack
-from .folders import is_gone, join, opened, reason
+from .beside import ENDINGS
+from .folders import FolderIdentity, identity_of, is_gone, join, opened, reason
 from .tables import READ, UNREADABLE, VANISHED
 
 # Each row of a folder has its whole path, so a deep one would cost the square of its depth.
@@ -23,6 +24,7 @@ class Listing(NamedTuple):
     has_below: bool = False
     descriptor: int = -1
     packs: Tuple[bytes, ...] = ()
+    identity: Optional[FolderIdentity] = None
 
 
 class Hidden(NamedTuple):
@@ -50,7 +52,7 @@ def hidden(store: str) -> Hidden:
     """The files of a store."""
     path = os.path.realpath(os.fsencode(store))
     name = os.path.basename(path)
-    names = frozenset(name + ending for ending in (b"", b"-wal", b"-shm", b"-journal", b".lock", b".new"))
+    names = frozenset(name + os.fsencode(ending) for ending in ("", *ENDINGS))
     try:
         return Hidden(_identity(os.stat(os.path.dirname(path))), names)
     except OSError:
@@ -77,7 +79,8 @@ def walk(root: bytes, hides: Hidden) -> Iterator[Listing]:
                 yield Listing(path, UNREADABLE, "it is in itself")
                 continue
             names, packs, below = _listed(descriptor, hides if here.identity == hides.folder else None)
-            yield Listing(path, READ, None, tuple(names), bool(below), descriptor, tuple(packs))
+            which = identity_of(descriptor, above is None)
+            yield Listing(path, READ, None, tuple(names), bool(below), descriptor, tuple(packs), which)
             for each in reversed([join(path, name) for name in below]):
                 if len(each) <= MOST_PATH:
                     stack.append((each, here))

@@ -54,8 +54,10 @@ def is_there(connection: sqlite3.Connection) -> bool:
 def make(connection: sqlite3.Connection) -> bool:
     """Makes the index in a store, where it can be made and isn't there; whether it is there then."""
     if not is_there(connection) and has_fts5():
+        connection.execute("SAVEPOINT made")  # (it is there with all texts, or not at all)
         connection.execute(WORDS)
         rebuild(connection)
+        connection.execute("RELEASE made")
     return is_there(connection) and has_fts5()
 
 

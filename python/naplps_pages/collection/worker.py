@@ -1,13 +1,13 @@
 """What a worker does: looks at files, and asks about those whose bytes aren't known."""
-import dataclasses
 import os
 from collections import OrderedDict
-from typing import Callable, Dict, Iterable, Iterator, List, NamedTuple, Optional, Set, Tuple
+from typing import Callable, Dict, Iterable, Iterator, List, NamedTuple, Optional, Set, Tuple, Union
 
 from naplps.answers import Accepted, Answer, HashedAnswer, Refusal, Unanswered
 from naplps.client import Client
 from naplps.limits import MOST_LISTED, MOST_PAGE, Limits
-from naplps.treating.search import Cure, find
+from naplps.treating.borders import clears_again, pages_in
+from naplps.treating.search import Cure, TreatmentSearch
 
 from .. import file_kinds
 from ..census import stop_of
@@ -18,9 +18,9 @@ from ..packs.naming import pack_of
 from ..source import Page
 from . import tables, texts
 from .file_reader import OTHER, Seen, change, look
-from .folders import is_gone, opened, reason
-from .pack_reader import PackScan
-from .rows import Answered, AskAgain, Chunk, Cured, File, Names, PageText, Piece
+from .folders import Replaced, is_gone, opened_again, reason
+from .pack_reader import REPLACED, PackScan
+from .rows import Answered, AskAgain, Chunk, Cured, File, FolderFiles, PageText, Piece
 from .tables import CHANGED, UNREADABLE, VANISHED
 
 # The number of requests that are written ahead, and of their bytes.
@@ -47,20 +47,26 @@ class WorkerOptions(NamedTuple):
 
 
 class Described(NamedTuple):
-    """The kind of an accepted page, and whether it is perhaps several; or the look of a refused one, and its stop."""
+    """The kind of an accepted page, and whether it is perhaps several; or the look of a refused one, its stop, and how
+    many pages it holds, with its kind, if it is a capture."""
 
     kind: Optional[int] = None
     looks_like: Optional[str] = None
     several: Optional[int] = None
     stop: Optional[str] = None
+    holds: int = 0
 
 
 class Worker:
-    """Turns chunks into rows; of a pack only those of a number of members, and `left` is where it continues."""
+    """Turns chunks into rows; of a pack only those of a number of members, and `left` is where it continues.
+
+    `others` are the folders that aren't those which the scan met.
+    """
 
     def __init__(self, how: WorkerOptions, knows: Knows, beat: Callable[[], None] = lambda: None,
-                 members: Optional[int] = None) -> None:
-        self.how, self.knows, self.beat, self.members = how, knows, beat, members
+                 members: Optional[int] = None, elsewhere: bool = False) -> None:
+        self.how, self.knows, self.beat, self.members, self.elsewhere = how, knows, beat, members, elsewhere
+        self.others: List[FolderFiles] = []
         self.ahead = Client(how.program, how.budget, Limits(seconds=how.seconds), beat)
         self.program = Client(how.program, how.budget, MODEST._replace(seconds=how.seconds), beat)
         self.asked: "OrderedDict[bytes, None]" = OrderedDict()
@@ -69,12 +75,14 @@ class Worker:
     def pieces(self, chunk: Chunk) -> Iterator[Piece]:
         """The rows of a chunk, in the order of its files."""
         for names in chunk:
-            if pack_of(names[1]) is not None:
+            if pack_of(names.path) is not None:
                 yield from self._pack(names)
                 continue
             try:
-                at = opened(names[1], follow=True)  # (a root may be a link)
-            except OSError as error:
+                at = opened_again(names.path, names.identity, self.elsewhere)
+            except (OSError, Replaced) as error:
+                if isinstance(error, Replaced) or is_gone(error):
+                    self.others.append(names)
                 yield tuple(_without(names, error)), ()
                 continue
             try:
@@ -82,19 +90,21 @@ class Worker:
             finally:
                 os.close(at)
 
-    def _folder(self, names: Names, at: int) -> Iterator[Piece]:
+    def _folder(self, names: FolderFiles, at: int) -> Iterator[Piece]:
         """The rows of files of one folder."""
-        folder, _, some = names
-        yield from self._windows(look(folder, at, name, self.how.most, MOST_PAGE, self.beat) for name in some)
+        yield from self._windows(
+            look(names.folder, at, name, self.how.most, MOST_PAGE, self.beat) for name in names.names)
 
-    def _pack(self, names: Names) -> Iterator[Piece]:
+    def _pack(self, names: FolderFiles) -> Iterator[Piece]:
         """The rows of a pack: those of its members, and then its own."""
-        scan = PackScan(names, PackLimits(min(self.how.most, MOST_PAGE), self.beat), self.members)
+        scan = PackScan(names, PackLimits(min(self.how.most, MOST_PAGE), self.beat), self.members, self.elsewhere)
         yield from self._windows(scan.members())
+        if scan.own.why == REPLACED:
+            self.others.append(names)
         if scan.left is None:
             yield (scan.own,), ()
         else:
-            self.left = ((names[0], names[1], (scan.left,)),)
+            self.left = (names._replace(names=(scan.left,)),)
 
     def _windows(self, some: Iterable[Seen]) -> Iterator[Piece]:
         """The rows of files but the tool's own notes, in windows of which the requests are written ahead."""
@@ -148,12 +158,16 @@ class Worker:
         if isinstance(answer, Accepted):
             is_page = answer.entries and SHIFT_OUT in data
             kind = tables.PAGE if is_page else NUMBERS[file_kinds.kind((data,), answer)]
-            several = int(ESCAPE in data and file_kinds.DEFINITION in data and self._is_several(data))
+            several = int(clears_again(data) or (
+                ESCAPE in data and file_kinds.DEFINITION in data and self._is_several(data)))
             return Answered(own, tables.ACCEPTED, None, None, None, answer.entries, said.canon, said.length, None, kind,
-                            None, several)
+                            None, several, None, 0)
         look = file_kinds.looks_like(data[:file_kinds.MOST_LOOKED_AT], len(data))
-        stop = stop_of(data, answer) if isinstance(answer, Refusal) else None
-        return row(own, said, Described(looks_like=look or "", stop=stop))
+        if not isinstance(answer, Refusal):
+            return row(own, said, Described())
+        holds = pages_in(data)
+        return row(own, said, Described(tables.CAPTURE if holds else None, look or "", stop=stop_of(data, answer),
+                                        holds=holds))
 
     def _is_several(self, data: bytes) -> bool:
         """Whether an accepted page is perhaps several: whether it has what begins a page after its first entry."""
@@ -200,7 +214,10 @@ class Worker:
         """The row with what the treatments of a refused page come to, and the treated copy where it is accepted."""
         if answered.state != tables.REFUSED or answered.place is None:
             return answered, None
-        cure = find(self._ask, data, answered.place, self.beat)
+        search = TreatmentSearch(self._ask, self.beat)
+        cure = search.find(data, answered.place)
+        if search.took_a_page:
+            answered = answered._replace(several=1)
         if cure is None:
             return answered._replace(cured=Cured()), None
         cured = self._treated(cure)
@@ -231,15 +248,18 @@ def row(own: bytes, said: HashedAnswer, it: Described) -> Answered:
     answer = said.answer
     if isinstance(answer, Accepted):
         return Answered(own, tables.ACCEPTED, entries=answer.entries, canon=said.canon, canon_size=said.length,
-                        kind=it.kind, several=it.several)
+                        kind=it.kind, several=it.several, holds=it.holds)
     if isinstance(answer, Refusal):
         return Answered(own, tables.REFUSED, number=answer.number, left_out=answer.code, place=answer.place,
-                        looks_like=it.looks_like, stop=it.stop, fault=answer.fault)
+                        kind=it.kind, looks_like=it.looks_like, stop=it.stop, holds=it.holds, fault=answer.fault)
     assert isinstance(answer, Unanswered)
     return Answered(own, tables.NO_ANSWER, why=answer.reason)
 
 
-def _without(names: Names, error: OSError) -> Iterator[File]:
-    """The rows of files whose folder can't be opened."""
-    state, why = (VANISHED, "its folder vanished") if is_gone(error) else (UNREADABLE, reason(error))
-    return (File(names[0], name, state, why) for name in names[2])
+def _without(names: FolderFiles, error: Union[OSError, Replaced]) -> Iterator[File]:
+    """The rows of files whose folder can't be opened, or is another one."""
+    if isinstance(error, Replaced):
+        state, why = CHANGED, REPLACED
+    else:
+        state, why = (VANISHED, "its folder vanished") if is_gone(error) else (UNREADABLE, reason(error))
+    return (File(names.folder, name, state, why) for name in names.names)

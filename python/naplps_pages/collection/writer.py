@@ -18,9 +18,9 @@ from .tables import ACCEPTED, GONE, READ, UNREADABLE, VANISHED
 STEP, SECONDS = 2000, 2.0
 
 ANSWER = ("state", "number", "left_out", "place", "entries", "canon", "canon_size", "why", "kind", "looks_like",
-          "several", "stop", "terms", "run")
+          "several", "stop", "holds", "terms", "run")
 # What an accepted page has of that. To give SQLite a null takes longer than any of these.
-OF_ACCEPTED = ("state", "entries", "canon", "canon_size", "kind", "several", "terms", "run")
+OF_ACCEPTED = ("state", "entries", "canon", "canon_size", "kind", "several", "holds", "terms", "run")
 PAGE, ACCEPTED_PAGE = ("INSERT INTO pages(own, %s) VALUES(?%s) ON CONFLICT(own) DO UPDATE SET %s %s" % (
     ", ".join(some), ", ?" * len(some), ", ".join("{0} = excluded.{0}".format(each) for each in ANSWER),
     "WHERE terms <> excluded.terms OR state = 2 OR excluded.state <> 2") for some in (ANSWER, OF_ACCEPTED))
@@ -207,11 +207,12 @@ class Writer:
             self.connection.execute("UPDATE folders SET state = ?, why = ? WHERE id = ?",
                                     (file.state, file.why, file.folder))
 
-    def doubles(self) -> List[Tuple[bytes, bytes]]:
-        """The packs that this run read, and names in them that several members have."""
-        return [each for number in self.unpacked for each in self.connection.execute(
-            "SELECT d.path, f.name FROM files f JOIN folders d ON d.id = f.folder WHERE f.folder = ? AND f.run = ? "
-            "AND f.state = ? AND f.why = ?", (number, self.run, UNREADABLE, SEVERAL))]
+    def doubles(self) -> Iterator[Tuple[int, bytes]]:
+        """The packs that this run read, by their numbers, and names in them that several members have."""
+        for number in self.unpacked:
+            for name, in self.connection.execute("SELECT name FROM files WHERE folder = ? AND run = ? AND state = ? "
+                                                 "AND why = ?", (number, self.run, UNREADABLE, SEVERAL)):
+                yield number, name
 
     def sweep(self, roots: Iterable[bytes]) -> None:
         """Notes as gone what is in folders that this run didn't meet, but where it couldn't have met them."""

@@ -5,7 +5,7 @@ from collections import OrderedDict
 from dataclasses import dataclass
 from typing import IO, Dict, Optional, Tuple, Union
 
-from ..collection.folders import opened, reason
+from ..collection.folders import FolderIdentity, opened, opened_again, reason
 from ..collection.tables import READ
 from .member import Damage, Member, PackLimits
 from .naming import ZIP
@@ -22,14 +22,19 @@ SEVERAL = "the pack has several members of this name"
 NO_FILE = "it is no regular file"
 
 
-def open_file(path: bytes) -> IO[bytes]:
-    """The file of a pack at this path, from the top. A link in place of it is followed. Raises OSError."""
+def open_file(path: bytes, identity: Optional[FolderIdentity] = None, elsewhere: bool = False) -> IO[bytes]:
+    """The file of a pack at this path, from the top. Raises OSError.
+
+    A link in place of it is followed, but not where it was met in this folder. Then Replaced is raised if that is
+    another one now.
+    """
     folder, name = os.path.split(path)
-    at = opened(folder, follow=True)
+    at = opened_again(folder, identity, elsewhere) if identity else opened(folder, follow=True)
+    follow = identity is None
     try:
-        if not stat.S_ISREG(os.stat(name, dir_fd=at).st_mode):
+        if not stat.S_ISREG(os.stat(name, dir_fd=at, follow_symlinks=follow).st_mode):
             raise OSError(NO_FILE)  # (to open a device might do something)
-        descriptor = os.open(name, FLAGS, dir_fd=at)
+        descriptor = os.open(name, FLAGS if follow else FLAGS | os.O_NOFOLLOW, dir_fd=at)
     finally:
         os.close(at)
     if not stat.S_ISREG(os.fstat(descriptor).st_mode):

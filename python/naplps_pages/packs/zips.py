@@ -5,7 +5,7 @@ import stat
 import struct
 import zipfile
 import zlib
-from typing import IO, Dict, Iterator, List, Optional, cast
+from typing import IO, Dict, Iterator, List, Optional, Set, cast
 
 from ..collection.tables import READ, UNREADABLE
 from .member import OUTSIDE, Member, PackLimits, other, passed_over, taken
@@ -15,6 +15,13 @@ from .naming import named
 MOST_DIRECTORY = 32 << 20
 ENCRYPTED, UTF_8 = 1, 1 << 11
 MOST_SAID = 200
+NO_ZIP = "it can't be read as a zip file"
+# What is wrong with a file is said by these alone, and in part by some versions of Python only.
+ZIP_FAULTS = (zipfile.BadZipFile, zipfile.LargeZipFile, NotImplementedError)
+UNSAID = ("Bad offset for central directory",)
+# What stands before the bytes of a member: its mark, the length of what has no name, and where two lengths are in that.
+LOCAL, LOCAL_LENGTH, LENGTHS = b"PK\3\4", 30, struct.Struct("<26xHH")
+OVERLAPS = "it overlaps another member, or the directory"
 # What zipfile raises over directories and members that are made up.
 FAULTS = (zipfile.BadZipFile, zipfile.LargeZipFile, NotImplementedError, RuntimeError, ValueError, LookupError,
           ArithmeticError, TypeError, EOFError, struct.error, zlib.error)
@@ -45,16 +52,21 @@ class Zip:
         self.why: Optional[str] = None
         self.zip: Optional[zipfile.ZipFile] = None
         self.infos: Optional[Dict[int, zipfile.ZipInfo]] = None
+        self.ordered: Optional[List[zipfile.ZipInfo]] = None
+        self.overlapping: Set[int] = set()
         self.next = 0
-        self.size = os.fstat(file.fileno()).st_size
+        self.descriptor = file.fileno()
+        self.size = os.fstat(self.descriptor).st_size
         try:
             self.zip = zipfile.ZipFile(cast(IO[bytes], _Directory(file, limits)))
         except FAULTS as error:
-            self.why = f"it can't be read as a zip file: {_said(error)}"
+            said = _said(error)
+            is_of_zip = isinstance(error, ZIP_FAULTS) and said not in UNSAID
+            self.why = f"{NO_ZIP}: {said}" if is_of_zip else NO_ZIP
         except OSError as error:
             if error.errno not in (None, errno.EINVAL):  # (that is a place before the start, or none)
                 raise
-            self.why = "it can't be read as a zip file"
+            self.why = NO_ZIP
 
     def members(self, start: int = 0, reads: bool = True) -> Iterator[Member]:
         """The members from a place on, which is 0 or was `next`, that after the last one; also without their bytes."""
@@ -73,7 +85,42 @@ class Zip:
         return self._member(info, True) if info else None
 
     def _ordered(self) -> List[zipfile.ZipInfo]:
-        return sorted(self.zip.infolist(), key=lambda info: info.header_offset) if self.zip else []
+        """The members in the order of their places. It is noted where some overlap."""
+        if self.ordered is None:
+            some = self.zip.infolist() if self.zip else []
+            self.ordered = sorted(some, key=lambda info: info.header_offset)
+            self.overlapping = self._overlaps(self.ordered)
+        return self.ordered
+
+    def _overlaps(self, infos: List[zipfile.ZipInfo]) -> Set[int]:
+        """The places of members that overlap others or the directory. (Not each Python sees that by itself.)"""
+        some: Set[int] = set()
+        farthest = end = min((info.header_offset for info in infos), default=0)
+        for info in infos:
+            at = info.header_offset
+            if at < end:
+                some.update((farthest, at))
+            behind = self._behind(info)
+            if behind > self._directory:
+                some.add(at)
+            if behind > end:
+                farthest, end = at, behind
+        return some
+
+    @property
+    def _directory(self) -> int:
+        """Where the directory begins."""
+        assert self.zip
+        return int(self.zip.start_dir)
+
+    def _behind(self, info: zipfile.ZipInfo) -> int:
+        """Where the bytes of a member end."""
+        self.limits.beat()
+        at = info.header_offset
+        local = os.pread(self.descriptor, LOCAL_LENGTH, at) if 0 <= at < self.size else b""
+        has_lengths = len(local) == LOCAL_LENGTH and local.startswith(LOCAL)
+        more: int = sum(LENGTHS.unpack(local)) if has_lengths else 0
+        return at + LOCAL_LENGTH + more + info.compress_size
 
     def _member(self, info: zipfile.ZipInfo, reads: bool) -> Optional[Member]:
         """A member as it is found; nothing of a folder."""
@@ -87,7 +134,8 @@ class Zip:
             return Member(name, UNREADABLE, why or OUTSIDE, None, None)
         if mode in KINDS and not why:
             return other(name, KINDS[mode], at)
-        member = passed_over(name, why or _unreadable(info), size, at, self.limits.most)
+        why = why or (OVERLAPS if at in self.overlapping else _unreadable(info))
+        member = passed_over(name, why, size, at, self.limits.most)
         if member or not reads:
             return member or Member(name, READ, None, size, at)
         assert self.zip

@@ -3,9 +3,9 @@
 const byId = (id) => document.getElementById(id);
 const number = (value) => value === null || value === undefined ? "" : Number(value).toLocaleString("en");
 const counted = (value, one, more) => number(value) + " " + (value === 1 ? one : more || one + "s");
-// A name as a shell reads it; PAGE where an escape stands for what can't be shown.
-const quoted = (name) => name.includes("\\") ? "PAGE" : /^[\w@%+=:,./-]+$/.test(name) ? name
-  : "'" + name.replaceAll("'", "'\"'\"'") + "'";
+// A name as a shell and a command read it, never as an option; PAGE where an escape stands for what can't be shown.
+const quoted = (name) => name.includes("\\") ? "PAGE" : quotedPath(name.startsWith("-") ? "./" + name : name);
+const quotedPath = (path) => /^[\w@%+=:,./-]+$/.test(path) ? path : "'" + path.replaceAll("'", "'\"'\"'") + "'";
 const oneLine = (text) => text.replace(/\s+/g, " ").trim().slice(0, 200);
 
 // An element. Texts are set as texts, never as markup.

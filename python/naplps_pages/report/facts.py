@@ -60,6 +60,7 @@ def load_facts(connection: sqlite3.Connection, path: str, groups: List[of_groups
     spelled = of_groups.of_spellings(groups)
     kinds = [(f"accepted: {name}", it.tally.kinds[kind]) for kind, name in KINDS.items() if kind in it.tally.kinds]
     counts = [("files", files), ("accepted", number("accepted", 0)), *kinds, ("refused", number("refused", 0)),
+              *([("refused: captures", it.tally.captures)] if it.tally.captures else []),
               ("without an answer", number("no answer", 0)), ("not read", files - answered),
               ("different pages", it.pages), ("different canonical pages", it.canonical),
               ("groups of equal pages that are spelled differently", spelled),

@@ -8,9 +8,9 @@ from ..collection.kinds import checked
 from ..collection.places import Place
 
 # A file, its page, and on which terms that was asked about. (Files that are gone aren't shown.)
-COLUMNS = """d.id, d.path, f.name, f.state, f.why, f.size, p.id, p.own, p.state, p.number, n.name, p.left_out, p.place,
+COLUMNS = f"""d.id, d.path, f.name, f.state, f.why, f.size, p.id, p.own, p.state, p.number, n.name, p.left_out, p.place,
     p.entries, p.canon, p.canon_size, p.why, t.form, t.budget, c.page IS NOT NULL, c.treatments,
-    f.inode, p.kind, p.looks_like, p.several, c.grade, c.entries, c.copy, c.canon"""
+    {tables.AT}, p.kind, p.looks_like, p.several, c.grade, c.entries, c.copy, c.canon"""
 COLUMN = "folder path name state:file_state why? size? page? own? answer:page_state? number? fault? left_out? " \
     "place? entries? canon? canon_size? why? form? budget? tried:flag treatments? inode? " \
     "kind? looks_like? several? grade? entries? copy? canon?"

@@ -1,10 +1,14 @@
 """Serves a report to browsers of this machine, and to nobody else."""
+import errno
 import hmac
+import io
 import json
 import os
 import secrets
+import socket
 import socketserver
 import sqlite3
+import time
 from concurrent.futures import ThreadPoolExecutor
 from concurrent.futures import TimeoutError as TookTooLong
 from http.server import BaseHTTPRequestHandler, ThreadingHTTPServer
@@ -12,6 +16,7 @@ from typing import Callable, Dict, Mapping, Optional, Tuple
 from urllib.parse import parse_qsl
 
 from ..packs.naming import MOST_NAME
+from .connections import HEAD_SECONDS, Connections, Heads, HeadTooLong
 from .desk import Desk
 from .drawing import Drawing, WantedDrawing
 from .questions import Questions, Unasked, Words
@@ -21,8 +26,11 @@ HERE = "127.0.0.1"
 MOST_WORDS, MOST_WORD = 12, 2000
 # Of a file the key has its name in hexadecimal.
 MOST_KEY = 20 + 2 * MOST_NAME
-# How long a client may be silent, and how long is waited for the store at the end, in seconds.
+# How long a client may be silent between two requests, how long an answer may take to be sent, and how long is waited
+# for the store at the end, in seconds.
 SILENCE, GRACE = 30, 5
+# The system has no descriptor or no memory for another connection; so long nobody is taken then, in seconds.
+WANTING, PAUSE = (errno.EMFILE, errno.ENFILE, errno.ENOBUFS, errno.ENOMEM), 0.1
 DRAWING, THUMBNAIL, PLAYED = "drawing", "thumbnail", "played"
 NO_ANSWER = "There is no answer to draw"
 # Random bytes of the key in the address.
@@ -54,9 +62,10 @@ class Server(ThreadingHTTPServer):
 
     daemon_threads = True
     block_on_close = False
+    request_queue_size = 128
 
     def __init__(self, port: int, one: ThreadPoolExecutor, questions: Questions, desk: Desk) -> None:
-        self.one, self.questions, self.desk = one, questions, desk
+        self.one, self.questions, self.desk, self.connections = one, questions, desk, Connections()
         # (whoever has no key is told nothing, and a browser doesn't send the address on)
         self.top = f"/{secrets.token_urlsafe(KEY_BYTES)}/"
         super().__init__((HERE, port), Handler)
@@ -65,6 +74,28 @@ class Server(ThreadingHTTPServer):
         """Takes the port, without asking anybody for the name of this machine."""
         socketserver.TCPServer.server_bind(self)
         self.server_name, self.server_port = HERE, int(self.server_address[1])
+
+    def get_request(self) -> Tuple[socket.socket, Tuple[str, int]]:
+        """Takes a connection. Where the system has no place for one, another is closed, and none is taken a moment."""
+        try:
+            accepted: Tuple[socket.socket, Tuple[str, int]] = self.socket.accept()
+            return accepted
+        except OSError as error:
+            if error.errno in WANTING:
+                self.connections.make_room()
+                time.sleep(PAUSE)
+            raise
+
+    def verify_request(self, request: object, client_address: object) -> bool:
+        """Whether there is a place for it."""
+        assert isinstance(request, socket.socket)
+        return self.connections.admit(request)
+
+    def shutdown_request(self, request: object) -> None:
+        """Closes a connection."""
+        assert isinstance(request, socket.socket)
+        self.connections.forget(request)
+        super().shutdown_request(request)
 
     def handle_error(self, request: object, client_address: object) -> None:
         """A client that went away is nothing to tell."""
@@ -76,6 +107,29 @@ class Handler(BaseHTTPRequestHandler):
     server: Server
     timeout = SILENCE
     protocol_version = "HTTP/1.1"  # (a browser asks for many pictures one after another)
+
+    def setup(self) -> None:
+        """Heads are read here, and not by http.server, which takes some megabytes and any time for one."""
+        super().setup()
+        self.rfile.close()
+        self.heads, self.silence = Heads(self.connection), HEAD_SECONDS
+
+    def handle_one_request(self) -> None:
+        """Reads the head of a request, and then answers."""
+        self.server.connections.wait(self.connection)
+        try:
+            head = self.heads.read(self.silence)
+        except HeadTooLong:
+            self.requestline = self.request_version = self.command = ""
+            self.send_error(431)
+            return
+        if head is None:
+            self.close_connection = True
+            return
+        self.server.connections.work(self.connection)
+        self.connection.settimeout(SILENCE)
+        self.rfile, self.silence = io.BytesIO(head), SILENCE
+        super().handle_one_request()
 
     def do_GET(self) -> None:
         """Answers."""
@@ -107,6 +161,7 @@ class Handler(BaseHTTPRequestHandler):
             raise BadRequest(403, f"this is served as http://{HERE}:{self.server.server_port}/ alone")
         if not hmac.compare_digest(self.path[:len(self.server.top)].encode("utf-8"), self.server.top.encode("ascii")):
             raise BadRequest(403, NO_KEY)
+        self.server.connections.know(self.connection)
         if self._name() and self.headers.get("Sec-Fetch-Site", "same-origin") not in ("same-origin", "none"):
             raise BadRequest(403, "another site asked for it")
 
@@ -167,7 +222,7 @@ class Handler(BaseHTTPRequestHandler):
 
 
 def words(query: str) -> Words:
-    """The words of a query, each of them once. Raises Refused."""
+    """The words of a query, each of them once. Raises BadRequest."""
     try:
         pairs = parse_qsl(query, keep_blank_values=True, max_num_fields=MOST_WORDS)
     except ValueError:

@@ -1,0 +1,190 @@
+"""The command carve: finds pages inside files of any kind, and writes each to a file of its own with a note."""
+import hashlib
+import io
+import json
+import os
+import sys
+import time
+from typing import IO, Optional
+
+from naplps.answers import Accepted, Refusal, Unanswered
+from naplps.names import Members, as_json, shown
+from naplps.program import version
+from naplps.version import VERSION
+
+from . import TOOL
+from .carve_state import CarveState
+from .collection.progress import Progress
+from .collection.stopping import Stopping
+from .console import FAILED, REFUSED, tell
+from .json_lines import dumps
+from .new_files import NotWritten, make_folder, put_inside, require_free
+from .page_finder import CarvedPage, PageFinder
+from .page_session import Session
+from .schema import answered
+from .source import Page, Unread
+
+PIECE = 1 << 20
+# Between two states that are kept, in seconds.
+OFTEN = 5.0
+# The digits of an offset in a name.
+LEAST_DIGITS = 10
+CHANGED = "it changed while it was read"
+SKIPPED = "%d beginnings in it weren't asked about: there are too many that no page follows"
+STOPPED = "stopped; what was found is kept, and the same command goes on"
+
+
+def carve(session: Session) -> int:
+    """Finds the pages of each source."""
+    if session.into is not None:
+        make_folder(session.into)
+    with Stopping() as stopping:
+        def work(page: Page) -> None:
+            if stopping.number is None:
+                _Carving(session, page, stopping).run()
+        status = session.each(work)
+    session.output.flush()
+    if stopping.number is not None:
+        tell(STOPPED)
+    stopping.act()
+    return status
+
+
+class _Carving:
+    """The work on one source."""
+
+    def __init__(self, session: Session, page: Page, stopping: Stopping) -> None:
+        self.session, self.page, self.stopping = session, page, stopping
+        self.file: IO[bytes] = io.BytesIO(page.data) if page.data is not None else _of(page)
+        self.length = self.file.seek(0, os.SEEK_END)
+        self.progress = Progress(sys.stderr, lambda: self.length >> 20, what="MiB")
+        self.kept = time.monotonic()
+        self.state: Optional[CarveState] = None
+        self.found = 0
+        self.stem = ""
+
+    def run(self) -> None:
+        """Reads the source once for its hash, and once for its pages."""
+        marks = self._marks()
+        own = self._hash()
+        if self.stopping.number is not None:
+            return
+        session = self.session
+        begin = 0
+        if session.into is not None:
+            self.stem = session.path_for(self.page.name)
+            folder, name = os.path.split(self.stem)
+            terms = [own, self.length, session.least, version(session.program.path, session.program.limits)]
+            self.state = CarveState(os.path.join(folder, f".{name}.carve.json"), shown(self.page.name), terms)
+            begin, self.found = self.state.load()
+        finder = PageFinder(session.program, session.least, self._beat)
+        source: Members = {"source_" + key: value for key, value in as_json(self.page.name).items()}
+        source["source"] = {"bytes": self.length, "sha256": own}
+        try:
+            self.file.seek(begin)
+            for found in finder.find(self._read, begin):
+                self._take(source, found)
+        finally:
+            self.progress.clear()
+        if self._marks() != marks:
+            session.complain(self.page.name, CHANGED)
+        elif not finder.stopped:
+            self._end(finder)
+
+    def _end(self, finder: PageFinder) -> None:
+        if self.state:
+            self.state.remove()
+        if finder.skipped:
+            tell(f"{shown(self.page.name)}: {SKIPPED % finder.skipped}")
+        if finder.skipped or not self.found:
+            self.session.fail(REFUSED)
+        if not self.session.json:
+            pages = "1 page" if self.found == 1 else f"{self.found} pages"
+            self.session.output.line(f"{shown(self.page.name)}: {pages} found in {self.length} bytes")
+
+    def _marks(self) -> object:
+        """By what it shows that a long source changed. (A short one is held.)"""
+        if self.page.file is None:
+            return None
+        it = os.fstat(self.page.file.fileno())
+        return it.st_size, it.st_mtime_ns, it.st_ino
+
+    def _hash(self) -> str:
+        hashed = hashlib.sha256()
+        self.file.seek(0)
+        while self.stopping.number is None:
+            piece = self._read(PIECE)
+            if not piece:
+                break
+            hashed.update(piece)
+        return hashed.hexdigest()
+
+    def _read(self, number: int) -> bytes:
+        try:
+            return self.file.read(number)
+        except OSError as error:
+            raise Unread(error.strerror or str(error)) from None
+
+    def _beat(self, at: int) -> bool:
+        """Tells how far it is, and keeps that; whether to stop."""
+        self.progress.show(at >> 20)
+        is_stopped = self.stopping.number is not None
+        now = time.monotonic()
+        if self.state and (is_stopped or now - self.kept > OFTEN):
+            self.kept = now
+            self.state.keep(at, self.found)
+        return is_stopped
+
+    def _take(self, source: Members, found: CarvedPage) -> None:
+        """Tells of a page, and writes it after its note."""
+        session, name = self.session, self.page.name
+        if isinstance(found.answer, Unanswered):
+            session.complain(name, found.answer.reason)
+            return
+        self.progress.clear()
+        path = name
+        if session.into is not None:
+            path = "%s-%0*d.nap" % (self.stem, LEAST_DIGITS, found.offset)
+            try:
+                require_free(path, found.data)
+            except NotWritten as taken:
+                tell(str(taken))
+                session.fail(FAILED)
+                return
+            note = {**source, **_places(found), "answer": _said(found), "least": session.least,
+                    "program": version(session.program.path, session.program.limits), "tool": f"{TOOL} {VERSION}",
+                    "copy": {"bytes": len(found.data), "sha256": hashlib.sha256(found.data).hexdigest()}}
+            self._put(path, found, (json.dumps(note, indent=2) + "\n").encode("ascii"))
+        self.found += 1
+        if session.json:
+            session.output.line(dumps({**answered(path, found.answer), **_places(found)}))
+        else:
+            session.output.line("%s: %d bytes at %d, at least %d, at most %d from %d: %s" % (
+                shown(path), len(found.data), found.offset, found.least_end - found.offset,
+                found.end - found.most_begin, found.most_begin, _said(found)))
+
+    def _put(self, path: str, found: CarvedPage, note: bytes) -> None:
+        """Writes a page and its note; where the disk is full, the same command goes on before this page."""
+        try:
+            put_inside(path + ".json", note)
+            put_inside(path, found.data)
+        except NotWritten:
+            if self.state:
+                self.state.keep(found.offset, self.found)
+            raise
+
+
+def _of(page: Page) -> IO[bytes]:
+    assert page.file is not None
+    return page.file
+
+
+def _said(found: CarvedPage) -> str:
+    return found.answer.line if isinstance(found.answer, (Accepted, Refusal)) else ""
+
+
+def _places(found: CarvedPage) -> Members:
+    """Where the page is, and where it is at least and at most."""
+    return {"offset": found.offset, "bytes": len(found.data),
+            "at_least": {"offset": found.offset, "bytes": found.least_end - found.offset},
+            "at_most": {"offset": found.most_begin, "bytes": found.end - found.most_begin}}

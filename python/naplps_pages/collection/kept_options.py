@@ -1,0 +1,23 @@
+"""The options that a store keeps to: what one scan was asked for beside answers, each later one does too."""
+import sqlite3
+from typing import TYPE_CHECKING
+
+from .schemas import OPTIONS
+
+if TYPE_CHECKING:
+    from .rows import AskAgain
+
+
+def kept(connection: sqlite3.Connection) -> "frozenset[str]":
+    """The options that a store keeps to, by their names."""
+    keys = {str(key) for key, in connection.execute("SELECT key FROM main.meta")}
+    return frozenset(OPTIONS) & keys
+
+
+def keep(connection: sqlite3.Connection, wanted: "AskAgain") -> "AskAgain":
+    """What a scan is asked for, with the options that the store keeps to; these are noted."""
+    some = kept(connection)
+    made = wanted._replace(cures=wanted.cures or "cures" in some, words=wanted.words or "words" in some)
+    connection.executemany("INSERT OR IGNORE INTO meta VALUES(?, 1)", (
+        (name,) for name in OPTIONS if getattr(made, name)))
+    return made

@@ -1,0 +1,70 @@
+"""The command describe: a page in words."""
+from html import escape
+from typing import List, Sequence
+
+from naplps.answers import Accepted, Refusal
+from naplps.drawing.description import PageDescription, describe
+from naplps.limits import MOST_LISTED
+from naplps.names import shown
+
+from .console import tell
+from .page_session import Session
+from .source import Page
+
+STYLE = "body{font-family:sans-serif;max-width:40em;margin:2em auto;padding:0 1em}"
+HTML = """<!DOCTYPE html>
+<html lang="en">
+<head>
+<meta charset="utf-8">
+<meta http-equiv="Content-Security-Policy" content="default-src 'none'; style-src 'unsafe-inline'">
+<meta name="viewport" content="width=device-width">
+<meta name="color-scheme" content="light dark">
+<title>%s</title>
+<style>%s</style>
+</head>
+<body>
+<h1>%s</h1>
+%s</body>
+</html>
+"""
+
+
+def describe_pages(session: Session) -> int:
+    """Each page in words; of a refused page what comes before the refusal, which is reported."""
+    def work(page: Page) -> None:
+        heard = session.heard(page).last
+        answer, entries = heard.answer, heard.entries
+        if not session.answered(page, answer):
+            return
+        if entries is None:
+            session.complain(page.name, f"it has more than {MOST_LISTED} entries, too many for a description"
+                             if isinstance(answer, Accepted) else "too much comes before the refusal")
+            return
+        described = describe(list(entries))
+        if session.html:
+            session.output.text(_html(shown(page.name), described))
+        else:
+            front = session.front(page.name)
+            session.output.text("".join(front + line + "\n" for line in described.lines()))
+        if isinstance(answer, Refusal):
+            session.output.flush()
+            tell(f"{shown(page.name)}: {answer.line}; the description is of what comes before")
+    return session.each(work)
+
+
+def _html(name: str, described: PageDescription) -> str:
+    """The description as a document for a browser or a screen reader."""
+    parts: List[str] = []
+    for number, screen in enumerate(described.screens, 1):
+        several = f" of screen {number}" if len(described.screens) > 1 else ""
+        parts.append(_list(f"Text{several}", screen.text_lines()))
+        parts.append(_list(f"Areas{several}", screen.area_lines()))
+    parts.append(_list("Text in definitions", described.defined))
+    parts.append(_list("What changes", described.changes))
+    body = "".join(parts) or "<p>Nothing is drawn.</p>\n"
+    return HTML % (escape(name), STYLE, escape(name), body)
+
+
+def _list(title: str, lines: Sequence[str]) -> str:
+    items = "".join(f"<li>{escape(line)}</li>\n" for line in lines)
+    return f"<h2>{title}</h2>\n<ul>\n{items}</ul>\n" if lines else ""

@@ -1,0 +1,85 @@
+"""The page naplps.html with files that take all they can: it answers meanwhile and after."""
+import os
+import sys
+
+import pytest
+
+from browser import Browser
+from conftest import TOP
+from samples import POINT, needs_chromium
+from test_browser_page import MODULE, cards, choose, clicked, written
+
+sys.path += [os.path.join(TOP, "scripts"), os.path.join(TOP, "scripts", "test")]
+from module_hostile import pages  # noqa: E402
+from packages.for_pages import page  # noqa: E402
+
+pytestmark = [needs_chromium, pytest.mark.skipif(
+    not os.path.exists(MODULE), reason="there is no naplps.wasm (NAPLPS_MODULE names one)")]
+# The longest that the page may answer nothing, in milliseconds: less than one file may take.
+LONGEST = 8000
+WATCH = """(() => {
+  let last = performance.now();
+  window.longest = 0;
+  setInterval(() => {
+    window.longest = Math.max(window.longest, performance.now() - last);
+    last = performance.now();
+  }, 10);
+})()"""
+ASKED = "self.onmessage = ({ data }) => {"
+SLOW = ASKED + " if (data.ask !== 'make' && data.bytes && data.bytes[0] === 0x5a) for (;;);"
+
+
+@pytest.fixture(scope="module")
+def document():
+    """The page as text."""
+    with open(MODULE, "rb") as file:
+        return page(file.read())
+
+
+@pytest.fixture(scope="module")
+def browser():
+    """A browser."""
+    one = Browser()
+    yield one
+    one.close()
+
+
+def opened(browser, folder, text):
+    """Opens the page from a file of a folder, and watches how long it answers nothing."""
+    path = folder / "naplps.html"
+    path.write_text(text, "utf-8")
+    browser.open(path.as_uri())
+    browser.run(WATCH)
+
+
+def is_usable(browser):
+    """The page reads another file, and a page is made."""
+    browser.run("document.getElementById('making').open = true")
+    browser.until("document.getElementById('made').textContent === 'accepted 3 entries'")
+    assert browser.errors == [] and browser.run("longest") < LONGEST
+
+
+def test_hostile_pages_leave_the_page_usable(document, browser, tmp_path):
+    opened(browser, tmp_path, document)
+    files = {f"{number} {name}.nap": data for number, (name, data) in enumerate(pages().items())}
+    choose(browser, written(tmp_path / "files", {**files, "point.nap": POINT}))
+    texts = cards(browser)
+    assert len(texts) == len(files) + 1 == 24 and "accepted 1 entries" in texts[-1]
+    assert all("accepted " in text or "refused " in text or "not read: it takes more" in text for text in texts)
+    is_usable(browser)
+    for number, text in enumerate(texts):
+        if "Details" in text:
+            browser.run(clicked("Details", number))
+            title = "[...document.querySelectorAll('.card h2')][%d].textContent" % number
+            browser.until("document.querySelector('#detail h2')?.textContent === " + title)
+    is_usable(browser)
+
+
+def test_a_page_that_takes_ten_seconds_is_left(document, browser, tmp_path):
+    assert document.count(ASKED) == 1
+    opened(browser, tmp_path, document.replace(ASKED, SLOW))
+    choose(browser, written(tmp_path / "files", {"slow.nap": b"Z", "point.nap": POINT}))
+    slow, point = cards(browser)
+    assert "not read: it takes more than ten seconds" in slow and "accepted 1 entries" in point
+    assert "Details" not in slow and "Details" in point
+    is_usable(browser)

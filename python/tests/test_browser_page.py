@@ -1,0 +1,160 @@
+"""The page naplps.html in a browser: files that are dropped in, one page, pages that are made, hostile files."""
+import csv
+import io
+import os
+import re
+import subprocess
+import zipfile
+
+import pytest
+
+from browser import Browser
+from canonical_trial import asked
+from conftest import TOP
+from gallery import pages
+from samples import BOMB, OUTSIDE, POINT, SPELLED, needs_chromium
+
+MODULE = os.environ.get("NAPLPS_MODULE") or os.path.join(TOP, "dist", "browser", "naplps.wasm")
+pytestmark = [needs_chromium, pytest.mark.skipif(
+    not os.path.exists(MODULE), reason="there is no naplps.wasm (NAPLPS_MODULE names one)")]
+HOSTILE = "<img src=x onerror=alert(1)>.nap"
+
+
+@pytest.fixture(scope="module")
+def address(tmp_path_factory):
+    """The address of the page as a file of a disk."""
+    path = tmp_path_factory.mktemp("page") / "naplps.html"
+    subprocess.run([os.path.join(TOP, "scripts", "packages", "make-page"), "--module", MODULE, str(path)], check=True)
+    return path.as_uri()
+
+
+@pytest.fixture(scope="module")
+def browser():
+    """A browser."""
+    one = Browser()
+    yield one
+    one.close()
+
+
+def choose(browser, paths):
+    """Chooses files, as people do, and waits until all are read."""
+    before = int(browser.run("document.body.dataset.read || 0"))
+    found = browser.call("Runtime.evaluate", expression="document.getElementById('files')")["result"]["objectId"]
+    browser.call("DOM.setFileInputFiles", files=list(map(str, paths)), objectId=found)
+    browser.until(f"Number(document.body.dataset.read || 0) === {before + len(paths)}")
+
+
+def written(folder, files):
+    """The paths of these files, by names and bytes."""
+    folder.mkdir(exist_ok=True)
+    for name, data in files.items():
+        (folder / name).write_bytes(data)
+    return [folder / name for name in files]
+
+
+def cards(browser):
+    """The texts of the cards."""
+    return browser.run("[...document.querySelectorAll('.card')].map((each) => each.textContent)")
+
+
+def saved(browser, click):
+    """What a click saves: the bytes of the blob."""
+    return bytes(browser.run("""(async () => {
+      const real = URL.createObjectURL;
+      const blob = await new Promise((done) => {
+        URL.createObjectURL = (it) => { if (it.type !== "image/svg+xml" || %s) done(it); return real.call(URL, it); };
+        %s;
+      });
+      URL.createObjectURL = real;
+      return [...new Uint8Array(await blob.arrayBuffer())];
+    })()""" % ("true" if "SVG" in click else "false", click)))
+
+
+def clicked(word, number=0):
+    return (f"[...document.querySelectorAll('.card')][{number}].querySelectorAll('button').forEach((each) => "
+            f"each.textContent === '{word}' && each.click())")
+
+
+def test_files_are_answered_and_drawn(address, browser, tmp_path):
+    browser.open(address)
+    some = {name: data for name, data in pages().items() if "skyline" in name or name in ("weather.nap", "ferry.nap")}
+    choose(browser, written(tmp_path / "files", {**some, HOSTILE: OUTSIDE, "a.gif": b"GIF89a..\xff"}))
+    texts = "\n".join(cards(browser))
+    assert texts.count("accepted ") == 4 and "refused 10 Outside at 3" in texts and "It looks like GIF." in texts
+    assert HOSTILE in texts and texts.count("The same as skyline") == 2
+    assert browser.run("document.getElementById('counted').textContent") == (
+        "6 files: 4 accepted, 2 not; 3 different pages, 1 of them more than once")
+    browser.until("[...document.querySelectorAll('.card img')].filter((each) => each.naturalWidth).length >= 4")
+    assert browser.errors == [] and [each for each in browser.requests if each.startswith("http")] == []
+
+
+def test_what_is_saved(address, browser, tmp_path, naplps):
+    browser.open(address)
+    files = written(tmp_path / "files", {"a.nap": POINT, "b.nap": SPELLED, "=c.nap": OUTSIDE})
+    choose(browser, files)
+    [answer] = asked(naplps, [POINT])
+    assert saved(browser, clicked("Save canonical")) == answer.canonical
+    browser.until("[...document.querySelectorAll('.card img')].every((each) => each.naturalWidth)")
+    svg = saved(browser, clicked("Save SVG")).decode("utf-8")
+    assert svg.startswith("<svg xmlns=") and "<title>a.nap</title>" in svg
+    rows = list(csv.reader(io.StringIO(saved(browser, "document.getElementById('table').click()").decode("utf-8"))))
+    assert rows[0] == ["name", "bytes", "status", "entries", "number", "fault", "place", "same"]
+    accepted = ["5", "accepted", "1", "", "", "", "1"]
+    refused = ["'=c.nap", "5", "refused", "", "10", "Outside", "3", ""]
+    assert rows[1:] == [["a.nap", *accepted], ["b.nap", *accepted], refused]
+    packed = saved(browser, "document.getElementById('zip').click()")
+    with zipfile.ZipFile(io.BytesIO(packed)) as archive:
+        assert archive.testzip() is None and archive.namelist() == ["a.nap", "b.nap"]
+        assert archive.read("b.nap") == answer.canonical
+
+
+def test_one_page(address, browser, tmp_path):
+    browser.open(address)
+    files = {"weather.nap": pages()["weather.nap"], "bad.nap": POINT + OUTSIDE[1:]}
+    choose(browser, written(tmp_path / "files", files))
+    browser.run(clicked("Details"))
+    browser.until("document.querySelector('#detail canvas') && !document.getElementById('detail').hidden")
+    assert browser.run("document.querySelector('#detail pre').textContent").startswith("CLEAR pen=start\n")
+    assert browser.run("document.activeElement.textContent") == "Close"
+    browser.press("Escape")
+    browser.until("document.getElementById('detail').hidden")
+    browser.run(clicked("Details", 1))
+    browser.until("document.querySelector('#detail').innerText.includes('What it means')")
+    assert browser.run("document.querySelector('#detail pre').textContent").startswith("POINT 4194304,4194304 ")
+    assert browser.errors == []
+
+
+def test_pages_are_made_as_they_are_typed(address, browser, naplps):
+    browser.open(address)
+    browser.run("document.getElementById('making').open = true")
+    browser.until("document.getElementById('made').textContent === 'accepted 3 entries'")
+    type_ = "(() => { const it = document.getElementById('lines'); it.value = %r; it.oninput(); })()"
+    browser.run(type_ % "BELL\nPOINT 1,1")
+    wrong = subprocess.run([naplps, "make"], input=b"BELL\nPOINT 1,1\n", capture_output=True).stderr.decode("ascii")
+    browser.until(f"document.getElementById('made').textContent === {wrong.strip()!r}")
+    assert browser.run("document.getElementById('keep').disabled") is True
+    browser.run(type_ % "BELL\n")
+    browser.until("document.getElementById('made').textContent === 'accepted 1 entries'")
+    assert saved(browser, "document.getElementById('keep').click()") == b"\x0e\x21\x5f\x07" and browser.errors == []
+
+
+def test_a_page_that_takes_too_long_leaves_the_others(address, browser, tmp_path):
+    browser.open(address)
+    files = {"bomb.nap": BOMB, "a.nap": POINT, "empty": b"", "long": b"A" * 300_000}
+    choose(browser, written(tmp_path / "files", files))
+    texts = cards(browser)
+    assert len(texts) == 4 and "accepted 1 entries" in texts[1] and "accepted 0 entries" in texts[2]
+    assert re.search("accepted 21,?[0-9,]* entries|not read: |refused 21 Memory", texts[0]) and browser.errors == []
+
+
+@pytest.mark.parametrize("wide, dark", [(390, False), (390, True), (1240, True)])
+def test_it_fits(address, browser, tmp_path, wide, dark):
+    browser.open(address)
+    browser.size(wide, 900)
+    browser.look(dark=dark)
+    choose(browser, written(tmp_path / "files", {"a" * 200 + ".nap": POINT, "weather.nap": pages()["weather.nap"]}))
+    browser.run(clicked("Details", 1))
+    browser.until("document.querySelector('#detail canvas')")
+    assert browser.run("document.documentElement.scrollWidth") <= wide
+    browser.size(1240, 900)
+    browser.look()

@@ -1,0 +1,150 @@
+"""The picture in JavaScript beside the sketch, and the element <naplps-page> in a browser, under a strict policy."""
+import functools
+import http.server
+import json
+import os
+import re
+import subprocess
+import threading
+
+import pytest
+
+from browser import Browser
+from canonical_trial import asked, framed
+from conftest import HERE, TOP
+from gallery import pages
+from naplps.drawing.walk import drawn
+from samples import has, lack, needs_chromium
+from test_canonical import vectors
+
+POLICY = "default-src 'none'; script-src 'self'; connect-src 'self'"
+FULL = POLICY.replace("script-src 'self'", "script-src 'self' 'wasm-unsafe-eval'")
+MAKE = os.path.join(TOP, "scripts", "packages", "make-element")
+MODULE = os.environ.get("NAPLPS_MODULE") or os.path.join(TOP, "dist", "browser", "naplps.wasm")
+needs_node = pytest.mark.skipif(not has("node"), reason=lack("node"))
+
+
+@needs_node
+def test_pictures_are_the_sketches(naplps):
+    found = [(stream, lines) for stream, lines in vectors() if len(lines) < 3_000]
+    answers = [each for each in asked(naplps, list(pages().values())) if each.canonical]
+    found += [(each.canonical, each.lines.decode("ascii").splitlines()) for each in answers]
+    said = subprocess.run(["node", os.path.join(HERE, "picture_answers.mjs")], capture_output=True, check=True,
+                          input=framed(stream for stream, _ in found)).stdout.splitlines()
+    compared = 0
+    for (stream, lines), line in zip(found, said):
+        mine, paper = json.loads(line), drawn(lines, prefix="n").paper
+        assert mine.startswith("<svg xmlns=") and mine.count("<title>A &lt;page&gt; &amp; \"more\"</title>") == 1
+        if "url(#" in mine:
+            continue  # (names of patterns have an address here, and a colour there)
+        wanted = (f"<defs>{''.join(paper.definitions)}</defs>" if paper.definitions else "", "".join(paper.page))
+        assert all(part in mine for part in wanted), stream[:200].hex()
+        compared += 1
+    assert compared > 2_000
+
+
+class Quiet(http.server.SimpleHTTPRequestHandler):
+    """Serves a folder under a policy, and says nothing."""
+
+    def end_headers(self):
+        self.send_header("Content-Security-Policy", FULL if "full" in self.path else POLICY)
+        super().end_headers()
+
+    def log_message(self, *_):
+        """Says nothing."""
+
+
+PAGE = """<!doctype html><html lang="en"><meta charset="utf-8"><title>pages</title>
+<script src="ready.js"></script><script src="naplps-page.js"></script><body>%s</body></html>"""
+READY = """window.told = [];
+const hear = ({type, target, message}) => {
+  if (target.localName !== "naplps-page") return;
+  told.push([target.id, type, message || ""]);
+  if (told.length >= document.querySelectorAll("naplps-page").length) document.body.dataset.ready = "yes";
+};
+for (const name of ["load", "error"]) document.addEventListener(name, hear, true);"""
+
+
+@pytest.fixture(scope="module")
+def site(tmp_path_factory, naplps):
+    """The address of a site with the element and pages."""
+    folder = tmp_path_factory.mktemp("site")
+    subprocess.run([MAKE, str(folder / "naplps-page.js")], check=True)
+    (folder / "ready.js").write_text(READY, "utf-8")
+    names = ("weather.nap", "ferry.nap", "glyphs.nap")
+    for name, answer in zip(names, asked(naplps, [pages()[name] for name in names])):
+        (folder / name).write_bytes(answer.canonical)
+    (folder / "relative.nap").write_bytes(pages()["skyline, relative.nap"])
+    elements = ('<naplps-page id="a" src="weather.nap" alt="A &lt;b&gt;map&lt;/b&gt;"></naplps-page>'
+                '<naplps-page id="b" src="glyphs.nap"></naplps-page>'
+                '<naplps-page id="c" src="relative.nap" alt="&lt;img src=x onerror=alert(1)&gt;"></naplps-page>'
+                '<naplps-page id="d" src="nowhere.nap" alt="nothing"></naplps-page>')
+    (folder / "index.html").write_text(PAGE % elements, "utf-8")
+    if os.path.exists(MODULE):
+        with open(MODULE, "rb") as file:
+            (folder / "naplps.wasm").write_bytes(file.read())
+    (folder / "full.html").write_text(
+        PAGE % '<naplps-page id="e" src="relative.nap" alt="a skyline" reader="full"></naplps-page>', "utf-8")
+    server = http.server.ThreadingHTTPServer(("127.0.0.1", 0), functools.partial(Quiet, directory=str(folder)))
+    threading.Thread(target=server.serve_forever, daemon=True).start()
+    yield f"http://127.0.0.1:{server.server_port}/"
+    server.shutdown()
+
+
+@pytest.fixture(scope="module")
+def browser():
+    """A browser."""
+    one = Browser()
+    yield one
+    one.close()
+
+
+def inside(browser, name, part):
+    return browser.run(f"document.getElementById('{name}').shadowRoot.{part}")
+
+
+@needs_chromium
+def test_the_element_shows_canonical_pages(site, browser):
+    browser.open(site + "index.html")
+    told = {name: (event, message) for name, event, message in browser.run("told")}
+    assert (told["a"], told["b"]) == (("load", ""), ("load", "")) and told["c"][0] == told["d"][0] == "error"
+    assert inside(browser, "a", "querySelector('svg').getAttribute('aria-label')") == "A <b>map</b>"
+    assert inside(browser, "a", "querySelectorAll('path, rect, text').length") > 40
+    assert inside(browser, "a", "querySelector('svg').getBoundingClientRect().width") > 300
+    assert inside(browser, "b", "querySelector('svg').getAttribute('aria-hidden')") == "true"
+    assert inside(browser, "b", "querySelectorAll('use').length") > 0
+    # (the browser reports that nowhere.nap isn't there; nothing else)
+    assert len([each for each in browser.errors if "404" not in each]) == 0
+    assert not [each for each in browser.requests if not each.startswith((site, "about:"))]
+
+
+@needs_chromium
+def test_a_page_that_is_not_shown_says_why(site, browser):
+    browser.open(site + "index.html")
+    assert inside(browser, "c", "textContent") == ("<img src=x onerror=alert(1)>: the page isn't shown. "
+                                                   "refused BadHeader at 0")
+    assert inside(browser, "d", "textContent") == "nothing: the page isn't shown. it can't be fetched: 404"
+    assert inside(browser, "c", "querySelectorAll('img').length") == 0
+
+
+@needs_chromium
+def test_another_page_takes_its_place(site, browser):
+    browser.open(site + "index.html")
+    before = inside(browser, "a", "innerHTML.length")
+    browser.run("document.getElementById('a').src = 1, document.getElementById('a').setAttribute('src', 'ferry.nap')")
+    browser.until(f"document.getElementById('a').shadowRoot.innerHTML.length !== {before}")
+    assert "HARBOUR" in inside(browser, "a", "textContent")
+
+
+@needs_chromium
+@pytest.mark.skipif(not os.path.exists(MODULE), reason="not tried: there is no naplps.wasm (NAPLPS_MODULE names one)")
+def test_any_page_by_the_module(site, browser):
+    browser.open(site + "full.html")
+    assert browser.run("told") == [["e", "load", ""]] and browser.errors == []
+    assert inside(browser, "e", "querySelectorAll('polygon, path, rect').length") > 5
+
+
+def test_its_script_can_stand_in_a_page(tmp_path):
+    subprocess.run([MAKE, str(tmp_path / "naplps-page.js")], check=True)
+    text = (tmp_path / "naplps-page.js").read_text("utf-8")
+    assert "</script" not in text and not re.search(r"^(import|export) ", text, re.MULTILINE) and len(text) < 100_000

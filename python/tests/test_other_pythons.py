@@ -1,0 +1,67 @@
+"""Scans under other versions of Python: the rows are the same."""
+import glob
+import os
+import random
+import subprocess
+import sys
+
+import pytest
+
+from conftest import COMMAND
+from extremes import gzips, paxes, tars, zips
+from packers import member, written
+from samples import OUTSIDE, POINT, SPELLED
+from scans import every_table, tree
+from test_packs_random import a_pack
+
+PLACES = ("/usr/bin/python3.*", "/usr/local/bin/python3.*", os.path.expanduser("~/.pyenv/versions/*/bin/python3"))
+NUMBERS, PACKS = (1, 1 << 63, (1 << 88) - 1), 300
+VERSION = "import sys; print('%d.%d.%d' % sys.version_info[:3], sys.version_info >= (3, 9))"
+
+
+def others():
+    """A Python of each other version from 3.9 on that is here."""
+    found = {}
+    for path in sorted({path for place in PLACES for path in glob.glob(place)}):
+        said = subprocess.run([path, "-c", VERSION], capture_output=True, text=True)
+        version, _, fits = said.stdout.strip().partition(" ")
+        if fits == "True":
+            found.setdefault(version, path)
+    found.pop("%d.%d.%d" % sys.version_info[:3], None)
+    return found
+
+
+@pytest.fixture(scope="module")
+def packs(tmp_path_factory):
+    """A folder of pages and of packs, of which most are hostile or damaged."""
+    top = str(tmp_path_factory.mktemp("packs"))
+    some = [(ending, data) for number in NUMBERS for ending, made in (
+        ("tar", tars(number)), ("tar", paxes(b"%d" % number)), ("zip", zips(number)), ("tgz", gzips(number)))
+            for _, data in made]
+    chance = random.Random(os.environ.get("FUZZ_SEED", "1"))
+    some += [a_pack(chance) for _ in range(PACKS)]
+    for number, (ending, data) in enumerate(some):
+        written(os.path.join(top, "%04d.%s" % (number, ending)), data)
+    written(os.path.join(top, "long.tar"), member("a", POINT) + b"\xff" * 512 + member("b", SPELLED) + bytes(1024))
+    return tree(top, {"page.nap": POINT, "sub/bad": OUTSIDE})
+
+
+def scanned(python, naplps, top, store):
+    """What a scan under this Python says, and the tables of its store."""
+    said = subprocess.run([python, "-ES", COMMAND, "scan", top, "--into", store, "--cures", "--words"],
+                          capture_output=True, env=dict(os.environ, NAPLPS=naplps))
+    assert said.returncode == 1 and b"Traceback" not in said.stderr, said
+    return sorted(said.stderr.splitlines()), every_table(store)
+
+
+def test_a_store_is_the_same_under_each_python(naplps, packs, tmp_path):
+    found = others()
+    if not found:
+        pytest.skip("there is no other Python from 3.9 on")
+    wanted = scanned(sys.executable, naplps, packs, str(tmp_path / "own.db"))
+    assert len(wanted[1]["files"]) > PACKS
+    for version, path in found.items():
+        told, table = scanned(path, naplps, packs, str(tmp_path / (version + ".db")))
+        assert told == wanted[0], version
+        for name, rows in table.items():
+            assert rows == wanted[1][name], (version, name)

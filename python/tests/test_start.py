@@ -1,0 +1,83 @@
+"""How the command begins and ends: with little memory, and with a signal that comes at once or last."""
+import os
+import re
+import signal
+import subprocess
+import sys
+import time
+
+import pytest
+
+from conftest import COMMAND, PACKAGES, file
+from samples import POINT
+
+# KiB of address space: from what Python itself needs to what a scan does.
+LITTLE = (16_000, 18_000, 20_000, 22_000, 24_000, 26_000, 28_000, 30_000, 36_000, 44_000)
+COMMANDS = (["--version"], ["--help"], ["check", "@"], ["list", "--json", "@"], ["look", "@"], ["text", "@"],
+            ["play", "@", "--into", "out"], ["census", "@"], ["cures", "@"], ["explain", "@"],
+            ["scan", ".", "--into", "../x.db"], ["files", "no.db"], ["find", "word", "no.db"], ["status", "no.db"],
+            ["merge", "m.db", "no.db"], ["report", "no.db", "--into", "r.html"], ["serve", "no.db", "--port", "0"])
+
+
+@pytest.mark.parametrize("words", COMMANDS, ids=lambda words: words[0])
+def test_little_memory_is_one_line_and_status_3(naplps, tmp_path, words):
+    folder = tmp_path / "folder"
+    folder.mkdir()
+    page = file(folder, "a.nap", POINT)
+    words = [page if each == "@" else each for each in words]
+    lines = 0
+    for kib in LITTLE:
+        said = subprocess.run(["prlimit", f"--as={kib << 10}", COMMAND, *words], cwd=folder, capture_output=True,
+                              env=dict(os.environ, NAPLPS=naplps, PYTHONDONTWRITEBYTECODE="1"))
+        assert b"Traceback" not in said.stderr, (kib, said.stderr)
+        if said.returncode == 3:
+            lines += 1
+            assert said.stderr.startswith(b"naplps-pages: ") and said.stderr.count(b"\n") <= 2, (kib, said.stderr)
+        else:
+            assert (said.returncode, said.stderr) == (0, b""), (kib, said)
+        for made in ("out", "../x.db"):
+            if (folder / made).exists():
+                (folder / made).unlink()
+    assert lines >= (0 if words[0].startswith("-") else 2)  # (Python alone may need more than these two do)
+
+
+def test_a_signal_that_comes_at_once_prints_no_traceback(naplps, tmp_path):
+    """Before the first line of ours, which is no line 0, Python's own start may be caught; that isn't long."""
+    page, tracebacks = file(tmp_path, "a.nap", POINT), 0
+    for number in range(120):
+        run = subprocess.Popen([COMMAND, "check", page], stdout=subprocess.PIPE, stderr=subprocess.PIPE,
+                               env=dict(os.environ, NAPLPS=naplps))
+        time.sleep(0.0008 * (number % 40))
+        run.send_signal(signal.SIGINT)
+        _, said = run.communicate()
+        tracebacks += bool(re.search(rb'File "[^"\n]*naplps[^"\n]*", line [1-9]', said))
+        assert run.returncode in (0, 1, -signal.SIGINT)
+    assert not tracebacks
+
+
+# Two moments that chance seldom finds: a signal as soon as the package takes it, and one behind the last answer.
+AS_IT_IS_TAKEN = """
+import os, signal
+usual = signal.signal
+
+def send(number, action):
+    usual(number, action)
+    if callable(action):
+        signal.signal = usual
+        os.kill(os.getpid(), number)
+
+signal.signal = send
+"""
+BEHIND_THE_ANSWER = """
+import atexit, os, signal
+atexit.register(os.kill, os.getpid(), signal.SIGINT)
+atexit.register(lambda: None)
+"""
+RUN = "import sys; from naplps_pages.__main__ import run; sys.argv[0] = 'naplps-pages'; run('naplps-pages')"
+
+
+@pytest.mark.parametrize("before", (AS_IT_IS_TAKEN, BEHIND_THE_ANSWER), ids=("as it is taken", "behind the answer"))
+def test_a_signal_at_a_chosen_moment_ends_the_tool_without_a_word(naplps, tmp_path, before):
+    said = subprocess.run([sys.executable, "-c", before + RUN, "check", file(tmp_path, "a.nap", POINT)],
+                          capture_output=True, env=dict(os.environ, NAPLPS=naplps, PYTHONPATH=PACKAGES))
+    assert (said.returncode, said.stderr) == (-signal.SIGINT, b"")
