@@ -12,10 +12,16 @@ class Part(NamedTuple):
 
 
 PARTS: Dict[str, Part] = {
+    "canonical": Part(
+        "readers of canonical streams, in Python, JavaScript and C, beside the program, and the document of these; the "
+        "drawing in JavaScript beside that in Python, the element for pages of the web, and the page in browsers",
+        ("canonical", "canonical_documents", "drawing_script", "element", "browser_page",
+         "browser_hostile", "firefox"),
+    ),
     "collections": Part(
         "scans of folders, what is printed of their store, the documents and completions of that",
         ("pipelined", "walk", "scan", "collection_tables", "collection_documents", "schemas", "equal_treated",
-         "store_files", "files"),
+         "store_files", "files", "near"),
     ),
     "commands": Part(
         "the program is asked, and the commands answer: statuses, messages, JSON, hostile names, programs that fail, "
@@ -28,8 +34,9 @@ PARTS: Dict[str, Part] = {
     ),
     "hostile": Part(
         "what strangers hand in runs nothing, ends nothing and hides nothing: code of the current folder, numbers, "
-        "stores, names",
-        ("interpreter", "extremes", "stores_hostile", "stores_random", "packs_random"),
+        "stores, names; and lists of very many entries take little memory",
+        ("interpreter", "environment", "outside_random", "start", "proposed", "bounds", "extremes", "beside_stores",
+         "stores_hostile", "stores_random", "packs_random"),
     ),
     "house": Part(
         "the sources of naplps-pages: types, sizes, Python 3.9; and that the manual page says what the "
@@ -39,22 +46,23 @@ PARTS: Dict[str, Part] = {
     "making": Part(
         "pages of lines and of what people write: what each line makes, mistakes and hostile sources, the writer, and "
         "the documents of that",
-        ("make", "authoring", "authoring_hostile", "making", "writer", "making_documents"),
+        ("make", "authoring", "authoring_hostile", "making", "page_source", "writer", "making_documents"),
     ),
     "module": Part(
         "the module naplps: its answers over the library and over the program, what it says where these fail or aren't "
         "there, and what it makes of pages; the module and the tool as pip installs them",
-        ("module", "module_faults", "module_threads", "module_pages", "pip"),
+        ("module", "module_faults", "module_lengths", "module_threads", "module_pages", "pip"),
     ),
     "old-files": Part(
-        "files as an old disk has them: signatures, kinds, the eight-bit form, the census, captures, pages after "
-        "others",
-        ("signature", "file_kinds", "eight_bit", "census", "split", "after", "old_files", "noise"),
+        "files as an old disk has them: signatures, kinds, the eight-bit form, the census, borders, captures, pages "
+        "planted in files of all sorts, pages after others",
+        ("signature", "file_kinds", "eight_bit", "census", "borders", "split", "planted", "carve", "after", "old_files",
+         "noise"),
     ),
     "packs": Part(
         "pages in tar, tar.gz and zip files: the same answers as in folders, and packs that are damaged or made to do "
         "harm",
-        ("packs", "packs_hostile"),
+        ("packs", "packs_hostile", "other_pythons"),
     ),
     "parts": Part(
         "parts of a scan, merges of stores, groups over several stores, and the recipes for many machines",
@@ -62,8 +70,8 @@ PARTS: Dict[str, Part] = {
     ),
     "player": Part("players: what they show when, in a browser, and their bounds", ("player",)),
     "reasons": Part(
-        "explanations, reasons, treatments and the text of pages",
-        ("explain", "folding", "reasons", "cures", "text"),
+        "explanations, reasons, treatments, the text of pages, pages in words and side by side",
+        ("explain", "folding", "reasons", "cures", "text", "describe", "comparing"),
     ),
     "report": Part(
         "reports, and words of pages: what they hold, how they look and act in a browser, and what a served one "
@@ -73,7 +81,7 @@ PARTS: Dict[str, Part] = {
     ),
     "scans": Part(
         "scans that fail, are stopped or killed and go on, and that their table is the same however they ran",
-        ("scan_faults", "scan_same"),
+        ("scan_faults", "scan_same", "scan_hostile"),
     ),
     "sketches": Part(
         "sketches, and the gallery",

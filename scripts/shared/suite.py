@@ -16,10 +16,15 @@ from typing import IO, Dict, Iterable, Iterator, List, Optional, Sequence, Set
 from pages.parts import PARTS
 from shared.layout import TOP, UNTRIED
 
-# How many run beside one another.
-AT_ONCE = 3
+# What tells the tests that no browser is asked for, whether one is there or not.
+NO_BROWSERS = {"NAPLPS_BROWSERS": "no"}
 UNTRIED_PART = "not tried: "
 COUNT = re.compile(r"(\d+) passed, (\d+) failed")
+
+
+def at_once() -> int:
+    """How many scripts run beside one another: one for each processor."""
+    return len(os.sched_getaffinity(0))
 
 
 class Suite:
@@ -29,6 +34,7 @@ class Suite:
         self.passed = 0
         self.failed = 0
         self.untried: List[str] = []
+        self.failures: List[str] = []
         self._print = threading.Lock()
         self._running: Set["subprocess.Popen[str]"] = set()
 
@@ -40,6 +46,7 @@ class Suite:
     def fail(self, why: str) -> None:
         """Counts a failure of its own."""
         self.say(f"FAILED: {why}")
+        self.failures.append(why)
         self.failed += 1
 
     def one(self, words: Sequence[str], more: Optional[Dict[str, str]] = None, log: Optional[IO[str]] = None) -> bool:
@@ -57,9 +64,9 @@ class Suite:
         with self._print:
             return self._count(words, process.returncode, lines, time.monotonic() - began)
 
-    def several(self, parts: Iterable[Sequence[str]], at_once: int, more: Optional[Dict[str, str]] = None) -> None:
+    def several(self, parts: Iterable[Sequence[str]], number: int, more: Optional[Dict[str, str]] = None) -> None:
         """Runs scripts at the top, a number of them at once; the lines of each are shown when it ends."""
-        pool = ThreadPoolExecutor(at_once)
+        pool = ThreadPoolExecutor(number)
         try:
             for done in [pool.submit(self._quietly, words, more) for words in parts]:
                 done.result()
@@ -75,9 +82,11 @@ class Suite:
             process.terminate()
 
     def end(self) -> int:
-        """Prints what was not tried, and how many passed and failed; answers the exit status."""
+        """Prints what was not tried, which scripts failed, and how many passed and failed; answers the exit status."""
         for line in self.untried:
             print(f"not tried: {line}")
+        for line in self.failures:
+            print(f"FAILED: {line}")
         print(f"{self.passed} passed, {self.failed} failed")
         return 1 if self.failed else 0
 
@@ -94,6 +103,7 @@ class Suite:
                 self._running.discard(process)
 
     def _quietly(self, words: Sequence[str], more: Optional[Dict[str, str]]) -> None:
+        self.say(f".. {' '.join(words)}")
         began = time.monotonic()
         with tempfile.TemporaryFile("w+", encoding="utf-8", errors="replace") as said:
             with self._started(words, more, said.fileno()) as process:
@@ -117,6 +127,8 @@ class Suite:
             told = f"{passed} passed, {failed} failed"
         self.passed += passed
         self.failed += failed
+        if failed:
+            self.failures.append(f"{name}: {told}")
         print(f"== {name}: {told}, after {seconds:.0f} s", flush=True)
         return failed == 0 and status == 0
 
@@ -124,13 +136,17 @@ class Suite:
 # Those that look at the sources alone; and those that are no parts, or parts of others.
 OF_SOURCES = (
     "scripts/prove/test-wrong-bodies", "scripts/prove/test-citations", "scripts/prove/test-repeated-clauses",
-    "scripts/prove/test-headline", "scripts/prove/test-plain-words", "scripts/test/test-launcher",
-    "scripts/prove/test-trying", "scripts/shared/test-scripts",
+    "scripts/prove/test-headline", "scripts/prove/test-plain-words", "scripts/prove/test-promises",
+    "scripts/test/test-counts", "scripts/test/test-stands-alone", "scripts/test/test-launcher",
+    "scripts/shared/test-scripts",
 )
 NO_PARTS = ("scripts/packages/test-kept", "scripts/vectors/test-rows")
+# The words of those of which a part alone is a part.
+WORDS = {"scripts/packages/test-browser": "--page"}
 # Those that take longest, longest first.
 LONG = (
-    "scripts/test/test-faults", "scripts/test-pages packs", "scripts/test-pages commands", "scripts/test/test-hostile",
+    "scripts/test/test-faults", "scripts/test/test-webassembly",
+    "scripts/test-pages packs", "scripts/test-pages commands", "scripts/test/test-hostile",
     "scripts/test-pages scans", "scripts/test-pages collections", "scripts/test-pages player",
     "scripts/test/test-batch", "scripts/test-pages parts",
 )
@@ -149,6 +165,7 @@ def parts_of_sources() -> List[List[str]]:
 
 def parts_of_program() -> List[List[str]]:
     """The test scripts that need the program alone, and no toolchain; those that take longest come first."""
-    names = [name for name in test_scripts() if name not in (*OF_SOURCES, *NO_PARTS)]
+    scripts = [name for name in test_scripts() if name not in (*OF_SOURCES, *NO_PARTS)]
+    names = [f"{name} {WORDS.get(name, '')}".rstrip() for name in scripts]
     names += [f"scripts/test-pages {part}" for part in PARTS]
     return [name.split() for name in sorted(names, key=lambda name: LONG.index(name) if name in LONG else len(LONG))]

@@ -31,6 +31,7 @@ class Limits(unittest.TestCase):
         with subprocess.Popen([sys.executable, "-c", ""]) as process:
             process.wait()
             limit_processor(process.pid)
+        self.assertEqual(process.returncode, 0)
 
     def test_an_answer_that_comes_too_late(self) -> None:
         """It has no status."""

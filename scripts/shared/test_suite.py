@@ -45,6 +45,16 @@ class Counts(unittest.TestCase):
         self.assertEqual(self.counted(*parts), (5, 3, []))
         self.assertEqual(self.counted(script("kill -9 $$")), (0, 1, []))
 
+    def test_what_failed_is_named_at_the_end(self) -> None:
+        """The lines before the last name the scripts that failed."""
+        suite, text = Suite(), io.StringIO()
+        with contextlib.redirect_stdout(text):
+            suite.several([script("echo 4 passed, 2 failed; exit 1"), script("echo 1 passed, 0 failed")], 2)
+            suite.fail("it")
+            self.assertEqual(suite.end(), 1)
+        wanted = ["FAILED: sh -c echo 4 passed, 2 failed; exit 1: 4 passed, 2 failed", "FAILED: it"]
+        self.assertEqual(text.getvalue().splitlines()[-3:], [*wanted, "5 passed, 3 failed"])
+
     def test_not_tried(self) -> None:
         """The status 77 says that nothing was tried, whatever stands in the last line."""
         parts = script("echo not tried: no cc; exit 77"), script("echo 1 passed, 0 failed; exit 77")

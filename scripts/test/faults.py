@@ -29,7 +29,6 @@ CENTRE_LINE = "POINT 4194304,4194304 pel=0,0 colour=own-start"
 CIRCLE = bytes.fromhex("2e") + b"@" * 8 + b"\x49" + b"@" * 7 + b"\x7f" + b"@" * 7
 CIRCLE_LINE = "ARC-OUTLINED 0,0 2097152,2097152 0,0 pel=0,0 colour=own-start texture=0/none"
 SIGNS = "colour=own-start text=0,0/normal/----"
-GATHERED = 65536
 
 
 class Page:
@@ -360,9 +359,9 @@ def test_writes(page: Page, words: List[str], ample: Answer, most: int, error: i
         if not letters:
             judge.same(ample, got, what)
             break
-        # All of it was buffered. What is left of it is tried once more at the end.
+        # (what was buffered isn't tried once more at the end)
         before = ample.out[: (number - 1) * most]
-        judge.same(fault(write_fault(len(ample.out)), ample.out if once else before), got, what)
+        judge.same(fault(write_fault(len(before)), before), got, what)
         number += 1
     judge.take(number == -(-len(ample.out) // most) + 1, f"{what}: {number - 1} writes")
 
@@ -402,11 +401,11 @@ def test_all_writes() -> None:
 
 
 def is_cut(got: Answer, ample: Answer) -> bool:
-    """Whether an answer reports a failed write. Its count may be ahead of what went out, by what was buffered."""
+    """Whether an answer reports a failed write, with the number of bytes that went out."""
     said = re.fullmatch(rb"write fault after (0|[1-9][0-9]*) bytes\n", got.err)
     if got.status != 3 or said is None or not ample.out.startswith(got.out):
         return False
-    return len(got.out) <= int(said[1]) <= min(len(got.out) + GATHERED, len(ample.out))
+    return len(got.out) == int(said[1])
 
 
 def test_long_write(words: List[str], most: int, error: int) -> int:
@@ -575,21 +574,21 @@ def test_batch_reads() -> None:
 
 
 def test_batch_writes() -> None:
-    """Each answer is sent on by itself, so a failed write tells the bytes of all answers up to its own."""
+    """A failed write tells the bytes that went out before it."""
     before = runs["faulty"]
     for most in (65536, 7, 1):
-        writes = []
+        writes: List[int] = []
         end = 0
         for answered in REQUESTS.answered:
             start, end = end, end + len(answered)
-            writes += [(at, end) for at in range(start, end, most)]
-        for number, (at, end) in enumerate(writes, 1):
+            writes += range(start, end, most)
+        for number, at in enumerate(writes, 1):
             for error in (errno.EIO, errno.ENOSPC, 0):
                 for once in (1, 0):
                     got, _ = run_faulty(REQUESTS, ["batch"], write=number, write_most=most, errno=error, once=once)
-                    out = REQUESTS.answer([]).out[: end if once else at]
+                    out = REQUESTS.answer([]).out[:at]
                     what = f"writes: batch, write {number} of {most} bytes, error {error}, once {once}"
-                    judge.same(fault(write_fault(end), out), got, what)
+                    judge.same(fault(write_fault(at), out), got, what)
             got, letters = run_faulty(REQUESTS, ["batch"], write=number, write_most=most, errno=errno.EINTR, once=1)
             judge.same(REQUESTS.answer([]), got, f"writes: batch, write {number} of {most} bytes is interrupted")
             judge.take(letters == "w", f"writes: batch, write {number}: faults {letters}")
