@@ -1,5 +1,6 @@
 """What the tests of scans share: trees of files, stores as plain tables, and scans that are at work."""
 import os
+import re
 import sqlite3
 import subprocess
 import time
@@ -203,3 +204,8 @@ def children(pid):
         except (ValueError, OSError):
             continue
     return found
+
+
+def without_progress(told):
+    """What a scan told on standard error but how far it was, which it says once a minute."""
+    return re.sub(r"(?m)^naplps-pages: [\d,]+( of [\d,]+)? files, [\d,]+ a second.*\n", "", told)

@@ -17,7 +17,8 @@ from naplps_pages.collection.tables import hashed
 from naplps_pages.packs.naming import inside
 from packers import pack
 from samples import POINT
-from scans import FAKE, count, is_sound, rows, slow, start, statuses, table, tree, wait_until
+from scans import (
+    FAKE, count, is_sound, rows, slow, start, statuses, table, tree, wait_until, without_progress)
 from test_interpreter import hostile_folder
 from test_scan_same import mixed
 
@@ -113,7 +114,7 @@ def test_two_workers_of_which_one_is_killed_amid(run, naplps, tmp_path, store, c
     wait_until(lambda: count(store) > 0, scan)
     first.kill()
     out, told = scan.communicate()
-    assert (told, scan.returncode) == (b"", 0) and second.poll() is None
+    assert (without_progress(told.decode()), scan.returncode) == ("", 0) and second.poll() is None
     wanted = plain(run, top, store)
     assert out.startswith(b"7001 files: ") and out.endswith(b"; 3 packs\n")
     assert table(store) == wanted and is_sound(store)
@@ -131,7 +132,7 @@ def test_a_scheduler_that_ends_amid(run, fake, tmp_path, store, cluster):
     cluster.scheduler.kill()
     out, told = scan.communicate()
     assert (out, scan.returncode) == (b"", 3)
-    assert told.decode() == (
+    assert without_progress(told.decode()) == (
         "naplps-pages: %s: the scheduler isn't there any more; what was taken is kept, and the same command goes on\n"
         % address)
     go.touch()
@@ -253,8 +254,8 @@ def test_a_worker_that_is_silent_is_named_and_left_out(monkeypatch, capfd, fake,
     program = fake(slow(0.001))
     first = cluster.worker()
     cluster.worker()
-    monkeypatch.setattr("naplps_pages.collection.cluster.SILENT", 8.0)
-    monkeypatch.setattr("naplps_pages.collection.cluster.LOOK", 0.5)
+    monkeypatch.setattr("naplps_pages.collection.cluster_watch.SILENT", 8.0)
+    monkeypatch.setattr("naplps_pages.collection.cluster_watch.LOOK", 0.5)
     monkeypatch.setattr("naplps_pages.collection.cluster.MOST_FILES", 200)
     monkeypatch.setattr("naplps_pages.collection.scan.MOST_FILES", 200)
     monkeypatch.setenv("NAPLPS", program)
@@ -270,7 +271,7 @@ def test_a_worker_that_is_silent_is_named_and_left_out(monkeypatch, capfd, fake,
     said = capfd.readouterr()
     assert said.out.startswith("6000 files: 6000 accepted ")
     assert re.fullmatch(r"naplps-pages: tcp://127\.0\.0\.1:\d+: this worker has been silent for 8 s: what it has is "
-                        r"given to others\n", said.err), said.err
+                        r"given to others\n", without_progress(said.err)), said.err
     assert table(store) == plain(run, top, store, program=program)
 
 
@@ -346,3 +347,30 @@ def test_dask_that_is_not_installed(naplps, tmp_path, store):
 def test_words_that_exclude_each_other(run, store, number):
     said = run(["scan", "x", "--into", store, "--on", "a:1", "--processes", str(number)])
     assert said.returncode == 2 and b"not allowed with" in said.stderr
+
+
+@pytest.mark.parametrize("known", [False, True])
+def test_a_worker_that_is_silent_before_the_scan_begins(monkeypatch, capfd, naplps, run, tmp_path, store, cluster,
+                                                        known):
+    """The scheduler has a connection with a worker that it has asked before; one to a new worker can't be made."""
+    top = tree(os.path.join(str(tmp_path), "pages"), {"%02d" % at: b"page %d" % at for at in range(60)})
+    silent = cluster.worker()
+    monkeypatch.setattr("naplps_pages.collection.cluster_watch.SILENT", 8.0)
+    monkeypatch.setattr("naplps_pages.collection.cluster_watch.LOOK", 0.5)
+    monkeypatch.setenv("NAPLPS", naplps)
+    if known:
+        assert main(["scan", top, "--into", store + ".first", "--on", cluster.file], COMMAND) == 0
+        capfd.readouterr()
+    silent.send_signal(signal.SIGSTOP)
+    silence = r"naplps-pages: tcp://127\.0\.0\.1:\d+: this worker has been silent for 8 s: it gets nothing\n"
+    assert main(["scan", top, "--into", store, "--on", cluster.file], COMMAND) == 3
+    said = capfd.readouterr()
+    assert said.out == "" and not os.path.exists(store)
+    assert re.fullmatch(silence + r"naplps-pages: tcp://\S+: no worker answers\n", said.err), said.err
+    cluster.worker()
+    assert main(["scan", top, "--into", store, "--on", cluster.file], COMMAND) == 0
+    said = capfd.readouterr()
+    silent.send_signal(signal.SIGCONT)
+    assert said.out.startswith("60 files: 60 accepted ") and re.fullmatch(
+        silence, without_progress(said.err)), said.err
+    assert table(store) == plain(run, top, store)

@@ -11,12 +11,15 @@ import sys
 import time
 from collections import deque
 from queue import Empty, SimpleQueue
-from typing import Any, Deque, Dict, FrozenSet, Iterator, List, NamedTuple, Optional, Set, Tuple, cast
+from typing import Any, Deque, Dict, FrozenSet, Iterator, List, NamedTuple, Optional, Set, cast
 
 from naplps.names import shown
 
 from ..console import tell
 from ..interpreter import interpreter
+from . import cluster_watch
+from .cluster_check import answers
+from .cluster_watch import Watch
 from .folders import reason
 from .pool import count, ending, halves, next_of
 from .remote import Alike, Done, Given
@@ -31,9 +34,8 @@ MOST_OUT = 64
 MOST_FILES, MOST_NAMES = 2000, 256 << 10
 # How long is waited at once; for the scheduler; for a first worker; for a result; and for the end, in seconds.
 TURN, CONNECT, JOIN, FETCH, END = 0.25, 10, 30, 5, 3
-# After so long without a result it is looked whether there are workers; so often it is looked which have been silent,
-# and one that is for so long gets nothing any more.
-SILENCE, LOOK, SILENT = 20.0, 5.0, 60.0
+# After so long without a result it is looked whether there are workers.
+SILENCE = 20.0
 NOT_INSTALLED = "Dask's distributed isn't there for %s (Debian: apt-get install python3-distributed)"
 
 
@@ -106,9 +108,13 @@ class Cluster:
         """Compares what has to be the same, on each worker. Raises ClusterFailed."""
         try:
             self.client.wait_for_workers(1, timeout=JOIN)
-            said = self.client.run(subprocess.run, WORDS, **self._input(()), on_error="return")
+            said = answers(self.watch, WORDS, self._input(()), self._look_before)
+        except ClusterFailed:
+            raise
         except Exception as error:  # pylint: disable=broad-except
             raise ClusterFailed(f"{self.address}: no worker answers: {_first_line(error)}") from None
+        if not said:
+            raise ClusterFailed(f"{self.address}: no worker answers")
         faults = [f"{worker}: {fault}" for worker, fault in sorted(
             (worker, _fault(each)) for worker, each in said.items()) if fault]
         if faults:
@@ -162,6 +168,17 @@ class Cluster:
             tell(f"{self.address}: there are no workers any more; the scan waits for some")
             self.heard = math.inf
 
+    def _look_before(self) -> None:
+        """Names the workers that are silent before anything is given out. Raises ClusterLost."""
+        self._look()
+        self.watch.look()
+        self._name_silent("it gets nothing")
+
+    def _name_silent(self, what: str) -> None:
+        while self.watch.found:
+            worker = self.watch.found.pop()
+            tell(f"{worker}: this worker has been silent for {cluster_watch.SILENT:.0f} s: {what}")
+
     def _give(self, task: Task) -> None:
         workers = task.workers or (self.watch.live if self.watch.silent else frozenset())
         only = {"workers": sorted(workers)} if workers else {}
@@ -173,9 +190,7 @@ class Cluster:
         """Gives what a worker has that is silent, or has gone, to others. It is named."""
         if not self.watch.look():
             return
-        while self.watch.found:
-            worker = self.watch.found.pop()
-            tell(f"{worker}: this worker has been silent for {SILENT:.0f} s: what it has is given to others")
+        self._name_silent("what it has is given to others")
         for worker in self.watch.silent:  # (the scheduler may still give it what it took from another)
             self._give_again(self.watch.keys_of(worker))
         gone = [future for future, task in self.out.items() if task.workers and not task.workers & self.watch.live]
@@ -253,59 +268,6 @@ class Cluster:
             self.client.close(timeout=END)
         except Exception:  # pylint: disable=broad-except
             pass  # nobody is there any more
-
-
-class Watch:
-    """Which workers there are, as the scheduler says, and which have been silent for long."""
-
-    def __init__(self, client: Any) -> None:
-        self.client = client
-        self.live: FrozenSet[str] = frozenset()
-        self.silent: Set[str] = set()
-        self.found: List[str] = []
-        self.seen: Dict[str, Tuple[object, float]] = {}
-        self.looked = 0.0
-
-    def look(self) -> bool:
-        """Looks now and then; whether it did. `found` has the workers that have become silent, until they are named."""
-        now = time.monotonic()
-        if now - self.looked < LOOK:
-            return False
-        self.looked = now
-        try:
-            workers = self.client.scheduler_info()["workers"]
-        except Exception:  # pylint: disable=broad-except
-            return False  # the scheduler is about to go
-        for worker, it in workers.items():
-            last, since = self.seen.get(worker, (None, now))
-            if last != it.get("last_seen"):
-                self.seen[worker] = it.get("last_seen"), now
-                self.silent.discard(worker)
-            elif now - since > SILENT and worker not in self.silent:
-                self.found.append(worker)
-                self.silent.add(worker)
-        self.live = frozenset(workers) - self.silent
-        return True
-
-    def now(self) -> FrozenSet[str]:
-        """The workers that there are now."""
-        self.looked = 0.0
-        self.look()
-        return self.live
-
-    def keys_of(self, worker: str) -> Set[str]:
-        """The keys of the tasks that a worker has."""
-        try:
-            return set(self.client.processing([worker]).get(worker, ()))
-        except Exception:  # pylint: disable=broad-except
-            return set()
-
-    def worker_of(self, future: Any) -> str:
-        """Which worker has the result of a task; nothing where that isn't known."""
-        try:
-            return next((str(each) for some in self.client.who_has([future]).values() for each in some), "")
-        except Exception:  # pylint: disable=broad-except
-            return ""
 
 
 def _done(said: Any) -> Optional[Done]:
