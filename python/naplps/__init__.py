@@ -23,6 +23,7 @@ from .version import VERSION
 
 if TYPE_CHECKING:
     from .checker import Checker
+    from .dots import Raster, raster
     from .entry import (
         ONE, Arc, Bell, Blink, BlinkEnd, BlinkMark, Char, Clear, Colour, Cursor, DefEnd, Entry, Field, GlyphStart,
         Line, Look, Map, MaskStart, Pen, Point, Poly, Position, Rect, Reset, TextMove, Texture, ToEol, Wait,
@@ -41,14 +42,14 @@ __all__ = [
     "MOST_BUDGET", "ONE", "USUAL_BUDGET", "Arc", "Backend", "Bell", "Blink", "BlinkEnd", "BlinkMark", "Change",
     "Char", "Checker", "Clear", "Colour", "Cure", "Cursor", "Data", "DefEnd", "Edit", "Entry", "Error", "Field",
     "GlyphStart", "Line", "Look", "Map", "MaskStart", "NeedsLibrary", "NoAnswer", "NoMemory", "NotMade", "Pen",
-    "Places", "Point", "Poly", "Position", "Rect", "Refused", "Reset", "TextMove", "Texture", "ToEol",
+    "Places", "Point", "Poly", "Position", "Raster", "Rect", "Refused", "Reset", "TextMove", "Texture", "ToEol",
     "Unavailable", "Wait", "WrongLibrary", "__version__", "backend", "canon", "canon_form1", "check", "entries",
-    "is_plain", "lines", "make", "places", "svg", "text", "treatments",
+    "is_plain", "lines", "make", "places", "raster", "svg", "text", "treatments",
 ]
 __version__ = VERSION
 # Where the names stand. A module is imported once the first of them is asked for, as few programs need them all.
 _NAMES = {
-    "checker": ("Checker",),
+    "checker": ("Checker",), "dots": ("Raster", "raster"),
     "entry": (
         "ONE", "Arc", "Bell", "Blink", "BlinkEnd", "BlinkMark", "Char", "Clear", "Colour", "Cursor", "DefEnd", "Entry",
         "Field", "GlyphStart", "Line", "Look", "Map", "MaskStart", "Pen", "Point", "Poly", "Position", "Rect", "Reset",

@@ -83,6 +83,10 @@ PARTS: Dict[str, Part] = {
         "scans that fail, are stopped or killed and go on, and that their table is the same however they ran",
         ("scan_faults", "scan_same", "scan_hostile"),
     ),
+    "raster": Part(
+        "the raster of a page: its rows beside a painter that goes dot by dot by docs/RASTER.md",
+        ("raster",),
+    ),
     "sketches": Part(
         "sketches, and the gallery",
         ("sketch", "sketch_bounds", "letter_lines", "pels", "text_layout", "past", "sheets", "gallery", "render"),
