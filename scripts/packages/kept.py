@@ -6,10 +6,11 @@ import shutil
 import subprocess
 import sys
 from pathlib import Path
-from typing import Dict, List, NamedTuple, Optional, Tuple
+from typing import Dict, List, Optional, Tuple
 
 from packages.keeping import keeping
 from prove.sums import Unread, sum_of
+from shared import crates
 from shared.layout import TOP
 
 KEPT = TOP / "dist" / "x86_64-linux-gnu"
@@ -27,30 +28,9 @@ class NotProved(Exception):
     """Something wasn't proved, or isn't there, and why."""
 
 
-class Crate(NamedTuple):
-    """A line of crates.txt: the crate, and the libraries that it names."""
-
-    name: str
-    needs: List[str]
-
-
-def crates() -> Dict[str, Crate]:
-    """The crates of crates.txt, lowest first."""
-    found = {}
-    for line in (TOP / "crates.txt").read_text("utf-8").splitlines():
-        name, colon, needs = line.partition("#")[0].partition(":")
-        if colon:
-            found[name.split()[0]] = Crate(name.split()[0], needs.split())
-    return found
-
-
 def below(name: str) -> List[str]:
     """A crate and those of the repository below it, lowest first."""
-    every, found = crates(), {name}
-    for crate in reversed(list(every.values())):
-        if crate.name in found:
-            found.update(need for need in crate.needs if need in every)
-    return [crate for crate in every if crate in found]
+    return crates.below(name, crates.crates_in(TOP))
 
 
 def ask(*words: object, folder: Path = TOP, errors: Optional[int] = None) -> str:
@@ -136,7 +116,7 @@ def archive_after_gate() -> Path:
         return archive()
     kit, folder = toolchain(), TOP / "crates" / "nap_c"
     words = ["rattle", "build", "--crate-name", "nap_c", "src/lib.rt", "-L", f"dependency={kit}/rlibs"]
-    for need in ["std", *crates()["nap_c"].needs]:
+    for need in ["std", *crates.crates_in(TOP)["nap_c"]]:
         words += ["--extern", f"{need}={libraries.get(need, kit / 'rlibs')}/{need}.rlib"]
     for rlib in libraries.values():
         words += ["-L", f"dependency={rlib}"]

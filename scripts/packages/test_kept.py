@@ -12,7 +12,7 @@ COPIED = (
     "keep", "packages/__init__.py", "packages/for_browsers.py", "packages/for_pages.py", "packages/keeping.py",
     "packages/kept.py", "packages/test-kept", "packages/webassembly.py", "pages/__init__.py", "pages/parts.py",
     "prove/__init__.py", "prove/clauses.py", "prove/files-sum", "prove/lexing.py", "prove/sources-sum", "prove/sums.py",
-    "shared/__init__.py", "shared/judging.py", "shared/layout.py", "shared/suite.py",
+    "shared/__init__.py", "shared/crates.py", "shared/judging.py", "shared/layout.py", "shared/suite.py",
 )
 CRATES = "nap_low: arrayvec\nnap_c staticlib: nap_low\nnap_cli: nap_low clap\nnap_tests: nap_low\n"
 RT = r"""#!/bin/sh

@@ -6,7 +6,9 @@ below. So all of a source counts but the bodies of its functions, comments and t
 import hashlib
 import re
 from pathlib import Path
-from typing import Dict, Iterator, List, NamedTuple, Set, Tuple
+from typing import Dict, Iterator, List, NamedTuple, Tuple
+
+from shared.crates import below, crates_in
 
 # A comment, a text or a character; a lifetime has no second quote.
 UNREAD = re.compile(
@@ -64,7 +66,6 @@ class Source(NamedTuple):
     @classmethod
     def of(cls, text: str) -> "Source":
         """The source with this text."""
-
         kept, shape, at = [], [], 0
         for start, end in unread_in(text):
             blank = re.sub(r"[^\n]", " ", text[start:end])
@@ -120,11 +121,9 @@ class Source(NamedTuple):
 
     def without_bodies(self) -> str:
         """The tokens that aren't in the bodies of functions, with single blanks."""
-        cut, at = [], 0
-        for function in self.functions():
-            cut.append(self.kept[at : function.start])
-            at = function.end
-        return tokens("".join([*cut, self.kept[at:]]))
+        bodies = [(it.start, it.end) for it in self.functions()]
+        starts, ends = [*(start for start, _ in bodies), len(self.kept)], [0, *(end for _, end in bodies)]
+        return tokens("".join(self.kept[end:start] for end, start in zip(ends, starts)))
 
 
 def tokens(kept: str) -> str:
@@ -137,31 +136,9 @@ def functions_of(text: str) -> Iterator[Function]:
     return Source.of(text).functions()
 
 
-def definitions_of(text: str) -> List[str]:
-    """The lines of a file of definitions, without comments and empty lines."""
-    lines = (line.rstrip() for line in text.splitlines())
-    return [line for line in lines if line and not line.lstrip().startswith("--")]
-
-
 def is_tested(path: Path) -> bool:
     """Whether a file of src/ is one of tests."""
     return "tests" in path.parts or path.name == "tests.rt"
-
-
-def crates_in(root: Path) -> Dict[str, List[str]]:
-    """The repository's crates, lowest first as crates.txt has them, each with the crates that its line names."""
-    found: Dict[str, List[str]] = {}
-    for line in (root / "crates.txt").read_text("utf-8").splitlines():
-        name, _, deps = line.partition("#")[0].partition(":")
-        if name.strip():
-            found[name.split()[0]] = deps.split()
-    return {name: [dep for dep in deps if dep in found] for name, deps in found.items()}
-
-
-def below(name: str, crates: Dict[str, List[str]]) -> Set[str]:
-    """All crates that a crate stands on."""
-    deps = set(crates[name])
-    return deps.union(*(below(dep, crates) for dep in deps))
 
 
 def _said_by(crate: Path) -> Iterator[str]:
@@ -170,7 +147,8 @@ def _said_by(crate: Path) -> Iterator[str]:
     yield from sorted(Source.of(path.read_text("utf-8")).without_bodies() for path in sources)
     for path in sorted((crate / "specs").rglob("*.antt")):
         yield f"specs {path.relative_to(crate)}"
-        yield from definitions_of(path.read_text("utf-8"))
+        lines = (line.rstrip() for line in path.read_text("utf-8").splitlines())
+        yield from (line for line in lines if line and not line.lstrip().startswith("--"))
 
 
 class Sums:
@@ -190,5 +168,5 @@ class Sums:
 
     def of(self, name: str) -> str:
         """A sum over all clauses and definitions that can refuse a crate's wrong bodies."""
-        parts = [(each, self.own(each)) for each in sorted({name} | below(name, self.crates))]
+        parts = [(each, self.own(each)) for each in sorted(below(name, self.crates))]
         return hashlib.sha256(repr(parts).encode()).hexdigest()

@@ -17,14 +17,6 @@ ITEM_NAME = re.compile(r"\b(?:const|static|type|struct|enum)\s+(?P<name>\w+)")
 PARAMETERS = re.compile(r"<(?:[^<>]|<[^<>]*>)*>")
 
 
-class Change(NamedTuple):
-    """A change that an edit makes: the file in its crate, the text that goes, and the one that comes."""
-
-    file: str
-    old: str
-    new: str
-
-
 class Where(NamedTuple):
     """What an edit changes: its files, functions and constants, and whether that is in a loop, or in no function."""
 
@@ -43,8 +35,9 @@ def edits_in(folder: Path) -> List[Path]:
     return sorted(folder.glob("*.edit"))
 
 
-def changes_of(edit: str) -> Iterator[Change]:
-    """The changes that an edit's text makes, in its order."""
+def changes_of(edit: str) -> Iterator[Tuple[str, str, str]]:
+    """The changes that an edit's text makes, in its order: the file in its crate, the text that goes, and the one that
+    comes."""
     path, old = "", ""
     for line in edit.splitlines():
         word, _, rest = line.partition(":")
@@ -54,7 +47,7 @@ def changes_of(edit: str) -> Iterator[Change]:
         elif word == "old":
             old = rest
         elif word == "new":
-            yield Change(path, old, rest)
+            yield path, old, rest
 
 
 def texts_with(edit: Path, crate: Path) -> Dict[str, Tuple[str, str]]:

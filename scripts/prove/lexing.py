@@ -8,10 +8,10 @@ is by indentation, so lines count with it: each without comments, blanks at its 
 import re
 from typing import Iterator, List, Tuple
 
-from prove.clauses import CLAUSE, Source, end_of_comment, unread_in
+from prove.clauses import CLAUSE, TOKEN, Source, end_of_comment, unread_in
 
 APART = "(){};,@"
-PIECE = re.compile(r"\w+|\S")
+CALL = re.compile(r"\.\w")
 # A term of the logic beside the clauses.
 GHOST = re.compile(r"\bghost\s+(?!use\b)[^;{]*(?P<opening>\{)?")
 # What begins a comment of the logic, and what may hide one.
@@ -42,32 +42,18 @@ def is_unclear(text: str, source: Source) -> bool:
     return any(start <= at < end for start, end in ghosts for at in found)
 
 
-def words_of(source: Source, text: str) -> Iterator[str]:
-    """The words of a source, each whole: a text, a sign that stands apart, or what has no blank and no such sign."""
+def words_of(kept: str) -> Iterator[str]:
+    """The words of a source without comments, each whole: a text, a sign that stands apart, or what has no blank and no
+    such sign."""
     word, at = "", 0
-
-    def pieces(start: int, end: int) -> Iterator[Tuple[str, int]]:
-        for piece in PIECE.finditer(source.kept, start, end):
-            yield piece[0], piece.start()
-
-    def all_pieces() -> Iterator[Tuple[str, int]]:
-        done = 0
-        for start, end in unread_in(text):
-            yield from pieces(done, start)
-            if text[start] != "/":
-                yield text[start:end], start
-            done = end
-        yield from pieces(done, len(text))
-
-    for piece, start in all_pieces():
-        gap = source.kept[at:start]
+    for found in TOKEN.finditer(kept):
+        piece, start = found[0], found.start()
         # (a call may stand on a line of its own)
-        is_joined = not gap or "\n" in gap and re.match(r"\.\w", source.kept[start : start + 2])
-        is_apart = piece in APART or word in APART
-        if word and (is_apart or not is_joined):
+        is_joined = start == at or "\n" in kept[at:start] and CALL.match(kept, start)
+        if word and (piece in APART or word in APART or not is_joined):
             yield word
             word = ""
-        word, at = word + piece, start + len(piece)
+        word, at = word + piece, found.end()
     if word:
         yield word
 
@@ -75,7 +61,7 @@ def words_of(source: Source, text: str) -> Iterator[str]:
 def tokens_of_rattle(text: str) -> List[str]:
     """What counts of a file of Rattle."""
     source = Source.of(text)
-    return text.split("\n") if is_unclear(text, source) else list(words_of(source, text))
+    return text.split("\n") if is_unclear(text, source) else list(words_of(source.kept))
 
 
 def without_comments(text: str) -> str:

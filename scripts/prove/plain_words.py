@@ -5,7 +5,6 @@ instead. plain-words-stay.tsv has the places where a word stays: the row's name 
 the place matches, and why. A pattern that begins with `^` minds capitals, others don't. The kinds are `comments` of
 sources, definitions and edits, `lemmas` (the comments of proofs), `names`, `documents` and `scripts`.
 """
-import csv
 import fnmatch
 import io
 import re
@@ -14,9 +13,9 @@ from itertools import groupby
 from pathlib import Path
 from typing import Iterator, List, NamedTuple, Optional, Tuple
 
+from shared.tables import rows_in
+
 FOLDER = Path(__file__).resolve().parent
-RULES, STAYS = "plain-words.tsv", "plain-words-stay.tsv"
-RULE_COLUMNS, STAY_COLUMNS = ["row", "look", "pattern", "say"], ["row", "files", "reads", "why"]
 COMMENT = re.compile(r"^(?P<before>.*?)(?<!\S)(?P<mark>//!|///|//|--)(?:\s+(?P<words>.*))?$")
 WORD = re.compile(r"[A-Z]?[a-z]+|[A-Z]+(?![a-z])|\d+")
 NAME = re.compile(r"[A-Za-z][\w'+-]*")
@@ -26,8 +25,7 @@ SPAN = re.compile(r"`[^`]*`")
 ENTRY = re.compile(r"\s*(?:- |\||#|\d+\. )")
 MACRO = re.compile(r"^[.'][A-Za-z]+ ?|\\f[BIRP]|\\")
 DOCSTRING = re.compile(r'r?"""(.*)"""', re.DOTALL)
-# What is looked through, but for what was built. (Of tables of streams these are lines of `#`, which say what each
-# shows.)
+# What is looked through, but for what was built; of tables of streams, the lines of `#`.
 FILES = (
     "crates/*/*/**/*.rt", "crates/*/*/**/*.antt", "crates/*/*/*.edit", "crates/*/data/*.rows", "crates/*/data/*.md",
     "*.md", "docs/*.md", "scripts/**/*", "library/**/*", "python/*.md", "vectors/*.md", "vectors/*.rows", "man/*.1",
@@ -48,7 +46,7 @@ class Rule(NamedTuple):
     """A word that isn't to be used: the row's name, the kinds of text, the pattern, and what to say instead."""
 
     row: str
-    look: Tuple[str, ...]
+    look: List[str]
     pattern: "re.Pattern[str]"
     say: str
 
@@ -57,56 +55,31 @@ class Stay(NamedTuple):
     """Where a row's word may stay, or any row's if the row is `*`: in these files, within what this pattern matches."""
 
     row: str
-    files: Tuple[str, ...]
+    files: str
     reads: "re.Pattern[str]"
     why: str
 
-    def allows(self, text: Text, start: int, end: int) -> bool:
-        """Whether a word that was found between two places of a text may stay."""
-        if not any(fnmatch.fnmatch(text.file, pattern) for pattern in self.files):
+    def allows(self, rule: Rule, text: Text, start: int, end: int) -> bool:
+        """Whether a row's word that was found between two places of a text may stay."""
+        if self.row not in ("*", rule.row) or not any(fnmatch.fnmatch(text.file, it) for it in self.files.split()):
             return False
         return any(one.start() <= start and end <= one.end() for one in self.reads.finditer(text.words))
-
-
-class Finding(NamedTuple):
-    """A word in a text that the table has, and the place where it may stay, or None."""
-
-    text: Text
-    rule: Rule
-    stay: Optional[Stay]
-
-    def __str__(self) -> str:
-        return f"{self.text.file}:{self.text.line}: {self.rule.row}: {self.rule.say}: {self.text.words[:110]}"
-
-
-def _rows(path: Path, columns: List[str]) -> List[List[str]]:
-    with path.open(encoding="utf-8", newline="") as file:
-        head, *lines = csv.reader(file, delimiter="\t", quoting=csv.QUOTE_NONE)
-    for number, line in enumerate([head, *lines], 1):
-        if len(line) != len(columns) or not all(line):
-            raise ValueError(f"{path.name}:{number} hasn't a text in each of the columns {', '.join(columns)}")
-    return lines
 
 
 def _compiled(pattern: str) -> "re.Pattern[str]":
     return re.compile(pattern, 0 if pattern.startswith("^") else re.IGNORECASE)
 
 
-def rules_in(folder: Path = FOLDER) -> List[Rule]:
+def rules() -> List[Rule]:
     """The rows of the table of words."""
-    return [Rule(row, tuple(look.split()), _compiled(pattern), say)
-            for row, look, pattern, say in _rows(folder / RULES, RULE_COLUMNS)]
+    rows = rows_in(FOLDER / "plain-words.tsv", Rule._fields)
+    return [Rule(row, look.split(), _compiled(pattern), say) for row, look, pattern, say in rows]
 
 
-def stays_in(folder: Path = FOLDER) -> List[Stay]:
-    """The places where words may stay; one of a row that the table hasn't raises ValueError."""
-    known = {"*", *(rule.row for rule in rules_in(folder))}
-    found = []
-    for row, files, reads, why in _rows(folder / STAYS, STAY_COLUMNS):
-        if row not in known:
-            raise ValueError(f"{STAYS} has a row {row}, which {RULES} hasn't")
-        found.append(Stay(row, tuple(files.split()), _compiled(reads), why))
-    return found
+def stays() -> List[Stay]:
+    """The places where words may stay."""
+    rows = rows_in(FOLDER / "plain-words-stay.tsv", Stay._fields)
+    return [Stay(row, files, _compiled(reads), why) for row, files, reads, why in rows]
 
 
 def comments_in(text: str, kind: str, file: str) -> Iterator[Text]:
@@ -115,7 +88,7 @@ def comments_in(text: str, kind: str, file: str) -> Iterator[Text]:
     for mark, group in groupby(found, lambda it: it[1]["mark"] if it[1] and not it[1]["before"].strip() else ""):
         block = [(number, it["before"], it["mark"], (it["words"] or "").strip()) for number, it in group if it]
         if mark:
-            yield Text(kind, file, block[0][0], " ".join([mark, *(words for _, _, _, words in block)]))
+            yield Text(kind, file, block[0][0], " ".join([mark, *(words for *_, words in block)]))
             continue
         for number, before, own, words in block:
             if before.count('"') % 2 == 0:
@@ -133,8 +106,7 @@ def names_in(text: str, file: str) -> Iterator[Text]:
     known = set()
     for number, line in enumerate(text.split("\n"), 1):
         found = COMMENT.match(line)
-        code = TEXT.sub("", found["before"] if found else line)
-        for name in NAME.findall(code):
+        for name in NAME.findall(TEXT.sub("", found["before"] if found else line)):
             if name not in known:
                 known.add(name)
                 yield Text("names", file, number, spaced(name))
@@ -193,10 +165,8 @@ def files_in(top: Path) -> Iterator[str]:
             yield str(file)
 
 
-def findings_in(text: Text, rules: List[Rule], stays: List[Stay]) -> Iterator[Finding]:
-    """What of the table stands in a text."""
-    for rule in rules:
-        if text.kind in rule.look:
-            for found in rule.pattern.finditer(text.words):
-                allowed = (one for one in stays if one.row in ("*", rule.row) and one.allows(text, *found.span()))
-                yield Finding(text, rule, next(allowed, None))
+def findings_in(text: Text, every: List[Rule], places: List[Stay]) -> Iterator[Tuple[Rule, Optional[Stay]]]:
+    """What of the table stands in a text, each with the place where it may stay, or None."""
+    for rule in every:
+        for found in rule.pattern.finditer(text.words) if text.kind in rule.look else ():
+            yield rule, next((one for one in places if one.allows(rule, text, *found.span())), None)

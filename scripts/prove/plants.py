@@ -43,15 +43,16 @@ def known_in(page: str) -> Set[Finding]:
     return {Finding(it["crate"], it["kind"], it["function"], (it["body"] or "").replace("\\|", "|")) for it in found}
 
 
-def _row(finding: Finding, why: str) -> str:
-    """The row of the page for a finding."""
+def _row(finding: Finding) -> str:
+    """The row of the page for a finding, without its reason."""
     body = f"`{finding.body}`".replace("|", "\\|") if finding.body else ""
-    return f"| {finding.crate} | {finding.kind} | `{finding.function}` | {body} | {why} |"
+    return f"| {finding.crate} | {finding.kind} | `{finding.function}` | {body} | .. |"
 
 
 def differences(crate: str, planted: Planted, known: Set[Finding]) -> Iterator[str]:
-    """What is found in a crate and not known, and what is known and isn't found where all plants were tried."""
-    for finding in sorted(planted.findings - known):
-        yield f"{crate}: {PAGE} wants a row for this, with its reason:\n{_row(finding, '..')}"
+    """What is found in a crate and not known; and where all plants were tried, what is known and isn't found. (Else a
+    function may be untested for lack of time.)"""
+    for finding in sorted(it for it in planted.findings - known if planted.is_whole or it.kind != "untested"):
+        yield f"{crate}: {PAGE} wants a row for this, with its reason:\n{_row(finding)}"
     for finding in sorted({it for it in known if it.crate == crate} - planted.findings if planted.is_whole else ()):
-        yield f"{crate}: this row of {PAGE} isn't found any more:\n{_row(finding, '..')}"
+        yield f"{crate}: this row of {PAGE} isn't found any more:\n{_row(finding)}"

@@ -3,7 +3,6 @@
 The list is docs/wrong-bodies.tsv. A row has the promises that a body breaks, between semicolons, and what it does,
 which it may share with others. A row without an edit, of the place `test`, is of a body that a test alone refuses.
 """
-import csv
 import re
 import textwrap
 from collections import Counter
@@ -11,9 +10,10 @@ from itertools import zip_longest
 from pathlib import Path
 from typing import Dict, Iterator, List, NamedTuple, Optional
 
+from shared.tables import rows_in
+
 LIST = "docs/wrong-bodies.tsv"
 PROMISES = "docs/PROMISES.md"
-COLUMNS = ["crate", "edit", "file", "function", "place", "kept", "breaks", "does"]
 NO_EDIT = "-"
 LEAD = "Refused is a body that\n\n"
 BODIES = re.compile(rf"{LEAD}(?:- .*\n(?:  .*\n)*)+\n?")
@@ -42,12 +42,7 @@ class Row(NamedTuple):
 
 def rows_of_list(root: Path) -> List[Row]:
     """The rows of the list of wrong bodies; one with more or fewer columns raises ValueError."""
-    with (root / LIST).open(encoding="utf-8", newline="") as file:
-        head, *lines = csv.reader(file, delimiter="\t", quoting=csv.QUOTE_NONE)
-    for number, line in enumerate([head, *lines], 1):
-        if len(line) != len(COLUMNS) or not all(line):
-            raise ValueError(f"{LIST}:{number} hasn't a text in each of the columns {', '.join(COLUMNS)}")
-    return [Row(*line) for line in lines]
+    return [Row(*row) for row in rows_in(root / LIST, Row._fields)]
 
 
 def _places(rows: List[Row], names: Dict[Row, str]) -> str:
@@ -82,12 +77,9 @@ def with_bodies(text: str, rows: List[Row]) -> str:
     having = Counter(row.edit for row in rows)
     names = {row: row.edit if having[row.edit] == 1 else f"{row.crate}/{row.edit}" for row in rows}
 
-    def filled(found: "re.Match[str]") -> str:
-        bodies = _bodies(found["name"], rows, names)
-        return f"### {found['name']}\n{found['said']}{found['state']}\n{bodies}"
-
     bare = re.sub(r"\n{3,}", "\n\n", BODIES.sub("", text))
-    return re.sub(r"\n{3,}", "\n\n", PROMISE.sub(filled, bare))
+    filled = PROMISE.sub(lambda found: f"{found[0]}\n{_bodies(found['name'], rows, names)}", bare)
+    return re.sub(r"\n{3,}", "\n\n", filled)
 
 
 def promises_in(text: str) -> List[str]:
@@ -105,13 +97,7 @@ def faults_of_promises(root: Path) -> Iterator[Optional[str]]:
     for row in rows:
         strange = [name for name in row.promises if name not in known]
         yield f"{LIST}: {row.edit} breaks {strange[0]}, and {PROMISES} has no such promise" if strange else None
-    wanted = with_bodies(text, rows).splitlines()
-    yield from _differences(text.splitlines(), wanted)
-
-
-def _differences(there: List[str], wanted: List[str]) -> Iterator[Optional[str]]:
-    """The first line of the page that isn't as the list wants it, or None."""
-    pairs = enumerate(zip_longest(there, wanted), 1)
+    pairs = enumerate(zip_longest(text.splitlines(), with_bodies(text, rows).splitlines()), 1)
     first = next((number for number, (one, other) in pairs if one != other), 0)
-    again = "run scripts/prove/write-promises"
+    again = "run scripts/prove/test-wrong-bodies --write"
     yield f"{PROMISES}:{first}: the wrong bodies aren't those of {LIST}: {again}" if first else None

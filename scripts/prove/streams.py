@@ -1,11 +1,11 @@
 """Two streams for each wrong body of the gate: one that its program answers rightly, and one wrongly."""
-import csv
 import re
 import subprocess
 from pathlib import Path
 from typing import Iterator, List, NamedTuple, Optional, Tuple
 
 from prove.edits import PLACES, edits_in, sum_of_edit
+from shared.tables import rows_in
 from vectors.notation import bytes_of
 
 FILE = "scripts/prove/streams.tsv"
@@ -14,7 +14,7 @@ PART = re.compile(r'"[^"]*"|[^"]+')
 
 
 class Pair(NamedTuple):
-    """The streams of an edit, the command that reads them, and the sum of what was tried, or `-`."""
+    """The streams of an edit, the command that reads them (or `rows`), and the sum of what was tried, or `-`."""
 
     crate: str
     edit: str
@@ -23,24 +23,10 @@ class Pair(NamedTuple):
     wrong: str
     tried: str
 
-    @property
-    def is_of_program(self) -> bool:
-        """Whether a command of the program shows it, and not only a row of nap_rows."""
-        return self.command != "rows"
-
 
 def pairs_of(root: Path) -> List[Pair]:
     """The streams of all edits."""
-    with (root / FILE).open(encoding="utf-8", newline="") as file:
-        head, *rows = csv.reader(file, delimiter="\t", quoting=csv.QUOTE_NONE)
-    assert tuple(head) == Pair._fields, head
-    return [Pair(*row) for row in rows]
-
-
-def write_pairs(root: Path, pairs: List[Pair]) -> None:
-    """Writes the streams of all edits."""
-    text = "".join("\t".join(row) + "\n" for row in [Pair._fields, *pairs])
-    (root / FILE).write_text(text, "utf-8")
+    return [Pair(*row) for row in rows_in(root / FILE, Pair._fields)]
 
 
 def edit_of(root: Path, pair: Pair) -> Path:

@@ -6,8 +6,6 @@ from pathlib import Path
 from prove.clauses import Source, Sums, functions_of
 
 SOURCE = '''//! Halves.
-use std::fmt;
-
 /// What is halved at most.
 pub const MOST: u32 = 64;
 
@@ -44,76 +42,52 @@ fn apart() {}
 SPEC = "-- Halves, and what they are of.\nhalf : ℕ → ℕ\nhalf n = n / 2\n"
 
 
-class Cut(unittest.TestCase):
-    """What is cut out of a source."""
+class Clauses(unittest.TestCase):
+    """A source, and a repository of two crates with it, of which one stands on the other."""
 
-    def test_functions_have_their_owners_and_clauses(self) -> None:
-        self.assertEqual(
-            [(function.owner, function.name, function.clauses) for function in functions_of(SOURCE)],
-            [
-                ("impl<T: Copy> Half", "of", ["number < 64", "let double = 2 in result.number ≡ number / double"]),
-                ("impl<T: Copy> Half", "text", []),
-                ("trait Halves", "put", ["kept"]),
-                ("", "apart", []),
-            ],
-        )
-
-    def test_bodies_are_cut_out(self) -> None:
-        bodies = [SOURCE[function.start : function.end] for function in functions_of(SOURCE)]
-        self.assertEqual([len(body.splitlines()) for body in bodies], [4, 3, 0, 1])
+    def test_functions_have_owners_and_clauses_and_bodies_are_cut_out(self) -> None:
+        found = [(it.owner, it.name, it.clauses, SOURCE.count("\n", it.start, it.end)) for it in functions_of(SOURCE)]
+        self.assertEqual(found, [
+            ("impl<T: Copy> Half", "of", ["number < 64", "let double = 2 in result.number ≡ number / double"], 3),
+            ("impl<T: Copy> Half", "text", [], 2), ("trait Halves", "put", ["kept"], 0), ("", "apart", [], 0),
+        ])
         kept = Source.of(SOURCE).without_bodies()
         self.assertIn("const MOST : u32 = 64 ;", kept)
         self.assertIn("ensures half { let double = 2 in result . number ≡", kept)
         for gone in ("a text", "brace", "What"):
             self.assertNotIn(gone, kept)
 
-
-class Changed(unittest.TestCase):
-    """What changes a sum, on a repository of two crates, of which one stands on the other."""
-
-    def setUp(self) -> None:
-        room = tempfile.TemporaryDirectory()
-        self.addCleanup(room.cleanup)
-        self.root = Path(room.name)
-        (self.root / "crates.txt").write_text("# Lowest first.\nlow: std\nhigh: low clap\n", "utf-8")
-        for name in ("low", "high"):
-            for folder in ("src/tests", "specs"):
-                (self.root / "crates" / name / folder).mkdir(parents=True)
-            (self.root / "crates" / name / "src" / "lib.rt").write_text(SOURCE, "utf-8")
-            (self.root / "crates" / name / "specs" / "Half.antt").write_text(SPEC, "utf-8")
-
     def changes(self, name: str, file: str, old: str, new: str) -> bool:
         """Whether the sum of `high` changes with a text of a crate's file."""
-        before = Sums(self.root).of("high")
-        path = self.root / "crates" / name / file
-        text = path.read_text("utf-8") if path.exists() else ""
-        self.assertEqual(text.count(old), 1)
-        path.write_text(text.replace(old, new) if text else new, "utf-8")
-        return Sums(self.root).of("high") != before
+        with tempfile.TemporaryDirectory() as folder:
+            root = Path(folder)
+            (root / "crates.txt").write_text("# Lowest first.\nlow: std\nhigh: low clap\n", "utf-8")
+            for crate in (root / "crates" / "low", root / "crates" / "high"):
+                for part in ("src/tests", "specs"):
+                    (crate / part).mkdir(parents=True)
+                (crate / "src" / "lib.rt").write_text(SOURCE, "utf-8")
+                (crate / "specs" / "Half.antt").write_text(SPEC, "utf-8")
+            before, path = Sums(root).of("high"), root / "crates" / name / file
+            text = path.read_text("utf-8") if path.exists() else ""
+            self.assertEqual(text.count(old), 1)
+            path.write_text(text.replace(old, new) if text else new, "utf-8")
+            return Sums(root).of("high") != before
 
     def test_what_counts(self) -> None:
-        for name, file, old, new in (
-            ("high", "src/lib.rt", "result.number ≡", "result.number ≤"),
-            ("low", "src/lib.rt", "result.number ≡", "result.number ≤"),
-            ("high", "src/lib.rt", "even: { number < 64 }", "even: { number < 65 }"),
-            ("low", "src/lib.rt", "u32 = 64", "u32 = 65"),
-            ("low", "src/lib.rt", "number: u32,", "number: u64,"),
-            ("low", "specs/Half.antt", "n / 2", "n / 3"),
-            ("high", "src/lib.rt", "pub fn of", "pub fn from"),
+        for name, file, old, new, counts in (
+            ("high", "src/lib.rt", "result.number ≡", "result.number ≤", True),
+            ("low", "src/lib.rt", "result.number ≡", "result.number ≤", True),
+            ("high", "src/lib.rt", "even: { number < 64 }", "even: { number < 65 }", True),
+            ("low", "src/lib.rt", "u32 = 64", "u32 = 65", True),
+            ("low", "src/lib.rt", "number: u32,", "number: u64,", True),
+            ("low", "specs/Half.antt", "n / 2", "n / 3", True), ("high", "src/lib.rt", "pub fn of", "pub fn from", True),
+            ("high", "src/lib.rt", "number / 2 }", "number }", False),
+            ("high", "src/lib.rt", "// What it gives.", "// ensures { nothing }", False),
+            ("low", "specs/Half.antt", "-- Halves, and what they are of.", "-- Halves.", False),
+            ("high", "src/lib.rt", "= 2 in\n            result", "= 2 in result", False),
+            ("high", "src/tests/halves.rt", "", "fn a() ensures { b } {}\n", False),
         ):
-            with self.subTest(old=old):
-                self.assertTrue(self.changes(name, file, old, new))
-
-    def test_what_does_not_count(self) -> None:
-        for name, file, old, new in (
-            ("high", "src/lib.rt", "number / 2 }", "number }"),
-            ("high", "src/lib.rt", "// What it gives.", "// ensures { nothing }"),
-            ("low", "specs/Half.antt", "-- Halves, and what they are of.", "-- Halves."),
-            ("high", "src/lib.rt", "= 2 in\n            result", "= 2 in result"),
-            ("high", "src/tests/halves.rt", "", "fn a() ensures { b } {}\n"),
-        ):
-            with self.subTest(old=old):
-                self.assertFalse(self.changes(name, file, old, new))
+            self.assertEqual(self.changes(name, file, old, new), counts, old)
 
 
 if __name__ == "__main__":

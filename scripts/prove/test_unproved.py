@@ -1,6 +1,4 @@
 """Tests of how the program is built without a proof, but for the compilers."""
-import os
-import shutil
 import subprocess
 import tempfile
 import unittest
@@ -15,23 +13,31 @@ class Unproved(unittest.TestCase):
     """Each test has a folder of its own."""
 
     def setUp(self) -> None:
-        """Makes the folder."""
-        self.folder = Path(tempfile.mkdtemp())
-        self.addCleanup(shutil.rmtree, self.folder)
+        folder = tempfile.TemporaryDirectory()
+        self.addCleanup(folder.cleanup)
+        self.folder = Path(folder.name)
+
+    def written(self, path: Path, text: str) -> Path:
+        """A program with a text."""
+        path.parent.mkdir(parents=True, exist_ok=True)
+        path.write_text(f"#!/bin/sh\n{text}\n", "ascii")
+        path.chmod(0o755)
+        return path
 
     def test_version(self) -> None:
-        """The version of the copied sources says that they aren't proved, and there has to be one."""
+        """The version says that it isn't proved, there has to be one, and such a program is never installed."""
         text = 'const A: u8 = 1;\nconst VERSION: &str = "1.2, form 3";\n'
         self.assertEqual(marked(text), 'const A: u8 = 1;\nconst VERSION: &str = "1.2, form 3, not proved";\n')
         for wrong in ("", f"{text}{text}"):
             self.assertRaises(NotProved, marked, wrong)
+        version = (TOP / "VERSION").read_text("ascii").strip()
+        program = self.written(self.folder / "naplps", f"echo naplps {version}, canonical form 2, not proved")
+        self.assertRaises(SystemExit, version_of, program)
 
     def test_copies_sources_alone(self) -> None:
-        """The sources of each crate are copied as they are, but for the version; and nothing else of it."""
         copy_sources(TOP, self.folder)
         for source in TOP.glob("crates/*/src/**/*.rt"):
-            copy = self.folder / source.relative_to(TOP)
-            is_same = copy.read_bytes() == source.read_bytes()
+            is_same = (self.folder / source.relative_to(TOP)).read_bytes() == source.read_bytes()
             self.assertEqual(is_same, source.relative_to(TOP) != WORDS, source)
         self.assertEqual({path.name for path in self.folder.glob("crates/*/*")}, {"src"})
 
@@ -39,9 +45,7 @@ class Unproved(unittest.TestCase):
         """A clang keeps the module of the program and stops; it does all else as the toolchain's own does."""
         kit, module = self.folder / "kit, with blanks", self.folder / "module"
         for name in ("bin/rt", "bin/rtlib.py", "bin/rattle", "toolchain/bin/clang", "toolchain/lib/c", "rlibs/std"):
-            (kit / name).parent.mkdir(parents=True, exist_ok=True)
-            (kit / name).write_text(f'#!/bin/sh\necho {name} "$@"\n', "ascii")
-            (kit / name).chmod(0o755)
+            self.written(kit / name, f'echo {name} "$@"')
         rt = recording(kit, self.folder / "recording", module)
         self.assertFalse(rt.is_symlink())
         top = rt.parents[1]
@@ -56,17 +60,8 @@ class Unproved(unittest.TestCase):
         self.assertEqual((ran.returncode, ran.stdout, module.read_bytes()), (1, "", b"BC"))
 
     def test_says_where(self) -> None:
-        """What rt prints names the sources themselves."""
         printed = "interpreter: no\n/t/crates/low/src/lib.rt:1: error: no\nrun=none proved=no\n"
         self.assertEqual(said(printed, Path("/t"), Path("/top")), "/top/crates/low/src/lib.rt:1: error: no")
-
-    def test_is_never_installed(self) -> None:
-        """A program whose version says that it isn't proved is neither installed nor packed."""
-        program = self.folder / "naplps"
-        version = (TOP / "VERSION").read_text("ascii").strip()
-        program.write_text(f"#!/bin/sh\necho naplps {version}, canonical form 2, not proved\n", "ascii")
-        os.chmod(program, 0o755)
-        self.assertRaises(SystemExit, version_of, program)
 
 
 if __name__ == "__main__":

@@ -1,7 +1,6 @@
 """Tries edits with the prover, in a copy of the repository, so that work in it can continue."""
 import os
 import re
-import resource
 import shutil
 import subprocess
 import sys
@@ -20,12 +19,6 @@ def side_by_side() -> int:
     processors = len(os.sched_getaffinity(0))
     memory = re.search(r"MemAvailable:\s+(\d+)", Path("/proc/meminfo").read_text("ascii"))
     return max(1, min(processors, int(memory[1]) // KIB_A_CHECK if memory else 1))
-
-
-def processor_seconds() -> float:
-    """The seconds of a processor that commands have taken so far."""
-    used = resource.getrusage(resource.RUSAGE_CHILDREN)
-    return used.ru_utime + used.ru_stime
 
 
 def verdicts_in(name: str, output: str) -> Dict[str, str]:

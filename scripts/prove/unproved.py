@@ -11,7 +11,7 @@ import shlex
 import shutil
 import subprocess
 from pathlib import Path
-from typing import List, Sequence
+from typing import Callable, List, Sequence
 
 from packages.kept import NotProved, ask, toolchain
 
@@ -89,11 +89,13 @@ def compile_module(kit: Path, module: Path, folder: Path, program: Path) -> None
     ask(*link, "-o", program, compiled, *libraries, folder=folder, errors=subprocess.STDOUT)
 
 
-def build(top: Path, folder: Path) -> Path:
-    """Builds the program of the sources at `top` in an empty folder; raises NotProved where they aren't a program's."""
+def build(top: Path, folder: Path, change: Callable[[Path], None] = lambda tree: None) -> Path:
+    """Builds the program of the sources at `top` in an empty folder, with a change that is made in a copy of them;
+    raises NotProved where they aren't a program's."""
     kit, tree, module, program = toolchain(), folder / "tree", folder / "module.bc", folder / "naplps"
     tree.mkdir()
     copy_sources(top, tree)
+    change(tree)
     rt = recording(kit, folder / "kit", module)
     tried = subprocess.run(
         [rt, "try", "--steps", "1", "--", "--version"], cwd=tree / "crates" / "nap_cli", stdin=subprocess.DEVNULL,

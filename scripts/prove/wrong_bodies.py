@@ -67,17 +67,16 @@ def faults_of_list(root: Path, names: List[str]) -> Iterator[Optional[str]]:
     there = {edit for name in names for place in PLACES.values() for edit in edits_in(root / "crates" / name / place)}
     for edit in sorted(there - set(listed)):
         yield f"{edit.relative_to(root)} isn't in {LIST}"
-    for edit, row in listed.items():
+    for edit in set(listed) - there:
+        yield f"{LIST} names {edit.relative_to(root)}, which isn't there"
+    for edit in sorted(there & set(listed)):
+        row = listed[edit]
+        is_only = any(first[promise] == (promise == row.promises[0]) for promise in row.promises)
         try:
-            found = where(edit, root / "crates" / row.crate) if edit in there else None
+            wanted = _wanted_of(row, is_only, where(edit, root / "crates" / row.crate))
         except Unfit as why:
             yield f"{edit.relative_to(root)}: {why}"
             continue
-        if found is None:
-            yield f"{LIST} names {edit.relative_to(root)}, which isn't there"
-            continue
-        is_only = any(first[promise] == (promise == row.promises[0]) for promise in row.promises)
-        wanted = _wanted_of(row, is_only, found)
         wrong = {column: text for column, text in wanted.items() if getattr(row, column) != text}
         for column, text in wrong.items():
             yield f"{LIST}: {row.edit}: the column {column} has {getattr(row, column)}, where its edit wants {text}"

@@ -47,6 +47,12 @@ def limit_processor(number: int, seconds: int = LIMIT) -> None:
         resource.prlimit(number, resource.RLIMIT_CPU, (seconds, seconds + 1))
 
 
+def processor_seconds() -> float:
+    """The seconds of a processor that all commands have taken that were run and have ended."""
+    used = resource.getrusage(resource.RUSAGE_CHILDREN)
+    return used.ru_utime + used.ru_stime
+
+
 def run(words: Sequence[Union[str, bytes]], text: Optional[bytes] = None, **options: Any) -> Answer:
     """Runs a command, on a text where there is one; a command that takes too long has no status."""
     options.setdefault("stdout", subprocess.PIPE)
