@@ -41,11 +41,12 @@ function read(words) {
   const seen = new Set();
   while (rest.length) {
     const [name, given] = parted(rest.shift());
-    if (command === "make" || (name !== "--hex" && name !== "--budget")) throw wrong(`unexpected argument '${name}' found`);
-    if (seen.has(name)) throw wrong(`the argument '${name === "--hex" ? name : "--budget <N>"}' cannot be used multiple times`);
+    const isHex = name === "--hex";
+    if (command === "make" || (!isHex && name !== "--budget")) throw wrong(`unexpected argument '${name}' found`);
+    if (seen.has(name)) throw wrong(`the argument '${isHex ? name : "--budget <N>"}' cannot be used multiple times`);
     seen.add(name);
-    if (name === "--hex" && given !== undefined) throw wrong(`unexpected value '${given}' for '--hex' found; no more were expected`);
-    if (name === "--hex") found.hex = true;
+    if (isHex && given !== undefined) throw wrong(`unexpected value '${given}' for '--hex' found; no more were expected`);
+    if (isHex) found.hex = true;
     else found.budget = budgetOf(given ?? rest.shift());
   }
   return found;
@@ -117,7 +118,9 @@ async function run(words) {
     write(1, Buffer.from(USAGE));
     return 0;
   }
-  const naplps = await load(place()).catch((error) => { throw new Stop(3, `the module can't be loaded: ${error.message}`); });
+  const naplps = await load(place()).catch((error) => {
+    throw new Stop(3, `the module can't be loaded: ${error.message}`);
+  });
   const input = readInput(), page = hex ? bytesOfHex(input) : input;
   const answer = command === "make" ? naplps.make(page) : naplps[command](page, budget);
   if (!answer.accepted) {
@@ -125,7 +128,8 @@ async function run(words) {
     return answer.fault === "NoMemory" ? 3 : 1;
   }
   if (command === "check") write(1, Buffer.from(describe(answer) + "\n"));
-  else write(1, hex && command === "canon" ? Buffer.from(Buffer.from(answer.bytes).toString("hex") + "\n") : answer.bytes);
+  else if (hex && command === "canon") write(1, Buffer.from(Buffer.from(answer.bytes).toString("hex") + "\n"));
+  else write(1, answer.bytes);
   return 0;
 }
 

@@ -51,7 +51,9 @@ static uint32_t put(Z_naplps_instance_t *it, const uint8_t *bytes, size_t length
 }
 
 /* A room for a text; 0 where there is no memory for it. */
-static uint32_t take(Z_naplps_instance_t *it, size_t size) { return size > MOST ? 0 : Z_naplpsZ_take(it, (uint32_t)size); }
+static uint32_t take(Z_naplps_instance_t *it, size_t size) {
+    return size > MOST ? 0 : Z_naplpsZ_take(it, (uint32_t)size);
+}
 
 static struct naplps_answer lacks_memory(void) {
     struct naplps_answer answer = {NAPLPS_REFUSED, NAPLPS_MEMORY, 0, 0, "Memory"};

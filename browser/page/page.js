@@ -14,6 +14,8 @@ const refusals = JSON.parse(held("refusals")), kinds = JSON.parse(held("kinds"))
 const asking = new Asking(held("worker"), bytesOf(held("module")));
 // How many files are read ahead, and how many names are shown of pages that are the same.
 const READ_AHEAD = 32, SHOWN_SAME = 5;
+// The most bytes of a page that its player shows.
+const MOST_SHOWN = 1 << 20;
 const pages = [], groups = new Map(), waiting = new Map();
 const stem = (name) => name.replace(/\.[^./]*$/, "");
 const spell = (count, one, more = `${one}s`) => `${count.toLocaleString("en")} ${count === 1 ? one : more}`;
@@ -159,18 +161,16 @@ async function add(files) {
 
 // What the player holds of a page. Its rows are the bytes up to each place at which entries came.
 function played(page, { places, lines, drawn }) {
-  const length = page.bytes.length, shown = places.slice(0, drawn.drawn);
-  const ends = shown.map((place) => Math.min(place + 1, length)), rows = [...new Set(ends)];
-  const rowOf = new Map(rows.map((end, at) => [end, at])), codes = {
-    start: rows.map((_, at) => (at ? rows[at - 1] : 0)), end: rows, name: rows.map(() => 0), names: ["bytes"],
-    entry: ends.map((end) => rowOf.get(end)) };
+  const length = page.bytes.length, ends = places.map((place) => Math.min(place + 1, length));
+  const rows = [...new Set(ends)], rowOf = new Map(rows.map((end, at) => [end, at]));
+  const codes = { start: rows.map((_, at) => (at ? rows[at - 1] : 0)), end: rows, name: rows.map(() => 0),
+    names: ["bytes"], entry: ends.map((end) => rowOf.get(end)) };
   let bytes = "";
-  for (let at = 0; at < Math.min(length, 1 << 20); at += 4096) {
-    bytes += String.fromCharCode(...page.bytes.subarray(at, Math.min(at + 4096, 1 << 20)));
+  for (let at = 0; at < Math.min(length, MOST_SHOWN); at += 4096) {
+    bytes += String.fromCharCode(...page.bytes.subarray(at, Math.min(at + 4096, MOST_SHOWN)));
   }
-  const notes = drawn.drawn < lines.length ? [`The picture ends before entry ${drawn.drawn + 1}.`] : [];
-  return { ...drawn, length, before: 0, places: shown, lines: lines.slice(0, drawn.drawn), codes, bytes: btoa(bytes),
-    notes };
+  return { length, before: 0, entries: lines.length, places, lines, codes, isCut: false, bytes: btoa(bytes),
+    notes: [], drawing: drawn };
 }
 
 async function detail(page) {

@@ -1,26 +1,16 @@
 // What reads pages in a worker, so that the page answers at once: it is ended where one takes too long.
 
-import { read } from "../canonical.mjs";
-import { drawing } from "../drawing.js";
 import { Naplps, describe } from "../module/naplps.mjs";
 import { markup, picture } from "../picture.js";
+import { drawingOf } from "../playing.js";
 
-// The most entries that are listed and drawn here, and the most bytes of a canonical stream for that.
-const MOST_LISTED = 100000, MOST_DRAWN_BYTES = 1 << 24;
+// The most entries that are listed here.
+const MOST_LISTED = 100000;
 const ascii = new TextDecoder("ascii");
 let naplps;
 
-// The entries of a canonical stream.
-const entriesOf = (canonical) => canonical.length > MOST_DRAWN_BYTES ? [] : [...read(canonical)];
-
-// The canonical stream of the lines that come before a refusal; without a definition that it leaves open.
-function streamOf(lines) {
-  const text = (some) => new TextEncoder().encode(some.map((line) => `${line}\n`).join(""));
-  const made = naplps.make(text(lines));
-  if (made.accepted) return made.bytes;
-  const whole = naplps.make(text(lines.slice(0, Math.max(0, made.opening - 1))));
-  return whole.accepted ? whole.bytes : new Uint8Array();
-}
+// The lines of a list, without their ends.
+const linesOf = (bytes) => ascii.decode(bytes).split("\n").slice(0, -1);
 
 // What is said of a page, and its canonical stream where it is accepted.
 function check({ bytes }) {
@@ -33,12 +23,10 @@ function check({ bytes }) {
 function open({ bytes }) {
   const answer = naplps.check(bytes);
   if (answer.accepted && answer.entries > MOST_LISTED) return { tooLong: answer.entries };
-  const rows = ascii.decode(naplps.places(bytes).bytes).split("\n").slice(0, MOST_LISTED + 1);
-  rows.pop();
+  const rows = linesOf(naplps.places(bytes).bytes).slice(0, MOST_LISTED);
   const places = rows.map((row) => Number(row.slice(0, row.indexOf(" "))));
   const lines = rows.map((row) => row.slice(row.indexOf(" ") + 1));
-  const drawn = drawing(entriesOf(answer.accepted ? naplps.canon(bytes).bytes : streamOf(lines)));
-  return { places, lines, drawn };
+  return { places, lines, drawn: drawingOf(lines) };
 }
 
 // The picture of a page as SVG; of a refused page, what comes before.
@@ -51,7 +39,7 @@ function svg({ bytes, words }) {
 function make({ bytes }) {
   const answer = naplps.make(bytes), made = answer.accepted ? answer.bytes : null;
   return { answer, told: describe(answer), canonical: made,
-    svg: made ? markup(picture(drawing(entriesOf(made)), "the page of these lines")) : "" };
+    svg: made ? markup(picture(drawingOf(linesOf(naplps.list(made).bytes)), "the page of these lines")) : "" };
 }
 
 const ASKED = { check, make, open, svg };

@@ -1,8 +1,8 @@
 // Answers records by each call of the library: what the module for browsers has to answer too, byte for byte.
 //
 // A record is three numbers of 32 bits, least byte first, and bytes: 0 for a page or 1 for lines, the budget, and how
-// many bytes there are. Its answers are how many bytes they have, in 32 bits, and then structs and texts: of lines those
-// of naplps_make; of a page those of each call, of naplps_make on its list, and of its three pieces.
+// many bytes there are. Its answers are how many bytes they have, in 32 bits, and then structs and texts: of lines
+// those of naplps_make; of a page those of each call, of naplps_make on its list, and of its three pieces.
 #include "calls.h"
 
 struct answers {

@@ -6,7 +6,7 @@ import re
 import subprocess
 import zlib
 
-from conftest import COMMAND
+from conftest import COMMAND, HERE
 
 # Of the pels that either picture draws off the ground 95 in a hundred are so near.
 NEAR, LEAST = 64, 0.95
@@ -55,6 +55,14 @@ def held(html):
     with open(html, encoding="utf-8") as file:
         packed = re.search('<script type="text/plain" id="page">([A-Za-z0-9+/=]*)</script>', file.read())
     return json.loads(zlib.decompress(base64.b64decode(packed[1])))
+
+
+def drawn_of(*played):
+    """What players show of what they hold, which comes as JSON; without the steps of their drawings."""
+    said = subprocess.run(["node", os.path.join(HERE, "drawn_answers.mjs")], capture_output=True,
+                          input="".join(f"{each}\n" for each in played).encode("ascii"))
+    assert (said.returncode, said.stderr) == (0, b"")
+    return [json.loads(line) for line in said.stdout.splitlines()]
 
 
 def called(lines, *words):

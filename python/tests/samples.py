@@ -36,3 +36,4 @@ def has(command: str) -> bool:
 
 
 needs_chromium = pytest.mark.skipif(not has("chromium"), reason=lack("chromium"))
+needs_node = pytest.mark.skipif(not has("node"), reason="not tried: there is no node (Debian: apt-get install nodejs)")

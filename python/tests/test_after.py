@@ -9,13 +9,13 @@ from hypothesis import strategies as st
 from conftest import file
 from naplps.answers import Accepted
 from naplps.client import Client
-from naplps.drawing import timeline
 from naplps_pages.earlier import Earlier, heard
 from naplps_pages.listing import Listed, listed
+from naplps_pages.player import limits
 from naplps_pages.player.played import played
 from naplps_pages.source import Page
-from players import held
-from samples import OUTSIDE, POINT, POINT_LINE
+from players import drawn_of, held
+from samples import OUTSIDE, POINT, POINT_LINE, needs_node
 
 # A macro of a point, and G2 for macros; a page that calls it; and one that only continues a run.
 FIRST = bytes.fromhex("1B 40 41 0E 26 52 0F 1B 45 1B 2A 7A")
@@ -127,13 +127,16 @@ def test_a_player_has_the_entries_of_earlier_pages_in_front(run, folder):
     assert not os.path.exists(html + "2")
 
 
+@needs_node
 def test_the_entries_of_earlier_pages_are_bounded_too(monkeypatch):
-    monkeypatch.setattr(timeline, "MOST_BYTES", 20_000)
-    ink = "pel=0,0 colour=own-start texture=0/none"
-    before = ["RECT-FILLED 0,0 4000000,4000000 " + ink, "CLEAR pen=0,0"] * 500
-    it = json.loads(played(b"AB", Listed(Accepted(1), [(0, before[0])]), before=before))
-    assert 20 < it["before"] == len(it["lines"]) == len(it["places"]) < len(before) and set(it["places"]) == {-1}
-    assert it["notes"] and "ends before entry 1:" in it["notes"][0]
+    monkeypatch.setattr(limits, "MOST_LINES", 20_000)
+    before = ["RECT-FILLED 0,0 4000000,4000000 pel=0,0 colour=own-start texture=0/none", "CLEAR pen=0,0"] * 500
+    made = played(b"AB", Listed(Accepted(1), [(0, before[0])]), before=before)
+    it = json.loads(made)
+    # (84 characters have two lines)
+    assert it["before"] == len(it["lines"]) == len(it["places"]) == 2 * (20_000 // 84) and set(it["places"]) == {-1}
+    [shown] = drawn_of(made)
+    assert shown["before"] == it["before"] and "ends before entry 1:" in shown["notes"][0]
 
 
 PIECES = st.lists(st.sampled_from([

@@ -1,4 +1,5 @@
-"""The drawing in JavaScript beside the one in Python: every step of each page is the same."""
+"""The drawing in JavaScript, from entries and from lines, beside the one in Python: every step of each page is the
+same."""
 import json
 import os
 import random
@@ -10,19 +11,28 @@ from canonical_trial import asked, framed, made
 from conftest import HERE, TOP
 from entries import legal_list
 from gallery import pages
-from naplps.drawing.timeline import timeline
-from samples import has
+from naplps.drawing import draw
+from naplps.entry_json import members_of
+from naplps.reading import NotALine, read_line
+from samples import needs_node
 from strategies import PARTS
 from stream_writer import StreamWriter
 from test_canonical import vectors
+from timelines import timeline
 
-pytestmark = pytest.mark.skipif(not has("node"), reason="not tried: there is no node (Debian: apt-get install nodejs)")
-CHUNK = 500
+pytestmark = needs_node
+CHUNK, MADE = 500, 2_000
 
 
-def drawn(streams):
-    """What browser/drawing.js makes of each stream."""
-    said = subprocess.run(["node", os.path.join(HERE, "drawing_answers.mjs")], input=framed(streams),
+def asked_for(streams, lists):
+    """What drawing_answers.mjs takes: canonical streams and their lists."""
+    texts = ("".join(f"{line}\n" for line in lines).encode("ascii") for lines in lists)
+    return framed(part for both in zip(streams, texts) for part in both)
+
+
+def drawn(streams, lists):
+    """What browser/drawing.js makes of each stream, which has these lines."""
+    said = subprocess.run(["node", os.path.join(HERE, "drawing_answers.mjs")], input=asked_for(streams, lists),
                           capture_output=True)
     assert (said.returncode, said.stderr) == (0, b"")
     return map(json.loads, said.stdout.splitlines())
@@ -32,7 +42,8 @@ def assert_same(streams, lists):
     """Both drawings are the same for each stream and the lines of its list; how many steps they have."""
     steps = 0
     for at in range(0, len(streams), CHUNK):
-        for stream, lines, mine in zip(streams[at:at + CHUNK], lists[at:at + CHUNK], drawn(streams[at:at + CHUNK])):
+        some, texts = streams[at:at + CHUNK], lists[at:at + CHUNK]
+        for stream, lines, mine in zip(some, texts, drawn(some, texts)):
             wanted = json.loads(timeline(lines).json)
             assert mine == wanted, stream[:200].hex()
             steps += len(mine["steps"])
@@ -59,11 +70,11 @@ def test_all_lists_of_the_vectors():
 
 def test_the_gallery_and_made_pages(naplps):
     chance = random.Random(88)
-    sources = [*pages().values(), *(page_by_chance(chance) for _ in range(2_000))]
+    sources = [*pages().values(), *(page_by_chance(chance) for _ in range(MADE * 5 // 4))]
     answers = [each for each in asked(naplps, sources) if each.canonical]
     steps = assert_same([each.canonical for each in answers],
                         [each.lines.decode("ascii").splitlines() for each in answers])
-    assert len(answers) > 1_500
+    assert len(answers) > MADE
     print(f"{len(answers)} pages, {steps} steps")
 
 
@@ -74,6 +85,8 @@ def test_lists_by_chance(naplps):
 
 
 POLYGON = "POLY-FILLED %s pel=0,0 colour=own-start texture=24/none"
+# Of how many such lines the dashes are more than a picture has in time, and less than the entries that may be drawn.
+CLEARED = 5_000
 DASHED = "LINE 0,0 8388607,8388607 pel=1,1 colour=own-start texture=3/none"
 
 
@@ -83,7 +96,37 @@ DASHED = "LINE 0,0 8388607,8388607 pel=1,1 colour=own-start texture=3/none"
 def test_the_bounds(naplps, name, lines):
     [stream] = made(naplps, [lines])
     assert_same([stream], [lines])
-    assert next(drawn([stream]))["drawn"] < len(lines)
+    assert next(drawn([stream], [lines]))["drawn"] < len(lines)
+
+
+def test_what_comes_in_time_counts_though_it_is_cleared(naplps):
+    lines = [DASHED, "CLEAR pen=8388607,8388607"] * CLEARED
+    [stream] = made(naplps, [lines])
+    assert_same([stream], [lines])
+    assert next(drawn([stream], [lines]))["drawn"] < len(lines) == draw(lines).drawn
+
+
+def test_what_is_no_line_is_none_for_both():
+    """Lines of lists that are changed by chance: read alike, or by neither."""
+    chance, found = random.Random(90), sorted({line for _, lines in vectors() for line in lines})
+    lines, taken = [], 0
+    for _ in range(20_000):
+        line, other = chance.choice(found), chance.choice(found)
+        at, length = chance.randrange(len(line) + 1), chance.choice([0, 1, 1, 2, 5])
+        lines.append(line[:at] + chance.choice(["", " ", "0", ",", "-", "x", "\u0661", other[at:at + length]])
+                     + line[at + length:])
+    said = subprocess.run(["node", os.path.join(HERE, "line_answers.mjs")], capture_output=True, check=True,
+                          input="".join(f"{line}\n" for line in lines).encode("utf-8"))
+    for line, mine in zip(lines, map(json.loads, said.stdout.splitlines())):
+        try:
+            wanted = members_of(read_line(line), None)
+            del wanted["place"]
+        except NotALine:
+            wanted = None
+        assert mine == wanted, line
+        taken += mine is not None
+    assert 1_000 < taken < 19_000
+    print(f"{taken} of {len(lines)} changed lines")
 
 
 def test_a_changed_drawing_is_seen(tmp_path):
@@ -96,9 +139,9 @@ def test_a_changed_drawing_is_seen(tmp_path):
                ("letters.js", "red, green, blue].map", "green, red, blue].map"))
     for name, before, after in changes:
         folder = tmp_path / str(len(os.listdir(tmp_path)))
-        for path in ("browser/canonical.mjs", "browser/drawing.js", "browser/package.json",
-                     *(f"browser/drawing/{each}" for each in os.listdir(os.path.join(TOP, "browser", "drawing"))),
-                     "python/tests/drawing_answers.mjs"):
+        for path in ("browser/canonical.mjs", "browser/drawing.js", "browser/lines.mjs", "browser/package.json",
+                     "browser/playing.js", "python/tests/drawing_answers.mjs",
+                     *(f"browser/drawing/{each}" for each in os.listdir(os.path.join(TOP, "browser", "drawing")))):
             (folder / path).parent.mkdir(parents=True, exist_ok=True)
             with open(os.path.join(TOP, path), encoding="utf-8") as file:
                 text = file.read()
@@ -106,7 +149,7 @@ def test_a_changed_drawing_is_seen(tmp_path):
                 assert before in text
                 text = text.replace(before, after)
             (folder / path).write_text(text, "utf-8")
-        said = subprocess.run(["node", "python/tests/drawing_answers.mjs"], input=framed(streams), cwd=folder,
+        said = subprocess.run(["node", "python/tests/drawing_answers.mjs"], cwd=folder, input=asked_for(streams, lists),
                               capture_output=True, check=True)
         assert [json.loads(line) for line in said.stdout.splitlines()] != wanted
 

@@ -11,7 +11,6 @@ from conftest import TOP, file
 from naplps import drawing
 from naplps.answers import Refusal
 from naplps.client import Client
-from naplps.drawing.timeline import timeline
 from naplps.drawing.walk import MOST_DRAWN
 from naplps.entry import ONE
 from naplps.reading import placed
@@ -19,8 +18,8 @@ from naplps_pages.listing import listed
 from naplps_pages.player import limits
 from naplps_pages.player.played import played
 from naplps_pages.source import Page
-from players import how_like, like, play, want
-from samples import POINT, needs_chromium
+from players import drawn_of, how_like, like, play, want
+from samples import POINT, needs_chromium, needs_node
 from stream_writer import StreamWriter
 from test_sketch_bounds import bomb
 
@@ -405,39 +404,69 @@ def test_a_row_of_bytes_says_what_it_has_no_room_for(shown):
 
 
 @pytest.fixture
-def small(monkeypatch):
-    """Small limits of what a player holds."""
-    for name, value in (("MOST_BYTES", 300), ("MOST_CODES", 40), ("A_LINE", 60), ("MOST_LINES", 400)):
-        monkeypatch.setattr(limits, name, value)
-
-
-def test_what_is_held_is_bounded_and_told(program, small):
+def weather(program):
+    """What a player holds of a page under small limits: makes the JSON of it."""
     with open(os.path.join(FOLDER, "weather.nap"), "rb") as data:
         page = data.read()
-    made = played(page, listed(program, Page("weather", page)))
-    held = json.loads(made)
-    assert len(held["bytes"]) == 400 and len(held["codes"]["start"]) <= 40 and held["length"] == len(page)
-    assert max(map(len, held["lines"])) <= 63 and len(held["lines"]) == 108
-    assert [re.sub("[0-9]+", "N", note) for note in held["notes"]] == [
-        "Bytes are shown up to byte N of N.", "Some lines of the list are shown in part."]
+    told = listed(program, Page("weather", page))
+
+    def made(**small):
+        with pytest.MonkeyPatch.context() as patched:
+            for name, value in small.items():
+                patched.setattr(limits, name, value)
+            return played(page, told), len(page)
+    return made
 
 
+@needs_node
+def test_what_is_held_of_bytes_is_bounded_and_told(weather):
+    made, length = weather(MOST_BYTES=300, MOST_CODES=40)
+    held, [shown] = json.loads(made), drawn_of(made)
+    assert len(held["bytes"]) == 400 and len(held["codes"]["start"]) <= 40 and held["length"] == length
+    assert len(shown["lines"]) == 108 == shown["drawn"] and shown["codes"] == held["codes"]
+    assert shown["notes"] == [f"Bytes are shown up to byte {held['codes']['end'][-1]} of {length}."]
+
+
+@needs_node
+def test_what_is_held_of_the_list_is_bounded_and_told(weather):
+    whole, length = weather()
+    made, _ = weather(MOST_LINES=4000)
+    lines, held, [shown] = json.loads(whole)["lines"], json.loads(made), drawn_of(made)
+    number = len(held["lines"])
+    assert sum(map(len, lines[:number])) <= 4000 < sum(map(len, lines[:number + 1])) and held["entries"] == 108
+    assert held["lines"] == shown["lines"] == lines[:number]
+    assert held["length"] == shown["length"] == held["places"][-1] + 1 < length
+    assert shown["notes"] == [f"The picture ends before entry {number + 1}: with what follows it would be more than a "
+                              "picture may be."]
+
+
+@needs_node
+def test_of_what_is_more_than_a_picture_may_be_the_bytes_and_codes_before_it_are_shown():
+    ink = "pel=0,0 colour=own-start texture=0/none"
+    polygon = f"POLY-FILLED {' '.join(['0,0', '9,9'] * 1000)} {ink}"
+    # (2,000 points of 200,000 each: 100 of them are drawn)
+    codes = {"start": [*range(0, 1040, 10)], "end": [*range(10, 1050, 10)], "name": [0] * 104, "names": ["POLY"],
+             "entry": [*range(104)]}
+    held = {"length": 1040, "before": 1, "entries": 104, "places": [-1, *range(19, 1040, 10)],
+            "lines": [polygon] * 104, "codes": codes, "isCut": False, "bytes": "", "notes": ["A note."]}
+    [shown] = drawn_of(json.dumps(held))
+    assert (shown["drawn"], shown["before"], shown["length"]) == (100, 1, 1000)
+    assert shown["codes"]["end"][-1] == 1000 and shown["codes"]["entry"] == [*range(100)]
+    assert len(shown["places"]) == len(shown["lines"]) == 100 and shown["lines"][0] == f"{polygon[:1999]} .."
+    assert shown["notes"] == ["A note.", "The picture ends before entry 100: with what follows it would be more than a "
+                              "picture may be.", "Some lines of the list are shown in part."]
+
+
+@needs_node
 @pytest.mark.parametrize("end", [b"\x18", b"\x1b\x42", b"\x26\x28\x7f", b"\x3a\x52\x40", b"\x1b"])
 def test_of_a_refused_page_all_bytes_up_to_the_refusal_are_shown(program, end):
     page = POINT + end
     told = listed(program, Page("page", page))
     assert isinstance(told.answer, Refusal)
-    made = json.loads(played(page, told))
-    assert made["notes"] == [] and made["length"] == min(len(page), told.answer.place + 1)
-
-
-def test_what_comes_in_time_counts_though_it_is_cleared(monkeypatch):
-    monkeypatch.setattr(drawing.timeline, "MOST_BYTES", 20_000)
-    ink = "pel=0,0 colour=own-start texture=0/none"
-    lines = ["RECT-FILLED 0,0 4000000,4000000 " + ink, "CLEAR pen=0,0"] * 500
-    made = timeline(lines)
-    assert 20 < made.drawn < len(lines) and "ends before entry %d:" % (made.drawn + 1) in made.end
-    assert len(made.json) < 60_000 and drawing.draw(lines).drawn == len(lines)
+    made = played(page, told)
+    [shown] = drawn_of(made)
+    assert shown["notes"] == [] and shown["length"] == min(len(page), told.answer.place + 1)
+    assert shown["codes"] == json.loads(made)["codes"]
 
 
 def test_a_refused_page_is_played_up_to_its_refusal(naplps, tmp_path, shown):

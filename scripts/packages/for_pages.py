@@ -17,6 +17,7 @@ from naplps_pages import file_kinds, refusals  # noqa: E402
 from naplps_pages.player import document  # noqa: E402
 
 BROWSER, PAGE = TOP / "browser", TOP / "browser" / "page"
+PLAYER_DRAWING = TOP / "python" / "naplps_pages" / "player" / document.DRAWING
 POLICY = ("default-src 'none'; script-src %s 'wasm-unsafe-eval'; worker-src blob:; style-src %s; img-src blob:; "
           "base-uri 'none'; form-action 'none'")
 MARK = re.compile(r"@([A-Z]+)@")
@@ -35,14 +36,16 @@ class NotJoined(Exception):
     """A source has an import or an export of another form, or sources import each other."""
 
 
-def joined(name: str) -> str:
-    """The script of a source of browser/ and of all that it imports, each once and in a scope of its own."""
+def joined(name: str, wanted: str = "") -> str:
+    """The script of a source of browser/ and of all that it imports, each once and in a scope of its own. What the
+    source exports has the name that is wanted."""
     scopes: Dict[Path, str] = {}
     _take((BROWSER / name).resolve(), scopes, [])
     numbers = {path: number for number, path in enumerate(scopes)}
     text = "".join(f"const module{numbers[path]} = {scope};\n" for path, scope in scopes.items())
     text = re.sub(r"module\{([^}\n]+)\}", lambda found: f"module{numbers[Path(found[1])]}", text)
-    return f"(() => {{\n\"use strict\";\n{text}}})();\n"
+    head, last = (f"const {wanted} = ", f"return module{len(numbers) - 1};\n") if wanted else ("", "")
+    return f"{head}(() => {{\n\"use strict\";\n{text}{last}}})();\n"
 
 
 def _take(path: Path, scopes: Dict[Path, str], above: List[Path]) -> None:
@@ -77,9 +80,14 @@ def element() -> str:
     return head + joined("element.js")
 
 
+def player_drawing() -> str:
+    """The script with which players draw, as PLAYER_DRAWING has it."""
+    return "// Made of browser/playing.js by scripts/packages/browser --page.\n" + joined("playing.js", "Drawing")
+
+
 def page(module: bytes) -> str:
     """The page in which files are dropped, with this module of the library."""
-    player_style, player = document.component()
+    player_style, player = document.component(draws=False)
     own = TOP / "python" / "naplps_pages" / "player" / "page.css"
     style = own.read_text("utf-8") + player_style + (PAGE / "page.css").read_text("utf-8")
     script = player + joined("page/page.js")

@@ -8,7 +8,10 @@ from html import escape
 from typing import Tuple
 
 HERE = os.path.dirname(os.path.abspath(__file__))
-SCRIPTS = ("elements.js", "smooth.js", "raster.js", "moments.js", "flashes.js", "screen.js", "codes.js", "player.js")
+# (made of browser/ by scripts/packages/browser --page)
+DRAWING = "drawing.js"
+SCRIPTS = ("elements.js", DRAWING, "drawn.js", "smooth.js", "raster.js", "moments.js", "flashes.js", "screen.js",
+           "codes.js", "player.js")
 POLICY = "default-src 'none'; script-src %s; style-src %s; base-uri 'none'; form-action 'none'"
 MARK = re.compile(r"@([A-Z]+)@")
 
@@ -22,9 +25,11 @@ def html(title: str, said: str, data: str) -> str:
     return MARK.sub(lambda found: parts[found[1]], _own("play.html"))
 
 
-def component() -> Tuple[str, str]:
-    """The style and the script of a player for another document, which has `Player` then and no other name of it."""
-    return _own("player.css"), "const Player = (() => {\n%s\nreturn Player;\n})();\n" % "".join(map(_own, SCRIPTS))
+def component(draws: bool = True) -> Tuple[str, str]:
+    """The style and the script of a player for another document, which has `Player` then and no other name of it.
+    Without `draws` it has to get pages with their drawings."""
+    script = "".join(_own(name) for name in SCRIPTS if draws or name != DRAWING)
+    return _own("player.css"), "const Player = (() => {\n%s\nreturn Player;\n})();\n" % script
 
 
 def _own(name: str) -> str:

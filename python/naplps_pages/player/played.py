@@ -1,14 +1,13 @@
-"""What a player holds of a page, as JSON: its drawing in time, the places of its entries, its codes and bytes."""
+"""What a player holds of a page, as JSON: the lines and the places of its entries, its codes and bytes. The player
+draws the lines itself."""
 import base64
 import json
 from dataclasses import dataclass, field
-from itertools import takewhile
+from itertools import accumulate, takewhile
 from typing import Dict, List, Sequence, Tuple
 
 from naplps.answers import Accepted, Refusal
-from naplps.drawing.timeline import timeline
-from naplps.drawing.walk import ENDS
-from naplps.reading import Entries
+from naplps.drawing.walk import MOST_DRAWN
 
 from ..explaining import numbered
 from ..listing import Listed, Row
@@ -32,31 +31,32 @@ class CodeColumns:
 def played(data: bytes, told: Listed, said: str = "", before: Sequence[str] = ()) -> str:
     """What a player holds of a page that has these bytes, this answer, and places of its entries.
 
-    Its notes are `said`, and sentences on what is left out. `before` are the lines of the entries of earlier pages:
-    what they draw is there when the first byte comes.
+    Its notes are `said`; the player itself tells what it leaves out. `before` are the lines of the entries of earlier
+    pages: what they draw is there when the first byte comes.
     """
-    assert told.rows is not None and told.entries is not None
-    drawn = timeline(Entries([*before, *(told.lines or ())]) if before else told.entries)
-    earlier: List[Row] = [(NOT_HERE, line) for line in before[:drawn.drawn]]
-    some = told.rows[:drawn.drawn - len(earlier)]
-    length = _length(data, told, some)
-    codes, is_cut = _codes(data, told, some, length)
-    codes.entry[:0] = [-1] * len(earlier)
-    lines, is_short = _lines([*earlier, *some])
-    shown = min(length, limits.MOST_BYTES)
-    notes = [note for note in (said, drawn.end and ENDS % (len(some) + 1)) if note]
-    if is_cut and codes.end:
-        notes.append(f"Bytes are shown up to byte {codes.end[-1]} of {length}.")
-    if is_short:
-        notes.append("Some lines of the list are shown in part.")
-    places = [place for place, _ in [*earlier, *some]]
-    members = {"length": length, "before": len(earlier), "places": places, "lines": lines, "codes": vars(codes),
-               "bytes": base64.b64encode(data[:shown]).decode("ascii"), "notes": notes}
-    return drawn.json[:-1] + "," + json.dumps(members, separators=(",", ":"))[1:]
+    assert told.rows is not None
+    every: List[Row] = [*((NOT_HERE, line) for line in before), *told.rows]
+    held = every[:_so_many(every)]
+    earlier = min(len(before), len(held))
+    own = held[earlier:]
+    length = _length(data, told, own)
+    codes, is_cut = _codes(data, told, own, length)
+    codes.entry[:0] = [-1] * earlier
+    shown = data[:min(length, limits.MOST_BYTES)]
+    members = {"length": length, "before": earlier, "entries": len(every), "places": [place for place, _ in held],
+               "lines": [line for _, line in held], "codes": vars(codes), "isCut": is_cut,
+               "bytes": base64.b64encode(shown).decode("ascii"), "notes": [said] if said else []}
+    return json.dumps(members, separators=(",", ":"))
+
+
+def _so_many(rows: Sequence[Row]) -> int:
+    """How many of the entries are held: no more than may be drawn, with no more characters in their lines."""
+    sizes = accumulate(len(line) for _, line in rows[:MOST_DRAWN])
+    return sum(1 for _ in takewhile(lambda size: size <= limits.MOST_LINES, sizes))
 
 
 def _length(data: bytes, told: Listed, some: Sequence[Row]) -> int:
-    """How many bytes come down the line: all, those up to a refusal, or those up to the last entry that is drawn."""
+    """How many bytes come down the line: all, those up to a refusal, or those up to the last entry that is held."""
     assert told.rows is not None
     if len(some) < len(told.rows):
         last = some[-1][0] if some else 0
@@ -79,20 +79,6 @@ def _codes(data: bytes, told: Listed, some: List[Row], length: int) -> Tuple[Cod
         columns.name.append(numbers.setdefault(row.name, len(numbers)))
     columns.names = list(numbers)
     return columns, len(shown) < len(rows)
-
-
-def _lines(some: Sequence[Row]) -> Tuple[List[str], bool]:
-    """The lines of the entries, and whether some of them are cut."""
-    lines: List[str] = []
-    held, is_short = 0, False
-    for _, line in some:
-        most = limits.A_LINE if held < limits.MOST_LINES else 0
-        if len(line) > most:
-            line = line[:most].rsplit(" ", 1)[0] + " .." if most else line.split(" ", 1)[0]
-            is_short = True
-        held += len(line)
-        lines.append(line)
-    return lines, is_short
 
 
 def can_be_played(told: Listed) -> bool:

@@ -15,7 +15,7 @@ const spelled = (value, one, more) => value.toLocaleString("en") + " " + (value 
 class Player {
   // Shows a page in a box of the document.
   constructor(box, held) {
-    const data = {...held, bytes: Uint8Array.from(atob(held.bytes), (letter) => letter.charCodeAt(0))};
+    const data = {...drawnOf(held), bytes: Uint8Array.from(atob(held.bytes), (letter) => letter.charCodeAt(0))};
     Object.assign(this, {box, data, marked: new Set(), row: -1, isPlaying: false, frame: 0, last: 0});
     this.isCalm = matchMedia("(prefers-reduced-motion: reduce)").matches;
     this.line = new Line(data, USUAL_SPEED);

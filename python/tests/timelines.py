@@ -1,16 +1,17 @@
-"""A drawing in time, for a player: the elements that a sketch has, each with the entry that it came with, and what
-changes the colours of what stands. Its colours of the map are addresses, since the map is live."""
+"""The drawing of sketches in time, beside that of players in browser/: the elements that a sketch has, each with the
+entry that it came with, and what changes the colours of what stands. Its colours of the map are addresses, since the
+map is live."""
 import json
 from dataclasses import dataclass
 from typing import Dict, List, Optional
 
-from ..entry import Blink, BlinkEnd, BlinkMark, Entry, Map, Wait
-from .colours import BLACK, FIRST, Palette, direct
-from .elements import Element
-from .measure import HEIGHT, WIDTH
-from .paper import AROUND, MOST_BYTES, Cost, Full, LetterCells, Paper
-from .walk import ENDS, Lines, Walk, entries_of
-from .weight import Weight
+from naplps.entry import Blink, BlinkEnd, BlinkMark, Entry, Map, Wait
+from naplps.drawing.colours import BLACK, FIRST, Palette, direct
+from naplps.drawing.elements import Element
+from naplps.drawing.measure import HEIGHT, WIDTH
+from naplps.drawing.paper import AROUND, MOST_BYTES, Cost, Full, LetterCells, Paper
+from naplps.drawing.walk import ENDS, Lines, Walk, entries_of
+from naplps.drawing.weight import Weight
 
 # What stands before an address of the map, where a sketch has the colour.
 ADDRESS = "@n"
