@@ -11,7 +11,7 @@ _naplps_pages() {
     case $before in
         # (numbers are for the user to say)
         --budget | --seconds | --processes | --part | --most | --number | --reason | --kind | --refused | --sketches | \
-            --least | --port) return ;;
+            --least | --port | --scale | --speed) return ;;
         --into | -o | --svg | --sheet | --after)
             compopt -o filenames
             mapfile -t COMPREPLY < <(compgen -f -- "$word")
@@ -26,7 +26,7 @@ _naplps_pages() {
         explain) words='--full --after --budget --seconds --help' ;;
         text) words='--after --budget --seconds --help' ;;
         describe) words='--html --after --budget --seconds --help' ;;
-        look) words='--svg --sheet --into --png --past --after --budget --seconds --help' ;;
+        look) words='--svg --sheet --into --png --dots --animate --scale --speed --past --after --budget --seconds --help' ;;
         play) words='--into --after --budget --seconds --help' ;;
         carve) words='--into --dry-run --least --json --budget --seconds --help' ;;
         cures | split) words='--json --into --budget --seconds --help' ;;

@@ -26,7 +26,8 @@ NO_CANON = ("not for canon: a canonical stream begins where nothing stands, so a
 # The commands that take one page.
 ALONE_ON_PAGE = ("explain", "play", "source")
 # The options that a session has.
-OPTIONS = ("json", "into", "svg", "full", "past", "png", "sheet", "look", "output_file", "html", "least")
+OPTIONS = ("json", "into", "svg", "full", "past", "png", "sheet", "look", "output_file", "html", "least",
+           "dots", "animate", "scale", "speed")
 # The commands on pages whose answers may be as long as they are.
 AT_LENGTH = ("list", "canon", "make")
 # The functions that are the commands on pages, by their modules.
@@ -187,6 +188,7 @@ def _page_options(one: Parser) -> None:
         where.add_argument("--sheet", metavar="FILE", type=name,
                            help=f"write one picture of all pages, of {MOST_PAGES} at most, to this file")
         one.add_argument("--png", action="store_true", help="make PNG instead of SVG, by rsvg-convert of librsvg")
+        _dots_options(one)
         one.add_argument("--past", action="store_true", help="of a refused page draw what comes after the refusal "
                          "too, by guess: hatched, and marked as a guess")
     if title == "explain":
@@ -395,6 +397,29 @@ COMMANDS = {
     "serve": Command("show what a scan found to browsers of this machine", OF_REPORTS, _serve_options)}
 
 
+def _dots_options(one: argparse.ArgumentParser) -> None:
+    """The options of a picture in dots."""
+    from .dotting import MOST_SCALE, MOST_SPEED, USUAL_SPEED
+    one.add_argument("--dots", action="store_true", help="make PNG of 256 x 200 dots, as docs/RASTER.md has them")
+    one.add_argument("--animate", action="store_true", help="make PNG of dots that moves: the page as it comes down a "
+                     "line, with its waits and what blinks")
+    one.add_argument("--scale", metavar="N", type=partial(whole_number, least=1, most=MOST_SCALE), default=1,
+                     help="how many pixels wide and high a dot is")
+    one.add_argument("--speed", metavar="BITS", type=partial(whole_number, least=1, most=MOST_SPEED),
+                     default=USUAL_SPEED, help="the bits a second of the line of --animate; the default is "
+                     f"{USUAL_SPEED}")
+
+
+def _check_dots(given: argparse.Namespace) -> None:
+    """Exits where the options ask for dots and for a sketch."""
+    asked = "--animate" if given.animate else "--dots" if given.dots else ""
+    if not asked and given.scale != 1:
+        given.parser.error("--scale is for --dots and --animate")
+    for other in ("svg", "sheet", "png", "past") if asked else ():
+        if getattr(given, other):
+            given.parser.error(f"{asked} and --{other} exclude each other")
+
+
 def _check_output(given: argparse.Namespace, pages: List[str]) -> None:
     """Exits where the options don't say where what is made of all pages goes."""
     svg, sheet = getattr(given, "svg", None), getattr(given, "sheet", None)
@@ -416,6 +441,8 @@ def _given(words: List[str]) -> argparse.Namespace:
         pages: List[str] = given.pages
         if given.command in ("canon", "look", "make"):
             _check_output(given, pages)
+        if given.command == "look":
+            _check_dots(given)
         after: List[str] = getattr(given, "after", [])
         if given.command == "canon" and after:
             given.parser.error(f"--after is {NO_CANON}")

@@ -36,6 +36,10 @@ class Session:
     least: int = 0
     output_file: Optional[str] = None
     html: bool = False
+    dots: bool = False
+    animate: bool = False
+    scale: int = 1
+    speed: int = 1200
     # (what is told of a store in place of a page, where that isn't asked about as any file)
     of_store: str = ""
     earlier: Earlier = field(default_factory=Earlier)

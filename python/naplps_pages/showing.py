@@ -35,6 +35,9 @@ def picture(told: Listed, treated: str = "") -> drawing.Sketch:
 
 def look(session: Session) -> int:
     """A sketch of each page: printed, or put into a file or a folder; or one sheet of all."""
+    if session.dots or session.animate:
+        from . import dotting  # (a sketch doesn't wait for it)
+        return dotting.look(session)
     if session.png:
         png.find()
     if session.into is not None:

@@ -30,6 +30,8 @@ from .worker import WorkerOptions
 
 Given = argparse.Namespace
 ONE_STORE = "treated copies are joined in one store: merge makes one of several"
+# The options that a session of the files of a store has.
+STORED = ("json", "into", "past", "png", "sheet", "dots", "animate", "scale", "speed")
 UNTRIED = "of %s no treatments are known: a scan with --cures tries them"
 UNKNOWN = "of treated copies of %s it isn't known what they draw: a scan with --cures finds out"
 
@@ -142,7 +144,7 @@ def of_store(given: Given, client: Client, earlier: Earlier) -> int:
         if given.command == "census":
             return _census(given, connection, client)
         run, which = OF_STORE[given.command]
-        options = {name: getattr(given, name) for name in ("json", "into", "past", "png", "sheet") if name in given}
+        options = {name: getattr(given, name) for name in STORED if name in given}
         return run(StoreSession(client, given.pages, **options, earlier=earlier, files=files(connection, which),
                                 stored=Names(connection)))
     except (StoreFailed, sqlite3.Error) as error:
