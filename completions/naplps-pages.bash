@@ -22,7 +22,7 @@ _naplps_pages() {
         '') words="$commands --help --version" ;;
         check | list) words='--json --after --budget --seconds --help' ;;
         census) words='--json --budget --seconds --help' ;;
-        canon) words='--into --after --budget --seconds --help' ;;
+        canon) words='--into --budget --seconds --help' ;;
         explain) words='--full --after --budget --seconds --help' ;;
         text) words='--after --budget --seconds --help' ;;
         describe) words='--html --after --budget --seconds --help' ;;

@@ -10,7 +10,7 @@ from . import file_kinds
 from .console import tell
 from .json_lines import AT_ONCE, dumps, pieces_of
 from .listing import Row, command_of, rows_of
-from .new_files import make_folder, put_inside
+from .new_files import made_folder, put_inside
 from .page_session import Session
 from .schema import answered
 from .source import Page
@@ -104,9 +104,6 @@ def _tell_refusal(session: Session, page: Page, answer: Refusal) -> None:
 
 def canon(session: Session) -> int:
     """The canonical bytes of each page, printed or put into a folder."""
-    if session.into is not None:
-        make_folder(session.into)
-
     def work(page: Page) -> None:
         answer = session.program.ask("canon", page)
         if not session.answered(page, answer):
@@ -117,4 +114,5 @@ def canon(session: Session) -> int:
             put_inside(session.path_for(page.name), answer.body)
         elif isinstance(answer, Accepted):
             session.output.bytes(answer.body)
-    return session.each(work)
+    with made_folder(session.into):
+        return session.each(work)

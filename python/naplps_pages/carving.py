@@ -18,7 +18,7 @@ from .collection.progress import Progress
 from .collection.stopping import Stopping
 from .console import FAILED, REFUSED, tell
 from .json_lines import dumps
-from .new_files import NotWritten, make_folder, put_inside, require_free
+from .new_files import NotWritten, made_folder, put_inside, require_free
 from .page_finder import CarvedPage, PageFinder
 from .page_session import Session
 from .schema import answered
@@ -36,9 +36,7 @@ STOPPED = "stopped; what was found is kept, and the same command goes on"
 
 def carve(session: Session) -> int:
     """Finds the pages of each source."""
-    if session.into is not None:
-        make_folder(session.into)
-    with Stopping() as stopping:
+    with made_folder(session.into), Stopping() as stopping:
         def work(page: Page) -> None:
             if stopping.number is None:
                 _Carving(session, page, stopping).run()

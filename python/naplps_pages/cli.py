@@ -198,8 +198,8 @@ def _page_options(one: Parser) -> None:
             ", with both pictures" if title == "diff" else " or a screen reader"))
     if title in AFTER:
         one.add_argument("--after", metavar="PAGE", type=name, action="append", default=[],
-                         help=NO_CANON if title == "canon" else "a page that comes before, whose macros, colours and "
-                         "sets stay; several in their order, each with --after")
+                         help=argparse.SUPPRESS if title == "canon" else "a page that comes before, whose macros, "
+                         "colours and sets stay; several in their order, each with --after")
     _asking_options(one)
 
 
@@ -434,8 +434,22 @@ def _check_output(given: argparse.Namespace, pages: List[str]) -> None:
             given.parser.error(f"a sheet has {MOST_PAGES} pages at most")
 
 
+def _require_command(words: List[str]) -> None:
+    """Exits where the first word that is no option isn't a command, and names the one that is spelled almost so."""
+    if not words:
+        parser().error(f"a command is needed; `{TOOL} --help` lists all")
+    named = next((word for word in words if not word.startswith("-")), None)
+    if named is None or named in COMMANDS:
+        return
+    import difflib  # (which takes long to be imported)
+    near = difflib.get_close_matches(named, COMMANDS, 1)
+    parser().error(f"there is no command {shown(named)}{f'; did you mean {near[0]}?' if near else ';'} `{TOOL} --help` "
+                   "lists all")
+
+
 def _given(words: List[str]) -> argparse.Namespace:
     """What the words say. Exits where they are wrong, or ask for help."""
+    _require_command(words)
     given = parser(words[0] if words else "").parse_args(words)
     if given.command in ON_PAGES:
         pages: List[str] = given.pages

@@ -15,7 +15,7 @@ from naplps.version import VERSION
 
 from . import TOOL
 from .json_lines import dumps
-from .new_files import make_folder, put_inside, require_free
+from .new_files import made_folder, put_inside, require_free
 from .page_session import Session
 from .schema import answered
 from .source import Page
@@ -29,9 +29,6 @@ GUESS = "The copy is a guess: codes of the page were taken or rewritten whose wh
 
 def cures(session: Session) -> int:
     """Tries treatments for each page that is refused."""
-    if session.into is not None:
-        make_folder(session.into)
-
     def work(page: Page) -> None:
         answer = session.program.ask("check", page)
         if isinstance(answer, Refusal) and page.data is None:
@@ -44,7 +41,8 @@ def cures(session: Session) -> int:
         _report(session, page, answer, cure, search.unsure)
         if cure and isinstance(answer, Refusal) and session.into is not None:
             _write(session, page, answer, cure)
-    return session.each(work, more=("cure", "unsure"))
+    with made_folder(session.into):
+        return session.each(work, more=("cure", "unsure"))
 
 
 def _report(session: Session, page: Page, answer: Answer, cure: Optional[Cure], unsure: Dict[str, str]) -> None:

@@ -10,7 +10,7 @@ from .authoring.mistakes import Mistake, quoted
 from .authoring.translating import MOST_MISTAKES, Translation, misfit, translate
 from .authoring.writing import source_lines
 from .console import REFUSED, tell, tell_line
-from .new_files import make_folder, put, put_inside
+from .new_files import made_folder, put, put_inside
 from .page_session import Session
 from .showing import sketch
 from .source import Page
@@ -21,9 +21,6 @@ TOO_LONG = "a source has 16 MiB at most; longer lines of a list are for `naplps 
 
 def make(session: Session) -> int:
     """The page of each source, or its sketch: printed, or put into a folder."""
-    if session.into is not None:
-        make_folder(session.into)
-
     def work(page: Page) -> None:
         if page.data is None:
             session.complain(page.name, TOO_LONG)
@@ -40,7 +37,8 @@ def make(session: Session) -> int:
             _tell(session, page.name, [_mistake(text, made, answer)])
         else:
             _put(session, page.name, answer)
-    return session.each(work)
+    with made_folder(session.into):
+        return session.each(work)
 
 
 def _put(session: Session, name: str, answer: Accepted) -> None:

@@ -1,7 +1,8 @@
 """Files that a command makes: each whole or not at all, and none over another."""
+import contextlib
 import errno
 import os
-from typing import Dict, Iterable
+from typing import Dict, Iterable, Iterator, Optional
 
 from naplps.names import leaf, shown
 
@@ -122,3 +123,22 @@ def make_folder(folder: str) -> None:
         raise NotWritten(folder, os.strerror(errno.ENOTDIR)) from None
     except OSError as error:
         raise NotWritten(folder, error.strerror or str(error)) from None
+
+
+@contextlib.contextmanager
+def made_folder(folder: Optional[str]) -> Iterator[None]:
+    """Makes a folder, if one is named and there is none, and those that it is in. Those that stay empty go again."""
+    made = []
+    if folder is not None:
+        at = os.path.abspath(folder)
+        while not os.path.lexists(at):
+            made.append(at)
+            at = os.path.dirname(at)
+    try:
+        if folder is not None:
+            make_folder(folder)
+        yield
+    finally:
+        for each in made:
+            with contextlib.suppress(OSError):
+                os.rmdir(each)

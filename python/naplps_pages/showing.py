@@ -13,7 +13,7 @@ from .console import tell
 from .earlier import Heard
 from .guessing import Guesser
 from .listing import Listed
-from .new_files import make_folder, put, put_inside
+from .new_files import made_folder, put, put_inside
 from .page_session import Session
 from .sheet import ContactSheet, Tile
 from .source import Page
@@ -40,8 +40,6 @@ def look(session: Session) -> int:
         return dotting.look(session)
     if session.png:
         png.find()
-    if session.into is not None:
-        make_folder(session.into)
     if session.sheet is not None:
         return _sheet(session, session.sheet)
 
@@ -56,7 +54,8 @@ def look(session: Session) -> int:
             put(session.svg, made)
         else:
             session.output.bytes(made)
-    return session.each(work)
+    with made_folder(session.into):
+        return session.each(work)
 
 
 def _sheet(session: Session, path: str) -> int:

@@ -13,6 +13,9 @@ from naplps_pages.collection.rows import Answered, File
 from naplps_pages.collection.store import open_to_write
 from naplps_pages.collection.writer import Terms, Writer
 
+# What is said of a file that is no database.
+NO_STORE = ("isn't a store: `naplps-pages scan FOLDER --into STORE` makes one, and `naplps-pages check` says what this "
+            "file is")
 # A program that answers pages by their first letters, and fails on some.
 FAKE = """
 if sys.argv[1:] == ['--version']:

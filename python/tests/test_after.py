@@ -85,6 +85,7 @@ def test_canon_says_why_it_has_no_such_form(run, folder):
     assert said.returncode == 2 and said.stderr.decode().endswith(
         "error: --after is not for canon: a canonical stream begins where nothing stands, so a page after others has "
         "none; `cat` joins pages to one that has\n")
+    assert b"--after" not in run(["canon", "--help"]).stdout and b"--after" in run(["list", "--help"]).stdout
 
 
 def test_an_earlier_page_that_is_refused_is_named(run, folder):

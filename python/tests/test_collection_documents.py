@@ -1,4 +1,5 @@
 """What docs/COLLECTIONS.md shows of the tool: each command prints what stands after it, in their order."""
+import argparse
 import json
 import os
 import re
@@ -155,10 +156,11 @@ def test_a_note_as_an_event_of_premis(archive):
 
 
 def options(name, command):
-    """The options of a command."""
+    """The options of a command that its help has."""
     parser = cli.Parser(prog=name)
     command.options(parser)
-    return sorted(word for action in parser._actions for word in action.option_strings if word.startswith("--"))
+    return sorted(word for action in parser._actions for word in action.option_strings
+                  if word.startswith("--") and action.help != argparse.SUPPRESS)
 
 
 COMMANDS = {name: options(name, command) for name, command in cli.COMMANDS.items()}

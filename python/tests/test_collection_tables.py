@@ -285,7 +285,7 @@ def test_convert_and_a_program_that_answers_otherwise(run, fake, store, tmp_path
     said = run(["convert", store, "--into", into], program=fake(FAKE))
     assert (said.stdout, said.returncode) == (b"0 written, 0 there, 2 not made\n", 1)
     assert said.stderr.count(b"its canonical bytes haven't the hash that the store has\n") == 2
-    assert os.listdir(into) == []
+    assert not os.path.exists(into)
 
 
 def test_status(run, naplps, store, pages):

@@ -346,6 +346,26 @@ def test_a_file_in_place_of_a_folder(run, tmp_path):
         assert (said.stdout, said.returncode) == (b"", 3)
 
 
+@pytest.mark.parametrize("command", ["canon", "look", "cures", "carve", "make"])
+def test_a_folder_in_which_nothing_is_put_is_not_left(run, tmp_path, command):
+    page = file(tmp_path, "page", b"RECTANGLE" if command == "make" else b"\x0e\x26" if command != "cures" else POINT)
+    words = [command, "none" if command == "look" else page, "--into", str(tmp_path / "in" / "side" / "to")]
+    assert run(words).returncode in (0, 1, 3) and os.listdir(str(tmp_path)) == ["page"]
+    os.mkdir(str(tmp_path / "in"))
+    assert run(words).returncode in (0, 1, 3) and os.listdir(str(tmp_path / "in")) == []
+
+
+@pytest.mark.parametrize("words, told", [
+    (["help"], "there is no command help; `naplps-pages --help` lists all"),
+    (["chek", "x"], "there is no command chek; did you mean check? `naplps-pages --help` lists all"),
+    (["e\x1b[1m"], "there is no command e\\x1b[1m; `naplps-pages --help` lists all"),
+    ([], "a command is needed; `naplps-pages --help` lists all")])
+def test_a_command_that_there_is_not(run, words, told):
+    said = run(words)
+    assert (said.stdout, said.returncode) == (b"", 2)
+    assert said.stderr.decode().splitlines()[-1] == "naplps-pages: error: " + told
+
+
 def test_a_hostile_page_is_asked_no_list(run, fake, tmp_path):
     asked = os.path.join(str(tmp_path), "asked")
     lines = ("for line in iter(sys.stdin.buffer.readline, b''):\n    command, budget, length = line.split()\n"

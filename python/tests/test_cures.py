@@ -141,7 +141,7 @@ def test_a_page_that_is_accepted_or_stays_refused_gets_no_copy(run, tmp_path):
     good, bad = file(tmp_path, "good", PAGE), file(tmp_path, "bad", PAGE + b"\x1b\x51A")
     to = os.path.join(str(tmp_path), "to")
     said = run(["cures", good, bad, "--into", to])
-    assert os.listdir(to) == [] and said.returncode == 1
+    assert not os.path.exists(to) and said.returncode == 1
     assert said.stdout.decode().splitlines() == [
         "%s: accepted 36 entries" % good, "%s: refused 6 LeftOut EDC1 at %d" % (bad, len(PAGE) + 1),
         "%s: no treatment makes it readable" % bad]

@@ -16,7 +16,7 @@ from naplps_pages.collection.lock import Lock
 from naplps_pages.collection.rows import Answered
 from naplps_pages.collection.writer import Terms
 from scans import (
-    FAKE, children, count, every_table, is_sound, made_up, rows, start, statuses, tree, wait_until, written,
+    FAKE, NO_STORE, children, count, every_table, is_sound, made_up, rows, start, statuses, tree, wait_until, written,
 )
 
 NOT_MADE = "isn't made; with --unfinished it is, of what is there"
@@ -232,7 +232,7 @@ def test_what_is_no_store(run, here):
     os.mkdir("folder.db")
     for name, reason in (("other.db", "is a store of schema 4, and this tool knows schemas 2 and 3"),
                          ("foreign.db", "is a database of something else, and no store of naplps-pages"),
-                         ("text.db", "file is not a database"), ("short.db", "database disk image is malformed"),
+                         ("text.db", NO_STORE), ("short.db", "database disk image is malformed"),
                          ("folder.db", "isn't a file"), ("none.db", "No such file or directory")):
         refused(run, ["all.db", "part.db", name], "%s: %s" % (name, reason))
         said = run(["equal", "part.db", name])

@@ -8,7 +8,7 @@ import pytest
 
 from conftest import COMMAND, HERE, TOP
 from samples import OUTSIDE, POINT, SPELLED, has
-from scans import FAKE, every_table, statuses, tree
+from scans import FAKE, NO_STORE, every_table, statuses, tree
 
 SCRIPT = os.path.join(TOP, "examples", "scan-parts.sbatch")
 SCALE = os.path.join(TOP, "scripts", "measure", "scale")
@@ -110,7 +110,7 @@ def test_a_part_that_fails_is_not_merged(slurm, monkeypatch):
     shell(slurm, words)
     assert not os.path.exists(os.path.join(slurm, "pages.db"))
     with open(os.path.join(slurm, "part-1.log"), encoding="utf-8") as log:
-        assert log.read() == "naplps-pages: part-1.db: file is not a database\n"
+        assert log.read() == f"naplps-pages: part-1.db: {NO_STORE}\n"
 
 
 def test_a_page_without_an_answer_ends_no_job(slurm, fake, monkeypatch):

@@ -114,6 +114,18 @@ def test_counts_and_the_first_parts(page, archive):
     assert page.run(TOLD % "groups") == "1 to 1 of 1 group"
 
 
+def test_a_very_long_text_is_looked_for_as_far_as_it_can_be_asked(page):
+    search(page, "\u6f22" * 5000)
+    assert page.run("document.getElementById('text').value.length") == 1000
+    assert page.run(TOLD % "files") == "no files"
+
+
+def test_no_pager_leads_anywhere_before_its_first_part(page):
+    assert page.run(
+        "(() => {const it = new Pager('groups', 1, 'group'), all = [it.back, it.next, it.told]; "
+        "all.forEach((each) => each.remove()); return all.map((each) => each.disabled)})()") == [True, True, None]
+
+
 def test_paging(page, archive):
     first = page.run(NAMES)
     assert page.run("document.querySelector('#files-pager button').disabled")

@@ -17,7 +17,8 @@ from naplps_pages.collection.rows import FolderFiles
 from naplps_pages.collection.store import keep_log
 from naplps_pages.collection.worker import Worker, WorkerOptions
 from samples import OUTSIDE, POINT
-from scans import FAKE, children, count, is_sound, rows, slow, start, statuses, table, tree, wait_until
+from scans import (
+    FAKE, NO_STORE, children, count, is_sound, rows, slow, start, statuses, table, tree, wait_until)
 
 MANY = {"%02d/%03d" % (number // 100, number): b"page %d" % number for number in range(400)}
 
@@ -248,7 +249,7 @@ def test_a_signal_stops_it_in_order(run, fake, tmp_path, store, number):
 def test_a_file_that_is_no_store(run, tmp_path, store, make):
     foreign = "is a database of something else, and no store of naplps-pages"
     reason = {"other schema": "is a store of schema 4, and this tool knows schemas 2 and 3", "folder": "isn't a file",
-              "no database": "file is not a database"}.get(make, foreign)
+              "no database": NO_STORE}.get(make, foreign)
     if make == "folder":
         os.mkdir(store)
     elif make == "no database":

@@ -35,8 +35,8 @@ PARTS: Dict[str, Part] = {
     "hostile": Part(
         "what strangers hand in runs nothing, ends nothing and hides nothing: code of the current folder, numbers, "
         "stores, names; and lists of very many entries take little memory",
-        ("interpreter", "environment", "outside_random", "start", "proposed", "bounds", "extremes", "beside_stores",
-         "stores_hostile", "stores_random", "packs_random"),
+        ("interpreter", "environment", "outside_random", "served_random", "start", "proposed", "bounds", "extremes",
+         "beside_stores", "stores_hostile", "stores_random", "packs_random"),
     ),
     "house": Part(
         "the sources of naplps-pages: types, sizes, Python 3.9; and that the manual page says what the "

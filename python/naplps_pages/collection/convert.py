@@ -9,7 +9,7 @@ from naplps.answers import Accepted, Answer, Unanswered
 from naplps.client import Client
 from naplps.names import Members, shown
 
-from ..new_files import make_folder, make_folders, put_inside
+from ..new_files import made_folder, make_folders, put_inside
 from .folders import reason
 from .page_reader import Otherwise, read
 from .places import Place
@@ -46,14 +46,14 @@ class Conversion:
 
     def rows(self, connection: sqlite3.Connection) -> Iterator[ConvertedRow]:
         """Puts the canonical page of each group in place, and tells what came of it. Raises NotWritten."""
-        make_folder(self.into)
         done: Optional[bytes] = None
-        for canon, length, own, *place in kept(connection, PAGES, PAGE):
-            if canon != done:
-                row = self._convert(canon, length, own, Place(*place))
-                self.counts[row.status] = self.counts.get(row.status, 0) + 1
-                done = None if row.status == CHANGED else canon  # another file may have the page still
-                yield row
+        with made_folder(self.into):
+            for canon, length, own, *place in kept(connection, PAGES, PAGE):
+                if canon != done:
+                    row = self._convert(canon, length, own, Place(*place))
+                    self.counts[row.status] = self.counts.get(row.status, 0) + 1
+                    done = None if row.status == CHANGED else canon  # another file may have the page still
+                    yield row
 
     def _convert(self, canon: bytes, length: int, own: bytes, place: Place) -> ConvertedRow:
         path = self.path(canon)

@@ -22,6 +22,9 @@ FOREIGN, OTHERWISE, LACKS = ("isn't a store of %s: " + each for each in (
 PLAIN = frozenset(b"/-._~0123456789ABCDEFGHIJKLMNOPQRSTUVWXYZabcdefghijklmnopqrstuvwxyz")
 # What is held of the file, in KiB; and how long its log becomes, in pages.
 CACHE, LOG_PAGES = 32 << 10, 8000
+# What SQLite says of a file that is no database, and what is said of it here.
+NO_DATABASE = "file is not a database"
+NO_STORE = "isn't a store: `{0} scan FOLDER --into STORE` makes one, and `{0} check` says what this file is"
 # What others than the owner may do with a file.
 OF_OTHERS = 0o077
 # How long is waited at once for who reads it, in seconds.
@@ -171,6 +174,11 @@ def _checked(path: str, mode: str) -> sqlite3.Connection:
     except UnicodeDecodeError:  # (SQLite says what is wrong with a schema in the schema's own words)
         connection.close()
         raise StoreFailed(path, LACKS % (TOOL, "that can be read")) from None
+    except sqlite3.DatabaseError as error:
+        connection.close()
+        if str(error) == NO_DATABASE:
+            raise StoreFailed(path, NO_STORE.format(TOOL)) from None
+        raise
     except BaseException:
         connection.close()
         raise

@@ -100,8 +100,9 @@ class Pager {
   // `name` names the list and its pager; `draw` makes an element of each thing that `ask` finds.
   constructor(name, count, one, ask, draw) {
     Object.assign(this, {box: byId(name), count, one, ask, draw, from: 0, total: 0, turn: 0});
+    // (neither leads anywhere until the first part is there)
     const button = (word, by) => make("button", {type: "button", "aria-label": `${word} in the ${one}s`,
-      onclick: doing(() => this.show(this.from + by))}, word);
+      disabled: true, onclick: doing(() => this.show(this.from + by))}, word);
     this.back = button("Back", -count);
     this.next = button("Next", count);
     this.told = make("span", {role: "status"});

@@ -1,6 +1,7 @@
 
 // What is shown, whatever the source: the wall, files, groups, and one page.
 const FILES = 100, GROUPS = 12, NAMES = 8, VIEWS = ["pages", "list", "equal", "summary"];
+const HASH_DIGITS = 64;
 // (there is no field where there is nothing to choose)
 const FIELDS = ["text", "kind", "answer", "cure", "folder", "order"].filter(byId);
 
@@ -126,9 +127,12 @@ class Report {
   }
 
   async goTo(hash, beside) {
+    // (no longer one is that of a page, and a server reads no address of any length)
+    const long = [hash, beside || ""].find((each) => each.length > HASH_DIGITS);
+    if (long) throw new Error("there is no page of the hash " + long.slice(0, HASH_DIGITS));
     const found = await this.source.find({...this.words(), pages: this.view === "pages", hash});
     const other = beside ? await this.source.find({...this.words(), pages: true, hash: beside}) : null;
-    if (!found) throw new Error("there is no page of the hash " + hash.slice(0, 64));
+    if (!found) throw new Error("there is no page of the hash " + hash.slice(0, HASH_DIGITS));
     await this.page.open(found.key, found.position < 0 ? undefined : found.position, other && other.key);
   }
 
