@@ -84,9 +84,9 @@ PARTS: Dict[str, Part] = {
         ("scan_faults", "scan_same", "scan_hostile"),
     ),
     "raster": Part(
-        "the raster of a page: its rows beside a painter that goes dot by dot by docs/RASTER.md; PNG of it, still and "
-        "over time",
-        ("raster", "dots"),
+        "the raster of a page: its rows beside a painter that goes dot by dot by docs/RASTER.md, and "
+        "beside browser/raster.js; PNG of it, still and over time",
+        ("raster", "raster_script", "dots"),
     ),
     "sketches": Part(
         "sketches, and the gallery",
