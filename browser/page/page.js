@@ -2,7 +2,7 @@
 // (`Player` is that of python/naplps_pages/player.)
 
 import { Asking } from "./asking.js";
-import { MOST_FILE_BYTES, chosenFiles, droppedFiles } from "./files.js";
+import { MOST_FILES, MOST_FILE_BYTES, chosenFiles, droppedFiles } from "./files.js";
 import { node } from "./node.js";
 import { csvOf, save, zipOf } from "./saving.js";
 
@@ -87,6 +87,12 @@ const tell = (text) => {
   byId("counted").textContent = text;
 };
 
+// Says what went wrong, until something else does.
+function complain(text) {
+  byId("fault").textContent = text;
+  byId("fault").hidden = false;
+}
+
 // Says on the cards which pages are the same.
 function tellSame() {
   for (const group of groups.values()) {
@@ -137,8 +143,9 @@ function take(page, fresh) {
 }
 
 // Reads files, some of them ahead, since browsers read one after another slowly.
-async function add(files) {
-  const ahead = [], fresh = document.createDocumentFragment();
+async function add(all) {
+  const ahead = [], fresh = document.createDocumentFragment(), files = all.slice(0, MOST_FILES);
+  if (all.length > files.length) complain(`Only the first ${spell(MOST_FILES, "file")} of those are read.`);
   let last = performance.now();
   for (const [at, [name, file]] of files.entries()) {
     while (ahead.length < READ_AHEAD && at + ahead.length < files.length) {
@@ -232,7 +239,9 @@ function listen() {
   addEventListener("dragover", (event) => event.preventDefault());
   addEventListener("drop", async (event) => {
     event.preventDefault();
-    add(await droppedFiles(event.dataTransfer));
+    const { files, isPartial } = await droppedFiles(event.dataTransfer);
+    if (isPartial) byId("note").hidden = false;
+    add(files);
   });
   addEventListener("keydown", (event) => {
     if (event.key === "Escape" && !event.defaultPrevented) byId("detail").hidden = true;
@@ -247,7 +256,6 @@ async function begin() {
 }
 
 begin().catch((error) => {
-  byId("fault").textContent = `The reader can't start: ${error.message || error}`;
-  byId("fault").hidden = false;
+  complain(`The reader can't start: ${error.message || error}`);
   document.body.dataset.fault = String(error.message || error);
 });
