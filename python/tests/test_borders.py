@@ -1,14 +1,24 @@
 """Bytes that draw, and borders between pages: tables of streams that are written by hand from the rules."""
+import os
+import sys
+from pathlib import Path
+
 import pytest
 from hypothesis import given
 from hypothesis import strategies as st
 
 import gallery
+from conftest import TOP
 from naplps.treating.borders import clears_again, content, draws, outside, pages_in, pieces, text_length, tokens
 from naplps.treating.page_codes import codes
 from old_files import in_eight_bits
 from samples import MACRO, POINT, with_parity
 from spelled import logo
+
+sys.path.append(os.path.join(TOP, "scripts"))
+from vectors.crate_rows import rows_of  # noqa: E402
+from vectors.notation import bytes_of  # noqa: E402
+from vectors.rows import files, vectors_of  # noqa: E402
 
 LOGO = logo()
 # What draws, and what doesn't, each read as from the beginning of a page.
@@ -102,6 +112,12 @@ def test_captures_of_the_eight_bit_form():
 def test_no_page_of_the_examples_is_a_capture():
     for name, data in {**gallery.pages(), "logo": LOGO, "macro": MACRO}.items():
         assert pages_in(data) == 0 and draws(data), name
+
+
+def test_no_vector_and_no_row_is_a_capture():
+    streams = [bytes_of(vector.stream) for file in files() for vector in vectors_of(file)]
+    streams += [row.stream for row in rows_of(Path(TOP, "crates", "nap_rows", "data"))]
+    assert len(streams) > 4000 and [data.hex() for data in streams if pages_in(data)] == []
 
 
 @pytest.mark.parametrize("text, wanted", [
