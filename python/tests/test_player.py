@@ -6,6 +6,7 @@ import re
 import pytest
 
 import gallery
+import naplps as nap
 from browser import Browser
 from conftest import TOP, file
 from naplps import drawing
@@ -476,55 +477,48 @@ def test_a_refused_page_is_played_up_to_its_refusal(naplps, tmp_path, shown):
     assert said.returncode == 1 and b"the player shows what comes before" in said.stderr
 
 
-# Of the squares of some pels both ways: how many there are, how many have one colour, how many aren't black in the
-# player or the sketch, and of how many of these the colour isn't near to the mean of the sketch.
-RASTER = """
-((wide, high, size, near) => {
-  const shown = player.screen.context.getImageData(0, 0, wide, high).data;
-  let even = 0, off = 0, others = 0, squares = 0;
+# The colour of each dot, and whether the squares of all have one colour each.
+RASTER = """((wide, high, size) => {
+  const shown = new Uint32Array(player.screen.context.getImageData(0, 0, wide, high).data.buffer), dots = [];
+  let areEven = true;
   for (let top = 0; top < high; top += size) {
     for (let left = 0; left < wide; left += size) {
-      const sums = [0, 0, 0], first = (top * wide + left) * 4;
-      let isEven = true;
+      const first = shown[top * wide + left];
+      dots.push([first & 255, first >> 8 & 255, first >> 16 & 255].reduce((all, part) => all * 256 + part));
       for (let at = 0; at < size * size; at++) {
-        const pel = ((top + Math.floor(at / size)) * wide + left + at % size) * 4;
-        for (let one = 0; one < 3; one++) {
-          sums[one] += wanted[pel + one] / size / size;
-          isEven &&= shown[pel + one] === shown[first + one];
-        }
+        areEven &&= shown[(top + Math.floor(at / size)) * wide + left + at % size] === first;
       }
-      const colour = [...shown.slice(first, first + 3)];
-      squares++;
-      even += isEven;
-      if (!colour.concat(sums).some((each) => each > 0)) continue;
-      off++;
-      others += colour.some((each, one) => Math.abs(each - sums[one]) > near);
     }
   }
-  return {squares, even, off, others};
-})(1024, 800, 4, 128)
+  return {dots, areEven};
+})(1024, 800, 4)
 """
 
 
-@pytest.mark.parametrize("name", PAGES)
-def test_the_raster_has_the_pels_of_a_terminal(shown, name):
-    page = shown(os.path.join(FOLDER, name), bypass=True)
-    with open(os.path.join(FOLDER, name + ".svg"), encoding="utf-8") as svg:
-        want(page, svg.read(), SIZE)
+@pytest.mark.parametrize("name", [name for name in PAGES if name != "signature.nap"])
+def test_the_raster_has_the_dots_of_the_page(shown, name):
+    path = os.path.join(FOLDER, name)
+    with open(path, "rb") as file:
+        it = nap.raster(list(nap.entries(file.read())))
+    page = shown(path)
     still(page)
     assert page.run("player.view.options[1].textContent") == "raster of 256 by 200"
     page.run("player.setView('raster'); player.showNow(player.line.whole)")
-    how = page.run(RASTER)
-    # (at edges a pel belongs to one colour, and the mean to both)
-    assert how["even"] == how["squares"] == 256 * 200 and how["off"] > 10_000 and how["others"] < 0.2 * how["off"], how
+    colours, how = it.colours(), page.run(RASTER)
+    assert how["areEven"] and how["dots"] == [colours[ink] for row in it.rows() for ink in row]
+    # (back at the start nothing is there, and then the same again)
+    page.run("player.showNow(player.line.start)")
+    assert set(page.run(RASTER)["dots"]) == {0}
+    page.run("player.showNow(player.line.whole)")
+    assert page.run(RASTER) == how
 
 
-def test_a_page_that_draws_above_the_screen_has_a_higher_raster(shown):
+def test_the_raster_ends_where_screens_do(shown):
     page = shown(StreamWriter().clear().domain().rectangle(0.1, 0.5, 0.2, 0.45).made())
-    assert page.run("player.view.options[1].textContent") == "raster of 256 by 256"
     page.run("player.setView('raster'); player.showNow(player.line.whole)")
     assert page.run("[player.canvas.width, player.canvas.height]") == [1024, 1024]
-    assert page.run("[100, 60].map((y) => player.screen.context.getImageData(200, y, 1, 1).data[0])") == [255, 255]
+    assert page.run("[500, 300, 220, 100].map((y) => player.screen.context.getImageData(200, y, 1, 1).data[0])") == [
+        255, 255, 0, 0]
 
 
 def test_each_button_does_what_it_says(shown):

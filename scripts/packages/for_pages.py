@@ -17,7 +17,7 @@ from naplps_pages import file_kinds, refusals  # noqa: E402
 from naplps_pages.player import document  # noqa: E402
 
 BROWSER, PAGE = TOP / "browser", TOP / "browser" / "page"
-PLAYER_DRAWING = TOP / "python" / "naplps_pages" / "player" / document.DRAWING
+PLAYER = TOP / "python" / "naplps_pages" / "player"
 POLICY = ("default-src 'none'; script-src %s 'wasm-unsafe-eval'; worker-src blob:; style-src %s; img-src blob:; "
           "base-uri 'none'; form-action 'none'")
 MARK = re.compile(r"@([A-Z]+)@")
@@ -80,9 +80,11 @@ def element() -> str:
     return head + joined("element.js")
 
 
-def player_drawing() -> str:
-    """The script with which players draw, as PLAYER_DRAWING has it."""
-    return "// Made of browser/playing.js by scripts/packages/browser --page.\n" + joined("playing.js", "Drawing")
+def player_scripts() -> Dict[Path, str]:
+    """The scripts with which players draw and paint dots, by their paths."""
+    head = "// Made of browser/%s by scripts/packages/browser --page.\n"
+    return {PLAYER / name: head % source + joined(source, wanted) for name, source, wanted in (
+        (document.DRAWING, "playing.js", "Drawing"), (document.DOTS, "dots.js", "Dots"))}
 
 
 def page(module: bytes) -> str:

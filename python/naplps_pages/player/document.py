@@ -9,8 +9,8 @@ from typing import Tuple
 
 HERE = os.path.dirname(os.path.abspath(__file__))
 # (made of browser/ by scripts/packages/browser --page)
-DRAWING = "drawing.js"
-SCRIPTS = ("elements.js", DRAWING, "drawn.js", "smooth.js", "raster.js", "moments.js", "flashes.js", "screen.js",
+DRAWING, DOTS = "drawing.js", "dots.js"
+SCRIPTS = ("elements.js", DRAWING, DOTS, "drawn.js", "smooth.js", "raster.js", "moments.js", "flashes.js", "screen.js",
            "codes.js", "player.js")
 POLICY = "default-src 'none'; script-src %s; style-src %s; base-uri 'none'; form-action 'none'"
 MARK = re.compile(r"@([A-Z]+)@")

@@ -19,7 +19,7 @@ function drawnOf(held) {
   }
   if (held.isCut && end < length) notes.push(`Bytes are shown up to byte ${end} of ${length}.`);
   if (lines.some((line) => line.length > A_LINE)) notes.push("Some lines of the list are shown in part.");
-  return {...held, ...it, before, places, length, codes, notes, lines: lines.map(shortLine)};
+  return {...held, ...it, before, places, length, codes, notes, listed: lines, lines: lines.map(shortLine)};
 }
 
 // The codes that begin before this byte, and those of so many entries.

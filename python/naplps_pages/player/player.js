@@ -8,7 +8,7 @@ const SHOWN_LINES = 40;
 const KEYS = [
   ["Space", "play, or stop"], ["→ ←", "one entry on, or back"], ["Shift → ←", "one byte on, or back"],
   ["Home End", "to the start, to the end"], ["1 to 5", "the speed, from 300 to 9600 baud"],
-  ["V", "the view: smooth, or the raster of a terminal"], ["B", "blinking on, or off"],
+  ["V", "the view: smooth, or the raster of dots"], ["B", "blinking on, or off"],
   ["↑ ↓", "in the list of bytes: the code before, or behind"], ["Escape", "nothing is marked"]];
 const spelled = (value, one, more) => value.toLocaleString("en") + " " + (value === 1 ? one : more || one + "s");
 

@@ -14,7 +14,7 @@ class Screen {
     this.context = canvas.getContext("2d");
     this.table = new Table(data);
     this.colours = new Colours(data);
-    this.views = {smooth: new SmoothView(this.table, data), raster: new RasterView(this.table, data)};
+    this.views = {smooth: new SmoothView(this.table, data), raster: new RasterView(data)};
     this.view = this.views.smooth;
     this.matrix = this.views.smooth.matrix;
     this.guard = new FlashGuard();
