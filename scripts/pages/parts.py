@@ -86,7 +86,7 @@ PARTS: Dict[str, Part] = {
     "raster": Part(
         "the raster of a page: its rows beside a painter that goes dot by dot by docs/RASTER.md, and "
         "beside browser/raster.js; PNG of it, still and over time",
-        ("raster", "raster_script", "dots"),
+        ("raster", "raster_script", "dots", "dot_vectors"),
     ),
     "sketches": Part(
         "sketches, and the gallery",
