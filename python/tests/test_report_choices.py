@@ -121,6 +121,24 @@ def test_a_page_that_is_not_played_says_how_to_play_it(browser, naplps, store):
     browser.until("%s.includes(%r)" % (SHOWN, said))
 
 
+@pytest.mark.parametrize("served", [False, True])
+def test_a_capture_is_named_and_says_what_cuts_it(browser, naplps, tmp_path, served):
+    tree(str(tmp_path / "pages"), {"a tape": words("ONE") + b"\x18" + words("TWO"), "one": words("ONE")})
+    made(naplps, str(tmp_path), "scan", "pages", "--into", "pages.db", "--cures")
+    store = str(tmp_path / "pages.db")
+    with start(["serve", store], naplps) as server:
+        browser.open(server.stdout.readline().decode().strip() if served else report(naplps, store, "x.html"))
+        browser.until("document.querySelector('#wall')?.innerText.includes('capture, 6 LeftOut CAN')")
+        assert browser.run("document.querySelector('#wall').innerText.match(/capture/g).length") == 1
+        browser.run(CLICK % ("#files button.name", "a tape"))
+        browser.until(OPEN + " && %s.includes('Kind capture')" % SHOWN)
+        assert "Kind capture: several pages, of which this shows the first; naplps-pages split 'a tape' --into pages " \
+            "cuts it into them Bytes" in browser.run(SHOWN)
+        browser.run("document.getElementById('behind').click()")
+        browser.until(SHOWN + ".includes('Kind page Bytes')")
+        server.terminate()
+
+
 def test_the_top_says_how_many_pages_can_be_played():
     some = [(0, Drawing(played="{}")), (1, Drawing()), (2, Drawing(played="{}"))]
     assert making._told_held(some, 5000) == "3 of 5,000 sketches are in this file; 2 of these pages can be played."

@@ -30,6 +30,9 @@ function tell(error) {
   document.body.dataset.fault = fault.textContent;
 }
 
+// The kind of a file that has several pages.
+const CAPTURE = "capture";
+
 const doing = (action) => (event) => Promise.resolve(action(event)).catch(tell);
 
 // A button that looks like a link. `label` says more than its text where that isn't enough.

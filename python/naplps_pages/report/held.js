@@ -79,7 +79,7 @@ class Held {
     return {key, name: this.name(key), size: at("size"), answer: this.table.answers[at("answer")],
             entries: at("entries"), group: at("group") + 1, hash: page < 0 ? "" : this.table.hashes[page],
             says: page < 0 ? "" : this.table.says[page],
-            treated: at("cure") < 0 ? "" : this.table.cures[at("cure")]};
+            kind: this.table.kinds[at("kind")], treated: at("cure") < 0 ? "" : this.table.cures[at("cure")]};
   }
 
   // The keys of the files that the words of the form leave, in their order.

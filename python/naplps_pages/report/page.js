@@ -55,7 +55,7 @@ class PageView {
 
   parts(file, drawing) {
     return [this.pictures(file, drawing), this.ways(file, drawing),
-      facts([["Answer", file.answer], ["Bytes", number(file.size)],
+      facts([["Answer", file.answer], ["Kind", this.kind(file)], ["Bytes", number(file.size)],
         [file.refusal ? "Place of the refusal" : "Entries", number(file.entries)],
         ["Hash", file.hash ? make("code", {}, file.hash) : ""]]),
       ...(file.refusal ? this.reasons(file) : []), ...(file.equal ? this.equal(file.equal) : []),
@@ -80,6 +80,13 @@ class PageView {
       : file.hash ? button("hold", "Hold it beside other pages", () => this.hold(this.shown)) : "";
     return make("div", {className: "ways"},
       ...(drawing.sketch ? [button("save", "Save as SVG", () => saved(drawing.sketch, file.name))] : []), hold);
+  }
+
+  // What a file is; of a capture also what gives its pages.
+  kind(file) {
+    if (file.kind !== CAPTURE) return file.kind;
+    const words = command(`naplps-pages split ${quoted(file.name)} --into pages`);
+    return make("div", {}, "capture: several pages, of which this shows the first; ", words, " cuts it into them");
   }
 
   hold(what) {

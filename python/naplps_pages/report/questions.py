@@ -207,6 +207,7 @@ class Questions:
     def _told(self, file: ReportFile, says: Dict[int, str]) -> Answer:
         return {"key": key_of(file), "name": self._name(file), "size": file.size, "answer": file.told,
                 "hash": file.own.hex() if file.own else "", "says": says.get(file.page or 0, ""),
+                "kind": choices.kind(file.kind, file.looks_like),
                 "treated": graded(file.treatments) if file.treatments else "",
                 "entries": file.at if file.entries is None else file.entries,
                 "group": self._now().numbers.get(file.key, 0) if file.key else 0}

@@ -40,7 +40,7 @@ class Report {
   label(file) {
     const [name] = file.treated.split(" "), isGuess = file.treated.includes("guess");
     const some = [name ? (isGuess ? "guess by " : "treated by ") + name : "",
-      file.answer === "accepted" ? "" : file.answer];
+      file.kind === CAPTURE ? CAPTURE : "", file.answer === "accepted" ? "" : file.answer];
     if (byId("order").value === "group" && file.group) some.push("group " + file.group);
     return some.filter(Boolean).join(", ");
   }
