@@ -80,7 +80,7 @@ class Clauses(unittest.TestCase):
             ("high", "src/lib.rt", "even: { number < 64 }", "even: { number < 65 }", True),
             ("low", "src/lib.rt", "u32 = 64", "u32 = 65", True),
             ("low", "src/lib.rt", "number: u32,", "number: u64,", True),
-            ("low", "specs/Half.antt", "n / 2", "n / 3", True), ("high", "src/lib.rt", "pub fn of", "pub fn from", True),
+            ("low", "specs/Half.antt", "n / 2", "n / 3", True), ("high", "src/lib.rt", "fn of", "fn from", True),
             ("high", "src/lib.rt", "number / 2 }", "number }", False),
             ("high", "src/lib.rt", "// What it gives.", "// ensures { nothing }", False),
             ("low", "specs/Half.antt", "-- Halves, and what they are of.", "-- Halves.", False),
