@@ -12,8 +12,9 @@ const bytesOf = (text) => Uint8Array.from(atob(text), (letter) => letter.charCod
 const latin = new TextDecoder("latin1"), utf8 = new TextEncoder();
 const refusals = JSON.parse(held("refusals")), kinds = JSON.parse(held("kinds"));
 const asking = new Asking(held("worker"), bytesOf(held("module")));
-// How many files are read ahead, and how many names are shown of pages that are the same.
-const READ_AHEAD = 32, SHOWN_SAME = 5;
+// How many files are read ahead, how many cards come onto the wall at once, and how many names are shown of pages that
+// are the same.
+const READ_AHEAD = 32, MOST_FRESH = 24, SHOWN_SAME = 5;
 // The most bytes of a page that its player shows.
 const MOST_SHOWN = 1 << 20;
 const pages = [], groups = new Map(), waiting = new Map();
@@ -152,7 +153,7 @@ async function add(all) {
       ahead.push(bytesOfFile(files[at + ahead.length][1]));
     }
     take(await readFile(name, file, await ahead.shift()), fresh);
-    if (performance.now() - last > 500) {
+    if (fresh.childElementCount >= MOST_FRESH || performance.now() - last > 500) {
       byId("wall").append(fresh);
       count();
       last = performance.now();

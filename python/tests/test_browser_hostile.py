@@ -4,7 +4,9 @@ import sys
 
 import pytest
 
+from boxes import box
 from browser import Browser
+from canonical_trial import asked
 from conftest import TOP
 from samples import POINT, needs_chromium
 from test_browser_page import MODULE, cards, choose, clicked, written
@@ -73,6 +75,21 @@ def test_hostile_pages_leave_the_page_usable(document, browser, tmp_path):
             title = "[...document.querySelectorAll('.card h2')][%d].textContent" % number
             browser.until("document.querySelector('#detail h2')?.textContent === " + title)
     is_usable(browser)
+
+
+def test_a_box_of_files_is_read_while_the_page_answers(document, browser, tmp_path, naplps):
+    """And it asks no network for anything. (scripts/measure/speed-box has 2,000 files, and tells the times.)"""
+    opened(browser, tmp_path, document)
+    files = box(200, 1)
+    choose(browser, written(tmp_path / "files", files))
+    texts, answers = cards(browser), asked(naplps, [*files.values()])
+    accepted = [each.lines is not None for each in answers]
+    assert len(texts) == 200 and ["accepted " in text for text in texts] == accepted and 100 < sum(accepted) < 200
+    assert sum("It looks like " in text for text in texts) >= 10
+    browser.run("scrollTo(0, document.body.scrollHeight)")
+    browser.until("[...document.querySelectorAll('.card img')].slice(-1).every((each) => each.naturalWidth)")
+    is_usable(browser)
+    assert {each.split(":")[0] for each in browser.requests} <= {"file", "blob"}
 
 
 def test_a_page_that_takes_ten_seconds_is_left(document, browser, tmp_path):

@@ -7,6 +7,7 @@ import subprocess
 
 import pytest
 
+from boxes import made_page
 from canonical_trial import asked, framed, made
 from conftest import HERE, TOP
 from entries import legal_list
@@ -15,8 +16,6 @@ from naplps.drawing import draw
 from naplps.entry_json import members_of
 from naplps.reading import NotALine, read_line
 from samples import needs_node
-from strategies import PARTS
-from stream_writer import StreamWriter
 from test_canonical import vectors
 from timelines import timeline
 
@@ -50,17 +49,6 @@ def assert_same(streams, lists):
     return steps
 
 
-def page_by_chance(chance):
-    """A page of shapes, text and controls, with coordinates anywhere."""
-    page = StreamWriter(chance.randrange(1, 9))
-    page.domain((chance.random() / 8, chance.random() / 8)) if chance.random() < 0.7 else page.domain()
-    top = 1 - 2.0 ** (1 - 3 * page.words)
-    for _ in range(chance.randrange(1, 12)):
-        places = [(chance.random(), chance.random()) for _ in range(chance.randrange(2, 7))]
-        chance.choice(PARTS)(page, [(min(x, top), min(y, top)) for x, y in places])
-    return page.made()
-
-
 def test_all_lists_of_the_vectors():
     found = list(vectors())
     steps = assert_same([stream for stream, _ in found], [lines for _, lines in found])
@@ -70,7 +58,7 @@ def test_all_lists_of_the_vectors():
 
 def test_the_gallery_and_made_pages(naplps):
     chance = random.Random(88)
-    sources = [*pages().values(), *(page_by_chance(chance) for _ in range(MADE * 5 // 4))]
+    sources = [*pages().values(), *(made_page(chance) for _ in range(MADE * 5 // 4))]
     answers = [each for each in asked(naplps, sources) if each.canonical]
     steps = assert_same([each.canonical for each in answers],
                         [each.lines.decode("ascii").splitlines() for each in answers])

@@ -81,7 +81,7 @@ function newCanvas(wide, high) {
 function fillBlocks(context, path, matrix) {
   if (path.replace(BLOCK, "") !== "" || matrix.b || matrix.c) return false;
   context.resetTransform();
-  for (const [left, top, wide, high] of path.matchAll(BLOCK).map((found) => found.slice(1).map(Number))) {
+  for (const [left, top, wide, high] of [...path.matchAll(BLOCK)].map((found) => found.slice(1).map(Number))) {
     const [a, b] = [left, left + wide].map((x) => Math.round(matrix.a * x + matrix.e));
     const [c, d] = [top, top + high].map((y) => Math.round(matrix.d * y + matrix.f));
     context.fillRect(a, c, b - a, d - c);
