@@ -5,7 +5,7 @@ import {
   filledWeight, fine, lengthOf, lineExtent, num, outlinedWeight, plus, scaled, sumOf,
 } from "./measure.js";
 import { Straight, arcExtent, arcPath, arcPieces, isLarge, same } from "./curves.js";
-import { dashed, pelOf, sweep } from "./sweeps.js";
+import { dashed, pelOf, sweep, unitOfPiece } from "./sweeps.js";
 import { BLACK, backOf, frontOf } from "./letters.js";
 
 const DASHES = [[], [1, 2], [5, 3], [5, 2, 1, 2]], USUAL_MASK = 24;
@@ -71,11 +71,11 @@ class Shapes {
   }
 
   swept(entry, pieces) {
-    const dot = pelOf(entry.pel, this.thin()), dashes = dashesOf(entry), unit = Math.max(dot.wide, dot.high);
+    const dot = pelOf(entry.pel, this.thin()), dashes = dashesOf(entry);
     let parts = pieces;
     if (dashes.length && !isLarge(pieces)) {
-      this.paper.require(dashPoints(sumOf(pieces.map((piece) => piece.length())), unit, dashes));
-      parts = dashed(pieces, unit, dashes);
+      this.paper.require(dashPoints(sumOf(pieces.map((piece) => piece.length() / unitOfPiece(piece, dot))), 1, dashes));
+      parts = dashed(pieces, dot, dashes);
     }
     const { path, weight } = sweep(parts, dot);
     this.paper.put(element("path", { d: path, fill: this.ink(entry) }), weight);

@@ -51,28 +51,35 @@ function sweep(pieces, pel) {
   return { path: parts.join(""), weight: filledWeight(extent) };
 }
 
+// The side of the pel along a line: its width where the line goes across at least as far as up or down.
+const unitOf = (start, end, pel) => (
+  Math.abs(end[0] - start[0]) >= Math.abs(end[1] - start[1]) ? pel.wide : pel.high);
+
+const unitOfPiece = (piece, pel) => (
+  piece instanceof Straight ? unitOf(piece.start, piece.end, pel) : Math.max(pel.wide, pel.high));
+
 // The parts of the pieces on which the pen is down.
-function dashed(pieces, unit, dashes) {
+function dashed(pieces, pel, dashes) {
   const parts = [];
-  let number = 0, left = dashes[0] * unit;
+  let number = 0, left = dashes[0];
   for (const piece of pieces) {
     let at = piece.start;
     for (const place of piece.places()) {
-      const far = distance(at, place);
+      const far = distance(at, place), unit = unitOf(at, place, pel);
       let done = 0;
-      while (far - done > left) {
+      while (far - done > left * unit) {
         const begin = done;
-        done += left;
+        done += left * unit;
         if (number % 2 === 0) parts.push(new Straight(between(at, place, begin / far), between(at, place, done / far)));
         number = (number + 1) % dashes.length;
-        left = dashes[number] * unit;
+        left = dashes[number];
       }
       if (number % 2 === 0) parts.push(new Straight(far ? between(at, place, done / far) : at, place));
-      left -= far - done;
+      left -= (far - done) / unit;
       at = place;
     }
   }
   return parts;
 }
 
-export { dashed, pelOf, sweep };
+export { dashed, pelOf, sweep, unitOfPiece };

@@ -153,13 +153,20 @@ def test_dashes_are_swept_too(kind, dashes):
     assert found == [pytest.approx(each, abs=0.03) for each in wanted]
 
 
+def test_the_unit_of_a_dash_is_the_side_along_its_line():
+    # (a pel of 0.02 x 0.005: 0.59 has 39.3 times 0.005 and a gap of 0.01, and 9.8 times 0.02 and a gap of 0.04)
+    for ends, dots in (((0.5, 0.1, 0.5, 0.69), 40), ((0.1, 0.5, 0.69, 0.5), 10)):
+        line = "LINE %d,%d %d,%d pel=%d,%d %s" % (*map(steps, (*ends, 0.02, 0.005)), WHITE % 1)
+        assert len(of_line(line)) == dots, ends
+
+
 @given(places=st.lists(PLACES, min_size=2, max_size=5), unit=st.floats(4, 60),
        dashes=st.sampled_from([(1, 2), (5, 3), (5, 2, 1, 2)]))
 @settings(deadline=None)
 def test_dashes_have_their_share_of_a_line(places, unit, dashes):
     edges = [Straight(*each) for each in zip(places, places[1:])]
     length = sum(each.length() for each in edges)
-    down = sum(each.length() for each in dashed(edges, unit, dashes))
+    down = sum(each.length() for each in dashed(edges, Pel(0.0, -unit, unit, 0.0), dashes))
     whole, period = length // (sum(dashes) * unit), sum(dashes[::2]) * unit
     assert whole * period - 1e-6 <= down <= (whole + 1) * period + 1e-6
 

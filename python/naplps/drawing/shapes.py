@@ -83,9 +83,8 @@ class Shapes:
         """A line or an outline: what the pel's rectangle sweeps."""
         dot, dashes = pel(entry.pel, self.looks.thin()), dashes_of(entry)
         if dashes and not arcs.is_large(pieces):
-            unit = max(dot.wide, dot.high)
-            self.paper.require(least_of_dashes(sum(piece.length() for piece in pieces), unit, dashes))
-            pieces = list(dashed(pieces, unit, dashes))
+            self.paper.require(least_of_dashes(pieces, dot, dashes))
+            pieces = list(dashed(pieces, dot, dashes))
         swept = sweep(pieces, dot)
         self.paper.put(Element("path", {"d": swept.path, "fill": self.looks.ink(entry)}), swept.weight)
 

@@ -68,29 +68,37 @@ def _box(left: float, top: float, right: float, bottom: float) -> str:
     return f"M{num(left)} {num(top)}H{num(right)}V{num(bottom)}H{num(left)}Z"
 
 
-def least_of_dashes(length: float, unit: float, dashes: Tuple[int, ...]) -> Weight:
-    """What the dashes of a line of this length cost at least, without making them."""
-    return Weight(length / (sum(dashes) * unit) * len(dashes) / 2 * DASH)
+def least_of_dashes(pieces: Sequence[Piece], pel: Pel, dashes: Tuple[int, ...]) -> Weight:
+    """What the dashes of lines cost at least, without making them."""
+    most = max(pel.wide, pel.high)
+    units = sum(piece.length() / (_unit(piece.start, piece.end, pel) if isinstance(piece, Straight) else most)
+                for piece in pieces)
+    return Weight(units / sum(dashes) * len(dashes) / 2 * DASH)
 
 
-def dashed(pieces: Sequence[Piece], unit: float, dashes: Tuple[int, ...]) -> Iterator[Straight]:
-    """The parts of the pieces on which the pen is down, for dashes and gaps of a number of units."""
-    number, left = 0, dashes[0] * unit
+def dashed(pieces: Sequence[Piece], pel: Pel, dashes: Tuple[int, ...]) -> Iterator[Straight]:
+    """The parts of the pieces on which the pen is down, for dashes and gaps of a number of units: sides of the pel."""
+    number, left = 0, float(dashes[0])
     for piece in pieces:
         at = piece.start
         for place in piece.places():
-            far = math.dist(at, place)
+            far, unit = math.dist(at, place), _unit(at, place, pel)
             done = 0.0
-            while far - done > left:
-                begin, done = done, done + left
+            while far - done > left * unit:
+                begin, done = done, done + left * unit
                 if number % 2 == 0:
                     yield Straight(_on(at, place, begin / far), _on(at, place, done / far))
                 number = (number + 1) % len(dashes)
-                left = dashes[number] * unit
+                left = float(dashes[number])
             if number % 2 == 0:
                 yield Straight(_on(at, place, done / far) if far else at, place)
-            left -= far - done
+            left -= (far - done) / unit
             at = place
+
+
+def _unit(start: Place, end: Place, pel: Pel) -> float:
+    """The side of the pel along a line: its width where the line goes across at least as far as up or down."""
+    return pel.wide if abs(end[0] - start[0]) >= abs(end[1] - start[1]) else pel.high
 
 
 def _on(start: Place, end: Place, share: float) -> Place:

@@ -629,29 +629,35 @@ function sweep(pieces, pel) {
   return { path: parts.join(""), weight: filledWeight(extent) };
 }
 
-function dashed(pieces, unit, dashes) {
+const unitOf = (start, end, pel) => (
+  Math.abs(end[0] - start[0]) >= Math.abs(end[1] - start[1]) ? pel.wide : pel.high);
+
+const unitOfPiece = (piece, pel) => (
+  piece instanceof Straight ? unitOf(piece.start, piece.end, pel) : Math.max(pel.wide, pel.high));
+
+function dashed(pieces, pel, dashes) {
   const parts = [];
-  let number = 0, left = dashes[0] * unit;
+  let number = 0, left = dashes[0];
   for (const piece of pieces) {
     let at = piece.start;
     for (const place of piece.places()) {
-      const far = distance(at, place);
+      const far = distance(at, place), unit = unitOf(at, place, pel);
       let done = 0;
-      while (far - done > left) {
+      while (far - done > left * unit) {
         const begin = done;
-        done += left;
+        done += left * unit;
         if (number % 2 === 0) parts.push(new Straight(between(at, place, begin / far), between(at, place, done / far)));
         number = (number + 1) % dashes.length;
-        left = dashes[number] * unit;
+        left = dashes[number];
       }
       if (number % 2 === 0) parts.push(new Straight(far ? between(at, place, done / far) : at, place));
-      left -= far - done;
+      left -= (far - done) / unit;
       at = place;
     }
   }
   return parts;
 }
-return { dashed, pelOf, sweep };
+return { dashed, pelOf, sweep, unitOfPiece };
 })();
 const module5 = (() => {
 const {
@@ -659,7 +665,7 @@ const {
   filledWeight, fine, lengthOf, lineExtent, num, outlinedWeight, plus, scaled, sumOf,
 } = module0;
 const { Straight, arcExtent, arcPath, arcPieces, isLarge, same } = module3;
-const { dashed, pelOf, sweep } = module4;
+const { dashed, pelOf, sweep, unitOfPiece } = module4;
 const { BLACK, backOf, frontOf } = module1;
 
 const DASHES = [[], [1, 2], [5, 3], [5, 2, 1, 2]], USUAL_MASK = 24;
@@ -724,11 +730,11 @@ class Shapes {
   }
 
   swept(entry, pieces) {
-    const dot = pelOf(entry.pel, this.thin()), dashes = dashesOf(entry), unit = Math.max(dot.wide, dot.high);
+    const dot = pelOf(entry.pel, this.thin()), dashes = dashesOf(entry);
     let parts = pieces;
     if (dashes.length && !isLarge(pieces)) {
-      this.paper.require(dashPoints(sumOf(pieces.map((piece) => piece.length())), unit, dashes));
-      parts = dashed(pieces, unit, dashes);
+      this.paper.require(dashPoints(sumOf(pieces.map((piece) => piece.length() / unitOfPiece(piece, dot))), 1, dashes));
+      parts = dashed(pieces, dot, dashes);
     }
     const { path, weight } = sweep(parts, dot);
     this.paper.put(element("path", { d: path, fill: this.ink(entry) }), weight);
