@@ -218,7 +218,7 @@ def as_nobody(cluster):
 
 
 @pytest.mark.parametrize("others", [0, 1])
-def test_what_a_worker_may_not_read_another_is_asked_for(run, run_as_nobody, tmp_path, store, cluster, others):
+def test_what_a_worker_may_not_read_another_is_asked_for(run, run_as_nobody, tmp_path, store, cluster, mounts, others):
     top = tree(os.path.join(str(tmp_path), "pages"), {
         "d%d/%03d" % (at % 5, at): b"page %d" % at for at in range(100)})
     pack(os.path.join(top, "secret.tar"), {"a": POINT})

@@ -1,6 +1,7 @@
 """The signatures of pages: by file(1), and as DROID and siegfried are given them."""
 import os
 import re
+import shlex
 import subprocess
 import xml.etree.ElementTree as tree
 from random import Random
@@ -108,6 +109,6 @@ def test_what_the_document_prints(naplps):
         shown = re.findall(r"^    (?!# )(.*)\n    # (.*)\n", document.read(), re.MULTILINE)
     assert len(shown) == 2
     for command, printed in shown:
-        said = subprocess.run(["sh", "-c", command.replace("pages/naplps-pages", COMMAND)], capture_output=True,
-                              cwd=TOP, env=dict(os.environ, NAPLPS=naplps))
+        words = command.replace("pages/naplps-pages", shlex.quote(COMMAND))
+        said = subprocess.run(["sh", "-c", words], capture_output=True, cwd=TOP, env=dict(os.environ, NAPLPS=naplps))
         assert said.stdout.decode() == printed + "\n"
