@@ -32,9 +32,9 @@ _naplps_pages() {
         cures | split) words='--json --into --budget --seconds --help' ;;
         make) words='--into -o --look --seconds --help' ;;
         source) words='--budget --seconds --help' ;;
-        near) words='--json --budget --seconds --help' ;;
+        near) words='--json --processes --budget --seconds --help' ;;
         diff) words='--html --budget --seconds --help' ;;
-        scan) words='--into --processes --on --part --most --again --cures --words --budget --seconds --help' ;;
+        scan) words='--into --processes --on --part --most --again --cures --words --near --budget --seconds --help' ;;
         merge) words='--unfinished --help' ;;
         equal) words='--copies --treated --guesses --verify --null --json --csv --seconds --help' ;;
         refused) words='--number --reason --null --json --csv --help' ;;

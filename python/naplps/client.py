@@ -67,6 +67,17 @@ class Client:
         wrong = parser.wrong_line
         return wrong if wrong is not None and answer == Unanswered(wrong.line) else answer
 
+    def ask_each(self, call: str, pages: Sequence[bytes]) -> List[Answer]:
+        """The answers to a call on each of these pages, all of which are held. The requests are written ahead.
+
+        Where the process fails, the first page without an answer has none, and the later ones are asked of a new one.
+        """
+        answers: List[Answer] = []
+        while len(answers) < len(pages):
+            some = self._answers(AnswerParser(call, pages[len(answers):], self.limits.answer, self._go_on))
+            answers += [each.answer for each in some]
+        return answers
+
     def hash_canon(self, pages: Sequence[bytes]) -> List[HashedAnswer]:
         """The answers to `canon` on each of these pages. The requests are written ahead, and canonical bytes hashed.
 

@@ -196,6 +196,10 @@ def _page_options(one: Parser) -> None:
     if title in ("describe", "diff"):
         one.add_argument("--html", action="store_true", help="print a document for a browser" + (
             ", with both pictures" if title == "diff" else " or a screen reader"))
+    if title == "near":
+        from .collection.pool import MOST_PROCESSES
+        one.add_argument("--processes", metavar="N", type=partial(whole_number, least=1, most=MOST_PROCESSES),
+                         help="how many processes work on a store; by default one for each processor")
     if title in AFTER:
         one.add_argument("--after", metavar="PAGE", type=name, action="append", default=[],
                          help=argparse.SUPPRESS if title == "canon" else "a page that comes before, whose macros, "
@@ -261,6 +265,7 @@ def _scan_options(one: Parser) -> None:
     one.add_argument("--again", action="store_true", help="read all files and ask about all pages again")
     one.add_argument("--cures", action="store_true", help="try treatments of refused pages")
     one.add_argument("--words", action="store_true", help="keep the text of each page, for `find`")
+    one.add_argument("--near", action="store_true", help="keep keys of each page, for `near`")
     _asking_options(one)
 
 

@@ -18,8 +18,9 @@ from .source import Page
 # The most columns of a source that are shown beside another one, and what a longer line ends with.
 MOST_WIDE, CUT = 60, ".."
 SAME, LEFT_ALONE, RIGHT_ALONE, CHANGED = " ", "<", ">", "|"
-# Lines of a source are compared one with another, so sources have no more.
-MOST_LINES = 4000
+# Lines of a source are compared one with another, so sources have no more. In a longer one than the second number,
+# lines that stand often are no anchors by themselves.
+MOST_LINES, PLAIN_LINES = 4000, 1000
 CLASSES = {SAME: "same", LEFT_ALONE: "left", RIGHT_ALONE: "right", CHANGED: "changed"}
 HTML = """<!DOCTYPE html>
 <html lang="en">
@@ -95,7 +96,7 @@ def side_by_side(left: Sequence[str], right: Sequence[str]) -> Iterator[str]:
 
 def _rows(left: Sequence[str], right: Sequence[str]) -> Iterator[Tuple[Optional[str], Optional[str]]]:
     """Lines of both that belong together; None where one has no line there."""
-    matcher = SequenceMatcher(None, list(left), list(right), autojunk=False)
+    matcher = SequenceMatcher(None, list(left), list(right), autojunk=max(len(left), len(right)) > PLAIN_LINES)
     for _, start, end, from_, to in matcher.get_opcodes():
         yield from zip_longest(left[start:end], right[from_:to])
 

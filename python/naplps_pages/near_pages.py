@@ -1,72 +1,100 @@
 """The command near: pages that are almost equal."""
-from json import dumps
-from typing import Dict, List
+from typing import Iterator, List, Union
 
-from naplps.answers import Refusal
+from naplps.answers import Accepted, Refusal
 from naplps.limits import MOST_LISTED
-from naplps.names import shown
-from naplps.page_text import lines_of
+from naplps.names import Members, as_json, shown
+from naplps.treating.search import find
+from naplps.treating.treatments import graded
 
-from .console import tell
-from .nearness import WORDS, Beginning, Difference, ListedPage, NearPages
+from .console import Output, tell
+from .json_lines import dumps
+from .nearness import WORDS, Beginning, Difference, ListedPage, NearPages, PageName
 from .page_session import Session
 from .source import Page
 
 NOT_WHOLE = "too many entries: not all pages were looked at as beginnings of others"
+TOO_MANY = f"it has more than {MOST_LISTED} entries, too many to be compared"
+SAME_WORDS, NO_OTHERS = "(the same words, in another order)", "(no others)"
+Found = Union[Difference, Beginning]
 
 
 def near(session: Session) -> int:
     """Prints groups of pages that differ in words, colours or places alone, and pages that are beginnings of others.
-    Refused pages are left out, and told where they were named."""
+    Of a refused page its treated copy is compared; one that no treatment makes readable is told."""
     found = NearPages()
 
     def work(page: Page) -> None:
         heard = session.heard(page).last
-        answer, entries = heard.answer, heard.entries
-        if not session.answered(page, answer):
+        if not session.answered(page, heard.answer):
             return
-        if isinstance(answer, Refusal):
-            tell(f"{shown(page.name)}: {answer.line}; only accepted pages are compared")
-        elif entries is None:
-            session.complain(page.name, f"it has more than {MOST_LISTED} entries, too many to be compared")
+        if isinstance(heard.answer, Refusal):
+            _add_copy(session, found, page, heard.answer)
+        elif heard.lines is None:
+            session.complain(page.name, TOO_MANY)
         else:
-            listed = "".join(line + "\n" for line in entries.lines)
-            found.add(page.name, listed.encode("ascii"), lines_of(entries))
+            found.add(PageName(page.name), "".join(line + "\n" for line in heard.lines).encode("ascii"))
     status = session.each(work)
     for difference in found.differences():
-        session.output.text(_json_of(difference) if session.json else _text_of(difference))
+        show(session.output, difference, session.json)
     for beginning in found.beginnings():
-        session.output.text(_json_of_beginning(beginning) if session.json else _text_of_beginning(beginning))
+        show(session.output, beginning, session.json)
     session.output.flush()
     if not found.is_whole:
         tell(NOT_WHOLE)
     return status
 
 
+def _add_copy(session: Session, found: NearPages, page: Page, refusal: Refusal) -> None:
+    """Takes the treated copy of a refused page, if a treatment makes it readable."""
+    cure = None if page.data is None else find(session.program.ask, page.data, refusal.place)
+    if cure is None:
+        tell(f"{shown(page.name)}: {refusal.line}, and no treatment makes it readable; it isn't compared")
+        return
+    told = session.program.ask("list", cure.data)
+    if not isinstance(told, Accepted) or told.entries > MOST_LISTED:
+        session.complain(page.name, TOO_MANY)
+        return
+    names = "+".join(each.treatment for each in cure.changes)
+    found.add(PageName(page.name, graded(names)), told.body)
+
+
+def show(output: Output, found: Found, as_object: bool) -> None:
+    """Prints a group or a beginning, as text or as an object of JSON."""
+    if as_object:
+        output.line(dumps(_object(found)))
+    else:
+        output.text("".join(f"{line}\n" for line in _lines(found)))
+
+
+def _lines(found: Found) -> Iterator[str]:
+    if isinstance(found, Beginning):
+        last = "with its last entry" if found.last_fits else "but for its last entry"
+        yield f"{_names(found.part)} is a beginning of {_names(found.whole)}, {last}"
+        return
+    yield f"{len(found.pages)} pages differ in {found.what} alone:"
+    for number, page in enumerate(found.pages):
+        words = f": {words_of(found, number)}" if found.what == WORDS else ""
+        yield f"  {_names(page)}{words}"
+
+
+def words_of(found: Difference, number: int) -> str:
+    """The words of one of the pages that not all of them have."""
+    return " ".join(found.words[number]) or (NO_OTHERS if any(found.words) else SAME_WORDS)
+
+
 def _names(page: ListedPage) -> str:
-    return ", ".join(map(shown, page.names))
+    return ", ".join(shown(each.name) + (f" treated by {each.treated}" if each.treated else "") for each in page.names)
 
 
-def _text_of(difference: Difference) -> str:
-    lines: List[str] = [f"{len(difference.pages)} pages differ in {difference.what} alone:"]
-    for number, page in enumerate(difference.pages):
-        words = f": {' '.join(difference.words[number])}" if difference.what == WORDS else ""
-        lines.append(f"  {_names(page)}{words}")
-    return "\n".join(lines) + "\n"
-
-
-def _text_of_beginning(beginning: Beginning) -> str:
-    last = "with its last entry" if beginning.last_fits else "but for its last entry"
-    return f"{_names(beginning.part)} is a beginning of {_names(beginning.whole)}, {last}\n"
-
-
-def _json_of(difference: Difference) -> str:
-    pages: List[Dict[str, List[str]]] = [{"names": page.names} for page in difference.pages]
-    for page, words in zip(pages, difference.words):
+def _object(found: Found) -> Members:
+    if isinstance(found, Beginning):
+        return {"beginning": _files(found.part), "of": _files(found.whole), "last_fits": found.last_fits}
+    pages: List[Members] = [{"files": _files(page)} for page in found.pages]
+    for page, words in zip(pages, found.words):
         page["words"] = list(words)
-    return dumps({"differ_in": difference.what, "pages": pages}) + "\n"
+    return {"differ_in": found.what, "pages": pages}
 
 
-def _json_of_beginning(beginning: Beginning) -> str:
-    names = {"beginning": beginning.part.names, "of": beginning.whole.names}
-    return dumps({**names, "last_fits": beginning.last_fits}) + "\n"
+def _files(page: ListedPage) -> List[Members]:
+    return [{**as_json(each.name), **({"treated": each.treated} if each.treated else {})} for each in page.names]

@@ -4,28 +4,37 @@ import re
 from array import array
 from collections import defaultdict
 from dataclasses import dataclass, field
+from functools import lru_cache
 from hashlib import blake2b
-from typing import Callable, Dict, Iterator, List, NamedTuple, Optional, Sequence, Set, Tuple
+from typing import Callable, Dict, Iterable, Iterator, List, NamedTuple, Optional, Sequence, Set, Tuple
+
+from naplps import letters
 
 WORDS, COLOURS, PLACES = "words", "colours", "places"
+# The number of this form of the keys: those of another one aren't compared with them.
+FORM = 1
 # The fewest entries of a beginning: all but its last are the first ones of the longer page.
 LEAST_ENTRIES = 8
 # The greatest number of entries, of all lists together, that are compared as beginnings.
 MOST_ENTRIES = 20_000_000
-# The most words of a page that are named.
-MOST_WORDS = 12
+# The most words of a page that are named, and the most characters in which these are looked for.
+MOST_WORDS, MOST_SAID = 12, 1 << 16
+# The bytes of a key, and of the hash of first entries.
+KEY, PREFIX = 16, 8
 _POINT = rb" -?[0-9]+,-?[0-9]+"
 _SHAPE = re.compile(rb"^((?:POINT|LINE|ARC-[A-Z]+|RECT-[A-Z]+|POLY-[A-Z]+|FIELD))((?:%s)+)" % _POINT, re.MULTILINE)
 _PEN = re.compile(rb" pen=-?[0-9]+,-?[0-9]+")
 _COLOUR = re.compile(rb" colour=\S+")
+_LEFT_OF_RUN = rb"TEXT pen=\1 \2\n"
 _MAP = re.compile(rb"^(MAP [0-9]+) \S+", re.MULTILINE)
 _RUN = re.compile(rb"^CHAR (?:primary|supplementary) .. pen=(\S+) (colour=\S+ text=\S+)\n"
                   rb"(?:CHAR (?:primary|supplementary) .. pen=after \2\n)*", re.MULTILINE)
+_LETTER = re.compile(rb"^CHAR (p|s)\w+ (..)", re.MULTILINE)
 
 
 def without_words(listed: bytes) -> bytes:
     """The lines of a list without the characters of its runs of text: of a run its pen, colour and look are left."""
-    return _RUN.sub(rb"TEXT pen=\1 \2\n", listed)
+    return _RUN.sub(_LEFT_OF_RUN, listed)
 
 
 def without_colours(listed: bytes) -> bytes:
@@ -42,15 +51,73 @@ _LEAVE_OUT: Dict[str, Callable[[bytes], bytes]] = {
     WORDS: without_words, COLOURS: without_colours, PLACES: without_places}
 
 
+class NearKeys(NamedTuple):
+    """What of a list is compared: the hash of what is left of it without words, colours and places; the hash of its
+    first entries, for each number of them; and its words, each once, in their order, with blanks between."""
+
+    words: bytes
+    colours: bytes
+    places: bytes
+    prefixes: bytes
+    said: str
+
+    @property
+    def start(self) -> Optional[bytes]:
+        """The hash of as many first entries as a beginning and what continues it have alike at least."""
+        at = (LEAST_ENTRIES - 2) * PREFIX
+        return self.prefixes[at:at + PREFIX] or None
+
+
+def keys_of(listed: bytes) -> NearKeys:
+    """The keys of a list, which is lines with their ends."""
+    runs: List[bytes] = []
+
+    def take(run: "re.Match[bytes]") -> bytes:
+        runs.append(run[0])
+        return b"TEXT pen=%b %b\n" % run.groups()
+    words, colours, places = map(_digest, (_RUN.sub(take, listed), without_colours(listed), without_places(listed)))
+    said = " ".join(dict.fromkeys(" ".join(map(_said, runs)).split()))[:MOST_SAID]
+    return NearKeys(words, colours, places, b"".join(_prefixes(listed)), said)
+
+
+def _said(run: bytes) -> str:
+    """The text of a run; an accent is on the letter after it."""
+    found: List[str] = []
+    accent = 0
+    for kind, code in _LETTER.findall(run):
+        sign, mark = _sign(kind, code)
+        if accent and not mark:
+            sign = letters.composed(accent, sign)
+        found.append("" if mark else sign)
+        accent = mark
+    return "".join(found) + (letters.ALONE[accent] if accent else "")
+
+
+@lru_cache(maxsize=None)
+def _sign(kind: bytes, code: bytes) -> Tuple[str, int]:
+    """A character, by the first letter of its set and its code: its sign, or its code where it is an accent."""
+    name, number = {b"p": "primary", b"s": "supplementary"}[kind], int(code, 16)
+    if letters.is_accent(name, number):
+        return letters.ALONE[number], number
+    return letters.letter(name, number), 0
+
+
+class PageName(NamedTuple):
+    """The name of a page; of one of which the treated copy is compared also by what it was treated."""
+
+    name: str
+    treated: str = ""
+
+
 @dataclass
 class ListedPage:
-    """A list that some pages have: their names, the keys of what is left of it, its words, and the hashes of its first
-    entries, one for each number of them."""
+    """A list that some pages have: their names, its words, and the hashes of its first entries."""
 
-    names: List[str]
-    keys: Dict[str, bytes]
-    words: bytes
-    prefixes: "array[int]"
+    names: List[PageName]
+    said: str = ""
+    prefixes: "array[int]" = field(default_factory=lambda: array("Q"))
+    # (the hash of its canonical stream, where that is known)
+    canon: bytes = b""
 
     @property
     def entries(self) -> int:
@@ -79,19 +146,22 @@ class NearPages:
     """Collects lists, and finds those that are almost equal."""
 
     pages: Dict[bytes, ListedPage] = field(default_factory=dict)
+    keys: Dict[bytes, NearKeys] = field(default_factory=dict)
     entries: int = 0
 
-    def add(self, name: str, listed: bytes, words: Sequence[str]) -> None:
-        """Takes a page with its list, as lines with their ends, and its words."""
+    def add(self, name: PageName, listed: bytes) -> None:
+        """Takes a page with its list, as lines with their ends."""
         whole = _digest(listed)
         known = self.pages.get(whole)
         if known is not None:
             known.names.append(name)
             return
-        keys = {what: _digest(leave_out(listed)) for what, leave_out in _LEAVE_OUT.items()}
-        prefixes = _prefixes(listed) if self.entries <= MOST_ENTRIES else array("Q")
-        self.entries += len(prefixes)
-        self.pages[whole] = ListedPage([name], keys, "\n".join(words).encode("utf-8"), prefixes)
+        keys = keys_of(listed)
+        if self.entries > MOST_ENTRIES:
+            keys = keys._replace(prefixes=b"")
+        self.entries += len(keys.prefixes) // PREFIX
+        self.pages[whole] = ListedPage([name], keys.said, numbers_of(keys.prefixes))
+        self.keys[whole] = keys._replace(prefixes=b"", said="")
 
     @property
     def is_whole(self) -> bool:
@@ -102,55 +172,60 @@ class NearPages:
         """Pages that differ in words, in colours or in places alone, each group once for what it differs in."""
         for what in _LEAVE_OUT:
             groups: Dict[bytes, List[ListedPage]] = defaultdict(list)
-            for page in self.pages.values():
-                groups[page.keys[what]].append(page)
-            for group in groups.values():
-                if len(group) > 1:
-                    yield Difference(what, tuple(group), _different_words(group) if what == WORDS else ())
+            for whole, page in self.pages.items():
+                groups[getattr(self.keys[whole], what)].append(page)
+            yield from (difference(what, group) for group in groups.values() if len(group) > 1)
 
     def beginnings(self) -> Iterator[Beginning]:
         """Of each page the longest ones that are its beginning; those have shorter beginnings of their own."""
-        parts: Dict[Tuple[int, int], List[ListedPage]] = defaultdict(list)
-        starts: Dict[int, Set[int]] = defaultdict(set)
-        for page in self.pages.values():
-            if page.entries >= LEAST_ENTRIES:
-                parts[page.entries - 1, page.prefixes[-2]].append(page)
-                starts[page.prefixes[LEAST_ENTRIES - 2]].add(page.entries - 1)
-        ordered = {start: sorted(lengths, reverse=True) for start, lengths in starts.items()}
-        for page in self.pages.values():
-            if page.entries > LEAST_ENTRIES:
-                yield from _beginnings_of(page, ordered[page.prefixes[LEAST_ENTRIES - 2]], parts)
+        return beginnings(list(self.pages.values()))
 
 
-def _beginnings_of(page: ListedPage, lengths: Sequence[int],
-                   parts: Dict[Tuple[int, int], List[ListedPage]]) -> Iterator[Beginning]:
-    for length in lengths:
-        if length + 1 < page.entries:
-            found = parts.get((length, page.prefixes[length - 1]))
-            if found:
-                for part in found:
-                    yield Beginning(part, page, part.prefixes[-1] == page.prefixes[length])
-                return
+def difference(what: str, group: Sequence[ListedPage]) -> Difference:
+    """The pages of a group, which differ in this alone."""
+    return Difference(what, tuple(group), _different_words(group) if what == WORDS else ())
 
 
-def _digest(data: bytes) -> bytes:
-    return blake2b(data, digest_size=16).digest()
+def beginnings(pages: Sequence[ListedPage]) -> Iterator[Beginning]:
+    """Of each of these pages the longest of them that are its beginning."""
+    parts: Dict[int, List[ListedPage]] = defaultdict(list)
+    for page in pages:
+        if page.entries >= LEAST_ENTRIES:
+            parts[page.prefixes[-2]].append(page)
+    known = frozenset(parts)
+    for page in pages:
+        # (of a part at least one entry more is left than its last)
+        found = known.intersection(page.prefixes[LEAST_ENTRIES - 2:-2])
+        if found:
+            some = [part for each in found for part in parts[each]]
+            longest = max(part.entries for part in some)
+            yield from (Beginning(part, page, part.prefixes[-1] == page.prefixes[longest - 1])
+                        for part in some if part.entries == longest)
 
 
-def _prefixes(listed: bytes) -> "array[int]":
-    """The hash of the first lines, for each number of them."""
-    state, found = blake2b(digest_size=8), array("Q")
-    for line in listed.splitlines(keepends=True):
-        state.update(line)
-        found.append(int.from_bytes(state.digest(), "little"))
+def numbers_of(prefixes: bytes) -> "array[int]":
+    """The hashes of first entries as numbers."""
+    found = array("Q")
+    found.frombytes(prefixes)
     return found
 
 
-def _different_words(group: Sequence[ListedPage]) -> Tuple[Tuple[str, ...], ...]:
+def _digest(data: bytes) -> bytes:
+    return blake2b(data, digest_size=KEY).digest()
+
+
+def _prefixes(listed: bytes) -> Iterator[bytes]:
+    """The hash of the first lines, for each number of them."""
+    state = blake2b(digest_size=PREFIX)
+    for line in listed.splitlines(keepends=True):
+        state.update(line)
+        yield state.digest()
+
+
+def _different_words(group: Iterable[ListedPage]) -> Tuple[Tuple[str, ...], ...]:
     """Of each page the words that not all of them have, in their order, MOST_WORDS at most."""
-    every = [page.words.decode("utf-8").split() for page in group]
+    every = [page.said.split() for page in group]
     common: Optional[Set[str]] = None
     for words in every:
         common = set(words) if common is None else common & set(words)
-    return tuple(tuple(dict.fromkeys(word for word in words if word not in (common or ())))[:MOST_WORDS]
-                 for words in every)
+    return tuple(tuple(word for word in words if word not in (common or ()))[:MOST_WORDS] for words in every)

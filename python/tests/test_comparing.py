@@ -1,6 +1,8 @@
 """Two pages side by side: columns, marks, statuses, and the document."""
 import re
+import time
 from html.parser import HTMLParser
+from random import Random
 
 import gallery
 from conftest import file
@@ -34,6 +36,16 @@ def test_equal_pages_in_other_spellings_differ_in_nothing(run):
     pages = [f"{gallery.FOLDER}/skyline, {how}.nap" for how in ("absolute", "relative")]
     said = run(["diff", *pages])
     assert said.returncode == 0 and not re.search(rb" [|<>] ", said.stdout)
+
+
+def test_lines_that_stand_often_take_little():
+    chance = Random(1)
+    for kinds in (2, 30, 300):
+        left, right = ([str(chance.randrange(kinds)) for _ in range(MOST_LINES)] for _ in range(2))
+        began = time.process_time()
+        rows = list(side_by_side(left, right))
+        assert time.process_time() - began < 60
+        assert [row.split()[0] for row in rows if row[0] != " "] == left
 
 
 class ComparedTable(HTMLParser):

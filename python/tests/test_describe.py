@@ -1,5 +1,6 @@
 """Pages in words: each letter once, in the order of the screen; areas, places, colours and changes; the command."""
 import re
+import time
 import unicodedata
 from collections import Counter
 from html.parser import HTMLParser
@@ -13,14 +14,28 @@ import entries as listed
 import gallery
 import naplps as nap
 from conftest import file
-from naplps import letters
+from libraries import library_path
+from naplps import backends, letters
 from naplps.drawing.description import MOST_SHORT, colour_name, describe, place_name
 from naplps.drawing.elements import escaped
+from naplps.library_backend import LibraryBackend
+from naplps.limits import MOST_LISTED
 from naplps.reading import read
+from naplps_pages.nearness import keys_of
 from samples import BOMB, OUTSIDE
+from strategies import pages
 
 CHANCE = st.randoms(use_true_random=False)
 LOOK, INK = "colour=own-start text=0,0/{}/----", "pel=0,0 colour={} texture=0/none"
+
+
+@pytest.fixture(scope="module")
+def library():
+    """The module asks the library."""
+    before = backends._found
+    backends._found = LibraryBackend(library_path())
+    yield
+    backends._found = before
 
 
 def described(*lines):
@@ -80,6 +95,13 @@ def test_screens_definitions_and_what_changes():
     assert described("WAIT 20") == ["the page waits once, 2 seconds in all"]
 
 
+def test_mosaics_and_glyphs_are_counted():
+    signs = [f"CHAR {name} {code} pen={'after' if number else '0,0'} {LOOK.format('normal')}" for number, (name, code)
+             in enumerate((("mosaic", "21"), ("mosaic", "20"), ("mosaic", "7f"), ("drcs", "41")))]
+    assert described(*signs) == ["a picture of 2 mosaics", "a picture of 1 glyph"]
+    assert described("GLYPH 41", signs[0].replace("pen=0,0", "pen=start"), "END") == ["nothing is drawn"]
+
+
 def test_areas_by_size_colour_and_place():
     blue, red = INK.format("direct:0,0,65535"), INK.format("direct:0,65535,0")
     assert described(
@@ -113,6 +135,29 @@ def test_each_letter_stands_once(chance, length):
     assert written(describe(entries)) == signs_of(entries)
 
 
+CELLS = st.sets(st.tuples(st.integers(0, 20), st.integers(0, 10)), min_size=1, max_size=40)
+
+
+@given(CELLS, CHANCE, st.sampled_from("ps"))
+def test_letters_stand_in_the_order_of_the_screen(cells, chance, which):
+    """Letters of both sets, one in each of some cells that don't touch, in whatever order these were written."""
+    base, sets = (0x41, "primary") if which == "p" else (0x21, "supplementary")
+    wanted = sorted(cells, key=lambda cell: (-cell[1], cell[0]))
+    lines = [f"CHAR {sets} {base + number % 20:02x} pen={x * 400000},{y * 590000} {LOOK.format('normal')}"
+             for number, (x, y) in enumerate(wanted)]
+    chance.shuffle(lines)
+    rows = describe(list(read(lines))).screens[0].rows
+    assert "".join(row.text for row in rows).replace(" ", "") == "".join(
+        letters.letter(sets, base + number % 20) for number in range(len(wanted)))
+    assert [len(row.text.split()) for row in rows] == [
+        len([cell for cell in cells if cell[1] == y]) for y in sorted({y for _, y in cells}, reverse=True)]
+
+
+@given(pages())
+def test_a_page_as_it_was_spelled_and_its_canonical_stream_have_one_description(library, page):
+    assert describe(nap.entries(page)) == describe(nap.entries(nap.canon(page)))
+
+
 def test_each_letter_of_long_lists_stands_once():
     for seed in range(40):
         entries = listed.legal_list(Random(seed), 400)
@@ -128,6 +173,31 @@ def test_a_page_and_its_canonical_stream_have_one_description(run, tmp_path):
     assert (said.returncode, said.stderr) == (0, b"")
     assert said.stdout == run(["describe", canonical]).stdout
     assert said.stdout.startswith("top left: WEATHER MON 14 JAN\n".encode())
+
+
+INSIDE = LOOK.format("normal")
+# Lists that take most of what is read of one: long runs, letters that stand apart or in one place, polygons, glyphs,
+# screens, blinking colours.
+MANY = {
+    "a run": lambda at: f"CHAR primary {0x41 + at % 26:02x} pen={'after' if at else '0,0'} {INSIDE}",
+    "letters": lambda at: f"CHAR primary 41 pen={at * 37 % 8388608},{at * 7919 % 6553600} {INSIDE}",
+    "one place": lambda at: f"CHAR primary 41 pen=0,0 {INSIDE}",
+    "polygons": lambda at: f"POLY-FILLED {at},{at} {at * 3},5 7,{at * 5} 9,9 {INK.format(f'direct:{at % 65536},0,0')}",
+    "glyphs": lambda at: (f"GLYPH {0x21 + at % 90:02x}", f"CHAR primary 41 pen=start {INSIDE}", "END")[at % 3],
+    "screens": lambda at: ("CLEAR pen=start", f"CHAR primary 41 pen=start {INSIDE}")[at % 2],
+    "blinks": lambda at: f"BLINK {at * 64} 1,2,3 colour=front:{at * 64}"}
+# Entries, a part of those that are read at most, and seconds of the processor for them.
+ENTRIES, MOST_SECONDS = MOST_LISTED // 12 * 3, 60
+
+
+@pytest.mark.parametrize("name", MANY)
+def test_lists_of_most_entries_take_little(name):
+    lines = [MANY[name](at) for at in range(ENTRIES)]
+    began = time.process_time()
+    found = describe(list(read(lines)))
+    assert len(escaped(found.short()).encode("utf-8")) <= MOST_SHORT and found.lines()
+    assert len(keys_of("".join(line + "\n" for line in lines).encode("ascii")).prefixes) == len(lines) * 8
+    assert time.process_time() - began < MOST_SECONDS
 
 
 class Words(HTMLParser):

@@ -361,6 +361,20 @@ def test_nothing_is_wider_than_the_window(shown, width):
     assert page.run("document.documentElement.scrollWidth") <= width
 
 
+def test_the_page_stands_in_words_beside_the_picture(shown):
+    page = shown(StreamWriter().clear().domain().at(0.0, 0.5, "A <b>").code(0x3D, b"\x45").made())
+    words = page.run("[...document.querySelectorAll('#player-words li')].map((each) => each.textContent)")
+    assert words == ["left: A <b>", "the page waits once, 0.5 seconds in all"]
+    assert page.run("player.canvas.getAttribute('aria-describedby')") == "player-words"
+
+
+@needs_node
+def test_what_is_held_of_the_words_is_bounded(weather):
+    assert len(json.loads(weather()[0])["described"]) > 5
+    held = json.loads(weather(MOST_DESCRIBED=2, A_DESCRIBED=9)[0])
+    assert held["described"] == ["top left: ..", "left: -9", " .."]
+
+
 def test_what_a_page_says_is_never_markup(shown):
     text = "</script><img src=x onerror=hacked=1>"
     page = shown(StreamWriter().clear().at(0.0, 0.5, text).made())

@@ -46,7 +46,8 @@ PARTS: Dict[str, Part] = {
     "making": Part(
         "pages of lines and of what people write: what each line makes, mistakes and hostile sources, the writer, and "
         "the documents of that",
-        ("make", "authoring", "authoring_hostile", "making", "page_source", "writer", "making_documents"),
+        ("make", "authoring", "authoring_hostile", "making", "page_source", "sources_made", "writer",
+         "making_documents"),
     ),
     "module": Part(
         "the module naplps: its answers over the library and over the program, what it says where these fail or aren't "

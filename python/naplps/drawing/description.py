@@ -13,6 +13,8 @@ from .placed_letters import PlacedLetters, TextRow
 
 # RESET with such a code for the screen clears it.
 CLEARING = (1, 2, 5, 6, 7)
+# The sets of characters that draw no letters, and the mosaic that draws nothing.
+SIGNS, BLANK = ("mosaic", "drcs"), 0x20
 # The least parts of the screen that an area of this name has, and the most areas that are named of one screen.
 SIZES = ((0.2, "large"), (0.05, "medium-sized"), (0.01, "small"))
 WHOLE, WIDE, MOST_AREAS = 0.9, 0.6, 12
@@ -26,25 +28,29 @@ NAMES: Dict[str, Tuple[int, int, int]] = {
     "brown": (130, 80, 30), "yellow": (255, 240, 40), "light yellow": (250, 240, 170), "green": (30, 180, 30),
     "light green": (140, 240, 140), "dark green": (0, 90, 20), "cyan": (60, 220, 230), "blue": (30, 60, 230),
     "light blue": (130, 180, 250), "dark blue": (10, 25, 100), "magenta": (225, 40, 225), "purple": (110, 30, 140),
-    "pink": (250, 160, 190)}
+    "dark purple": (80, 20, 80), "pink": (250, 160, 190)}
 
 
 class Screen(NamedTuple):
     """What is on the screen until it is cleared: rows of text from top to bottom; sentences on the areas, the largest
-    first; and how many shapes there are beside those areas."""
+    first; how many shapes there are beside those areas; and how many mosaics and glyphs of the page's own."""
 
     rows: Tuple[TextRow, ...]
     areas: Tuple[str, ...]
     others: int
+    mosaics: int = 0
+    glyphs: int = 0
 
     def text_lines(self) -> List[str]:
         """The rows of text, each after its place in words."""
         return [f"{_place_of(row)}: {row.text}" for row in self.rows]
 
     def area_lines(self) -> List[str]:
-        """The sentences on areas, and one on the other shapes."""
+        """The sentences on areas, and those on the other shapes and on what is made of mosaics and glyphs."""
         others = "1 smaller shape or line" if self.others == 1 else f"{self.others} smaller shapes and lines"
-        return [*self.areas, *[others] * bool(self.others)]
+        made = [f"a picture of {count} {name}{'s' * (count > 1)}" for count, name in (
+            (self.mosaics, "mosaic"), (self.glyphs, "glyph")) if count]
+        return [*self.areas, *[others] * bool(self.others), *made]
 
 
 class PageDescription(NamedTuple):
@@ -89,6 +95,7 @@ class _Describer:
         self.is_defining = False
         self.areas: List[_Area] = []
         self.others = 0
+        self.signs: Dict[str, int] = dict.fromkeys(SIGNS, 0)
         self.screens: List[Screen] = []
         self.blinks: Dict[str, None] = {}
         self.tenths = self.waits = 0
@@ -102,6 +109,8 @@ class _Describer:
             self.is_defining = False
         elif isinstance(entry, (Char, TextMove, ToEol)):
             (self.defined if self.is_defining else self.letters).entry(entry)
+            if isinstance(entry, Char) and entry.set in SIGNS and not self.is_defining:
+                self.signs[entry.set] += entry.set != "mosaic" or entry.code != BLANK
         elif isinstance(entry, (Point, Line, Arc, Rect, Poly)):
             if not self.is_defining:
                 self._shape(entry)
@@ -134,11 +143,12 @@ class _Describer:
     def end_screen(self) -> None:
         """Ends a screen, if anything is on it."""
         rows, areas, others = tuple(self.letters.rows()), self.areas, self.others
+        signs = [self.signs[name] for name in SIGNS]
         self.letters.clear()
-        self.areas, self.others = [], 0
-        if rows or areas or others:
+        self.areas, self.others, self.signs = [], 0, dict.fromkeys(SIGNS, 0)
+        if rows or areas or others or any(signs):
             told, left = _told(areas)
-            self.screens.append(Screen(rows, told, others + left))
+            self.screens.append(Screen(rows, told, others + left, *signs))
 
     def changes(self) -> List[str]:
         """What changes by itself."""

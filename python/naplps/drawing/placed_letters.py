@@ -28,7 +28,7 @@ class _PlacedPiece(NamedTuple):
     end: float
     high: float
     wide: float
-    text: str
+    signs: List[str]
 
 
 class PlacedLetters:
@@ -81,9 +81,10 @@ class PlacedLetters:
         step = wide * size.spacing
         last = self.pieces[-1] if self.pieces and size.path == RIGHT else None
         if last and last.y == y and last.high == high and abs(last.end - x) <= TOUCHING * wide:
-            self.pieces[-1] = last._replace(end=x + step, text=last.text + sign)
+            last.signs.append(sign)
+            self.pieces[-1] = last._replace(end=x + step)
         else:
-            self.pieces.append(_PlacedPiece(y, x, x + step, high, wide, sign))
+            self.pieces.append(_PlacedPiece(y, x, x + step, high, wide, [sign]))
 
     def set_field(self, corners: Optional[Tuple[Position, Position]]) -> None:
         """Sets the field in which text is arranged; None is the whole screen."""
@@ -112,12 +113,13 @@ class PlacedLetters:
 
 def _stripped(piece: _PlacedPiece) -> Optional[_PlacedPiece]:
     """A piece without blanks at its ends; None where nothing is left."""
-    bare = piece.text.strip(" ")
+    text = "".join(piece.signs)
+    bare = text.strip(" ")
     if not bare:
         return None
-    step = (piece.end - piece.x) / len(piece.text)
-    start = piece.x + step * (len(piece.text) - len(piece.text.lstrip(" ")))
-    return piece._replace(x=start, end=start + step * len(bare), text=bare)
+    step = (piece.end - piece.x) / len(text)
+    start = piece.x + step * (len(text) - len(text.lstrip(" ")))
+    return piece._replace(x=start, end=start + step * len(bare), signs=[bare])
 
 
 def _row(pieces: List[_PlacedPiece]) -> TextRow:
@@ -128,7 +130,7 @@ def _row(pieces: List[_PlacedPiece]) -> TextRow:
     for piece in ordered:
         if made and not -SAME_WORD * piece.wide < piece.x - end < SAME_WORD * piece.wide:
             made.append(" ")
-        made.append(piece.text)
+        made += piece.signs
         end = max(end, piece.end)
     first = ordered[0]
     return TextRow(first.x, end, first.y + first.high / 2, " ".join("".join(made).split()))

@@ -2,7 +2,10 @@
 import sqlite3
 from typing import TYPE_CHECKING
 
+from .near_table import OPTION
 from .schemas import OPTIONS
+
+NAMES = (*OPTIONS, OPTION)
 
 if TYPE_CHECKING:
     from .rows import AskAgain
@@ -11,13 +14,13 @@ if TYPE_CHECKING:
 def kept(connection: sqlite3.Connection) -> "frozenset[str]":
     """The options that a store keeps to, by their names."""
     keys = {str(key) for key, in connection.execute("SELECT key FROM main.meta")}
-    return frozenset(OPTIONS) & keys
+    return frozenset(NAMES) & keys
 
 
 def keep(connection: sqlite3.Connection, wanted: "AskAgain") -> "AskAgain":
     """What a scan is asked for, with the options that the store keeps to; these are noted."""
     some = kept(connection)
-    made = wanted._replace(cures=wanted.cures or "cures" in some, words=wanted.words or "words" in some)
+    made = wanted._replace(**{name: getattr(wanted, name) or name in some for name in NAMES})
     connection.executemany("INSERT OR IGNORE INTO meta VALUES(?, 1)", (
-        (name,) for name in OPTIONS if getattr(made, name)))
+        (name,) for name in NAMES if getattr(made, name)))
     return made

@@ -6,6 +6,7 @@ from typing import Any, Callable, Dict, Iterable, Iterator, NamedTuple, Optional
 from naplps.names import printable
 
 from .. import TOOL
+from ..nearness import KEY, MOST_SAID, PREFIX
 
 Row = Tuple[Any, ...]
 MOST_NUMBER, MOST_REFUSAL, HASH = (1 << 63) - 1, 99, 32
@@ -45,6 +46,13 @@ NAME = Kind("a name", lambda value: type(value) is bytes and len(value) <= MOST_
             "typeof({0}) = 'blob' AND length({0}) <= %d AND instr({0}, x'00') = 0" % MOST_PATH)
 PATH = Kind("a path", lambda value: NAME.fits(value) and value.startswith(b"/"),
             NAME.sql + " AND substr({0}, 1, 1) = x'2F'")
+# The keys of lists: of what is left of one, and of its first entries, for one number of these or for each.
+KEYS = Kind("a key", lambda value: type(value) is bytes and len(value) == KEY,
+            "typeof({0}) = 'blob' AND length({0}) = %d" % KEY)
+PREFIXES = Kind("keys of first entries", lambda value: type(value) is bytes and len(value) % PREFIX == 0,
+                "typeof({0}) = 'blob' AND length({0}) %% %d = 0" % PREFIX)
+SAID = Kind("words", lambda value: type(value) is str and len(value) <= MOST_SAID,
+            "typeof({0}) = 'text' AND length({0}) <= %d" % MOST_SAID)
 # The columns of the store, and what is reckoned of them, by name.
 KINDS: Dict[str, Kind] = {
     **dict.fromkeys(("mtime_ns", "ctime_ns"), NUMBER),
@@ -56,7 +64,8 @@ KINDS: Dict[str, Kind] = {
     "program": NAME, "name": NAME, "path": PATH, "number": _whole(1, MOST_REFUSAL, "the number of a refusal"),
     "file_state": _whole(0, 6, "the state of a file"), "page_state": _whole(0, 2, "the state of a page"),
     "kind": _whole(0, 3, "the kind of a page"), "grade": _whole(0, 1, "the grade of treatments"),
-    "source": _whole(0, 2, "whose text it is"), **dict.fromkeys(("flag", "several"), _whole(0, 1, "a flag"))}
+    "source": _whole(0, 2, "whose text it is"), "near_key": KEYS, "near_prefix": PREFIXES, "prefixes": PREFIXES,
+    "said": SAID, "near_form": COUNT, **dict.fromkeys(("flag", "several"), _whole(0, 1, "a flag"))}
 # The columns of the tables.
 TABLES = {
     "terms": "id version program_hash form budget",
@@ -69,6 +78,9 @@ TABLES = {
     "cures": "page terms treatments? entries? copy? why? grade? canon? canon_size?",
     "texts": "page terms source text? first? why?",
     "files": "folder name state:file_state why? size? mtime_ns? ctime_ns? inode? page? run"}
+# A table that there needn't be.
+NEAR = {"near_keys": "canon form:near_form start:near_prefix? words:near_key colours:near_key places:near_key prefixes "
+        "said"}
 # What an answer has that is accepted or refused; and which numbers there have to be.
 WHOLE = {"runs": "terms IN (SELECT id FROM terms)", "roots": "run IN (SELECT id FROM runs)",
          "folders": "run IN (SELECT id FROM runs)", "files": "run IN (SELECT id FROM runs)",
@@ -139,7 +151,8 @@ def _name_of(value: Any) -> str:
 
 def require_right(connection: sqlite3.Connection) -> None:
     """Looks at each value of a store. Raises NotAStore."""
-    for table, told in TABLES.items():
+    has_near = connection.execute("SELECT 1 FROM main.sqlite_master WHERE name = 'near_keys'").fetchone()
+    for table, told in {**TABLES, **(NEAR if has_near else {})}.items():
         rules = ["(%s%s)" % (f"{each.name} IS NULL OR " if each.may_lack else "", each.kind.sql.format(each.name))
                  for each in columns(told)]
         rules += [WHOLE[table]] if table in WHOLE else []

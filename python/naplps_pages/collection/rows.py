@@ -1,7 +1,10 @@
 """The rows that a scan writes into a store, and how workers are given files and send rows back."""
-from typing import Iterable, List, NamedTuple, Optional, Tuple
+from typing import TYPE_CHECKING, Iterable, List, NamedTuple, Optional, Tuple
 
 from .folders import FolderIdentity
+
+if TYPE_CHECKING:
+    from ..nearness import NearKeys
 
 
 class AskAgain(NamedTuple):
@@ -10,6 +13,7 @@ class AskAgain(NamedTuple):
     again: bool = False
     cures: bool = False
     words: bool = False
+    near: bool = False
 
 
 class File(NamedTuple):
@@ -55,7 +59,8 @@ class Answered(NamedTuple):
 
     An accepted page has its kind, and whether it is perhaps several pages; a refused one has what it looks like, which
     is nothing where that isn't known, and the code that stops it, where the fault alone doesn't say which. A capture
-    has its kind, and how many pages it holds; other files hold 0.
+    has its kind, and how many pages it holds; other files hold 0. Keys are those by which pages are compared that are
+    almost equal.
     """
 
     own: bytes
@@ -75,6 +80,7 @@ class Answered(NamedTuple):
     fault: Optional[str] = None
     cured: Optional[Cured] = None
     said: Optional[PageText] = None
+    keys: "Optional[NearKeys]" = None
 
 
 class FolderFiles(NamedTuple):

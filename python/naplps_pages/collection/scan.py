@@ -19,13 +19,14 @@ from naplps.program import version
 from ..console import COMPLETE, FAILED, SOME_LACK, Output, tell
 from ..packs.reading import NO_FILE, SEVERAL
 from ..unexpected import Unexpected
-from . import tables, word_index
+from . import near_table, tables, word_index
 from .beside import LOG
 from .cluster import MOST_FILES, MOST_NAMES, Cluster, ClusterFailed
 from .counts import counted
 from .folders import absolute, is_gone, join, reason
 from .kept_options import keep
 from .lock import Busy, Lock
+from .near_pass import NearPass
 from .part import Part, keep_part
 from .pack_state import MOST_BROKEN, broken
 from .pool import NoWorkers, Pool
@@ -154,7 +155,7 @@ def _scan(options: ScanOptions, terms: Terms, stopping: Stopping, roots: List[by
         options = replace(options, how=options.how._replace(wanted=keep(connection, options.how.wanted)))
         if cluster:
             cluster.how = options.how
-        if options.how.wanted.words:
+        if options.how.wanted.words or options.how.wanted.near:
             keep_private(connection)
         if not keep_log(connection):
             tell("%s: its file system lets no log stand beside it; it can't be read while it is written"
@@ -174,6 +175,7 @@ def _scan(options: ScanOptions, terms: Terms, stopping: Stopping, roots: List[by
             raise
         except Exception as error:  # pylint: disable=broad-except
             raise Unexpected(run.at_work, error) from None
+        run.compare()
         return run
     finally:
         if connection.in_transaction:
@@ -232,6 +234,17 @@ class ScanRun:
         if not self.line:
             tell(STOPPED)
 
+    def compare(self) -> None:
+        """Makes the keys of pages that are almost equal, where these are asked for and the scan came to its end."""
+        options, connection = self.options, self.writer.connection
+        if not self.line or not options.how.wanted.near:
+            return
+        near_table.make(connection)
+        keys = NearPass(connection, options.store, options.how, options.processes)
+        self.status = max(self.status, keys.run(self.stopping))
+        if self.stopping.number is not None:
+            tell(STOPPED)
+
     @property
     def at_work(self) -> str:
         """The file that was written or searched last."""
@@ -272,6 +285,7 @@ class ScanRun:
                 self._complain(*broken(writer.connection, folder))
         writer.sweep(self.search.whole)
         writer.connection.executescript(INDICES)
+        near_table.sweep(writer.connection)
         counts = counted(writer.connection, writer.run)
         writer.finish(counts.met, counts.asked)
         self.line = counts.line(self.search.known)

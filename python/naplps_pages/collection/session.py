@@ -1,4 +1,4 @@
-"""The commands look, cures, split, census and near on the files of a store: what they do for single pages."""
+"""The commands look, cures and split on the files of a store: what they do for single pages."""
 import os
 import sqlite3
 from dataclasses import dataclass, field
@@ -18,14 +18,14 @@ from .page_reader import Otherwise, read
 from .places import Place
 from .printing import numbered
 from .store import kept
-from .tables import ACCEPTED, CAPTURE, REFUSED
+from .tables import CAPTURE, REFUSED
 
 ROOTS = "SELECT path, max(run) FROM roots GROUP BY path ORDER BY path"
 # The files with an answer, in the order of their names.
 FILES = """SELECT p.own, d.path, f.name, f.at FROM present f CROSS JOIN pages p ON p.id = f.page
     CROSS JOIN folders d ON d.id = f.folder WHERE p.state {} ORDER BY d.path, f.name"""
 FILE = "own path name inode?"
-ANSWERED, REFUSED_ALONE, ACCEPTED_ALONE = f"<= {REFUSED}", f"= {REFUSED}", f"= {ACCEPTED}"
+ANSWERED, REFUSED_ALONE = f"<= {REFUSED}", f"= {REFUSED}"
 CAPTURES_ALONE = f"= {REFUSED} AND p.kind = {CAPTURE}"
 NO_PATH = "no file can be named after it: its name in the store isn't that of a file"
 NOT_BELOW = "no file can be named after it: it stands in no folder that was scanned"

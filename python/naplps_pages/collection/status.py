@@ -6,7 +6,7 @@ from typing import Dict, List, NamedTuple, Optional, Tuple, TypeVar
 
 from naplps.names import Members, as_json, shown
 
-from . import tables
+from . import near_table, tables
 from .beside import LOG
 from .counts import UNKNOWN
 from .kept_options import kept
@@ -31,6 +31,7 @@ COUNTED = "state:file_state answer:page_state? why? is_old:flag? kind? looks_lik
 # Pages that lack what the store keeps, by the option.
 LACKING = {"cures": ("refused without treatments tried", f"p.state = 1 AND NOT {tables.TRIED}"),
            "words": ("without their text", f"p.state < 2 AND NOT {tables.HAS_TEXT}")}
+WITHOUT_KEYS = "not compared with others that are almost equal"
 LACK = "SELECT count(*) FROM pages p WHERE {} AND EXISTS(SELECT 1 FROM present f WHERE f.page = p.id)"
 PERHAPS_SEVERAL = "perhaps several pages"
 # Reasons that are all alike but for a number.
@@ -152,7 +153,11 @@ def status(connection: sqlite3.Connection, path: str) -> Status:
     shut, = connection.execute("SELECT count(*) FROM folders WHERE state = ?", (tables.UNREADABLE,)).fetchone()
     if shut:
         tally.left["unreadable folders"] = shut
-    for option in sorted(kept(connection)):
+    options = kept(connection)
+    if near_table.OPTION in options:
+        number = near_table.find_wanted(connection)
+        tally.left.update({WITHOUT_KEYS: number} if number else {})
+    for option in sorted(options & set(LACKING)):
         name, words = LACKING[option]
         number, = connection.execute(LACK.format(words)).fetchone()
         if number:

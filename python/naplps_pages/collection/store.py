@@ -9,7 +9,7 @@ from naplps.names import printable, shown
 from naplps.version import VERSION
 
 from .. import TOOL
-from . import schemas, tables, word_index
+from . import near_table, schemas, tables, word_index
 from .beside import LOG, foreign, place
 from .header import APPLICATION
 from .kinds import checked
@@ -195,13 +195,14 @@ def _check_tables(path: str, connection: sqlite3.Connection, schema: int) -> Non
 
     Other plain tables, and indices of these, are nobody's matter. But other views, triggers and virtual tables, and
     other indices of the store's own tables, would act where it is read or written. An index of words is there as a
-    whole, or not at all.
+    whole, or not at all; the keys of pages that are almost equal are there or not.
     """
     wanted = schemas.own(schema)
     found = set()
-    tables_of_own = {name for kind, name in wanted if kind == "table"} | set(word_index.OWN)
+    optional = {**word_index.OWN, **near_table.OWN}
+    tables_of_own = {name for kind, name in wanted if kind == "table"} | set(optional)
     for kind, name, table, words in connection.execute("SELECT type, name, tbl_name, sql FROM main.sqlite_master"):
-        own = wanted.get((kind, name)) or word_index.OWN.get(name)
+        own = wanted.get((kind, name)) or optional.get(name)
         if own is None and not _is_apart(kind, table, words, tables_of_own):
             raise StoreFailed(path, FOREIGN % (TOOL, kind, name))
         if own is not None and words != own:
@@ -257,9 +258,10 @@ def kept(connection: sqlite3.Connection, words: str, told: str, **named: str) ->
 def keep_private(connection: sqlite3.Connection) -> None:
     """Lets only its owner read a store that gets its first texts, as they may be those of pages that others can't read.
 
-    Raises OSError.
+    The words of pages stand beside the keys of those that are almost equal too. Raises OSError.
     """
-    if connection.execute("SELECT 1 FROM main.texts LIMIT 1").fetchone() is None:
+    some = ["texts", *[near_table.NAME] * near_table.is_there(connection)]
+    if all(connection.execute(f"SELECT 1 FROM main.{name} LIMIT 1").fetchone() is None for name in some):
         path = connection.execute("PRAGMA database_list").fetchone()[2]
         mode = stat.S_IMODE(os.stat(path).st_mode)
         if mode & OF_OTHERS:

@@ -10,12 +10,12 @@ from naplps.limits import Limits
 from naplps.names import shown
 from naplps.program import find
 
-from .. import census, curing, near_pages, showing, splitting
+from .. import census, curing, showing, splitting
 from ..console import COMPLETE, FAILED, SOME_LACK, tell
 from ..earlier import Earlier
 from ..page_session import Session
 from ..refusals import Reason
-from . import census_of_store, convert, equal, equal_over, equal_treated, refused
+from . import census_of_store, convert, equal, equal_over, equal_treated, near_of_store, refused
 from .equal_over import most_budget
 from .merge import merge
 from .pool import processors
@@ -23,7 +23,7 @@ from .printing import Printer, numbered
 from .progress import Progress
 from .rows import AskAgain
 from .scan import ScanOptions, scan
-from .session import ACCEPTED_ALONE, ANSWERED, CAPTURES_ALONE, REFUSED_ALONE, Names, StoreSession, files
+from .session import ANSWERED, CAPTURES_ALONE, REFUSED_ALONE, Names, StoreSession, files
 from .store import StoreFailed, open_to_read
 from .verify import verified
 from .worker import WorkerOptions
@@ -38,7 +38,7 @@ UNKNOWN = "of treated copies of %s it isn't known what they draw: a scan with --
 
 def _scan(given: Given, command: str) -> int:
     how = WorkerOptions(find(command), given.budget, given.seconds, given.most, AskAgain(
-        given.again, given.cures, given.words))
+        given.again, given.cures, given.words, given.near))
     processes = given.processes or processors()
     return scan(ScanOptions(given.folders, given.into, processes, how, given.part, given.on))
 
@@ -143,6 +143,9 @@ def of_store(given: Given, client: Client, earlier: Earlier) -> int:
         client.budget = most_budget(given.pages)
         if given.command == "census":
             return _census(given, connection, client)
+        if given.command == "near":
+            connection.close()
+            return _near(given, client)
         run, which = OF_STORE[given.command]
         options = {name: getattr(given, name) for name in STORED if name in given}
         return run(StoreSession(client, given.pages, **options, earlier=earlier, files=files(connection, which),
@@ -150,6 +153,11 @@ def of_store(given: Given, client: Client, earlier: Earlier) -> int:
     except (StoreFailed, sqlite3.Error) as error:
         tell(str(error) if isinstance(error, StoreFailed) else f"{shown(given.pages[0])}: {error}")
     return FAILED
+
+
+def _near(given: Given, client: Client) -> int:
+    how = WorkerOptions(client.path, client.budget, given.seconds, 0)
+    return near_of_store.near(given.pages[0], how, given.processes or processors(), given.json)
 
 
 def _census(given: Given, connection: sqlite3.Connection, client: Client) -> int:
@@ -166,5 +174,5 @@ def _census(given: Given, connection: sqlite3.Connection, client: Client) -> int
 
 OF_STORE: Dict[str, Tuple[Callable[[Session], int], str]] = {
     "look": (showing.look, ANSWERED), "cures": (curing.cures, REFUSED_ALONE),
-    "near": (near_pages.near, ACCEPTED_ALONE), "split": (splitting.split, CAPTURES_ALONE)}
+    "split": (splitting.split, CAPTURES_ALONE)}
 COMMANDS = {"scan": _scan, "merge": _merge, "equal": _equal, "refused": _refused, "convert": _convert}

@@ -5,10 +5,10 @@ import sys
 import time
 from multiprocessing.connection import Connection
 from types import FrameType
-from typing import Optional
+from typing import Any, Callable, Iterator, Optional, Protocol, Sequence
 
 from .known_hashes import KnownHashes
-from .rows import plain
+from .rows import Chunk, Piece, plain
 from .worker import Worker
 
 # A worker that needs more memory than this is at fault.
@@ -17,6 +17,16 @@ MOST_MEMORY = 1 << 30
 BEAT = 1.0
 # What it sends beside pieces.
 DONE, ALIVE, FAILED = "done", "alive", "failed"
+
+
+class PieceMaker(Protocol):
+    """What a process does: turns chunks into pieces, until it is closed."""
+
+    def pieces(self, chunk: Chunk) -> Iterator[Piece]:
+        """What comes of a chunk."""
+
+    def close(self) -> None:
+        """Ends what it has started."""
 
 
 class ScanConnection:
@@ -39,14 +49,23 @@ class ScanConnection:
 
 def main(descriptor: int) -> None:
     """Works until the connection ends."""
+    serve(descriptor, _worker)
+
+
+def _worker(first: Sequence[Any], beat: Callable[[], None]) -> PieceMaker:
+    how, store, terms, run = first
+    return Worker(how, KnownHashes(store, terms, run, how.wanted), beat)
+
+
+def serve(descriptor: int, made: Callable[[Sequence[Any], Callable[[], None]], PieceMaker]) -> None:
+    """Works until the connection ends, by what is made of the first message."""
     signal.signal(signal.SIGTERM, _end)
     limit_memory()
     line = ScanConnection(Connection(descriptor))
-    worker: Optional[Worker] = None
+    worker: Optional[PieceMaker] = None
     try:
         line.send(ALIVE)
-        how, store, terms, run = line.connection.recv()
-        worker = Worker(how, KnownHashes(store, terms, run, how.wanted), line.beat)
+        worker = made(line.connection.recv(), line.beat)
         while True:
             _work(line, worker)
     except (EOFError, ConnectionError):
@@ -68,7 +87,7 @@ def limit_memory() -> None:
         pass  # the system has no such limit
 
 
-def _work(line: ScanConnection, worker: Worker) -> None:
+def _work(line: ScanConnection, worker: PieceMaker) -> None:
     chunk = line.connection.recv()
     for files, answers in worker.pieces(chunk):
         if files:

@@ -4,3 +4,5 @@
 MOST_BYTES, MOST_CODES = 1 << 20, 50_000
 # Characters of all lines of the list: those of all that a picture may have.
 MOST_LINES = 8 << 20
+# Lines of a page in words, and characters of each.
+MOST_DESCRIBED, A_DESCRIBED = 200, 500

@@ -7,14 +7,16 @@ from itertools import accumulate, takewhile
 from typing import Dict, List, Sequence, Tuple
 
 from naplps.answers import Accepted, Refusal
+from naplps.drawing.description import describe
 from naplps.drawing.walk import MOST_DRAWN
+from naplps.reading import Entries
 
 from ..explaining import numbered
 from ..listing import Listed, Row
 from . import limits
 
-# The place of an entry that came with no byte of the page.
-NOT_HERE = -1
+# The place of an entry that came with no byte of the page; and what a longer text ends with.
+NOT_HERE, CUT = -1, " .."
 
 
 @dataclass
@@ -31,8 +33,8 @@ class CodeColumns:
 def played(data: bytes, told: Listed, said: str = "", before: Sequence[str] = ()) -> str:
     """What a player holds of a page that has these bytes, this answer, and places of its entries.
 
-    Its notes are `said`; the player itself tells what it leaves out. `before` are the lines of the entries of earlier
-    pages: what they draw is there when the first byte comes.
+    Its notes are `said`; the player itself tells what it leaves out, and has the page in words beside the picture.
+    `before` are the lines of the entries of earlier pages: what they draw is there when the first byte comes.
     """
     assert told.rows is not None
     every: List[Row] = [*((NOT_HERE, line) for line in before), *told.rows]
@@ -45,8 +47,17 @@ def played(data: bytes, told: Listed, said: str = "", before: Sequence[str] = ()
     shown = data[:min(length, limits.MOST_BYTES)]
     members = {"length": length, "before": earlier, "entries": len(every), "places": [place for place, _ in held],
                "lines": [line for _, line in held], "codes": vars(codes), "isCut": is_cut,
-               "bytes": base64.b64encode(shown).decode("ascii"), "notes": [said] if said else []}
+               "bytes": base64.b64encode(shown).decode("ascii"), "notes": [said] if said else [],
+               "described": _described([line for _, line in held])}
     return json.dumps(members, separators=(",", ":"))
+
+
+def _described(lines: Sequence[str]) -> List[str]:
+    """The page in words, as far as that is held."""
+    described = describe(list(Entries(lines))).lines()
+    more = [CUT] if len(described) > limits.MOST_DESCRIBED else []
+    return [line if len(line) <= limits.A_DESCRIBED else line[:limits.A_DESCRIBED] + CUT
+            for line in described[:limits.MOST_DESCRIBED]] + more
 
 
 def _so_many(rows: Sequence[Row]) -> int:

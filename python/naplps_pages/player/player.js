@@ -52,7 +52,7 @@ class Player {
         node("div", {className: "controls"}, node("div", {className: "steps"}, ...this.steps(button)), this.speed,
           this.view, node("label", {}, this.blinking, " blinking"),
           node("label", {}, this.flashing, " fast flashes too")),
-        this.told, this.keys()),
+        this.told, ...this.words(), this.keys()),
       node("div", {className: "beside"}, this.codes.box, this.about));
   }
 
@@ -69,6 +69,15 @@ class Player {
       node("p", {}, "A click into the picture marks the bytes of what is there; one on bytes marks what they drew."),
       node("p", {}, "A picture that would flash more than three times in a second is held back, unless fast flashes "
         + "are wanted."));
+  }
+
+  // The whole page in words, where these are known: what the picture is to those who don't see it.
+  words() {
+    const some = this.data.described || [];
+    if (!some.length) return [];
+    this.canvas.setAttribute("aria-describedby", "player-words");
+    return [node("details", {className: "words"}, node("summary", {}, "In words"),
+      node("ul", {id: "player-words"}, ...some.map((each) => node("li", {}, each))))];
   }
 
   listen() {

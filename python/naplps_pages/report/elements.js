@@ -91,11 +91,11 @@ function saved(sketch, name) {
   setTimeout(() => URL.revokeObjectURL(url), 60000);
 }
 
-// What the sketch says of itself: what it leaves out.
-function notes(drawing) {
-  if (!drawing.sketch) return "";
-  const described = new DOMParser().parseFromString(drawing.sketch, "image/svg+xml").querySelector("desc");
-  return described ? described.textContent : "";
+// What the sketch says of itself: the page in words, and what it leaves out.
+function described(drawing) {
+  if (!drawing.sketch) return [];
+  const found = new DOMParser().parseFromString(drawing.sketch, "image/svg+xml").querySelector("desc");
+  return found ? found.textContent.split("; ") : [];
 }
 
 // A part of a long list, with the buttons that lead to the others.

@@ -183,7 +183,12 @@ class Held {
     const answer = this.columns.answer[key], texts = this.table.refusals;
     const refusal = texts[this.table.answers[answer]] || texts[this.table.numbers[answer]];
     return {...this.file(key), refusal: refusal || null, cure: cure < 0 ? null : this.table.cures[cure],
-            equal: group < 0 ? null : this.group(group, 12)};
+            equal: group < 0 ? null : this.group(group, 12), near: this.near(this.columns.page[key])};
+  }
+
+  // The files that are almost equal to a page.
+  near(page) {
+    return (this.table.near[page] || []).map(([key, told]) => ({key, name: this.name(key), told}));
   }
 
   // Of a file's drawing what the blocks hold, or why there is none.

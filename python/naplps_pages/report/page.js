@@ -59,6 +59,8 @@ class PageView {
         [file.refusal ? "Place of the refusal" : "Entries", number(file.entries)],
         ["Hash", file.hash ? make("code", {}, file.hash) : ""]]),
       ...(file.refusal ? this.reasons(file) : []), ...(file.equal ? this.equal(file.equal) : []),
+      ...(file.near.length ? this.near(file) : []),
+      ...this.words(drawing),
       ...(drawing.text ? [make("h3", {}, "Text"), longText("text of the page", drawing.text)] : []),
       ...(drawing.lines.length ? [make("h3", {}, this.extent(drawing)),
         longText("list of the page", this.list(drawing))] : [])];
@@ -66,12 +68,18 @@ class PageView {
 
   // The page, and at its left the one that is held beside it.
   pictures(file, drawing) {
-    const one = (it, isBeside) => make("figure", {}, picture(it.drawing, it.file.name), make("figcaption",
-      {className: "dim"}, ...(this.beside ? [make("strong", {}, it.file.name + (isBeside ? " (held) " : " "))] : []),
-      notes(it.drawing)));
+    const one = (it, isBeside) => make("figure", {}, picture(it.drawing, it.file.name), ...(this.beside
+      ? [make("figcaption", {}, make("strong", {}, it.file.name + (isBeside ? " (held)" : "")))] : []));
     const shown = make("div", {className: this.beside ? "pictures two" : "pictures"},
       ...(this.beside ? [one(this.beside, true)] : []), one({file, drawing}, false));
     return this.beside || !drawing.sketch ? shown : new PlayTab(shown, () => this.source.played(file.key)).whole;
+  }
+
+  // The page in words, as its sketch has them for those who don't see it.
+  words(drawing) {
+    const some = described(drawing);
+    return some.length ? [make("h3", {}, "In words"), make("ul", {className: "words"},
+      ...some.map((each) => make("li", {}, each)))] : [];
   }
 
   ways(file, drawing) {
@@ -112,6 +120,14 @@ class PageView {
     return [make("h3", {}, `Equal pages: group ${group.number}, ${size}`), make("ul", {className: "equal"},
       ...group.members.map((each) => make("li", {}, make("div", {className: "thumb"}), ...this.spelling(each)))),
       ...this.others(group)];
+  }
+
+  // Pages that differ in one thing, or of which one is the beginning of the other.
+  near(file) {
+    const both = (each) => make("button", {type: "button", "aria-label": `${file.name} and ${each.name} side by side`,
+      onclick: doing(() => this.open(each.key, undefined, file.key))}, "Side by side");
+    return [make("h3", {}, "Almost equal pages"), make("ul", {className: "near"}, ...file.near.map((each) => make("li",
+      {}, link(each.name, () => this.open(each.key)), `: ${each.told} `, both(each))))];
   }
 
   spelling(each) {

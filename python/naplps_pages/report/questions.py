@@ -17,6 +17,7 @@ from .drawing import WantedDrawing, wanted
 from .facts import Facts, load_facts, told_refusals
 from .files import ReportFile
 from .limits import HASH_DIGITS
+from .near_files import NearFiles
 from .roots import joined
 
 Answer = Dict[str, object]
@@ -33,6 +34,9 @@ OF_HASH = "SELECT f.folder, f.name FROM pages p CROSS JOIN files f ON f.page = p
 PART = "SELECT %s FROM hits h CROSS JOIN files f ON f.folder = h.folder AND f.name = h.name %s WHERE h.rowid > ? " \
     "AND h.rowid <= ? ORDER BY h.rowid" % (of_files.COLUMNS, of_files.JOINS)
 ONE = f"SELECT {of_files.COLUMNS} {of_files.FROM} WHERE f.folder = ? AND f.name = ? AND {of_files.THERE}"
+# (`named` is a table that NearGroups makes)
+OF_CANON = "SELECT n.folder, n.name FROM named n CROSS JOIN folders d ON d.id = n.folder WHERE n.canon = ? " \
+    "ORDER BY d.path, n.name LIMIT 1"
 MEMBERS = "SELECT %s FROM pages p CROSS JOIN terms t ON t.id = p.terms CROSS JOIN files f ON f.page = p.id AND " \
     "f.state = 0 CROSS JOIN folders d ON d.id = f.folder LEFT JOIN faults n ON n.number = p.number LEFT JOIN cures c " \
     "ON c.page = p.id AND c.terms = p.terms WHERE p.canon = ? AND t.form = ? ORDER BY p.own, d.path, f.name LIMIT ?" \
@@ -72,6 +76,7 @@ class Questions:
         self.connection.create_function("group_rank", 2, self._rank)
         self.connection.create_function("is_inside", 1, lambda folder: folder in self.inside)
         self.known: Optional[StoreFacts] = None
+        self.near: Optional[NearFiles] = None
         self.folders: Dict[int, str] = {}
         self.part = ""
         self.inside: Set[int] = set()
@@ -100,6 +105,7 @@ class Questions:
             some = of_groups.load(self.connection)
             facts = load_facts(self.connection, self.store, some)
             numbers = {group.key: number for number, group in enumerate(some, 1)}
+            self.near = None
             self.known = StoreFacts(version, facts, some, numbers, Document(facts, some, "asked.js"))
             self.folders = {number: facts.roots.relative(path) for number, path in checked(self.connection.execute(
                 "SELECT id, path FROM folders"), "id path")}
@@ -219,7 +225,19 @@ class Questions:
         assert isinstance(group, int)
         return {**told, "refusal": self.refusals.get(file.told) or self.refusals.get(str(file.number or 0)),
                 "cure": (graded(file.treatments) if file.treatments else "") if file.tried else None,
-                "equal": self._group(group, NAMES) if group else None}
+                "equal": self._group(group, NAMES) if group else None, "near": self._near(file)}
+
+    def _near(self, file: ReportFile) -> List[Answer]:
+        """The files that are almost equal to one. They are looked for once they are asked for."""
+        if self.near is None:
+            self.near = NearFiles(self.connection)
+        found: List[Answer] = []
+        for each in self.near.of(file):
+            place = one(self.connection.execute(OF_CANON, (each.canon,)).fetchone(), "folder name")
+            rows = self.connection.execute(ONE, place).fetchall() if place else []
+            found += [{"key": key_of(other), "name": self._name(other), "told": each.told}
+                      for other in of_files.read(rows)]
+        return found
 
     def wanted(self, words: Words) -> Optional[WantedDrawing]:
         """The page that is to be drawn; None where it has no answer to draw. Raises Unasked."""

@@ -14,6 +14,7 @@ from .drawing import Drawing
 from .files import ReportFile
 from .groups import GroupSummary
 from .limits import HASH_DIGITS
+from .near_files import NearFiles
 from .roots import Roots
 
 NONE = -1
@@ -45,7 +46,7 @@ class Table:
         self.folders, self.answers, self.cures, self.kinds, self.hashes = (Numbers() for _ in range(5))
         self.says: List[str] = []
         self.first = store_words.first(connection)
-        self.roots = roots
+        self.roots, self.near = roots, NearFiles(connection)
         self.columns: Dict[str, List[object]] = {name: [] for name in COLUMNS}
         numbers = {group.key: number for number, group in enumerate(groups)}
         # The groups of the files by their numbers, or NONE.
@@ -87,9 +88,16 @@ class Table:
         """What the HTML file holds of it."""
         return {"folders": self.folders.names, "answers": self.answers.names, "cures": self.cures.names,
                 "kinds": self.kinds.names, "numbers": self._numbers(), "hashes": self.hashes.names, "says": self.says,
-                "columns": self.columns,
+                "columns": self.columns, "near": self._near(),
                 "groups": [[group.canon.hex()[:16], group.spellings, group.files, group.entries, group.length]
                            for group in self.groups]}
+
+    def _near(self) -> Dict[object, List[Tuple[int, str]]]:
+        """The files that are almost equal, and what is told of each, by the numbers of pages."""
+        numbers = {file.canon or file.treated_canon: number for number, file in reversed([*enumerate(self.files)])}
+        near = {page: [(numbers[each.canon], each.told) for each in self.near.of(file) if each.canon in numbers]
+                for file, page in zip(self.files, self.columns["page"])}
+        return {page: some for page, some in near.items() if some}
 
     def _numbers(self) -> List[int]:
         """The number of the refusal that each of the answers is, or 0."""

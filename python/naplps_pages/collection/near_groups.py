@@ -1,0 +1,88 @@
+"""Pages of a store that are almost equal, by the keys of their lists."""
+import sqlite3
+from itertools import groupby
+from operator import itemgetter
+from typing import Dict, Iterator, List, Sequence
+
+from naplps.treating.treatments import graded
+
+from ..nearness import (
+    COLOURS, FORM, MOST_ENTRIES, PLACES, PREFIX, WORDS, Beginning, Difference, ListedPage, PageName, beginnings,
+    difference, numbers_of,
+)
+from .kinds import checked
+from .near_table import NAMED
+from .places import Place
+
+FIND = ("DROP TABLE IF EXISTS temp.named", "DROP TABLE IF EXISTS temp.compared",
+        f"CREATE TEMP TABLE named AS {NAMED}", "CREATE INDEX temp.named_by_canon ON named(canon)",
+        f"""CREATE TEMP TABLE compared AS SELECT rowid AS row, canon, start, words, colours, places FROM near_keys
+        WHERE form = {FORM} AND canon IN (SELECT canon FROM named)""")
+GROUPED = """SELECT c.{0}, c.canon, {1} FROM compared c{2} WHERE c.{0} IN (
+    SELECT {0} FROM compared GROUP BY {0} HAVING count(*) > 1) ORDER BY c.{0}, c.canon"""
+WITH_KEYS = " CROSS JOIN near_keys k ON k.rowid = c.row"
+# What is known of a group's pages beside the canonical hash: the words, or the hashes of first entries.
+SAID = {WORDS: ("k.said", WITH_KEYS), COLOURS: ("''", ""), PLACES: ("''", "")}
+NAMES = """SELECT d.path, n.name, n.treatments FROM named n CROSS JOIN folders d ON d.id = n.folder WHERE n.canon = ?
+    ORDER BY d.path, n.name"""
+
+
+class NearGroups:
+    """Finds them in a store whose keys are known. `is_whole` says whether all were looked at as beginnings.
+
+    Where names aren't wanted the pages have their canonical hashes alone, and are in the order of these.
+    """
+
+    def __init__(self, connection: sqlite3.Connection, has_names: bool = True) -> None:
+        self.connection, self.has_names, self.is_whole = connection, has_names, True
+        self.names: Dict[bytes, List[PageName]] = {}
+        for words in FIND:
+            connection.execute(words)
+
+    def differences(self) -> Iterator[Difference]:
+        """Pages that differ in words, in colours or in places alone, in the order of their names."""
+        for what, (said, more) in SAID.items():
+            rows = checked(self.connection.execute(GROUPED.format(what, said, more)), "near_key canon said")
+            found = [self._in_order([self._page(canon, said) for _, canon, said in group])
+                     for _, group in groupby(rows, itemgetter(0))]
+            yield from (difference(what, group) for group in sorted(found, key=lambda group: group[0].names))
+
+    def beginnings(self) -> Iterator[Beginning]:
+        """Of each page the longest ones that are its beginning, in the order of names."""
+        found: List[Beginning] = []
+        rows = checked(self.connection.execute(GROUPED.format("start", "k.prefixes", WITH_KEYS)),
+                       "near_prefix canon prefixes")
+        entries = 0
+        for _, group in groupby(rows, itemgetter(0)):
+            pages: List[ListedPage] = []
+            for _, canon, prefixes in group:
+                entries += len(prefixes) // PREFIX
+                if entries > MOST_ENTRIES:
+                    self.is_whole = False
+                    break
+                pages.append(ListedPage([], "", numbers_of(prefixes), canon))
+            found += beginnings(pages)
+            if not self.is_whole:
+                break
+        for each in found:
+            for page in (each.part, each.whole):
+                page.names = self._names(page.canon)
+        yield from sorted(found, key=lambda each: (each.part.names, each.whole.names))
+
+    def _page(self, canon: bytes, said: str) -> ListedPage:
+        return ListedPage(self._names(canon), said, canon=canon)
+
+    def _in_order(self, pages: Sequence[ListedPage]) -> List[ListedPage]:
+        return sorted(pages, key=lambda page: page.names)
+
+    def _names(self, canon: bytes) -> List[PageName]:
+        """The files that draw this."""
+        if not self.has_names:
+            return []
+        names = self.names.get(canon)
+        if names is None:
+            rows = checked(self.connection.execute(NAMES, (canon,)), "path name treatments?")
+            names = self.names[canon] = [
+                PageName(Place(path, name).path, graded(treatments) if treatments else "")
+                for path, name, treatments in rows]
+        return names
