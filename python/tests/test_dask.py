@@ -254,7 +254,7 @@ def test_a_worker_that_is_silent_is_named_and_left_out(monkeypatch, capfd, fake,
     program = fake(slow(0.001))
     first = cluster.worker()
     cluster.worker()
-    monkeypatch.setattr("naplps_pages.collection.cluster_watch.SILENT", 8.0)
+    monkeypatch.setattr("naplps_pages.collection.cluster_watch.SILENT", 25.0)
     monkeypatch.setattr("naplps_pages.collection.cluster_watch.LOOK", 0.5)
     monkeypatch.setattr("naplps_pages.collection.cluster.MOST_FILES", 200)
     monkeypatch.setattr("naplps_pages.collection.scan.MOST_FILES", 200)
@@ -270,7 +270,7 @@ def test_a_worker_that_is_silent_is_named_and_left_out(monkeypatch, capfd, fake,
     first.send_signal(signal.SIGCONT)
     said = capfd.readouterr()
     assert said.out.startswith("6000 files: 6000 accepted ")
-    assert re.fullmatch(r"naplps-pages: tcp://127\.0\.0\.1:\d+: this worker has been silent for 8 s: what it has is "
+    assert re.fullmatch(r"naplps-pages: tcp://127\.0\.0\.1:\d+: this worker has been silent for 25 s: what it has is "
                         r"given to others\n", without_progress(said.err)), said.err
     assert table(store) == plain(run, top, store, program=program)
 
@@ -355,14 +355,14 @@ def test_a_worker_that_is_silent_before_the_scan_begins(monkeypatch, capfd, napl
     """The scheduler has a connection with a worker that it has asked before; one to a new worker can't be made."""
     top = tree(os.path.join(str(tmp_path), "pages"), {"%02d" % at: b"page %d" % at for at in range(60)})
     silent = cluster.worker()
-    monkeypatch.setattr("naplps_pages.collection.cluster_watch.SILENT", 8.0)
+    monkeypatch.setattr("naplps_pages.collection.cluster_watch.SILENT", 25.0)
     monkeypatch.setattr("naplps_pages.collection.cluster_watch.LOOK", 0.5)
     monkeypatch.setenv("NAPLPS", naplps)
     if known:
         assert main(["scan", top, "--into", store + ".first", "--on", cluster.file], COMMAND) == 0
         capfd.readouterr()
     silent.send_signal(signal.SIGSTOP)
-    silence = r"naplps-pages: tcp://127\.0\.0\.1:\d+: this worker has been silent for 8 s: it gets nothing\n"
+    silence = r"naplps-pages: tcp://127\.0\.0\.1:\d+: this worker has been silent for 25 s: it gets nothing\n"
     assert main(["scan", top, "--into", store, "--on", cluster.file], COMMAND) == 3
     said = capfd.readouterr()
     assert said.out == "" and not os.path.exists(store)
