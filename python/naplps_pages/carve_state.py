@@ -1,6 +1,7 @@
 """How far a source was searched for pages: a small file beside what was found, until the search ends."""
 import json
 import os
+import stat
 from contextlib import suppress
 from typing import List, Tuple
 
@@ -23,9 +24,12 @@ class CarveState:
         if not os.path.lexists(self.path):
             return 0, 0
         try:
-            if os.path.islink(self.path) or os.path.getsize(self.path) > MOST_LENGTH:
-                raise ValueError
-            with open(self.path, encoding="ascii") as file:
+            # (a pipe isn't waited for)
+            number = os.open(self.path, os.O_RDONLY | os.O_NONBLOCK | os.O_NOFOLLOW | os.O_CLOEXEC)
+            with open(number, encoding="ascii") as file:
+                it = os.fstat(number)
+                if not stat.S_ISREG(it.st_mode) or it.st_size > MOST_LENGTH:
+                    raise ValueError
                 held = json.load(file)
             if held["what"] != WHAT:
                 raise ValueError

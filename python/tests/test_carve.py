@@ -195,6 +195,19 @@ def test_a_foreign_file_stays_and_the_rest_is_found(run, tmp_path):
     assert said.returncode == 3 and b".disk.img.carve.json: is there already, and isn't of this tool" in said.stderr
 
 
+@pytest.mark.parametrize("kind", ["a pipe", "a link", "a folder"])
+def test_what_is_no_file_where_a_search_keeps_how_far_it_is(run, tmp_path, kind):
+    path, to = file(tmp_path, "disk.img", DISK), os.path.join(str(tmp_path), "to")
+    state, other = os.path.join(to, ".disk.img.carve.json"), file(tmp_path, "other", b"mine")
+    os.mkdir(to)
+    {"a pipe": os.mkfifo, "a link": lambda to: os.symlink(other, to), "a folder": os.mkdir}[kind](state)
+    said = run(["carve", path, "--into", to])
+    assert said.returncode == 3 and b".disk.img.carve.json: is there already, and isn't of this tool" in said.stderr
+    assert os.listdir(to) == [".disk.img.carve.json"]
+    with open(other, "rb") as there:
+        assert there.read() == b"mine"
+
+
 class _Full:
     """A disk that has room for a number of files."""
 
