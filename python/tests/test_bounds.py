@@ -1,6 +1,7 @@
-"""What the tool itself takes for a page that has very many entries, or very many codes that aren't read."""
+"""What the tool itself takes for a page of very many entries, or of codes that aren't read; the program's stack."""
 import json
 import os
+import resource
 import subprocess
 import time
 
@@ -11,6 +12,7 @@ from naplps import Char
 from naplps.reading import read_line
 from naplps_pages.census import Census
 from naplps_pages.json_lines import AT_ONCE, dumps, pieces_of
+from samples import MACRO
 
 MOST_MIB = 128
 # A macro of letters that repeat 63 times each, which is called again and again.
@@ -71,3 +73,12 @@ def test_a_census_of_many_codes_is_linear():
     assert len(census.rows) == 100_000 and {row.only for row in census.rows.values()} == {0}
     census.take(["code 5", "code 5"])
     assert census.rows["code 5"].only == 1 and census.rows["code 5"].times == 3
+
+
+@pytest.mark.parametrize("words", [["--version"], ["check"], ["list"], ["canon"], ["canon", "--stream"], ["batch"]],
+                         ids=" ".join)
+def test_the_stack_that_the_manual_asks_for(naplps, words):
+    room = 192 << 10
+    said = subprocess.run([naplps, *words], input=b"" if words == ["batch"] else MACRO, capture_output=True, env={},
+                          preexec_fn=lambda: resource.setrlimit(resource.RLIMIT_STACK, (room, room)))
+    assert (said.returncode, said.stderr) == (0, b"")
