@@ -116,7 +116,7 @@ def test_an_answer_counts_more_than_none(run, fake, here):
 def test_unfinished_parts(run, fake, here):
     tree("pages", {"%02d/%03d" % (number // 100, number): b"page %d" % number for number in range(400)})
     program = fake(FAKE.replace("    fail(page)\n", """    fail(page)
-    if page and 'slow' in sys.argv[0]: time.sleep(0.2)
+    if page and 'slow' in sys.argv[0]: time.sleep(0.8)
 """))
     slow = shutil.copy(program, os.path.join(os.path.dirname(program), "slow"))
     work = start(["scan", "pages", "--into", "0.db", "--part", "0/2", "--processes", "1"], slow)
