@@ -9,7 +9,7 @@ import sys
 
 import pytest
 
-from conftest import PACKAGES
+from conftest import PACKAGES, TOP
 from naplps_pages.collection import scan, word_index
 from naplps_pages.collection.store import StoreFailed, open_to_write
 from samples import OUTSIDE, with_parity
@@ -196,3 +196,14 @@ def test_find_imports_little(store):
     status, *names = said.stderr.decode().split()
     assert status == "0" and b"ICE HOCKEY TODAY" in said.stdout and "naplps_pages.collection.finding" in names
     assert [name for name in names if any(name == each or name.startswith(each + ".") for each in HEAVY)] == []
+
+
+def test_a_text_that_a_spreadsheet_would_calculate_is_as_it_is_and_the_manual_says_so(run, tmp_path):
+    text = '=HYPERLINK("x","y") SCORES'
+    top = tree(os.path.join(str(tmp_path), "pages"), {"a.nap": page((0.1, 0.5, text))})
+    store = os.path.join(str(tmp_path), "pages.db")
+    assert run(["scan", top, "--into", store, "--words"]).returncode == 0
+    (row,) = csv.DictReader(io.StringIO(run(["find", "scores", store, "--csv"]).stdout.decode()))
+    assert text in row.values()
+    with open(os.path.join(TOP, "man", "naplps-pages.1"), encoding="utf-8") as manual:
+        assert "a spreadsheet takes a cell that\nbegins with\n.Ql = ," in manual.read()
