@@ -1,17 +1,20 @@
 // <naplps-page src="page.nap" alt="what it shows">: the picture of a page in a page of the web.
 //
 // It reads canonical streams; with reader="full" it reads any page by naplps.wasm, which is beside this script or where
-// the attribute `module` says. Its words are those of `alt`. It needs no inline script and no inline style, and fetches
-// what `src` names; where the page can't be shown it says why, and sends the event `error`.
+// the attribute `module` says. With view="dots" it shows the raster of the page. Its words are those of `alt`. It needs
+// no inline script and no inline style, and fetches what `src` names; where the page can't be shown it says why, and
+// sends the event `error`.
 
 import { read } from "./canonical.mjs";
+import { dotsCanvas } from "./dots_picture.js";
 import { drawing } from "./drawing.js";
 import { Naplps } from "./module/naplps.mjs";
 import { nodesOf, picture } from "./picture.js";
 
 // The most bytes of a page, of its canonical stream, and of the module.
 const MOST_PAGE_BYTES = 1 << 20, MOST_MODULE_BYTES = 1 << 24;
-const ELEMENT_STYLE = ":host { display: block; } svg { display: block; width: 100%; height: auto; }"
+const ELEMENT_STYLE = ":host { display: block; } svg, canvas { display: block; width: 100%; height: auto; }"
+  + " canvas { image-rendering: pixelated; }"
   + " p { margin: 0; padding: 0.5em; border: 1px solid; overflow-wrap: anywhere; }";
 const scriptAddress = document.currentScript?.src || document.baseURI;
 let elementModule = null;
@@ -34,7 +37,7 @@ async function canonicalOf(bytes, address) {
 }
 
 class NaplpsPage extends HTMLElement {
-  static observedAttributes = ["src", "alt", "reader", "module"];
+  static observedAttributes = ["src", "alt", "reader", "module", "view"];
 
   constructor() {
     super();
@@ -72,10 +75,12 @@ class NaplpsPage extends HTMLElement {
       bytes = await canonicalOf(bytes, module ? new URL(module, document.baseURI)
         : new URL("naplps.wasm", scriptAddress));
     }
-    const svg = nodesOf(picture(drawing([...read(bytes)]), words));
-    if (words) svg.setAttribute("aria-label", words);
-    else svg.setAttribute("aria-hidden", "true");
-    return [svg];
+    const entries = [...read(bytes)], isDots = this.getAttribute("view") === "dots";
+    const shown = isDots ? dotsCanvas(entries) : nodesOf(picture(drawing(entries), words));
+    shown.setAttribute("role", "img");
+    if (words) shown.setAttribute("aria-label", words);
+    else shown.setAttribute("aria-hidden", "true");
+    return [shown];
   }
 
   fail(words, error) {

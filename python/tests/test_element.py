@@ -13,7 +13,9 @@ from browser import Browser
 from canonical_trial import asked, framed
 from conftest import HERE, TOP
 from gallery import pages
+from naplps.dots import raster
 from naplps.drawing.walk import drawn
+from naplps.reading import read_line
 from samples import has, lack, needs_chromium
 from test_canonical import vectors
 
@@ -79,6 +81,10 @@ def site(tmp_path_factory, naplps):
                 '<naplps-page id="b" src="glyphs.nap"></naplps-page>'
                 '<naplps-page id="c" src="relative.nap" alt="&lt;img src=x onerror=alert(1)&gt;"></naplps-page>'
                 '<naplps-page id="d" src="nowhere.nap" alt="nothing"></naplps-page>')
+    dots = ('<naplps-page id="f" src="weather.nap" alt="A &lt;b&gt;map&lt;/b&gt;" view="dots"></naplps-page>'
+            '<naplps-page id="g" src="glyphs.nap" view="dots"></naplps-page>'
+            '<naplps-page id="h" src="relative.nap" view="dots"></naplps-page>')
+    (folder / "dots.html").write_text(PAGE % dots, "utf-8")
     (folder / "index.html").write_text(PAGE % elements, "utf-8")
     if os.path.exists(MODULE):
         with open(MODULE, "rb") as file:
@@ -118,6 +124,38 @@ def test_the_element_shows_canonical_pages(site, browser):
     assert not [each for each in browser.requests if not each.startswith((site, "about:"))]
 
 
+PELS = """(() => {
+  const canvas = document.getElementById('%s').shadowRoot.querySelector('canvas');
+  return Array.from(canvas.getContext('2d').getImageData(0, 0, canvas.width, canvas.height).data);
+})()"""
+
+
+def painted(answer):
+    """The pels of a page, from the uppermost row down, by the raster in Python."""
+    made = raster([read_line(line) for line in answer.lines.decode("ascii").splitlines()])
+    colours = made.colours()
+    shown = (colours[ink] for row in made.rows() for ink in row)
+    return [part for colour in shown for part in (colour >> 16, colour >> 8 & 255, colour & 255, 255)]
+
+
+@needs_chromium
+def test_the_element_shows_the_dots_of_pages(site, browser, naplps):
+    browser.open(site + "dots.html")
+    told = {name: (event, message) for name, event, message in browser.run("told")}
+    assert (told["f"], told["g"], told["h"][0]) == (("load", ""), ("load", ""), "error")
+    for name, page in (("f", "weather.nap"), ("g", "glyphs.nap")):
+        [answer] = asked(naplps, [pages()[page]])
+        assert browser.run(PELS % name) == painted(answer), page
+    assert inside(browser, "f", "querySelector('canvas').getAttribute('aria-label')") == "A <b>map</b>"
+    assert inside(browser, "f", "querySelector('canvas').getAttribute('role')") == "img"
+    assert inside(browser, "f", "querySelector('canvas').getBoundingClientRect().width") > 300
+    assert inside(browser, "g", "querySelector('canvas').getAttribute('aria-hidden')") == "true"
+    assert "the page isn't shown" in inside(browser, "h", "textContent") and browser.errors == []
+    browser.run("document.getElementById('f').removeAttribute('view')")
+    browser.until("document.getElementById('f').shadowRoot.querySelector('svg') !== null")
+    assert inside(browser, "f", "querySelectorAll('canvas').length") == 0
+
+
 @needs_chromium
 def test_a_page_that_is_not_shown_says_why(site, browser):
     browser.open(site + "index.html")
@@ -147,4 +185,4 @@ def test_any_page_by_the_module(site, browser):
 def test_its_script_can_stand_in_a_page(tmp_path):
     subprocess.run([MAKE, str(tmp_path / "naplps-page.js")], check=True)
     text = (tmp_path / "naplps-page.js").read_text("utf-8")
-    assert "</script" not in text and not re.search(r"^(import|export) ", text, re.MULTILINE) and len(text) < 100_000
+    assert "</script" not in text and not re.search(r"^(import|export) ", text, re.MULTILINE) and len(text) < 150_000
