@@ -1,16 +1,19 @@
 // Characters: letters in runs, mosaics, and the page's own glyphs.
 
 import {
-  HEIGHT, RUN, WIDTH, boxWeight, element, fine, letterWeight, num, outlinedWeight, plus, scaled,
+  HEIGHT, NOTHING, RUN, WIDTH, boxWeight, element, fine, letterWeight, num, outlinedWeight, plus, scaled,
 } from "./measure.js";
 import { same } from "./curves.js";
+import { blocksPath, numberOfBlocks } from "./mosaics.js";
 import {
   ALONE, BLACK, RIGHT, TextCursor, inMap, backOf, cellOf, composed, frontOf, isAccent, isSameCell, letterOf,
 } from "./letters.js";
 
-const ADVANCE = 0.602, SIZE = 0.86, BASE = 0.22, BLOCKS = [1, 2, 4, 8, 16, 64], MOST_IN_LINE = 1000;
+const ADVANCE = 0.602, SIZE = 0.86, BASE = 0.22, MOST_IN_LINE = 1000;
 // The greatest number of bytes for a letter of a run, and for what is around a run.
 const A_LETTER = 16, A_RUN = 1024;
+// The same for a block of a mosaic, and for what is around a row of mosaics.
+const A_BLOCK = 64, A_ROW = 256;
 const isStraight = (cell) => cell.path === RIGHT && cell.rotation === 0 && cell.spacing === 1;
 const isBlank = ({ set, character }) => character === 0x20 && (set === "primary" || set === "supplementary");
 const cellBox = (x, y, wide, high, fill) => element("rect", { x: num(Math.min(x, x + wide)),
@@ -47,9 +50,12 @@ class Writing {
       const sign = letterOf(entry), { accent } = this;
       this.accent = null;
       this.letter(style, accent === null ? sign : composed(accent, sign));
+    } else if (entry.set === "mosaic") {
+      if (this.accent !== null) this.endAccent();
+      this.mosaic(entry.character, style);
     } else {
       this.flush();
-      this.sign(entry, style);
+      this.sign(entry.character, style);
     }
     this.cursor.step(cell);
   }
@@ -124,21 +130,37 @@ class Writing {
   }
 
   letter(style, sign, isCounted = false) {
-    const [x, y] = this.corner(style.cell), { run } = this;
-    if (run && this.joins(run, style, x, y)) {
-      run.signs.push(sign);
-      run.entries.push(this.paper.entry);
-      return;
-    }
+    const [x, y] = this.corner(style.cell);
+    if (this.joined(style, sign, x, y, false)) return;
     this.flush();
     if (!isCounted) this.paper.spend(A_RUN, RUN);
-    this.run = { ...style, signs: [sign], entries: [this.paper.entry], x, y };
+    this.run = { ...style, signs: [sign], entries: [this.paper.entry], x, y, isMosaic: false };
   }
 
-  joins(run, { cell, ink, underline }, x, y) {
+  mosaic(code, style) {
+    const { cell, ink: [, ground] } = style, [x, y] = this.corner(cell);
+    const box = boxWeight(cell.wide * WIDTH, cell.high * WIDTH);
+    if (!cell.wide || !cell.high) {
+      this.flush();
+      return;
+    }
+    this.paper.spend(A_BLOCK * numberOfBlocks(code), ground ? box.map((part) => part * 2) : box);
+    if (this.joined(style, code, x, y, true)) return;
+    this.flush();
+    this.paper.spend(A_ROW, NOTHING);
+    this.run = { ...style, signs: [code], entries: [this.paper.entry], x, y, isMosaic: true };
+  }
+
+  // Whether a sign at this place continues the run; then it does.
+  joined({ cell, ink, underline }, sign, x, y, isMosaic) {
+    const { run } = this;
+    if (!run || run.isMosaic !== isMosaic || !isStraight(cell)) return false;
     const isAlike = same(run.ink, ink) && run.underline === underline && isSameCell(run.cell, cell);
     const end = run.x + run.signs.length * run.cell.wide * WIDTH;
-    return isAlike && isStraight(cell) && Math.abs(end - x) < 0.01 && Math.abs(run.y - y) < 0.01;
+    if (!isAlike || Math.abs(end - x) >= 0.01 || Math.abs(run.y - y) >= 0.01) return false;
+    run.signs.push(sign);
+    run.entries.push(this.paper.entry);
+    return true;
   }
 
   // An accent with no letter after it is drawn alone, where the cursor is.
@@ -149,38 +171,21 @@ class Writing {
   }
 
   drawRun(run) {
-    const { cell, ink: [fore, ground], signs, x, y } = run, text = signs.join("");
-    const wide = cell.wide * WIDTH, high = cell.high * WIDTH, whole = wide * signs.length;
-    const parts = ground ? [cellBox(x, y, whole, high, ground)] : [];
-    if (/[^ ]/.test(text)) parts.push(textOf(text, run, wide, high, fore));
-    if (run.underline) {
-      const d = `M${num(x)} ${num(y - 3)}h${num(whole)}`;
-      parts.push(element("path", { d, fill: "none", stroke: fore, "stroke-width": "3" }));
-    }
+    const { cell, ink: [, ground], signs, x, y, isMosaic } = run, wide = cell.wide * WIDTH, high = cell.high * WIDTH;
+    const parts = ground ? [cellBox(x, y, wide * signs.length, high, ground)] : [];
+    parts.push(...(isMosaic ? rowOf(run, wide, high) : lettersAndLine(run, wide, high)));
     const transform = `rotate(${-90 * cell.rotation} ${num(x)} ${num(y)})`;
     for (const part of parts) {
-      const turned = cell.rotation ? element("g", { transform }, [part]) : part;
+      const turned = cell.rotation && !isMosaic ? element("g", { transform }, [part]) : part;
       this.paper.putCounted(turned, { entries: run.entries, x, wide });
     }
   }
 
-  sign(entry, { cell, ink: [fore, ground] }) {
+  sign(code, { cell, ink: [fore, ground] }) {
     const [x, y] = this.corner(cell), wide = cell.wide * WIDTH, high = cell.high * WIDTH;
     if (!wide || !high) return;
     if (ground) this.paper.put(cellBox(x, y, wide, high, ground), boxWeight(wide, high));
-    if (entry.set === "mosaic") this.mosaic(entry, x, y, wide, high, fore);
-    else this.glyph(entry.character, x, y, wide, high, fore);
-  }
-
-  mosaic({ character, text }, x, y, wide, high, fill) {
-    const across = wide / 2, down = high / 3, gap = text.underline ? 0.15 : 0;
-    const blocks = BLOCKS.flatMap((bit, i) => {
-      if (!(character & bit)) return [];
-      const left = x + (i % 2 + gap / 2) * across, top = y - high + (Math.floor(i / 2) + gap / 2) * down;
-      return [boxPath(left, top, across * (1 - gap), down * (1 - gap))];
-    });
-    const attributes = { d: blocks.join(""), fill, "shape-rendering": "crispEdges" };
-    if (blocks.length) this.paper.put(element("path", attributes), boxWeight(wide, high));
+    this.glyph(code, x, y, wide, high, fore);
   }
 
   glyph(code, x, y, wide, high, color) {
@@ -196,6 +201,23 @@ class Writing {
     const shape = element("path", { d, fill: "none", stroke: color, "stroke-width": "2" });
     this.paper.put(shape, outlinedWeight([4, 2 * Math.abs(wide) + 2 * Math.abs(high), 0], 2, []));
   }
+}
+
+// The blocks of a row of mosaics.
+function rowOf({ ink: [fill], signs, underline, x, y }, wide, high) {
+  const d = blocksPath(signs, x, y, wide, high, underline);
+  return d ? [element("path", { d, fill, "shape-rendering": "crispEdges" })] : [];
+}
+
+// The letters of a run and the line under them.
+function lettersAndLine(run, wide, high) {
+  const { ink: [fore], signs, underline, x, y } = run, text = signs.join("");
+  const parts = /[^ ]/.test(text) ? [textOf(text, run, wide, high, fore)] : [];
+  if (underline) {
+    const d = `M${num(x)} ${num(y - 3)}h${num(wide * signs.length)}`;
+    parts.push(element("path", { d, fill: "none", stroke: fore, "stroke-width": "3" }));
+  }
+  return parts;
 }
 
 // The letters of a run, stretched by a transform, which all viewers follow.

@@ -235,6 +235,21 @@ def test_a_click_leads_from_shapes_to_bytes_and_back(shown):
     assert page.run("document.querySelectorAll('.about li').length") == 9
 
 
+def test_a_click_finds_one_mosaic_of_a_row_and_marks_it(shown):
+    page = shown(os.path.join(FOLDER, "mosaics.nap"))
+    bare = page.run("player.screen.context.getImageData(556, 405, 1, 1).data.join()")
+    place = page.run("(() => {const box = player.canvas.getBoundingClientRect(); const scale = box.width / 1024;"
+                     "return [box.left + 600 * scale, box.top + 400 * scale]})()")
+    for kind in ("mousePressed", "mouseReleased"):
+        page.call("Input.dispatchMouseEvent", type=kind, x=place[0], y=place[1], button="left", clickCount=1)
+    [entry] = page.run("[...player.marked]")
+    lines = page.run("player.data.lines.slice(0, %d)" % (entry + 1))
+    # (its row begins at the left, with cells of 51.2 units; what is around it, 563.2 to 614.4, isn't of its colour)
+    first = max(at for at, line in enumerate(lines) if " pen=0," in line)
+    assert lines[entry].startswith("CHAR mosaic ") and entry - first == 600 * 10 // 512
+    assert page.run("player.screen.context.getImageData(562, 405, 1, 1).data.join()") != bare
+
+
 def test_keys(shown):
     page = shown(os.path.join(FOLDER, "weather.nap"))
     moment = "[player.moment.done, player.moment.bytes]"

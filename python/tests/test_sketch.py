@@ -143,6 +143,35 @@ def test_letters_stand_in_cells():
     assert up[0] - up[1] == pytest.approx(SIZES["normal"][1] * WIDTH, abs=0.02)
 
 
+ROW = "M0 760H64V773.33H0ZM0 773.33H51.2V786.67H0ZM0 786.67H51.2V800H0Z"
+
+
+def mosaics(*codes, look=HAND):
+    """The paths of mosaics that stand one after the other in the lower left corner."""
+    pens = ["0,0"] + ["after"] * (len(codes) - 1)
+    lines = [f"CHAR mosaic {code} pen={pen} {look}" for code, pen in zip(codes, pens)]
+    return [each.get("d") for each in elements(drawing.draw(lines).svg, "path")]
+
+
+def test_mosaics_of_a_row_are_one_path_without_seams():
+    # (cells of 25.6 x 40 units, with blocks of 12.8 x 13.33)
+    assert mosaics("7f", "7f", "21") == [ROW]
+    assert mosaics("21", "20", "22") == ["M0 760H12.8V773.33H0ZM64 760H76.8V773.33H64Z"]
+    apart = mosaics("7f", "7f", look=HAND.replace("----", "-u--"))
+    assert len(apart) == 1 and apart[0].count("Z") == 12
+    assert apart[0].startswith("M0.96 761H11.84V772.33H0.96ZM13.76 761H24.64V772.33H13.76ZM26.56 761H")
+
+
+def test_mosaics_of_another_look_or_place_are_a_path_of_their_own():
+    red, lines = HAND.replace("own-start", "direct:0,65535,0"), ["CHAR mosaic 7f pen=0,0 " + HAND]
+    for other in ("mosaic 7f pen=after " + red, "mosaic 7f pen=400000,0 " + HAND,
+                  "mosaic 7f pen=after " + HAND.replace("normal", "small")):
+        assert len(elements(drawing.draw(lines + ["CHAR " + other]).svg, "path")) == 2, other
+    assert len(mosaics("7f", "7f", look=HAND.replace("text=0,0", "text=16,0"))) == 2
+    between = [*lines, "CHAR primary 41 pen=after " + HAND, "CHAR mosaic 7f pen=after " + HAND]
+    assert re.findall("<(path|text)", drawing.draw(between).svg)[:3] == ["path", "text", "path"]
+
+
 def test_an_accent_joins_its_letter():
     lines = ["CHAR supplementary 42 pen=0,0 " + HAND, "CHAR primary 65 pen=after " + HAND,
              "CHAR supplementary 42 pen=after " + HAND, "BELL"]

@@ -10,6 +10,7 @@ from .colours import BLACK, Palette
 from .elements import Element
 from .letter_lines import letters_behind
 from .measure import HEIGHT, WIDTH, fine, num
+from .mosaics import blocks, number_of_blocks
 from .paper import LetterCells, Paper
 from .word_widths import WordWidths, is_blank
 
@@ -17,25 +18,26 @@ from .word_widths import WordWidths, is_blank
 ADVANCE = 0.602
 SIZE = 0.86
 BASE = 0.22
-# Bits of a mosaic's code, by rows from the upper left block.
-BLOCKS = (1, 2, 4, 8, 16, 64)
 Ink = Tuple[str, Optional[str]]
 SCROLLS = "scrolling isn't drawn: the text that makes room for more is seen, and what comes then isn't"
 # The greatest number of characters repeated to the end of a line; cells so small that there are more can't be read.
 MOST_IN_LINE = 1000
 # The greatest number of bytes for a letter of a run, and for what stands around a run.
 A_LETTER, A_RUN = 16, 1024
+# The same for a block of a mosaic, and for what stands around a row of mosaics.
+A_BLOCK, A_ROW = 64, 256
 
 
 @dataclass
 class LetterRun:
-    """Letters of one look that stand one after the other."""
+    """Letters, or mosaics, of one look that stand one after the other; of mosaics the characters of their codes."""
 
     look: Tuple[Ink, Cell, bool]
     text: List[str]
     entries: List[int]
     x: float
     y: float
+    is_mosaic: bool
 
     def end(self) -> float:
         """Where the next letter would stand."""
@@ -97,9 +99,12 @@ class Writing:
             sign = letters.letter(entry.set, entry.code)
             accent, self.accent = self.accent, None
             self._letter(style, sign if accent is None else letters.composed(accent, sign))
+        elif entry.set == "mosaic":
+            self._end_accent()
+            self._mosaic(entry.code, style)
         else:
             self.flush()
-            self._sign(entry, style)
+            self._sign(entry.code, style)
         self.cursor.step(size)
 
     def go_on(self, lines: Sequence[str], number: int, end: int) -> int:
@@ -108,7 +113,7 @@ class Writing:
         They are those in the lines from this number on, up to `end`.
         """
         run, style = self.run, self.style
-        if (run is None or style is None or not style.is_straight or run.entries[-1] != number - 1
+        if (run is None or run.is_mosaic or style is None or not style.is_straight or run.entries[-1] != number - 1
                 or self.accent is not None or self.cursor.scrolled):
             return 0
         signs = letters_behind(lines, number, end)
@@ -182,18 +187,35 @@ class Writing:
 
     def _letter(self, style: LetterStyle, sign: str, counted: bool = False) -> None:
         x, y = self._corner(style.size)
-        if self.run and self.run.look == style.look and self._joins(self.run, style.size, x, y):
-            self.run.text.append(sign)
-            self.run.entries.append(self.paper.entry)
+        if self._joined(style, sign, x, y, False):
             return
         self.flush()
         if not counted:
             self.paper.spend(A_RUN, weight.RUN)
-        self.run = LetterRun(style.look, [sign], [self.paper.entry], x, y)
+        self.run = LetterRun(style.look, [sign], [self.paper.entry], x, y, False)
 
-    @staticmethod
-    def _joins(run: LetterRun, size: Cell, x: float, y: float) -> bool:
-        return _is_straight(size) and abs(run.end() - x) < 0.01 and abs(run.y - y) < 0.01
+    def _mosaic(self, code: int, style: LetterStyle) -> None:
+        ((_, back), size, _), (x, y) = style.look, self._corner(style.size)
+        if not size.wide or not size.high:
+            self.flush()
+            return
+        box = weight.box(size.wide * WIDTH, size.high * WIDTH)
+        self.paper.spend(A_BLOCK * number_of_blocks(code), box.times(2) if back else box)
+        if self._joined(style, chr(code), x, y, True):
+            return
+        self.flush()
+        self.paper.spend(A_ROW, weight.Weight())
+        self.run = LetterRun(style.look, [chr(code)], [self.paper.entry], x, y, True)
+
+    def _joined(self, style: LetterStyle, sign: str, x: float, y: float, is_mosaic: bool) -> bool:
+        """Whether a sign at this place continues the run; then it does."""
+        run = self.run
+        if (run is None or run.is_mosaic != is_mosaic or run.look != style.look or not _is_straight(style.size)
+                or abs(run.end() - x) >= 0.01 or abs(run.y - y) >= 0.01):
+            return False
+        run.text.append(sign)
+        run.entries.append(self.paper.entry)
+        return True
 
     def _corner(self, size: Cell) -> Tuple[float, float]:
         self.paper.reach(self.cursor.y + max(size.high, 0.0))
@@ -207,46 +229,22 @@ class Writing:
             self._letter(self._style(self.last), letters.ALONE[accent], counted=True)
 
     def _draw_run(self, run: LetterRun) -> None:
-        (front, back), size, underline = run.look
+        (_, back), size, _ = run.look
         wide, high = size.wide * WIDTH, size.high * WIDTH
-        total = wide * len(run.text)
-        parts = [_cell(run.x, run.y, total, high, back)] if back else []
-        text = "".join(run.text)
-        if text.strip(" "):
-            parts.append(_text(text, run, wide, high, front))
-        if underline:
-            parts.append(Element("path", {"d": f"M{num(run.x)} {num(run.y - 3)}h{num(total)}", "fill": "none",
-                                          "stroke": front, "stroke-width": "3"}))
+        parts = [_cell(run.x, run.y, wide * len(run.text), high, back)] if back else []
+        parts += (_row if run.is_mosaic else _letters)(run, wide, high)
         cells = LetterCells(tuple(run.entries), run.x, wide)
         for part in parts:
-            self.paper.put_counted(_turned(part, run) if size.rotation else part, cells)
+            self.paper.put_counted(_turned(part, run) if size.rotation and not run.is_mosaic else part, cells)
 
-    def _sign(self, entry: Char, style: LetterStyle) -> None:
+    def _sign(self, code: int, style: LetterStyle) -> None:
         ((front, back), size, _), (x, y) = style.look, self._corner(style.size)
         wide, high = size.wide * WIDTH, size.high * WIDTH
         if not wide or not high:
             return
         if back:
             self.paper.put(_cell(x, y, wide, high, back), weight.box(wide, high))
-        if entry.set == "mosaic":
-            self._mosaic(entry.code, (x, y, wide, high), front, entry.text.underline)
-        else:
-            self._glyph(entry.code, (x, y, wide, high), front)
-
-    def _mosaic(self, code: int, box: Tuple[float, float, float, float], front: str, apart: bool) -> None:
-        x, y, wide, high = box
-        across, down = wide / 2, high / 3
-        gap = 0.15 if apart else 0.0
-        path = ""
-        for i, bit in enumerate(BLOCKS):
-            if code & bit:
-                left = x + (i % 2 + gap / 2) * across
-                top = y - high + (i // 2 + gap / 2) * down
-                path += "M%s %sh%sv%sh%sz" % (num(left), num(top), num(across * (1 - gap)), num(down * (1 - gap)),
-                                              num(-across * (1 - gap)))
-        if path:
-            blocks = Element("path", {"d": path, "fill": front, "shape-rendering": "crispEdges"})
-            self.paper.put(blocks, weight.box(wide, high))
+        self._glyph(code, (x, y, wide, high), front)
 
     def _glyph(self, code: int, box: Tuple[float, float, float, float], front: str) -> None:
         x, y, wide, high = box
@@ -271,6 +269,24 @@ def _turned(part: Element, run: LetterRun) -> Element:
     """A part of a run whose cells are turned around their corner."""
     turn = f"rotate({-90 * run.look[1].rotation} {num(run.x)} {num(run.y)})"
     return Element("g", {"transform": turn}, (part,))
+
+
+def _row(run: LetterRun, wide: float, high: float) -> List[Element]:
+    """The blocks of a row of mosaics."""
+    (front, _), _, apart = run.look
+    path = blocks([ord(sign) for sign in run.text], (run.x, run.y, wide, high), apart)
+    return [Element("path", {"d": path, "fill": front, "shape-rendering": "crispEdges"})] if path else []
+
+
+def _letters(run: LetterRun, wide: float, high: float) -> List[Element]:
+    """The letters of a run, and the line under them."""
+    (front, _), _, underline = run.look
+    text = "".join(run.text)
+    parts = [_text(text, run, wide, high, front)] if text.strip(" ") else []
+    if underline:
+        parts.append(Element("path", {"d": f"M{num(run.x)} {num(run.y - 3)}h{num(wide * len(run.text))}",
+                                      "fill": "none", "stroke": front, "stroke-width": "3"}))
+    return parts
 
 
 def _text(text: str, run: LetterRun, wide: float, high: float, front: str) -> Element:

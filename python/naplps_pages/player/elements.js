@@ -6,8 +6,8 @@ const FONT = '"DejaVu Sans Mono", monospace';
 const LETTER = /\P{M}\p{M}*/gu;
 // Viewers of SVG cut joints that are longer than this number of thicknesses.
 const MITER = 4;
-// The blocks of a mosaic, as a path has them: left, top, width and height of each.
-const BLOCK = /M(-?[\d.]+) (-?[\d.]+)h(-?[\d.]+)v(-?[\d.]+)h-?[\d.]+z/g;
+// The blocks of mosaics, as a path has them: left, top, right and foot of each.
+const BLOCK = /M(-?[\d.]+) (-?[\d.]+)H(-?[\d.]+)V(-?[\d.]+)H-?[\d.]+Z/g;
 
 // A transform as SVG writes it.
 function matrixOf(text) {

@@ -53,6 +53,8 @@ class Screen {
     this.table.visit(step.draw, this.matrix, "#ffffff", (element, matrix, around) => {
       if (element.name === "text") {
         this.ring(boxOf(element, ...(step.letters ? [first, last] : [0, lettersOf(element).length - 1])), matrix, 0);
+      } else if (step.letters && element.attributes["shape-rendering"]) {
+        this.ring(rowBoxOf(step, element, first, last), matrix, 0);
       } else if (!step.letters) {
         const it = element.attributes;
         this.ring(pathOf(element), matrix, it.stroke ? it["stroke-width"] * Math.hypot(matrix.a, matrix.b) : 0);
@@ -111,6 +113,14 @@ class Screen {
     this.next.lineWidth = Math.max(near, Number(it["stroke-width"] || 0) * Math.hypot(matrix.a, matrix.b));
     return (it.stroke || near > 0) && this.next.isPointInStroke(path, x, y);
   }
+}
+
+// The cells of some mosaics of a row, as high as its blocks.
+function rowBoxOf({x, cell}, element, first, last) {
+  const heights = Array.from(element.attributes.d.matchAll(/[ V](-?[\d.]+)/g), ([, y]) => Number(y));
+  const top = Math.min(...heights), path = new Path2D();
+  path.rect(x + first * cell, top, (last + 1 - first) * cell, Math.max(...heights) - top);
+  return path;
 }
 
 // The cells of some letters of a text, in its own units.

@@ -77,13 +77,13 @@ function newCanvas(wide, high) {
   return Object.assign(document.createElement("canvas"), {width: wide, height: high});
 }
 
-// Fills the blocks of a mosaic to whole pels, as crispEdges asks of viewers; whether the path is such blocks alone.
+// Fills the blocks of mosaics to whole pels, as crispEdges asks of viewers; whether the path is such blocks alone.
 function fillBlocks(context, path, matrix) {
   if (path.replace(BLOCK, "") !== "" || matrix.b || matrix.c) return false;
   context.resetTransform();
-  for (const [left, top, wide, high] of [...path.matchAll(BLOCK)].map((found) => found.slice(1).map(Number))) {
-    const [a, b] = [left, left + wide].map((x) => Math.round(matrix.a * x + matrix.e));
-    const [c, d] = [top, top + high].map((y) => Math.round(matrix.d * y + matrix.f));
+  for (const [left, top, right, foot] of [...path.matchAll(BLOCK)].map((found) => found.slice(1).map(Number))) {
+    const [a, b] = [left, right].map((x) => Math.round(matrix.a * x + matrix.e));
+    const [c, d] = [top, foot].map((y) => Math.round(matrix.d * y + matrix.f));
     context.fillRect(a, c, b - a, d - c);
   }
   return true;
@@ -161,8 +161,10 @@ class SmoothView {
   }
 }
 
-// Where the cells begin, and how wide they are together, of those letters of a text that are there.
+// Where the cells begin, and how wide they are together, of those letters of a text that are there; in whole pels of
+// mosaics, which end there.
 function cellsOf(step, done) {
-  const wide = step.cell * upTo(step.letters, (entry) => entry < done);
-  return [Math.min(step.x, step.x + wide), Math.abs(wide)];
+  const end = step.x + step.cell * upTo(step.letters, (entry) => entry < done);
+  const sides = step.draw.attributes["shape-rendering"] ? [step.x, end].map(Math.round) : [step.x, end];
+  return [Math.min(...sides), Math.abs(sides[1] - sides[0])];
 }
