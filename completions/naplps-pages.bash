@@ -34,9 +34,9 @@ _naplps_pages() {
         source) words='--budget --seconds --help' ;;
         near) words='--json --processes --budget --seconds --help' ;;
         diff) words='--html --budget --seconds --help' ;;
-        scan) words='--into --processes --on --part --most --again --cures --words --near --budget --seconds --help' ;;
+        scan) words='--into --processes --on --part --most --again --cures --words --near --pictures --budget --seconds --help' ;;
         merge) words='--unfinished --help' ;;
-        equal) words='--copies --treated --guesses --verify --null --json --csv --seconds --help' ;;
+        equal) words='--by --processes --copies --treated --guesses --verify --null --json --csv --seconds --help' ;;
         refused) words='--number --reason --null --json --csv --help' ;;
         convert) words='--into --json --csv --seconds --help' ;;
         status) words='--json --csv --help' ;;

@@ -53,6 +53,8 @@ FOR_STORES = {
     "source": "it is a store: `naplps-pages files STORE` prints the files of one",
     "describe": "it is a store: `naplps-pages files STORE` prints the files of one",
     "diff": "it is a store: `naplps-pages files STORE` prints the files of one"}
+# By what pages are equal.
+BY = ("list", "picture")
 # The commands of reports.
 REPORTING = ("report", "serve")
 EPILOG = ("No file is overwritten. Status: 0 all pages are accepted, 1 some are refused, 2 the command line is wrong, "
@@ -266,6 +268,8 @@ def _scan_options(one: Parser) -> None:
     one.add_argument("--cures", action="store_true", help="try treatments of refused pages")
     one.add_argument("--words", action="store_true", help="keep the text of each page, for `find`")
     one.add_argument("--near", action="store_true", help="keep keys of each page, for `near`")
+    one.add_argument("--pictures", action="store_true",
+                     help="keep the hash of the picture of each page, for `equal --by picture`")
     _asking_options(one)
 
 
@@ -278,14 +282,20 @@ def _merge_options(one: Parser) -> None:
 
 
 def _equal_options(one: Parser) -> None:
+    from .collection.pool import MOST_PROCESSES
     one.add_argument("stores", metavar="STORE", nargs="+", type=name,
                      help="a file that `scan` made, or several, as those of the parts of a scan")
+    one.add_argument("--by", metavar="WHAT", choices=BY, default=BY[0],
+                     help="what is equal in a group: list, which is the default, or picture: pages that look alike "
+                     "at their end, though their lists differ")
     one.add_argument("--copies", action="store_true", help="also print groups of files with the same bytes")
     one.add_argument("--treated", action="store_true",
                      help="put copies that were treated around their pages beside others, as `scan --cures` found them")
     one.add_argument("--guesses", action="store_true",
                      help="the same, and also print groups of copies that were treated within, which are guesses")
     one.add_argument("--verify", action="store_true", help="read all files again, and compare canonical bytes")
+    one.add_argument("--processes", metavar="N", type=partial(whole_number, least=1, most=MOST_PROCESSES),
+                     help="how many processes make pictures; by default one for each processor")
     _form_options(one, FORMS[1:])
     _asking_options(one, budget=False)
 
@@ -425,6 +435,15 @@ def _check_dots(given: argparse.Namespace) -> None:
             given.parser.error(f"{asked} and --{other} exclude each other")
 
 
+def _check_equal(given: argparse.Namespace) -> None:
+    """Exits where an option of lists is asked for with pictures, or one of pictures with lists."""
+    for other in ("copies", "treated", "guesses", "verify") if given.by == "picture" else ():
+        if getattr(given, other):
+            given.parser.error(f"--by picture and --{other} exclude each other")
+    if given.by != "picture" and given.processes is not None:
+        given.parser.error("--processes is for --by picture")
+
+
 def _check_output(given: argparse.Namespace, pages: List[str]) -> None:
     """Exits where the options don't say where what is made of all pages goes."""
     svg, sheet = getattr(given, "svg", None), getattr(given, "sheet", None)
@@ -467,6 +486,8 @@ def _given(words: List[str]) -> argparse.Namespace:
             given.parser.error(f"--after is {NO_CANON}")
         if (pages + after).count("-") > 1:
             given.parser.error("- stands for standard input, and can be named once")
+    if given.command == "equal":
+        _check_equal(given)
     return given
 
 

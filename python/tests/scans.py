@@ -1,6 +1,7 @@
 """What the tests of scans share: trees of files, stores as plain tables, and scans that are at work."""
 import os
 import re
+import signal
 import sqlite3
 import subprocess
 import time
@@ -37,6 +38,17 @@ for line in iter(sys.stdin.buffer.readline, b''):
     if page[:3] == b'bad': say(b'refused 10 Outside at 0')
     else: say(b'accepted %d entries' % len(page), b'' if command == b'check' else b'canonical ' + page[:1])
 """
+
+
+class StopsSoon:
+    """A signal that comes once the first files of a run are done."""
+
+    def __init__(self, run):
+        self.run = run
+
+    @property
+    def number(self):
+        return signal.SIGINT if self.run.done else None
 
 
 def slow(seconds, go=None):

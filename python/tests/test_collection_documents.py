@@ -12,7 +12,7 @@ import pytest
 
 from conftest import COMMAND, TOP
 from naplps_pages import cli
-from naplps_pages.collection import near_table, store, tables, word_index
+from naplps_pages.collection import canon_tables, store, tables, word_index
 from samples import has
 from scans import tree
 
@@ -67,7 +67,8 @@ def test_the_names_of_the_pages(archive):
 def test_the_tables_of_the_store(tmp_path):
     connection = store.open_to_write(str(tmp_path / "pages.db"))
     assert word_index.make(connection)
-    near_table.make(connection)
+    for table in canon_tables.CANON_TABLES:
+        table.make(connection)
     found = {name: [row[1] for row in connection.execute("PRAGMA table_info(%s)" % name)] for name, in
              connection.execute("SELECT name FROM sqlite_master WHERE type = 'table'").fetchall()}
     columns = [row[1] for row in connection.execute("PRAGMA table_info(listing)")]

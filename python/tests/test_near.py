@@ -6,7 +6,6 @@ NAPLPS_NEAR_BOX says how many pages the box of planted ones has at least; withou
 import json
 import os
 import shutil
-import signal
 import sqlite3
 import stat
 from random import Random
@@ -18,8 +17,9 @@ import near_box
 from conftest import file
 from lines import line_of
 from naplps.limits import USUAL_BUDGET
-from naplps_pages.collection import near_pass, near_table
+from naplps_pages.collection import canon_pass
 from naplps_pages.collection.lock import Lock
+from naplps_pages.collection.near_table import NEAR_KEYS
 from naplps_pages.collection.stopping import Stopping
 from naplps_pages.collection.store import open_to_write
 from naplps_pages.collection.worker import WorkerOptions
@@ -30,6 +30,7 @@ from naplps_pages.report.questions import Questions
 from naplps_pages.report.roots import load
 from naplps_pages.report.table import Table
 from samples import BOMB, OUTSIDE, with_parity
+from scans import StopsSoon
 
 PAGES = int(os.environ.get("NAPLPS_NEAR_BOX", "60"))
 BASE = """CLEAR
@@ -321,30 +322,19 @@ def test_keys_that_others_made(run, store, tmp_path):
         assert run(["merge", merged, other]).returncode == 3 and not os.path.exists(merged)
 
 
-class StopsSoon:
-    """A signal that comes once the first files are done."""
-
-    def __init__(self, run):
-        self.run = run
-
-    @property
-    def number(self):
-        return signal.SIGINT if self.run.done else None
-
-
 def test_one_that_is_stopped_goes_on(run, naplps, tmp_path, monkeypatch):
-    monkeypatch.setattr(near_pass, "MOST_FILES", 4)
+    monkeypatch.setattr(canon_pass, "MOST_FILES", 4)
     pages = near_box.write(str(tmp_path / "box"), 60).pages
     store = str(tmp_path / "box.db")
     assert run(["scan", str(tmp_path / "box"), "--into", store]).returncode == 0
     connection = open_to_write(store)
-    near_table.make(connection)
+    NEAR_KEYS.make(connection)
     how = WorkerOptions(naplps, USUAL_BUDGET, 20.0, 0)
-    first = near_pass.NearPass(connection, store, how, 1)
+    first = canon_pass.CanonPass(NEAR_KEYS, connection, store, how, 1)
     assert first.run(StopsSoon(first)) == 0 and first.total == len(set(pages.values()))
     kept = len(keys(store))
     assert 0 < kept < 60
-    second = near_pass.NearPass(connection, store, how, 1)
+    second = canon_pass.CanonPass(NEAR_KEYS, connection, store, how, 1)
     assert second.total == first.total - kept and second.run(Stopping()) == 0 and len(keys(store)) == first.total
     connection.close()
 

@@ -2,7 +2,8 @@
 import sqlite3
 from typing import Dict, Iterable, List, NamedTuple, Optional, Sequence
 
-from . import kinds, near_table, schemas, tables, word_index
+from . import kinds, schemas, tables, word_index
+from .canon_tables import CANON_TABLES
 from .counts import Counts, counted
 from .sources import Source
 from .store import StoreFailed, attach
@@ -50,7 +51,7 @@ LAST_STEPS = ("DROP TABLE temp.page", "DROP TABLE temp.place")
 ROOT = """INSERT INTO roots(run, path, why) VALUES(?, ?, ?) ON CONFLICT(run, path) DO UPDATE
     SET why = coalesce(why, excluded.why)"""
 # (the other options are those of the schema before too)
-KEEP_NEAR = f"INSERT OR IGNORE INTO main.meta SELECT key, 1 FROM part.meta WHERE key = '{near_table.OPTION}'"
+KEEP = "INSERT OR IGNORE INTO main.meta SELECT key, 1 FROM part.meta WHERE key = ?"
 
 
 class JoinedRun(NamedTuple):
@@ -132,10 +133,9 @@ class Joining:
             added = UNKNOWN if is_earlier else KNOWN
             for each in schemas.OPTIONS.items():
                 self.connection.execute(schemas.KEEP.format(*each, "part"))
-            self.connection.execute(KEEP_NEAR)
-            if near_table.is_there(self.connection, "part"):
-                near_table.make(self.connection)
-                self.connection.execute(near_table.JOIN)
+            for table in CANON_TABLES:
+                self.connection.execute(KEEP, (table.option,))
+                table.join(self.connection)
             for step in (*STEPS, *LAST_STEPS):
                 self.connection.execute(step.format(terms=_as("terms", terms), run=_as("run", runs), **added))
             self.connection.execute("COMMIT")

@@ -2,10 +2,10 @@
 import sqlite3
 from typing import TYPE_CHECKING
 
-from .near_table import OPTION
+from .canon_tables import CANON_TABLES
 from .schemas import OPTIONS
 
-NAMES = (*OPTIONS, OPTION)
+NAMES = (*OPTIONS, *(each.option for each in CANON_TABLES))
 
 if TYPE_CHECKING:
     from .rows import AskAgain

@@ -60,7 +60,8 @@ KINDS: Dict[str, Kind] = {
                      "budget", "files", "asked", "count", "holds"), COUNT),
     **dict.fromkeys(("why", "left_out", "fault", "treatments", "version", "form", "tool", "began", "ended",
                      "hex", "looks_like", "first", "stop"), TEXT),
-    **dict.fromkeys(("own", "canon", "copy", "program_hash"), HASHES), "text": LINES,
+    **dict.fromkeys(("own", "canon", "copy", "program_hash", "picture"), HASHES),
+    "text": LINES,
     "program": NAME, "name": NAME, "path": PATH, "number": _whole(1, MOST_REFUSAL, "the number of a refusal"),
     "file_state": _whole(0, 6, "the state of a file"), "page_state": _whole(0, 2, "the state of a page"),
     "kind": _whole(0, 3, "the kind of a page"), "grade": _whole(0, 1, "the grade of treatments"),
@@ -78,9 +79,11 @@ TABLES = {
     "cures": "page terms treatments? entries? copy? why? grade? canon? canon_size?",
     "texts": "page terms source text? first? why?",
     "files": "folder name state:file_state why? size? mtime_ns? ctime_ns? inode? page? run"}
-# A table that there needn't be.
-NEAR = {"near_keys": "canon form:near_form start:near_prefix? words:near_key colours:near_key places:near_key prefixes "
-        "said"}
+# Tables that there needn't be.
+OPTIONAL = {
+    "near_keys": "canon form:near_form start:near_prefix? words:near_key colours:near_key places:near_key prefixes "
+                 "said",
+    "pictures": "canon form:near_form picture?"}
 # What an answer has that is accepted or refused; and which numbers there have to be.
 WHOLE = {"runs": "terms IN (SELECT id FROM terms)", "roots": "run IN (SELECT id FROM runs)",
          "folders": "run IN (SELECT id FROM runs)", "files": "run IN (SELECT id FROM runs)",
@@ -151,8 +154,8 @@ def _name_of(value: Any) -> str:
 
 def require_right(connection: sqlite3.Connection) -> None:
     """Looks at each value of a store. Raises NotAStore."""
-    has_near = connection.execute("SELECT 1 FROM main.sqlite_master WHERE name = 'near_keys'").fetchone()
-    for table, told in {**TABLES, **(NEAR if has_near else {})}.items():
+    names = {name for name, in connection.execute("SELECT name FROM main.sqlite_master")}
+    for table, told in {**TABLES, **{name: OPTIONAL[name] for name in OPTIONAL if name in names}}.items():
         rules = ["(%s%s)" % (f"{each.name} IS NULL OR " if each.may_lack else "", each.kind.sql.format(each.name))
                  for each in columns(told)]
         rules += [WHOLE[table]] if table in WHOLE else []

@@ -10,12 +10,12 @@ from ..nearness import (
     COLOURS, FORM, MOST_ENTRIES, PLACES, PREFIX, WORDS, Beginning, Difference, ListedPage, PageName, beginnings,
     difference, numbers_of,
 )
+from .canon_table import WITH_COPIES
 from .kinds import checked
-from .near_table import NAMED
 from .places import Place
 
 FIND = ("DROP TABLE IF EXISTS temp.named", "DROP TABLE IF EXISTS temp.compared",
-        f"CREATE TEMP TABLE named AS {NAMED}", "CREATE INDEX temp.named_by_canon ON named(canon)",
+        f"CREATE TEMP TABLE named AS {WITH_COPIES}", "CREATE INDEX temp.named_by_canon ON named(canon)",
         f"""CREATE TEMP TABLE compared AS SELECT rowid AS row, canon, start, words, colours, places FROM near_keys
         WHERE form = {FORM} AND canon IN (SELECT canon FROM named)""")
 GROUPED = """SELECT c.{0}, c.canon, {1} FROM compared c{2} WHERE c.{0} IN (

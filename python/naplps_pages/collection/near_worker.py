@@ -1,150 +1,15 @@
 """The process of a worker that makes keys of pages and treated copies, by which those are found that are almost equal.
 """
-import sqlite3
-from typing import Any, Callable, Iterator, List, NamedTuple, Optional, Sequence, Tuple, Union
-
-from naplps.answers import Accepted, Answer, Unanswered
-from naplps.client import Client
-from naplps.treating.search import find
-
-from ..listing import MODEST
-from ..nearness import NearKeys, keys_of
-from ..source import Page
-from . import tables
-from .kinds import one
-from .page_reader import Otherwise, read
-from .places import Place
-from .rows import Answered, Chunk, File, Piece
-from .store import reader
-from .worker import WorkerOptions
-from .worker_process import PieceMaker, serve
-
-# The number of pages that are asked about together, and of their entries.
-MOST_AHEAD, MOST_ENTRIES = 32, 50_000
-OTHER_COPY = "the treatments make another copy than in the scan"
-OTHER_ANSWER = "the program answers otherwise than in the scan"
-GONE = "it isn't in the store any more"
-FILE = f"""SELECT d.path, f.name, {tables.AT}, p.own, p.place, coalesce(c.entries, p.entries),
-    coalesce(p.canon, c.canon), c.copy FROM files f
-    CROSS JOIN folders d ON d.id = f.folder CROSS JOIN pages p ON p.id = f.page
-    LEFT JOIN cures c ON c.page = p.id AND c.terms = p.terms AND p.canon IS NULL
-    WHERE f.folder = ? AND f.name = ? AND f.state = {tables.READ}"""
-FILE_TOLD = "path name inode? own place? entries canon copy?"
+from ..nearness import keys_of
+from .canon_worker import values_by
+from .rows import Values
 
 
-class Wanted(NamedTuple):
-    """A page whose keys are wanted: its place and hash; the number of entries and the canonical hash, of its treated
-    copy where it is refused; and the place of the refusal and the hash of the copy then."""
-
-    place: Place
-    own: bytes
-    refused_at: Optional[int]
-    entries: int
-    canon: bytes
-    copy: Optional[bytes]
-
-
-class KeyMaker:
-    """Makes the keys of files that a store has."""
-
-    def __init__(self, how: WorkerOptions, store: str, beat: Callable[[], None]) -> None:
-        self.connection = reader(store)
-        self.beat = beat
-        self.program = Client(how.program, how.budget, MODEST._replace(seconds=how.seconds), beat)
-
-    def pieces(self, chunk: Chunk) -> Iterator[Piece]:
-        """The keys of a chunk's files, in their order."""
-        for names in chunk:
-            window: List[Union[Wanted, File]] = []
-            entries = 0
-            for name in names.names:
-                it = self._looked_up(names.folder, name)
-                window.append(it)
-                entries += it.entries if isinstance(it, Wanted) else 0
-                if len(window) >= MOST_AHEAD or entries >= MOST_ENTRIES:
-                    yield self._piece(names.folder, window)
-                    window, entries = [], 0
-            yield self._piece(names.folder, window)
-
-    def _looked_up(self, folder: int, name: bytes) -> Union[Wanted, File]:
-        try:
-            row = one(self.connection.execute(FILE, (folder, name)).fetchone(), FILE_TOLD)
-        except sqlite3.Error as error:
-            return File(folder, name, tables.UNREADABLE, str(error))
-        if row is None:
-            return File(folder, name, tables.UNREADABLE, GONE)
-        path, named, at, own, refused_at, entries, canon, copy = row
-        return Wanted(Place(path, named, at), own, refused_at, entries, canon, copy)
-
-    def _piece(self, folder: int, window: Sequence[Union[Wanted, File]]) -> Piece:
-        """The files of a window, and the keys of those of which there are any."""
-        self.beat()
-        files = [it for it in window if isinstance(it, File)]
-        answers: List[Answered] = []
-        for it, told in self._told([it for it in window if isinstance(it, Wanted)]):
-            keys = told if isinstance(told, str) else _keys(it, told)
-            if isinstance(keys, str):
-                files.append(File(folder, it.place.name, tables.UNREADABLE, keys))
-            else:
-                files.append(File(folder, it.place.name, tables.READ))
-                answers.append(Answered(it.own, tables.ACCEPTED, canon=it.canon, keys=keys))
-        return tuple(files), tuple(answers)
-
-    def _told(self, some: Sequence[Wanted]) -> Iterator[Tuple[Wanted, Union[Answer, str]]]:
-        """What the program says of each, or why that isn't asked."""
-        asked: List[Wanted] = []
-        pages: List[bytes] = []
-        for it in some:
-            try:
-                data = self._data(it)
-            except Otherwise as otherwise:
-                yield it, str(otherwise)
-                continue
-            if isinstance(data, bytes):
-                asked.append(it)
-                pages.append(data)
-            else:
-                yield it, self._ask_of(data)
-        yield from zip(asked, self.program.ask_each("list", pages))
-
-    def _data(self, it: Wanted) -> Union[bytes, Page]:
-        """The bytes of a page or of its treated copy; the page, where these are too many. Raises Otherwise."""
-        page = read(it.place, it.own)
-        if page.data is None or it.copy is None:
-            return page if page.data is None else page.data
-        cure = find(self._ask, page.data, it.refused_at or 0)
-        if cure is None or tables.hashed(cure.data) != it.copy:
-            raise Otherwise(OTHER_COPY)
-        return cure.data
-
-    def _ask_of(self, page: Page) -> Answer:
-        try:
-            return self.program.ask("list", page)
-        finally:
-            page.close()
-
-    def _ask(self, call: str, data: bytes) -> Answer:
-        self.beat()
-        return self.program.ask(call, data)
-
-    def close(self) -> None:
-        """Ends the program."""
-        self.program.close()
-        self.connection.close()
-
-
-def _keys(it: Wanted, told: Answer) -> Union[NearKeys, str]:
-    """The keys that the list of a page has, or why there are none."""
-    if isinstance(told, Accepted) and told.entries == it.entries:
-        return keys_of(told.body)
-    return told.reason if isinstance(told, Unanswered) else OTHER_ANSWER
+def _values(listed: bytes) -> Values:
+    keys = keys_of(listed)
+    return (keys.start, *keys)
 
 
 def main(descriptor: int) -> None:
     """Works until the connection ends."""
-    serve(descriptor, _maker)
-
-
-def _maker(first: Sequence[Any], beat: Callable[[], None]) -> PieceMaker:
-    how, store = first
-    return KeyMaker(how, store, beat)
+    values_by(descriptor, _values)

@@ -1,10 +1,10 @@
 """The rows that a scan writes into a store, and how workers are given files and send rows back."""
-from typing import TYPE_CHECKING, Iterable, List, NamedTuple, Optional, Tuple
+from typing import Iterable, List, NamedTuple, Optional, Tuple, Union
 
 from .folders import FolderIdentity
 
-if TYPE_CHECKING:
-    from ..nearness import NearKeys
+# What a table has of a canonical stream, beside its hash and the form.
+Values = Tuple[Union[bytes, str, None], ...]
 
 
 class AskAgain(NamedTuple):
@@ -14,6 +14,7 @@ class AskAgain(NamedTuple):
     cures: bool = False
     words: bool = False
     near: bool = False
+    pictures: bool = False
 
 
 class File(NamedTuple):
@@ -59,8 +60,7 @@ class Answered(NamedTuple):
 
     An accepted page has its kind, and whether it is perhaps several pages; a refused one has what it looks like, which
     is nothing where that isn't known, and the code that stops it, where the fault alone doesn't say which. A capture
-    has its kind, and how many pages it holds; other files hold 0. Keys are those by which pages are compared that are
-    almost equal.
+    has its kind, and how many pages it holds; other files hold 0. Values are those of a table by canonical streams.
     """
 
     own: bytes
@@ -80,7 +80,7 @@ class Answered(NamedTuple):
     fault: Optional[str] = None
     cured: Optional[Cured] = None
     said: Optional[PageText] = None
-    keys: "Optional[NearKeys]" = None
+    values: Optional[Values] = None
 
 
 class FolderFiles(NamedTuple):

@@ -19,14 +19,15 @@ from naplps.program import version
 from ..console import COMPLETE, FAILED, SOME_LACK, Output, tell
 from ..packs.reading import NO_FILE, SEVERAL
 from ..unexpected import Unexpected
-from . import near_table, tables, word_index
+from . import tables, word_index
 from .beside import LOG
+from .canon_pass import CanonPass
+from .canon_tables import CANON_TABLES
 from .cluster import MOST_FILES, MOST_NAMES, Cluster, ClusterFailed
 from .counts import counted
 from .folders import absolute, is_gone, join, reason
 from .kept_options import keep
 from .lock import Busy, Lock
-from .near_pass import NearPass
 from .part import Part, keep_part
 from .pack_state import MOST_BROKEN, broken
 from .pool import NoWorkers, Pool
@@ -235,15 +236,15 @@ class ScanRun:
             tell(STOPPED)
 
     def compare(self) -> None:
-        """Makes the keys of pages that are almost equal, where these are asked for and the scan came to its end."""
+        """Makes the values of pages in those tables that are asked for, where the scan came to its end."""
         options, connection = self.options, self.writer.connection
-        if not self.line or not options.how.wanted.near:
-            return
-        near_table.make(connection)
-        keys = NearPass(connection, options.store, options.how, options.processes)
-        self.status = max(self.status, keys.run(self.stopping))
-        if self.stopping.number is not None:
-            tell(STOPPED)
+        for table in CANON_TABLES if self.line else ():
+            if getattr(options.how.wanted, table.option) and self.stopping.number is None:
+                table.make(connection)
+                values = CanonPass(table, connection, options.store, options.how, options.processes)
+                self.status = max(self.status, values.run(self.stopping))
+                if self.stopping.number is not None:
+                    tell(STOPPED)
 
     @property
     def at_work(self) -> str:
@@ -285,7 +286,8 @@ class ScanRun:
                 self._complain(*broken(writer.connection, folder))
         writer.sweep(self.search.whole)
         writer.connection.executescript(INDICES)
-        near_table.sweep(writer.connection)
+        for table in CANON_TABLES:
+            table.sweep(writer.connection)
         counts = counted(writer.connection, writer.run)
         writer.finish(counts.met, counts.asked)
         self.line = counts.line(self.search.known)

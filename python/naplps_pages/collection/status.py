@@ -6,8 +6,9 @@ from typing import Dict, List, NamedTuple, Optional, Tuple, TypeVar
 
 from naplps.names import Members, as_json, shown
 
-from . import near_table, tables
+from . import tables
 from .beside import LOG
+from .canon_tables import CANON_TABLES
 from .counts import UNKNOWN
 from .kept_options import kept
 from .kinds import checked, one
@@ -31,7 +32,6 @@ COUNTED = "state:file_state answer:page_state? why? is_old:flag? kind? looks_lik
 # Pages that lack what the store keeps, by the option.
 LACKING = {"cures": ("refused without treatments tried", f"p.state = 1 AND NOT {tables.TRIED}"),
            "words": ("without their text", f"p.state < 2 AND NOT {tables.HAS_TEXT}")}
-WITHOUT_KEYS = "not compared with others that are almost equal"
 LACK = "SELECT count(*) FROM pages p WHERE {} AND EXISTS(SELECT 1 FROM present f WHERE f.page = p.id)"
 PERHAPS_SEVERAL = "perhaps several pages"
 # Reasons that are all alike but for a number.
@@ -154,9 +154,9 @@ def status(connection: sqlite3.Connection, path: str) -> Status:
     if shut:
         tally.left["unreadable folders"] = shut
     options = kept(connection)
-    if near_table.OPTION in options:
-        number = near_table.find_wanted(connection)
-        tally.left.update({WITHOUT_KEYS: number} if number else {})
+    for table in CANON_TABLES:
+        number = table.find_wanted(connection) if table.option in options else 0
+        tally.left.update({table.lack: number} if number else {})
     for option in sorted(options & set(LACKING)):
         name, words = LACKING[option]
         number, = connection.execute(LACK.format(words)).fetchone()

@@ -9,11 +9,12 @@ from naplps.names import printable, shown
 from naplps.version import VERSION
 
 from .. import TOOL
-from . import near_table, schemas, tables, word_index
+from . import canon_tables, schemas, tables, word_index
 from .beside import LOG, foreign, place
 from .header import APPLICATION
 from .kinds import checked
 from .lock import is_held
+from .near_table import NEAR_KEYS
 
 # A reader may hold a store that has only a rollback journal so long, in seconds.
 PATIENCE = 60
@@ -195,11 +196,11 @@ def _check_tables(path: str, connection: sqlite3.Connection, schema: int) -> Non
 
     Other plain tables, and indices of these, are nobody's matter. But other views, triggers and virtual tables, and
     other indices of the store's own tables, would act where it is read or written. An index of words is there as a
-    whole, or not at all; the keys of pages that are almost equal are there or not.
+    whole, or not at all; a table of values by canonical streams is there or not.
     """
     wanted = schemas.own(schema)
     found = set()
-    optional = {**word_index.OWN, **near_table.OWN}
+    optional = {**word_index.OWN, **canon_tables.OWN}
     tables_of_own = {name for kind, name in wanted if kind == "table"} | set(optional)
     for kind, name, table, words in connection.execute("SELECT type, name, tbl_name, sql FROM main.sqlite_master"):
         own = wanted.get((kind, name)) or optional.get(name)
@@ -260,7 +261,7 @@ def keep_private(connection: sqlite3.Connection) -> None:
 
     The words of pages stand beside the keys of those that are almost equal too. Raises OSError.
     """
-    some = ["texts", *[near_table.NAME] * near_table.is_there(connection)]
+    some = ["texts", *[NEAR_KEYS.name] * NEAR_KEYS.is_there(connection)]
     if all(connection.execute(f"SELECT 1 FROM main.{name} LIMIT 1").fetchone() is None for name in some):
         path = connection.execute("PRAGMA database_list").fetchone()[2]
         mode = stat.S_IMODE(os.stat(path).st_mode)

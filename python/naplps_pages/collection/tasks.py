@@ -15,9 +15,11 @@ from ..console import COMPLETE, FAILED, SOME_LACK, tell
 from ..earlier import Earlier
 from ..page_session import Session
 from ..refusals import Reason
-from . import census_of_store, convert, equal, equal_over, equal_treated, near_of_store, refused
+from . import census_of_store, convert, equal, equal_over, equal_pictures, equal_treated, near_of_store, refused
+from .canon_filling import CanonFilling
 from .equal_over import most_budget
 from .merge import merge
+from .picture_table import PICTURES
 from .pool import processors
 from .printing import Printer, numbered
 from .progress import Progress
@@ -29,6 +31,7 @@ from .verify import verified
 from .worker import WorkerOptions
 
 Given = argparse.Namespace
+ONE_PICTURE_STORE = "pictures are compared in one store: merge makes one of several"
 ONE_STORE = "treated copies are joined in one store: merge makes one of several"
 # The options that a session of the files of a store has.
 STORED = ("json", "into", "past", "png", "sheet", "dots", "animate", "scale", "speed")
@@ -38,7 +41,7 @@ UNKNOWN = "of treated copies of %s it isn't known what they draw: a scan with --
 
 def _scan(given: Given, command: str) -> int:
     how = WorkerOptions(find(command), given.budget, given.seconds, given.most, AskAgain(
-        given.again, given.cures, given.words, given.near))
+        given.again, given.cures, given.words, given.near, given.pictures))
     processes = given.processes or processors()
     return scan(ScanOptions(given.folders, given.into, processes, how, given.part, given.on))
 
@@ -61,7 +64,28 @@ def _program(given: Given, command: str, stores: List[str]) -> Client:
     return Client(find(command), most_budget(stores), Limits(seconds=given.seconds))
 
 
+def _equal_pictures(given: Given, command: str) -> int:
+    """The groups of pages that look alike. What isn't known of pictures is found out first."""
+    store = given.stores[0]
+    if len(given.stores) > 1:
+        raise StoreFailed(given.stores[1], ONE_PICTURE_STORE)
+    it = CanonFilling(PICTURES, store, lambda: WorkerOptions(
+        find(command), most_budget([store]), given.seconds, 0), given.processes or processors()).filled()
+    if it is None:
+        return FAILED
+    printer = Printer(given.form, equal_pictures.COLUMNS)
+    telling = ErrorReporter(printer)
+    for group in equal_pictures.groups(it.connection):
+        equal_pictures.show(printer, group)
+    printer.flush()
+    for name, why in equal_pictures.without(it.connection):
+        telling(name, why)
+    return max(it.status, telling.status)
+
+
 def _equal(given: Given, command: str) -> int:
+    if given.by == "picture":
+        return _equal_pictures(given, command)
     with_treated = given.treated or given.guesses
     connection = open_to_read(given.stores[0]) if len(given.stores) == 1 else None
     printer = Printer(given.form, equal.COLUMNS + (equal.OF_TREATED if with_treated else []))

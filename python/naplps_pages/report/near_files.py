@@ -3,7 +3,7 @@ import sqlite3
 from collections import defaultdict
 from typing import Dict, List, NamedTuple, Tuple
 
-from ..collection import near_table
+from ..collection.near_table import NEAR_KEYS
 from ..collection.near_groups import NearGroups
 from ..near_pages import words_of
 from ..nearness import WORDS, Beginning, Difference, ListedPage, difference
@@ -27,7 +27,7 @@ class NearFiles:
     def __init__(self, connection: sqlite3.Connection) -> None:
         self.groups: Dict[bytes, List[Tuple[Difference, ListedPage]]] = defaultdict(list)
         self.beginnings: Dict[bytes, List[Beginning]] = defaultdict(list)
-        if not near_table.is_there(connection):
+        if not NEAR_KEYS.is_there(connection):
             return
         some = NearGroups(connection, has_names=False)
         for group in some.differences():

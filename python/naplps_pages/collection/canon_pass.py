@@ -1,4 +1,4 @@
-"""Makes the keys of those pages of a store that lack them, by the workers of a scan."""
+"""Makes the values of those pages of a store that lack them in a table, by the workers of a scan."""
 import os
 import sqlite3
 import sys
@@ -8,18 +8,16 @@ from typing import Iterator, List, Sequence, Tuple
 from naplps.names import shown
 
 from ..console import COMPLETE, SOME_LACK
-from ..nearness import NearKeys
-from . import near_table
+from .canon_table import CanonTable
 from .folders import join
 from .kinds import checked
 from .pool import Pool
 from .progress import Progress
-from .rows import Chunk, File, FolderFiles
+from .rows import Chunk, File, FolderFiles, Values
 from .stopping import Stopping
 from .tables import READ
 from .worker import WorkerOptions
 
-MODULE = "naplps_pages.collection.near_worker"
 # A worker that is silent for so long, beside the time of two answers, hangs.
 PATIENCE = 60.0
 # The number of files of a chunk, and of rows, or the seconds, with which these are written.
@@ -27,21 +25,22 @@ MOST_FILES, STEP, SECONDS = 64, 1000, 2.0
 WANTED = "SELECT folder, name FROM wanted ORDER BY folder, name"
 
 
-class NearPass:
-    """One run over the pages without keys of a store that is open to be written."""
+class CanonPass:
+    """One run over the pages without values in a table, of a store that is open to be written."""
 
-    def __init__(self, connection: sqlite3.Connection, store: str, how: WorkerOptions, processes: int) -> None:
-        self.connection, self.store = connection, store
-        self.pool = Pool(processes, (how, store), PATIENCE + 2 * how.seconds, MODULE)
-        self.total = near_table.find_wanted(connection)
-        self.progress = Progress(sys.stderr, lambda: self.total, what="pages compared")
-        self.rows: List[Tuple[bytes, NearKeys]] = []
+    def __init__(self, table: CanonTable, connection: sqlite3.Connection, store: str, how: WorkerOptions,
+                 processes: int) -> None:
+        self.table, self.connection, self.store = table, connection, store
+        self.pool = Pool(processes, (how, store), PATIENCE + 2 * how.seconds, table.module)
+        self.total = table.find_wanted(connection)
+        self.progress = Progress(sys.stderr, lambda: self.total, what=table.what)
+        self.rows: List[Tuple[bytes, Values]] = []
         self.written = time.monotonic()
         self.done = 0
         self.status = COMPLETE
 
     def run(self, stopping: Stopping) -> int:
-        """Makes the keys, until a signal stops it; the status. What lacks is told.
+        """Makes the values, until a signal stops it; the status. What lacks is told.
 
         Raises NoWorkers or sqlite3.Error.
         """
@@ -51,7 +50,7 @@ class NearPass:
             for piece in self.pool.run(self._chunks()):
                 if piece:
                     files, answers = piece
-                    self.rows += [(each.canon, each.keys) for each in answers if each.canon and each.keys]
+                    self.rows += [(each.canon, each.values) for each in answers if each.canon and each.values]
                     self._look_at(files)
                 if len(self.rows) >= STEP or time.monotonic() - self.written > SECONDS:
                     self._write()
@@ -82,18 +81,18 @@ class NearPass:
             yield (*held, FolderFiles(last, b"", tuple(names)))
 
     def _look_at(self, files: Sequence[File]) -> None:
-        """Counts files, and tells which have no keys."""
+        """Counts files, and tells which have no values."""
         self.done += len(files)
         for file in files:
             if file.state != READ:
                 path, = self.connection.execute("SELECT path FROM folders WHERE id = ?", (file.folder,)).fetchone()
-                self.progress.tell(f"{shown(os.fsdecode(join(path, file.name)))}: {file.why}; it isn't compared")
+                self.progress.tell(f"{shown(os.fsdecode(join(path, file.name)))}: {file.why}; {self.table.without}")
                 self.status = SOME_LACK
 
     def _write(self) -> None:
         if self.rows:
             self.connection.execute("BEGIN IMMEDIATE")
-            near_table.write(self.connection, self.rows)
+            self.table.write(self.connection, self.rows)
             self.connection.execute("COMMIT")
         self.rows = []
         self.written = time.monotonic()

@@ -1,0 +1,151 @@
+"""The process of a worker that makes a value of the list of each page and treated copy that a store has."""
+import sqlite3
+from typing import Any, Callable, Iterator, List, NamedTuple, Optional, Sequence, Tuple, Union
+
+from naplps.answers import Accepted, Answer, Nonsense, Unanswered
+from naplps.client import Client
+from naplps.reading import NotALine
+from naplps.treating.search import find
+
+from ..listing import MODEST
+from ..source import Page
+from . import tables
+from .kinds import one
+from .page_reader import Otherwise, read
+from .places import Place
+from .rows import Answered, Chunk, File, Piece, Values
+from .store import reader
+from .worker import WorkerOptions
+from .worker_process import PieceMaker, serve
+
+# The number of pages that are asked about together, and of their entries.
+MOST_AHEAD, MOST_ENTRIES = 32, 50_000
+OTHER_COPY = "the treatments make another copy than in the scan"
+OTHER_ANSWER = "the program answers otherwise than in the scan"
+GONE = "it isn't in the store any more"
+FILE = f"""SELECT d.path, f.name, {tables.AT}, p.own, p.place, coalesce(c.entries, p.entries),
+    coalesce(p.canon, c.canon), c.copy FROM files f
+    CROSS JOIN folders d ON d.id = f.folder CROSS JOIN pages p ON p.id = f.page
+    LEFT JOIN cures c ON c.page = p.id AND c.terms = p.terms AND p.canon IS NULL
+    WHERE f.folder = ? AND f.name = ? AND f.state = {tables.READ}"""
+FILE_TOLD = "path name inode? own place? entries canon copy?"
+
+
+class Wanted(NamedTuple):
+    """A page whose value is wanted: its place and hash; the number of entries and the canonical hash, of its treated
+    copy where it is refused; and the place of the refusal and the hash of the copy then."""
+
+    place: Place
+    own: bytes
+    refused_at: Optional[int]
+    entries: int
+    canon: bytes
+    copy: Optional[bytes]
+
+
+class ValueMaker:
+    """Makes the values of files that a store has, each of the lines of a list."""
+
+    def __init__(self, how: WorkerOptions, store: str, beat: Callable[[], None],
+                 value_of: Callable[[bytes], Values]) -> None:
+        self.connection = reader(store)
+        self.beat, self.value_of = beat, value_of
+        self.program = Client(how.program, how.budget, MODEST._replace(seconds=how.seconds), beat)
+
+    def pieces(self, chunk: Chunk) -> Iterator[Piece]:
+        """The values of a chunk's files, in their order."""
+        for names in chunk:
+            window: List[Union[Wanted, File]] = []
+            entries = 0
+            for name in names.names:
+                it = self._looked_up(names.folder, name)
+                window.append(it)
+                entries += it.entries if isinstance(it, Wanted) else 0
+                if len(window) >= MOST_AHEAD or entries >= MOST_ENTRIES:
+                    yield self._piece(names.folder, window)
+                    window, entries = [], 0
+            yield self._piece(names.folder, window)
+
+    def _looked_up(self, folder: int, name: bytes) -> Union[Wanted, File]:
+        try:
+            row = one(self.connection.execute(FILE, (folder, name)).fetchone(), FILE_TOLD)
+        except sqlite3.Error as error:
+            return File(folder, name, tables.UNREADABLE, str(error))
+        if row is None:
+            return File(folder, name, tables.UNREADABLE, GONE)
+        path, named, at, own, refused_at, entries, canon, copy = row
+        return Wanted(Place(path, named, at), own, refused_at, entries, canon, copy)
+
+    def _piece(self, folder: int, window: Sequence[Union[Wanted, File]]) -> Piece:
+        """The files of a window, and the values of those of which there are any."""
+        self.beat()
+        files = [it for it in window if isinstance(it, File)]
+        answers: List[Answered] = []
+        for it, told in self._told([it for it in window if isinstance(it, Wanted)]):
+            self.beat()
+            values = told if isinstance(told, str) else self._values(it, told)
+            if isinstance(values, str):
+                files.append(File(folder, it.place.name, tables.UNREADABLE, values))
+            else:
+                files.append(File(folder, it.place.name, tables.READ))
+                answers.append(Answered(it.own, tables.ACCEPTED, canon=it.canon, values=values))
+        return tuple(files), tuple(answers)
+
+    def _told(self, some: Sequence[Wanted]) -> Iterator[Tuple[Wanted, Union[Answer, str]]]:
+        """What the program says of each, or why that isn't asked."""
+        asked: List[Wanted] = []
+        pages: List[bytes] = []
+        for it in some:
+            try:
+                data = self._data(it)
+            except Otherwise as otherwise:
+                yield it, str(otherwise)
+                continue
+            if isinstance(data, bytes):
+                asked.append(it)
+                pages.append(data)
+            else:
+                yield it, self._ask_of(data)
+        yield from zip(asked, self.program.ask_each("list", pages))
+
+    def _data(self, it: Wanted) -> Union[bytes, Page]:
+        """The bytes of a page or of its treated copy; the page, where these are too many. Raises Otherwise."""
+        page = read(it.place, it.own)
+        if page.data is None or it.copy is None:
+            return page if page.data is None else page.data
+        cure = find(self._ask, page.data, it.refused_at or 0)
+        if cure is None or tables.hashed(cure.data) != it.copy:
+            raise Otherwise(OTHER_COPY)
+        return cure.data
+
+    def _ask_of(self, page: Page) -> Answer:
+        try:
+            return self.program.ask("list", page)
+        finally:
+            page.close()
+
+    def _ask(self, call: str, data: bytes) -> Answer:
+        self.beat()
+        return self.program.ask(call, data)
+
+    def _values(self, it: Wanted, told: Answer) -> Union[Values, str]:
+        """The values that the list of a page has, or why there are none."""
+        if isinstance(told, Accepted) and told.entries == it.entries:
+            try:
+                return self.value_of(told.body)
+            except NotALine:
+                told = Nonsense().answer
+        return told.reason if isinstance(told, Unanswered) else OTHER_ANSWER
+
+    def close(self) -> None:
+        """Ends the program."""
+        self.program.close()
+        self.connection.close()
+
+
+def values_by(descriptor: int, value_of: Callable[[bytes], Values]) -> None:
+    """Works until the connection ends, and makes what this makes of the lines of a list."""
+    def maker(first: Sequence[Any], beat: Callable[[], None]) -> PieceMaker:
+        how, store = first
+        return ValueMaker(how, store, beat, value_of)
+    serve(descriptor, maker)
