@@ -28,10 +28,10 @@ function crcOf(bytes) {
 const numbers = (...pairs) => Uint8Array.from(pairs.flatMap(([value, size]) => (
   Array.from({ length: size }, (_, at) => value >>> 8 * at & 0xff))));
 
-// A name in a zip: no folder above, no name twice.
+// A name in a zip: no folder above, no half of a character, no name twice.
 function zipName(name, taken) {
   const parts = name.split(/[\\/]/).filter((part) => part && part !== "." && part !== "..");
-  const plain = parts.join("/").replace(/[\0-\x1f\x7f]/g, "_") || "page";
+  const plain = parts.join("/").replace(/[\0-\x1f\x7f\p{Surrogate}]/gu, "_") || "page";
   let free = plain;
   for (let number = 2; taken.has(free); number++) free = `${plain} ${number}`;
   taken.add(free);

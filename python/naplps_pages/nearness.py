@@ -10,17 +10,13 @@ from typing import Callable, Dict, Iterable, Iterator, List, NamedTuple, Optiona
 
 from naplps import letters
 
+from .near_keys import KEY, LEAST_ENTRIES, MOST_SAID, PREFIX, NearKeys
+
 WORDS, COLOURS, PLACES = "words", "colours", "places"
-# The number of this form of the keys: those of another one aren't compared with them.
-FORM = 1
-# The fewest entries of a beginning: all but its last are the first ones of the longer page.
-LEAST_ENTRIES = 8
 # The greatest number of entries, of all lists together, that are compared as beginnings.
 MOST_ENTRIES = 20_000_000
-# The most words of a page that are named, and the most characters in which these are looked for.
-MOST_WORDS, MOST_SAID = 12, 1 << 16
-# The bytes of a key, and of the hash of first entries.
-KEY, PREFIX = 16, 8
+# The most words of a page that are named.
+MOST_WORDS = 12
 _POINT = rb" -?[0-9]+,-?[0-9]+"
 _SHAPE = re.compile(rb"^((?:POINT|LINE|ARC-[A-Z]+|RECT-[A-Z]+|POLY-[A-Z]+|FIELD))((?:%s)+)" % _POINT, re.MULTILINE)
 _PEN = re.compile(rb" pen=-?[0-9]+,-?[0-9]+")
@@ -49,23 +45,6 @@ def without_places(listed: bytes) -> bytes:
 
 _LEAVE_OUT: Dict[str, Callable[[bytes], bytes]] = {
     WORDS: without_words, COLOURS: without_colours, PLACES: without_places}
-
-
-class NearKeys(NamedTuple):
-    """What of a list is compared: the hash of what is left of it without words, colours and places; the hash of its
-    first entries, for each number of them; and its words, each once, in their order, with blanks between."""
-
-    words: bytes
-    colours: bytes
-    places: bytes
-    prefixes: bytes
-    said: str
-
-    @property
-    def start(self) -> Optional[bytes]:
-        """The hash of as many first entries as a beginning and what continues it have alike at least."""
-        at = (LEAST_ENTRIES - 2) * PREFIX
-        return self.prefixes[at:at + PREFIX] or None
 
 
 def keys_of(listed: bytes) -> NearKeys:

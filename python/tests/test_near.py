@@ -23,9 +23,8 @@ from naplps_pages.collection.near_table import NEAR_KEYS
 from naplps_pages.collection.stopping import Stopping
 from naplps_pages.collection.store import open_to_write
 from naplps_pages.collection.worker import WorkerOptions
-from naplps_pages.nearness import (
-    FORM, LEAST_ENTRIES, NearPages, PageName, without_colours, without_places, without_words,
-)
+from naplps_pages.near_keys import FORM, LEAST_ENTRIES
+from naplps_pages.nearness import NearPages, PageName, without_colours, without_places, without_words
 from naplps_pages.report.questions import Questions
 from naplps_pages.report.roots import load
 from naplps_pages.report.table import Table

@@ -6,7 +6,7 @@ from typing import Any, Callable, Dict, Iterable, Iterator, NamedTuple, Optional
 from naplps.names import printable
 
 from .. import TOOL
-from ..nearness import KEY, MOST_SAID, PREFIX
+from ..near_keys import KEY, MOST_SAID, PREFIX
 
 Row = Tuple[Any, ...]
 MOST_NUMBER, MOST_REFUSAL, HASH = (1 << 63) - 1, 99, 32

@@ -6,9 +6,10 @@ from typing import Dict, Iterator, List, Sequence
 
 from naplps.treating.treatments import graded
 
+from ..near_keys import FORM, PREFIX
 from ..nearness import (
-    COLOURS, FORM, MOST_ENTRIES, PLACES, PREFIX, WORDS, Beginning, Difference, ListedPage, PageName, beginnings,
-    difference, numbers_of,
+    COLOURS, MOST_ENTRIES, PLACES, WORDS, Beginning, Difference, ListedPage, PageName, beginnings, difference,
+    numbers_of,
 )
 from .canon_table import WITH_COPIES
 from .kinds import checked

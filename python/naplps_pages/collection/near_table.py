@@ -1,5 +1,5 @@
 """The table of the keys by which pages are found that are almost equal. It is in a store once they were asked for."""
-from ..nearness import FORM
+from ..near_keys import FORM
 from .canon_table import WITH_COPIES, CanonTable
 
 NEAR_KEYS = CanonTable(
