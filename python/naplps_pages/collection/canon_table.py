@@ -3,12 +3,14 @@
 Rows of another form than the table's count as if they weren't there.
 """
 import sqlite3
-from typing import Iterable, NamedTuple, Tuple
+from typing import TYPE_CHECKING, Iterable, NamedTuple, Tuple
 
 from naplps.limits import MOST_LISTED
 
-from .rows import Values
 from .tables import ACCEPTED, READ
+
+if TYPE_CHECKING:
+    from .rows import Values
 
 # The canonical streams that files have which are there: those of accepted pages, and of treated copies.
 OF_PAGES = """SELECT p.canon AS canon, f.folder AS folder, f.name AS name, NULL AS treatments, p.entries AS entries
@@ -74,7 +76,7 @@ class CanonTable(NamedTuple):
         count, = connection.execute("SELECT count(*) FROM wanted").fetchone()
         return int(count)
 
-    def write(self, connection: sqlite3.Connection, rows: Iterable[Tuple[bytes, Values]]) -> None:
+    def write(self, connection: sqlite3.Connection, rows: "Iterable[Tuple[bytes, Values]]") -> None:
         """Writes the values of canonical streams, which are known by their hashes."""
         marks = ", ?" * (self.columns.count(",") - 1)
         connection.executemany(f"INSERT OR REPLACE INTO {self.name}({self.columns}) VALUES(?, {self.form}{marks})",
