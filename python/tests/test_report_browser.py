@@ -8,7 +8,7 @@ import subprocess
 import pytest
 
 from browser import Browser
-from conftest import COMMAND
+from conftest import COMMAND, TOP
 from contrasts import FAINT
 from reports import HOSTILE, MARKUP, SPELLED, collection, words
 from samples import OUTSIDE, POINT, needs_chromium
@@ -470,6 +470,17 @@ def test_the_way_past_the_head_is_seen_as_a_whole_where_the_focus_is(wall, width
     wall.call("Emulation.setFocusEmulationEnabled", enabled=False)
     around = 5  # (of its outline)
     assert around <= left < right <= width - around and around <= top < bottom <= head - around
+
+
+def test_pages_that_blink_are_marked_on_the_wall(browser):
+    browser.size(1240, 3000)
+    browser.open(pathlib.Path(TOP, "examples", "gallery.html").as_uri())
+    browser.until("document.querySelectorAll('#wall img').length > 12")
+    browser.until("document.querySelectorAll('#wall .blinks').length > 1")
+    marked = "[...document.querySelectorAll('#wall .blinks')].map((each) => each.parentElement.%s)"
+    assert browser.run(marked % "querySelector('.leaf').textContent") == ["ferry.nap", "palette.nap"]
+    assert all(label.endswith(", blinks") for label in browser.run(marked % "getAttribute('aria-label')"))
+    assert browser.run(marked % "querySelectorAll('.blinks').length") == [1, 1] and browser.errors == []
 
 
 def test_filters_of_the_wall(wall):

@@ -226,6 +226,15 @@ def test_so_many_entries_are_drawn():
     assert told[1].startswith("The picture ends before entry 20001")
 
 
+def test_the_caption_says_that_parts_blink():
+    point, blink = "POINT 1,2 pel=0,0 colour=front:0", "BLINK 1048576 5,5,0 colour=front:0"
+    for lines, blinks in (([point], False), ([point, blink], True), ([point, "BLINK-END colour=front:0"], False),
+                          (["BLINK-START colour=own-start", point], True), (["WAIT 10", point], False)):
+        [title] = elements(drawing.draw(lines).svg, "title")
+        told = "1 entry" if len(lines) == 1 else "2 entries"
+        assert title.text == f"Sketch of {told}" + ("; parts of it blink" if blinks else "")
+
+
 def test_clear_takes_all_away():
     svg = drawing.draw(["POINT 0,0 pel=0,0 colour=own-start", "CLEAR pen=0,0"]).svg
     assert len(elements(svg, "rect")) == 2

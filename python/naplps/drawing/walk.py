@@ -25,7 +25,7 @@ MOST_POINTS = 200_000
 # A line has no more commas than these outside of its points.
 MOST_COMMAS = 16
 ENDS = "The picture ends before entry %d: with what follows it would be more than a picture may be."
-BLINKING = "blinking isn't drawn"
+BLINKING, PARTS_BLINK = "blinking isn't drawn", "; parts of it blink"
 # How many points these entries have.
 FEW_POINTS: Dict[type, int] = {Point: 1, Line: 2, Rect: 2, Char: 0}
 NOTES: Dict[type, str] = {Blink: BLINKING, Wait: "waits aren't drawn", Cursor: "cursors aren't drawn"}
@@ -200,6 +200,8 @@ def drawn(lines: Lines, said: str = "", guess: Optional[Guess] = None, prefix: s
     if guess:
         caption += "; then a guess of " + _counted(max(0, count - sure), total - sure)
         walk.paper.note(" ".join(below))
+    if BLINKING in walk.paper.notes:
+        caption += PARTS_BLINK
     if count < total:
         below += (ENDS % (count + 1),)
     return Drawn(walk.paper, Captions(caption, below), count)

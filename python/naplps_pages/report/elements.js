@@ -98,6 +98,9 @@ function described(drawing) {
   return found ? found.textContent.split("; ") : [];
 }
 
+// Whether parts of the page blink, by the caption of its sketch.
+const blinks = (drawing) => /^<svg [^>]*><title>[^<]*; parts of it blink<\/title>/.test(drawing.sketch || "");
+
 // A part of a long list, with the buttons that lead to the others.
 class Pager {
   // `name` names the list and its pager; `draw` makes an element of each thing that `ask` finds.

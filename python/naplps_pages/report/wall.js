@@ -184,10 +184,17 @@ class Wall {
       if (some.length) this.was = now;
       for (const {file, thumb, says, drawing} of some) {
         thumb.replaceChildren(picture(cropped(drawing), file.name));
+        if (blinks(drawing)) this.markBlinking(thumb.parentElement);
         if (!says.textContent) says.textContent = oneLine(drawing.text || "").slice(0, 60);
       }
       if (this.ready.length) this.put();
     });
+  }
+
+  // A word at the corner of a page of which parts blink.
+  markBlinking(button) {
+    button.append(make("span", {className: "badge blinks"}, "blinks"));
+    button.setAttribute("aria-label", button.getAttribute("aria-label") + ", blinks");
   }
 
   // The keys that go from tile to tile.
