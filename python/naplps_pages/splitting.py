@@ -8,6 +8,7 @@ from naplps.answers import Accepted, Answer, Refusal, Unanswered
 from naplps.names import Members, as_json, shown
 from naplps.program import version
 from naplps.treating.borders import Piece, pieces, text_length
+from naplps.treating.search import TreatmentSearch
 from naplps.version import VERSION
 
 from . import TOOL, file_kinds
@@ -74,7 +75,7 @@ def _cut(session: Session, page: Page, some: List[Piece]) -> None:
         parts.append(CutPart(piece, data, page.data[piece.offset - piece.before:piece.offset], after,
                           session.program.ask("check", data)))
     lacking = [each.answer for each in parts if isinstance(each.answer, Unanswered)]
-    if not any(part.is_page for part in parts) and not lacking:
+    if not lacking and not any(part.is_page or _is_readable(session, part) for part in parts):
         _fail(session, page, NONE_ACCEPTED % len(parts))
         return
     _write(session, page, parts)
@@ -84,6 +85,15 @@ def _cut(session: Session, page: Page, some: List[Piece]) -> None:
             session.front(page.name), len(parts), accepted, refused))
     if lacking:
         session.fail(FAILED)
+
+
+def _is_readable(session: Session, part: CutPart) -> bool:
+    """Whether it is refused, and what a treatment graded around leaves of it is accepted as a page."""
+    if not isinstance(part.answer, Refusal):
+        return False
+    cure = TreatmentSearch(session.program.ask).find(part.data, part.answer.place)
+    return (cure is not None and not cure.treated.is_guess
+            and file_kinds.kind((cure.data,), Accepted(cure.entries)) == file_kinds.PAGE)
 
 
 def _write(session: Session, page: Page, parts: List[CutPart]) -> None:

@@ -12,7 +12,7 @@ from hypothesis import strategies as st
 from conftest import file
 from naplps.treating.borders import pieces
 from pictures import picture
-from samples import POINT, POINT_AND_BELL
+from samples import POINT, POINT_AND_BELL, with_parity
 
 CLEAR = b"\x0c" + POINT
 FRONTS = {"NSR": b"\x1f", "NSR and place": b"\x1f\x41\x42", "CAN, NSR": b"\x18\x1f", "1B 22": b"\x1b\x22\x46",
@@ -66,6 +66,16 @@ def test_what_is_told(run, tmp_path):
         ("to/tape-002.nap", "accepted", 15, 6, "NSR", "1f4142", ""),
         ("to/tape-003.nap", "accepted", 24, 3, "1B 22", "1b2246", ""),
         ("to/tape-004.nap", "accepted", 28, 6, "1A", "1a", "1a454e44")]
+
+
+def test_pages_with_parity_are_cut_and_then_read_by_cures(run, tmp_path):
+    pages = [with_parity(POINT + b"\x0f" + some) for some in (b"one", b"two")]
+    path = file(tmp_path, "line", pages[0] + with_parity(b"\x18\x1f") + pages[1])
+    said = run(["split", path, "--into", os.path.join(str(tmp_path), "to")])
+    assert said.returncode == 0 and b"2 parts: 0 accepted, 2 refused" in said.stdout
+    assert [(tmp_path / "to" / ("line-%03d.nap" % at)).read_bytes() for at in (1, 2)] == pages
+    read = run(["cures", os.path.join(str(tmp_path), "to", "line-001.nap")])
+    assert b"parity, around" in read.stdout
 
 
 def test_nothing_is_written_where_no_part_is_a_page(run, tmp_path):
