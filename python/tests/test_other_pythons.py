@@ -54,14 +54,19 @@ def scanned(python, naplps, top, store):
     return sorted(said.stderr.splitlines()), every_table(store)
 
 
-def test_a_store_is_the_same_under_each_python(naplps, packs, tmp_path):
-    found = others()
-    if not found:
+@pytest.fixture(scope="module")
+def own(naplps, packs, tmp_path_factory):
+    """What a scan under the Python of the tests says, and the tables of its store."""
+    said = scanned(sys.executable, naplps, packs, str(tmp_path_factory.mktemp("own") / "own.db"))
+    assert len(said[1]["files"]) > PACKS
+    return said
+
+
+@pytest.mark.parametrize("version", sorted(others()) or [None])
+def test_a_store_is_the_same_under_each_python(naplps, packs, own, tmp_path, version):
+    if version is None:
         pytest.skip("there is no other Python from 3.9 on")
-    wanted = scanned(sys.executable, naplps, packs, str(tmp_path / "own.db"))
-    assert len(wanted[1]["files"]) > PACKS
-    for version, path in found.items():
-        told, table = scanned(path, naplps, packs, str(tmp_path / (version + ".db")))
-        assert told == wanted[0], version
-        for name, rows in table.items():
-            assert rows == wanted[1][name], (version, name)
+    told, table = scanned(others()[version], naplps, packs, str(tmp_path / "other.db"))
+    assert told == own[0]
+    for name, rows in table.items():
+        assert rows == own[1][name], name
