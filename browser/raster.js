@@ -9,7 +9,8 @@ import {
 import { rowsOf } from "./raster/font.js";
 import { ACROSS, MOST_COUNTED, OF_ENTRY, SCREEN, UP, over } from "./raster/measure.js";
 import { PAGE, edgeOf, isFilled, painted } from "./raster/shapes.js";
-import { DotWriting, isWritten } from "./raster/writing.js";
+import { isWritten } from "./raster/signs.js";
+import { DotWriting } from "./raster/writing.js";
 
 const TO_BLACK = [1, 7], TO_COLOUR = [2, 5, 6], NOTHING = 0, DRAWN = 1, EDGE = 2, BOX = rowsOf("\u25a1");
 const uncounted = (spans) => ({ spans, counted: 0 });

@@ -1,5 +1,6 @@
 // Colours, letters, and the cells in which these are written.
 
+import { COLUMNS } from "../raster/font.js";
 import { ADDRESS, HEIGHT, ONE, THIN, WIDTH } from "./measure.js";
 
 const OWN = "#ffffff", BLACK = "#000000";
@@ -37,7 +38,7 @@ const composed = (accent, base) => (
 
 const SIZES = { small: [1 / 80, 5 / 128], medium: [1 / 32, 3 / 64], normal: [1 / 40, 5 / 128], tall: [1 / 40, 5 / 64],
   double: [1 / 20, 5 / 64] };
-const SPACINGS = [1, 1.25, 1.5, 1], RIGHT = 0, LEFT = 1, UP = 2, TOP = HEIGHT / WIDTH, DOT = THIN / WIDTH;
+const SPACINGS = [1, 1.25, 1.5, 1], PROPORTIONAL = 3, RIGHT = 0, LEFT = 1, UP = 2, TOP = HEIGHT / WIDTH, DOT = THIN / WIDTH;
 const SCREEN_FIELD = [0, 0, 1, TOP], NOWHERE = { x: 0, y: 0, known: false, scrolled: false, field: SCREEN_FIELD };
 const cells = new WeakMap();
 
@@ -46,13 +47,16 @@ function cellOf(text) {
   let cell = cells.get(text);
   if (!cell) {
     const [wide, high] = text.given ? text.given.map((side) => side / ONE) : SIZES[text.size], [first] = text.words;
-    const [rotation, path, spacing] = [first & 3, first >> 2 & 3, SPACINGS[first >> 4 & 3]];
-    cell = { wide, high, rotation, path, spacing, scroll: text.scroll };
+    const [rotation, path, kind] = [first & 3, first >> 2 & 3, first >> 4 & 3];
+    const byLetters = kind === PROPORTIONAL && (path === RIGHT || path === LEFT);
+    cell = { wide, high, rotation, path, spacing: SPACINGS[kind], byLetters, scroll: text.scroll };
     cells.set(text, cell);
   }
   return cell;
 }
 
+// How far the next character is from one with so many columns.
+const advanceOf = ({ wide, spacing, byLetters }, columns) => byLetters ? wide * (columns + 1) / COLUMNS : wide * spacing;
 const isSameCell = (a, b) => a === b || Object.keys(a).every((name) => a[name] === b[name]);
 
 class TextCursor {
@@ -125,9 +129,10 @@ class TextCursor {
     }
   }
 
-  step(cell) {
-    if (cell.path === RIGHT) this.x += cell.wide * cell.spacing;
-    else if (cell.path === LEFT) this.x -= cell.wide * cell.spacing;
+  // Advances along the path by a cell, or in proportional spacing by so many columns.
+  step(cell, columns) {
+    if (cell.path === RIGHT) this.x += advanceOf(cell, columns);
+    else if (cell.path === LEFT) this.x -= advanceOf(cell, columns);
     else if (cell.path === UP) this.y += cell.high * cell.spacing;
     else this.y -= cell.high * cell.spacing;
   }
@@ -156,6 +161,6 @@ class TextCursor {
 }
 
 export {
-  ALONE, BLACK, FIRST, RIGHT, TextCursor, backOf, cellOf, composed, direct, frontOf, inMap, isAccent, isSameCell,
+  ALONE, BLACK, FIRST, RIGHT, TextCursor, advanceOf, backOf, cellOf, composed, direct, frontOf, inMap, isAccent, isSameCell,
   letterOf,
 };

@@ -3,19 +3,22 @@
 import {
   HEIGHT, NOTHING, RUN, WIDTH, boxWeight, element, fine, letterWeight, num, outlinedWeight, plus, scaled,
 } from "./measure.js";
+import { COLUMNS } from "../raster/font.js";
+import { columnsOf, isWritten } from "../raster/signs.js";
 import { same } from "./curves.js";
 import { blocksPath, numberOfBlocks } from "./mosaics.js";
 import {
-  ALONE, BLACK, RIGHT, TextCursor, inMap, backOf, cellOf, composed, frontOf, isAccent, isSameCell, letterOf,
+  ALONE, BLACK, RIGHT, TextCursor, advanceOf, inMap, backOf, cellOf, composed, frontOf, isAccent, isSameCell, letterOf,
 } from "./letters.js";
 
-const ADVANCE = 0.602, SIZE = 0.86, BASE = 0.22, MOST_IN_LINE = 1000;
+const ADVANCE = 0.602, SIZE = 0.86, BASE = 0.22, MOST_IN_LINE = 1000, LEAST_COLUMNS = 3;
 // The greatest number of bytes for a letter of a run, and for what is around a run.
 const A_LETTER = 16, A_RUN = 1024;
 // The same for a block of a mosaic, and for what is around a row of mosaics.
 const A_BLOCK = 64, A_ROW = 256;
-const isStraight = (cell) => cell.path === RIGHT && cell.rotation === 0 && cell.spacing === 1;
-const isBlank = ({ set, character }) => character === 0x20 && (set === "primary" || set === "supplementary");
+const isStraight = (cell, isMosaic) => (
+  cell.path === RIGHT && cell.rotation === 0 && cell.spacing === 1 && (isMosaic || !cell.byLetters));
+const isBlank = ({ set, character }) => character === 0x20 && isWritten(set);
 const cellBox = (x, y, wide, high, fill) => element("rect", { x: num(Math.min(x, x + wide)),
   y: num(Math.min(y - high, y)), width: num(Math.abs(wide)), height: num(Math.abs(high)), fill });
 const boxPath = (x, y, wide, high) => `M${num(x)} ${num(y)}h${num(wide)}v${num(high)}h${num(-wide)}z`;
@@ -46,10 +49,12 @@ class Writing {
       this.accent = entry.character;
       return;
     }
-    if (entry.set === "primary" || entry.set === "supplementary") {
+    let columns = COLUMNS - 1;
+    if (isWritten(entry.set)) {
       const sign = letterOf(entry), { accent } = this;
       this.accent = null;
-      this.letter(style, accent === null ? sign : composed(accent, sign));
+      if (cell.byLetters) columns = columnsOf(entry, accent || 0);
+      this.letter(style, accent === null ? sign : composed(accent, sign), columns);
     } else if (entry.set === "mosaic") {
       if (this.accent !== null) this.endAccent();
       this.mosaic(entry.character, style);
@@ -57,7 +62,7 @@ class Writing {
       this.flush();
       this.sign(entry.character, style);
     }
-    this.cursor.step(cell);
+    this.cursor.step(cell, columns);
   }
 
   // Goes to the next line where the character, or its word, leaves the field; whether it is drawn.
@@ -82,7 +87,7 @@ class Writing {
       if (!entry.text.wrap || isBlank(entry) || cell.path !== RIGHT || !(entry.pen.at === "after" || isFirst)) break;
       if (!isAccent(entry)) {
         most = width + cell.wide;
-        width += cell.wide * cell.spacing;
+        width += advanceOf(cell, cell.byLetters ? columnsOf(entry) : 0);
       }
     }
     return most;
@@ -129,12 +134,12 @@ class Writing {
     return [this.cursor.x * WIDTH, (this.paper.open ? WIDTH : HEIGHT) - this.cursor.y * WIDTH];
   }
 
-  letter(style, sign, isCounted = false) {
+  letter(style, sign, columns, isCounted = false) {
     const [x, y] = this.corner(style.cell);
     if (this.joined(style, sign, x, y, false)) return;
     this.flush();
     if (!isCounted) this.paper.spend(A_RUN, RUN);
-    this.run = { ...style, signs: [sign], entries: [this.paper.entry], x, y, isMosaic: false };
+    this.run = { ...style, signs: [sign], entries: [this.paper.entry], x, y, isMosaic: false, columns };
   }
 
   mosaic(code, style) {
@@ -154,7 +159,7 @@ class Writing {
   // Whether a sign at this place continues the run; then it does.
   joined({ cell, ink, underline }, sign, x, y, isMosaic) {
     const { run } = this;
-    if (!run || run.isMosaic !== isMosaic || !isStraight(cell)) return false;
+    if (!run || run.isMosaic !== isMosaic || !isStraight(cell, isMosaic)) return false;
     const isAlike = same(run.ink, ink) && run.underline === underline && isSameCell(run.cell, cell);
     const end = run.x + run.signs.length * run.cell.wide * WIDTH;
     if (!isAlike || Math.abs(end - x) >= 0.01 || Math.abs(run.y - y) >= 0.01) return false;
@@ -167,7 +172,7 @@ class Writing {
   endAccent() {
     const { accent } = this;
     this.accent = null;
-    if (accent !== null && this.last) this.letter(this.style(this.last), ALONE[accent - 0x41], true);
+    if (accent !== null && this.last) this.letter(this.style(this.last), ALONE[accent - 0x41], COLUMNS - 1, true);
   }
 
   drawRun(run) {
@@ -220,10 +225,18 @@ function lettersAndLine(run, wide, high) {
   return parts;
 }
 
+// Where letters begin, and how wide each is: in proportional spacing as its place, or in the middle of that.
+function placeOf({ cell, x, columns }, wide) {
+  if (!cell.byLetters) return [x, wide];
+  const [place, letter] = [columns, Math.max(columns, LEAST_COLUMNS)].map((each) => (each + 1) * wide / COLUMNS);
+  return [x + (place - letter) / 2, letter];
+}
+
 // The letters of a run, stretched by a transform, which all viewers follow.
-function textOf(text, { x, y, signs }, wide, high, fill) {
-  const size = Math.abs(high) * SIZE, across = fine(wide / (ADVANCE * size)), down = high > 0 ? 1 : -1;
-  const transform = `matrix(${across} 0 0 ${down} ${num(x)} ${num(y - high * BASE)})`;
+function textOf(text, run, wide, high, fill) {
+  const { y, signs } = run;
+  const size = Math.abs(high) * SIZE, [x, letter] = placeOf(run, wide), down = high > 0 ? 1 : -1;
+  const transform = `matrix(${fine(letter / (ADVANCE * size))} 0 0 ${down} ${num(x)} ${num(y - high * BASE)})`;
   const textLength = num(ADVANCE * size * signs.length);
   return element("text", { transform, "font-size": num(size), textLength, fill, "xml:space": "preserve" }, [], text);
 }

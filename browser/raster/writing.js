@@ -1,20 +1,13 @@
 // Characters: letters, mosaics and glyphs, in cells that follow each other as docs/SKETCH.md has it.
 
-import { isAccent, letterOf } from "../drawing/letters.js";
+import { isAccent } from "../drawing/letters.js";
 import { DOT, DotCursor, PROPORTIONAL, RIGHT, SIDE, advanceOf, cellOf } from "./cells.js";
-import { COLUMNS, markOf, rowsOf, widthOf } from "./font.js";
+import { COLUMNS, markOf, widthOf } from "./font.js";
 import { ACROSS, OF_ENTRY, over } from "./measure.js";
+import { columnsOf, isWritten, rowsOfEntry } from "./signs.js";
 
 const BLANK = 0x20, MOST_IN_LINE = 1000;
-const isWritten = (set) => set === "primary" || set === "supplementary";
 const isBlank = ({ set, character }) => character === BLANK && isWritten(set);
-
-// The dots of a letter with its accent; none of other signs.
-function rowsOfEntry(entry, accent) {
-  if (!isWritten(entry.set) || isAccent(entry)) return null;
-  const sign = letterOf(entry);
-  return accent && sign === " " ? markOf(accent) : rowsOf(sign, accent);
-}
 
 // The columns that a sign leaves out on its left, and those that it has: of letters in proportional spacing.
 const extentOf = (set, rows, cell) => (
@@ -96,7 +89,7 @@ class DotWriting {
       if (!entry.text.wrap || isBlank(entry) || cell.path !== RIGHT || !(entry.pen.at === "after" || isFirst)) break;
       if (isAccent(entry)) continue;
       total = start + cell.wide;
-      start += advanceOf(cell, extentOf(entry.set, rowsOfEntry(entry, 0), cell)[1]);
+      start += advanceOf(cell, columnsOf(entry));
     }
     return total;
   }
@@ -114,4 +107,4 @@ class DotWriting {
   }
 }
 
-export { DotWriting, isWritten };
+export { DotWriting };

@@ -2,11 +2,12 @@
 characters stand, whatever the order in which they were drawn."""
 import re
 from functools import lru_cache
-from typing import Dict, Iterator, List, Match, NamedTuple, Optional, Tuple
+from typing import Dict, Iterator, List, Match, NamedTuple, Optional, Sequence, Tuple
 
 from . import letters
 from .drawing.cells import DOT, RIGHT, Cell, TextCursor, cell
 from .entry import Colour, Look, Pen, TextMove
+from .font import COLUMNS, columns_of
 
 # Letters that stand one after the other and look the same, as one piece; other lines of text one by one; and the rest.
 _LINES = re.compile(
@@ -87,7 +88,11 @@ class Screens:
         accent, self.accent = self.accent, None
         if accent is not None:
             text = letters.composed(accent, text[0]) + text[1:]
-        self._put(_pen(it[3]), _cell(it[5]), text)
+        size, columns = _cell(it[5]), []
+        if size.by_letters:
+            read = bytes.fromhex(codes) if it[1] == "primary" else bytes(len(text))
+            columns = [columns_of(it[1], code, 0 if at else accent or 0) for at, code in enumerate(read)]
+        self._put(_pen(it[3]), size, text, columns)
 
     def _supplementary(self, code: int, pen: Pen, size: Cell) -> None:
         accent, self.accent = self.accent, None
@@ -96,15 +101,16 @@ class Screens:
             self.accent = code
             return
         sign = letters.letter("supplementary", code).replace(letters.UNKNOWN, " ")
-        self._put(pen, size, sign if accent is None else letters.composed(accent, sign))
+        columns = [columns_of("supplementary", code, accent or 0)] if size.by_letters else []
+        self._put(pen, size, sign if accent is None else letters.composed(accent, sign), columns)
 
-    def _put(self, pen: Pen, size: Cell, text: str) -> None:
-        """Puts letters where the pen is, and from there on along their path."""
+    def _put(self, pen: Pen, size: Cell, text: str, columns: Sequence[int]) -> None:
+        """Puts letters where the pen is, and from there on along their path; `columns` are given where spacing is by them."""
         cursor = self.cursor
         cursor.take(pen, size)
         step = size.wide * size.spacing
-        if size.path != RIGHT or step <= 0:
-            self._along(size, text)
+        if size.path != RIGHT or step <= 0 or columns:
+            (self._by_letters if size.path == RIGHT and step > 0 else self._along)(size, text, columns)
             return
         while text:
             room = int((cursor.field[2] + DOT - size.wide - cursor.x) / step) + 1 if cursor.fits(size.wide) else 0
@@ -117,11 +123,25 @@ class Screens:
                 cursor.down(size, abs(size.high))
             text = text[room + len(rest):]
 
-    def _along(self, size: Cell, text: str) -> None:
+    def _by_letters(self, size: Cell, text: str, columns: Sequence[int]) -> None:
+        """Letters in proportional spacing."""
+        cursor, steps = self.cursor, [size.advance(each) for each in columns]
+        while text:
+            room = _room(cursor, size, steps)
+            shown = room + len(_rest(text, room) if room else "")
+            if shown:
+                self._piece(cursor.x, cursor.y, size, text[:shown], sum(steps[:shown]) / shown)
+            cursor.x += sum(steps[:room])
+            if len(text) > room:
+                cursor.x = cursor.field[0] + sum(steps[room:shown])
+                cursor.down(size, abs(size.high))
+            text, steps = text[shown:], steps[shown:]
+
+    def _along(self, size: Cell, text: str, columns: Sequence[int]) -> None:
         """Letters that go to the left, up or down: those to the left as they are read, others by themselves."""
-        for letter in text:
-            self._piece(self.cursor.x, self.cursor.y, size, letter, abs(size.wide))
-            self.cursor.step(size)
+        for letter, wide in zip(text, columns or [COLUMNS - 1] * len(text)):
+            self._piece(self.cursor.x, self.cursor.y, size, letter, abs(size.advance(wide) if columns else size.wide))
+            self.cursor.step(size, wide)
 
     def _piece(self, x: float, y: float, size: Cell, text: str, step: float) -> None:
         bare = text.rstrip(" ")
@@ -172,6 +192,16 @@ class Screens:
         if self.screens[-1]:
             self.screens.append([])
         self.cursor.lose()
+
+
+def _room(cursor: TextCursor, size: Cell, steps: Sequence[float]) -> int:
+    """For how many of the letters with these steps the line has room."""
+    x, left, right = cursor.x, cursor.field[0], cursor.field[2] + DOT
+    count = 0
+    while count < len(steps) and (x <= left or x + size.wide <= right):
+        x += steps[count]
+        count += 1
+    return count
 
 
 def _rest(text: str, room: int) -> str:

@@ -129,7 +129,8 @@ def test_a_changed_drawing_is_seen(tmp_path):
         folder = tmp_path / str(len(os.listdir(tmp_path)))
         for path in ("browser/canonical.mjs", "browser/drawing.js", "browser/lines.mjs", "browser/package.json",
                      "browser/playing.js", "python/tests/drawing_answers.mjs",
-                     *(f"browser/drawing/{each}" for each in os.listdir(os.path.join(TOP, "browser", "drawing")))):
+                     *(f"browser/{part}/{each}" for part in ("drawing", "raster")
+                       for each in os.listdir(os.path.join(TOP, "browser", part)))):
             (folder / path).parent.mkdir(parents=True, exist_ok=True)
             with open(os.path.join(TOP, path), encoding="utf-8") as file:
                 text = file.read()

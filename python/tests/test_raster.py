@@ -9,8 +9,8 @@ from random import Random
 import naplps as nap
 import pytest
 import slow_raster as slow
-from naplps import letters
-from naplps.dots import cell_dots, font, raster, shapes
+from naplps import font, letters
+from naplps.dots import cell_dots, raster, shapes
 from naplps.dots.measure import Grid, Painted
 from naplps.dots.shapes import PAGE, Scale
 from naplps.dots.text_cursor import DOT, PART, SIZES

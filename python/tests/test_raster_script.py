@@ -15,7 +15,8 @@ import pytest
 from conftest import HERE
 from entries import legal_list
 from gallery import pages
-from naplps.dots import font_table, shapes
+from naplps import font_table
+from naplps.dots import shapes
 from naplps.dots.walk import DotWalk
 from naplps.reading import read_line
 from pictures import picture

@@ -36,6 +36,19 @@ def test_accents_are_on_their_letters():
     assert lines_of("CHAR supplementary 42 pen=0,0 %s\n" % (LOOK % "normal") + letters("etoile")) == ["\u00e9toile"]
 
 
+def test_proportional_spacing():
+    # (an i is 4/6 of a cell wide, and 40 cells are a line)
+    look = LOOK.replace("text=0,0", "text=48,0")
+    page = letters("Will it", "0,0").replace(LOOK % "normal", look % "normal")
+    accent = "CHAR supplementary 42 pen=after %s\n" % (look % "normal")
+    assert lines_of(page + accent + letters("es").replace(LOOK % "normal", look % "normal")) == ["Will it\u00e9s"]
+    line = letters("i" * 58 + " Ill", "0,400000").replace(LOOK % "normal", look % "normal")
+    assert lines_of(line) == ["i" * 58, "Ill"]
+    line = letters("i" * 39 + " iii", "0,400000")
+    assert lines_of(line) == ["i" * 39, "iii"]
+    assert lines_of(line.replace("text=0,0", "text=48,0")) == ["i" * 39 + " iii"]
+
+
 def test_what_is_drawn_twice_at_a_place_counts_once():
     assert lines_of(at(1, 9, "NEWS") + at(1.2, 9.1, "NEWS")) == ["NEWS"]
     assert lines_of(at(1, 9, "NEWS") + at(9, 9, "NEWS")) == ["NEWS  NEWS"]

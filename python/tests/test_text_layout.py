@@ -1,13 +1,19 @@
 """Where text stands in a sketch: lines, words, fields. Expected places come from docs/SKETCH.md and its cells."""
+from random import Random
+
 import pytest
 from hypothesis import given, settings
 from hypothesis import strategies as st
 
 from naplps import drawing
+from naplps.dots.text_cursor import SIDE
+from naplps.dots.walk import DotWalk
+from naplps.drawing.colours import Palette
 from naplps.drawing.measure import HEIGHT, WIDTH
-from naplps.drawing.walk import MOST_DRAWN
+from naplps.drawing.paper import Paper
+from naplps.drawing.walk import MOST_DRAWN, Walk
 from naplps.entry import ONE
-from naplps.reading import Entries, NotALine
+from naplps.reading import Entries, NotALine, read_line
 from test_sketch import elements, harmless, numbers
 
 # The cell of normal text, as parts of the side of the unit screen.
@@ -26,11 +32,11 @@ def field(x, y, columns, rows):
     return ["FIELD %s %s pen=after" % (place(x, y), place(x + columns * WIDE, y + rows * HIGH))]
 
 
-def typed(text, flags="----", pen="after"):
+def typed(text, flags="----", pen="after", first=0):
     """The entries of some text."""
     lines = []
     for sign in text:
-        lines.append("CHAR primary %02x pen=%s colour=own-start text=0,0/normal/%s" % (ord(sign), pen, flags))
+        lines.append(f"CHAR primary {ord(sign):02x} pen={pen} colour=own-start text={first},0/normal/{flags}")
         pen = "after"
     return lines
 
@@ -143,6 +149,57 @@ def test_words_that_fit_are_never_split(text, columns):
     words = text.split()
     if all(len(word) <= columns for word in words):
         assert "".join(some + "\n" for _, _, some in rows(lines, 0.1, 0.1 + 15 * HIGH)).split() == words
+
+
+# The word of TEXT for proportional spacing, and the columns of some letters, from the first dot to the last one.
+PROPORTIONAL, COLUMNS = 48, {"W": 5, "i": 3, "l": 3, " ": 3, ".": 2, "!": 1}
+
+
+@pytest.mark.parametrize("path, sign", [(0, 1), (4, -1)])
+def test_letters_in_proportional_spacing_advance_by_their_columns(path, sign):
+    text, x, wanted = "Wi!. lW", 0.5, []
+    for letter in text:
+        place_wide, wide = ((columns + 1) / 6 * WIDE for columns in (COLUMNS[letter], max(3, COLUMNS[letter])))
+        wanted.append((letter, x + (place_wide - wide) / 2, wide))
+        x += sign * place_wide
+    found = elements(drawing.draw(typed(text, pen=place(0.5, 0.5), first=PROPORTIONAL + path)).svg, "text")[:-1]
+    drawn = [(each.text, numbers(each.attrib["transform"])) for each in found]
+    full = drawn[0][1][0] / WIDE
+    assert [(letter, round(left / WIDTH, 4), round(across / full, 4)) for letter, (across, *_, left, _) in drawn] == [
+        (letter, round(x, 4), round(wide, 4)) for letter, x, wide in wanted if letter != " "]
+
+
+def test_words_in_proportional_spacing_are_measured_so():
+    # (1 for W, 4/6 for the blank, and 3 for llll, of which the last needs a cell)
+    for first, wanted in ((PROPORTIONAL, [0.0] * 5), (0, [0.0, 1.0])):
+        svg = drawing.draw(field(0.1, 0.3, 5, 2) + typed("W llll", "--w-", first=first)).svg
+        bases = [numbers(each.attrib["transform"])[-1] for each in elements(svg, "text")[:-1]]
+        assert [round((base - bases[0]) / (HIGH * WIDTH), 2) for base in bases] == wanted
+
+
+def test_mosaics_in_proportional_spacing_are_one_path():
+    look = "colour=own-start text=48,0/normal/----"
+    svg = drawing.draw([f"CHAR mosaic 7f pen={pen} {look}" for pen in ("0,0", "after", "after")]).svg
+    assert len(elements(svg, "path")) == 1
+
+
+def test_the_sketch_and_the_raster_put_proportional_letters_at_the_same_places():
+    chance, compared = Random(93), 0
+    for _ in range(300):
+        first = 48 + chance.choice([0, 0, 4, 8, 12])
+        lines = field(0.2, 0.2, chance.randrange(3, 20), chance.randrange(1, 8))
+        for _ in range(chance.randrange(1, 60)):
+            of = chance.choice(["primary"] * 6 + ["supplementary", "supplementary", "mosaic", "drcs"])
+            flags, code = chance.choice(["----", "--w-"]), chance.choice([0x20, chance.randrange(0x20, 0x80)])
+            lines.append(f"CHAR {of} {code:02x} pen=after colour=own-start text={first},0/normal/{flags}")
+        walk = Walk(lines, Palette([]), Paper(lambda: "n"))
+        walk.draw()
+        dots = DotWalk([read_line(line) for line in lines])
+        compared += sum(1 for _ in dots.steps())
+        for mine, theirs in ((walk.writing.cursor.x, dots.page.writing.cursor.x),
+                             (walk.writing.cursor.y, dots.page.writing.cursor.y)):
+            assert abs(mine - theirs / SIDE) < 1e-6
+    assert compared > 5_000
 
 
 def test_a_glyph_has_a_field_of_its_own():

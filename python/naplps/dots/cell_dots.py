@@ -2,7 +2,7 @@
 from functools import lru_cache
 from typing import List, NamedTuple, Sequence, Tuple
 
-from .font import COLUMNS, ROWS, Rows
+from ..font import COLUMNS, ROWS, Rows
 from .measure import Grid, Span
 from .text_cursor import DOT, DotCell
 

@@ -3,8 +3,8 @@ from functools import lru_cache
 from typing import Optional
 
 from ..entry import Position, Texture
+from ..font import Rows
 from .canvas import Pattern
-from .font import Rows
 from .measure import HALF, UNIT, Grid
 
 # Of a texture whose size the page doesn't give, and what a line of a texture has of the shorter side.

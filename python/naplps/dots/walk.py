@@ -5,9 +5,9 @@ from ..entry import (
     Arc, Blink, BlinkEnd, BlinkMark, Char, Clear, Colour, DefEnd, Entry, Field, GlyphStart, Line, Map, MaskStart, Point,
     Poly, Rect, Reset, TextMove, ToEol,
 )
+from ..font import Rows, rows_of
 from . import cell_dots, inks, shapes, textures
 from .canvas import Canvas, Pattern
-from .font import Rows, rows_of
 from .inks import BLACK, MARK
 from .measure import MOST_COUNTED, OF_ENTRY, SCREEN, Grid, Painted
 from .shapes import PAGE, Scale, Shape

@@ -3,14 +3,13 @@ from typing import Callable, NamedTuple, Optional, Tuple
 
 from .. import letters
 from ..entry import Char, Colour, Look, Pen, TextMove, ToEol
+from ..font import COLUMNS, WRITTEN, Rows, accent_alone, rows_of_character, width
 from .cell_dots import Placed, placed
-from .font import COLUMNS, Rows, accent_alone, rows_of, width
 from .measure import ACROSS, OF_ENTRY
 from .shapes import Scale
 from .text_cursor import DOT, PROPORTIONAL, RIGHT, SIDE, DotCell, DotCursor, cell
 
 BLANK = 0x20
-WRITTEN = ("primary", "supplementary")
 # The greatest number of characters that are repeated to the end of a line.
 MOST_IN_LINE = 1000
 
@@ -64,7 +63,7 @@ class DotWriting:
             self.flush()
             self.accent = _Accent(entry.code, entry.colour, entry.text)
             return
-        rows = _rows(entry, self.accent.code if self.accent else 0)
+        rows = rows_of_character(entry.set, entry.code, self.accent.code if self.accent else 0)
         if entry.set in WRITTEN:
             self.accent = None
         else:
@@ -138,16 +137,6 @@ class DotWriting:
         return columns
 
 
-def _rows(entry: Char, accent: int) -> Rows:
-    """The dots of a letter with its accent; none of other signs."""
-    if entry.set not in WRITTEN or letters.is_accent(entry.set, entry.code):
-        return ()
-    sign = letters.letter(entry.set, entry.code)
-    if accent and sign == " ":
-        return accent_alone(accent)
-    return rows_of(sign, accent)
-
-
 def _extent(of: str, rows: Rows, size: DotCell) -> Tuple[int, int]:
     """The columns that a sign leaves out on its left, and those that it has: of letters in proportional spacing."""
     if size.spacing != PROPORTIONAL or of not in WRITTEN or not rows:
@@ -156,7 +145,7 @@ def _extent(of: str, rows: Rows, size: DotCell) -> Tuple[int, int]:
 
 
 def _columns(entry: Char, size: DotCell) -> int:
-    return _extent(entry.set, _rows(entry, 0), size)[1]
+    return _extent(entry.set, rows_of_character(entry.set, entry.code), size)[1]
 
 
 def _is_blank(entry: Char) -> bool:

@@ -3,12 +3,14 @@ from dataclasses import dataclass
 from typing import NamedTuple, Optional, Tuple
 
 from ..entry import ONE, Look, Pen, Position, TextMove
+from ..font import COLUMNS
 from .measure import HEIGHT, THIN, WIDTH
 
 # Width and height of a cell, as parts of the side of the unit screen.
 SIZES = {"small": (1 / 80, 5 / 128), "medium": (1 / 32, 3 / 64), "normal": (1 / 40, 5 / 128),
          "tall": (1 / 40, 5 / 64), "double": (1 / 20, 5 / 64)}
-SPACINGS = (1.0, 1.25, 1.5, 1.0)
+# How far a cell is from the next one, in its sides; the last kind of spacing is by the letters.
+SPACINGS, PROPORTIONAL = (1.0, 1.25, 1.5, 1.0), 3
 RIGHT, LEFT, UP, DOWN = range(4)
 TOP = HEIGHT / WIDTH
 # How far a cell may go out of its field.
@@ -19,14 +21,20 @@ FIRST_OF_APS = 0x20
 
 @dataclass(frozen=True)
 class Cell:
-    """A cell: its size, what the bits of TEXT say of rotation, path and spacing, and whether text scrolls."""
+    """A cell: its size, what the bits of TEXT say of rotation, path and spacing, whether spacing is by the letters, and whether
+    text scrolls."""
 
     wide: float
     high: float
     rotation: int
     path: int
     spacing: float
+    by_letters: bool
     scroll: bool
+
+    def advance(self, columns: int) -> float:
+        """How far the next character is from one with so many columns."""
+        return self.wide * (columns + 1) / COLUMNS if self.by_letters else self.wide * self.spacing
 
 
 def cell(look: Look) -> Cell:
@@ -35,7 +43,9 @@ def cell(look: Look) -> Cell:
         wide, high = SIZES[look.size]
     else:
         wide, high = look.size[0] / ONE, look.size[1] / ONE
-    return Cell(wide, high, look.first & 3, look.first >> 2 & 3, SPACINGS[look.first >> 4 & 3], look.scroll)
+    path, spacing = look.first >> 2 & 3, look.first >> 4 & 3
+    by_letters = spacing == PROPORTIONAL and path in (RIGHT, LEFT)
+    return Cell(wide, high, look.first & 3, path, SPACINGS[spacing], by_letters, look.scroll)
 
 
 class Saved(NamedTuple):
@@ -129,9 +139,9 @@ class TextCursor:
             if not size.scroll:
                 self.y = self.field[3] - abs(size.high)
 
-    def step(self, size: Cell) -> None:
-        """Advances by a cell along the path."""
-        wide, high = size.wide * size.spacing, size.high * size.spacing
+    def step(self, size: Cell, columns: int = COLUMNS - 1) -> None:
+        """Advances along the path by a cell, or in proportional spacing by so many columns."""
+        wide, high = size.advance(columns), size.high * size.spacing
         if size.path == RIGHT:
             self.x += wide
         elif size.path == LEFT:

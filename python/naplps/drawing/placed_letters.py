@@ -4,10 +4,10 @@ from typing import Iterator, List, NamedTuple, Optional, Tuple
 from .. import letters
 from .cells import RIGHT, Cell, TextCursor, cell
 from ..entry import Char, Entry, Position, TextMove, ToEol
+from ..font import COLUMNS, WRITTEN, columns_of
 
 # Pieces that are so near to each other, as parts of a cell, stand in one row, or are one word.
 SAME_ROW, SAME_WORD, TOUCHING = 0.5, 0.3, 0.01
-PLACED_SETS = ("primary", "supplementary")
 
 
 class TextRow(NamedTuple):
@@ -58,27 +58,28 @@ class PlacedLetters:
             self._end_accent()
             self.accent = (entry.code, size)
             return
-        sign = letters.letter(entry.set, entry.code) if entry.set in PLACED_SETS else " "
+        sign = letters.letter(entry.set, entry.code) if entry.set in WRITTEN else " "
         accent, self.accent = self.accent, None
         if accent is not None:
             sign = letters.composed(accent[0], sign)
-        self._put(sign, size)
+        columns = columns_of(entry.set, entry.code, accent[0] if accent else 0) if size.by_letters else COLUMNS - 1
+        self._put(sign, size, columns)
 
     def _end_accent(self) -> None:
         """An accent without a letter is a sign of its own."""
         accent, self.accent = self.accent, None
         if accent is not None:
-            self._add(letters.ALONE[accent[0]], accent[1])
+            self._add(letters.ALONE[accent[0]], accent[1], COLUMNS - 1)
 
-    def _put(self, sign: str, size: Cell) -> None:
+    def _put(self, sign: str, size: Cell, columns: int) -> None:
         self.cursor.wrap(size, size.wide)
-        self._add(sign, size)
-        self.cursor.step(size)
+        self._add(sign, size, columns)
+        self.cursor.step(size, columns)
 
-    def _add(self, sign: str, size: Cell) -> None:
-        """Adds a sign where the cursor is: to the last piece where it continues that."""
+    def _add(self, sign: str, size: Cell, columns: int) -> None:
+        """Adds a sign of so many columns where the cursor is: to the last piece where it continues that."""
         x, y, wide, high = self.cursor.x, self.cursor.y, abs(size.wide), abs(size.high)
-        step = wide * size.spacing
+        step = abs(size.advance(columns))
         last = self.pieces[-1] if self.pieces and size.path == RIGHT else None
         if last and last.y == y and last.high == high and abs(last.end - x) <= TOUCHING * wide:
             last.signs.append(sign)

@@ -3,6 +3,7 @@ from typing import Callable, Optional
 
 from .. import letters
 from ..entry import Char, Entry
+from ..font import columns_of
 from .cells import RIGHT, cell
 
 BLANK = 0x20
@@ -27,7 +28,7 @@ class WordWidths:
             size = cell(entry.text)
             if not letters.is_accent(entry.set, entry.code):
                 total = width + size.wide
-                width += size.wide * size.spacing
+                width += size.advance(columns_of(entry.set, entry.code) if size.by_letters else 0)
             at += 1
             entry = self.character_at(at)
         return total

@@ -4,6 +4,7 @@ from typing import List, NamedTuple, Optional, Sequence, Tuple
 
 from .. import letters
 from ..entry import Char, Colour, Look, Pen, TextMove, ToEol
+from ..font import COLUMNS, WRITTEN, columns_of
 from . import weight
 from .cells import RIGHT, Cell, TextCursor, cell
 from .colours import BLACK, Palette
@@ -22,6 +23,8 @@ Ink = Tuple[str, Optional[str]]
 SCROLLS = "scrolling isn't drawn: the text that makes room for more is seen, and what comes then isn't"
 # The greatest number of characters repeated to the end of a line; cells so small that there are more can't be read.
 MOST_IN_LINE = 1000
+# The columns that a letter is drawn with at least, where its place is narrower.
+LEAST_COLUMNS = 3
 # The greatest number of bytes for a letter of a run, and for what stands around a run.
 A_LETTER, A_RUN = 16, 1024
 # The same for a block of a mosaic, and for what stands around a row of mosaics.
@@ -30,7 +33,10 @@ A_BLOCK, A_ROW = 64, 256
 
 @dataclass
 class LetterRun:
-    """Letters, or mosaics, of one look that stand one after the other; of mosaics the characters of their codes."""
+    """Letters, or mosaics, of one look that stand one after the other; of mosaics the characters of their codes.
+
+    In proportional spacing it is one letter, with so many columns.
+    """
 
     look: Tuple[Ink, Cell, bool]
     text: List[str]
@@ -38,6 +44,7 @@ class LetterRun:
     x: float
     y: float
     is_mosaic: bool
+    columns: int = COLUMNS - 1
 
     def end(self) -> float:
         """Where the next letter would stand."""
@@ -95,17 +102,20 @@ class Writing:
             self.paper.spend(A_RUN, weight.RUN)  # (it may stand alone)
             self.accent = entry.code
             return
-        if entry.set in ("primary", "supplementary"):
+        columns = COLUMNS - 1
+        if entry.set in WRITTEN:
             sign = letters.letter(entry.set, entry.code)
             accent, self.accent = self.accent, None
-            self._letter(style, sign if accent is None else letters.composed(accent, sign))
+            if size.by_letters:
+                columns = columns_of(entry.set, entry.code, accent or 0)
+            self._letter(style, sign if accent is None else letters.composed(accent, sign), columns)
         elif entry.set == "mosaic":
             self._end_accent()
             self._mosaic(entry.code, style)
         else:
             self.flush()
             self._sign(entry.code, style)
-        self.cursor.step(size)
+        self.cursor.step(size, columns)
 
     def go_on(self, lines: Sequence[str], number: int, end: int) -> int:
         """Draws the letters that continue the one that was drawn last, in its look and its line; how many these are.
@@ -178,21 +188,21 @@ class Writing:
         size, ink = cell(entry.text), ("currentColor", None) if not on_page else self._ink(entry)
         cost = weight.letter(size.wide * WIDTH, size.high * WIDTH)
         self.style = LetterStyle(entry.colour, entry.text, on_page, size, (ink, size, entry.text.underline), cost,
-                                 _is_straight(size) and not entry.text.wrap)
+                                 _is_straight(size, False) and not entry.text.wrap)
         return self.style
 
     def _ink(self, entry: Char) -> Ink:
         front, back = self.palette.front(entry.colour), self.palette.back(entry.colour)
         return (back or BLACK, front) if entry.text.reverse else (front, back)
 
-    def _letter(self, style: LetterStyle, sign: str, counted: bool = False) -> None:
+    def _letter(self, style: LetterStyle, sign: str, columns: int, counted: bool = False) -> None:
         x, y = self._corner(style.size)
         if self._joined(style, sign, x, y, False):
             return
         self.flush()
         if not counted:
             self.paper.spend(A_RUN, weight.RUN)
-        self.run = LetterRun(style.look, [sign], [self.paper.entry], x, y, False)
+        self.run = LetterRun(style.look, [sign], [self.paper.entry], x, y, False, columns)
 
     def _mosaic(self, code: int, style: LetterStyle) -> None:
         ((_, back), size, _), (x, y) = style.look, self._corner(style.size)
@@ -210,7 +220,7 @@ class Writing:
     def _joined(self, style: LetterStyle, sign: str, x: float, y: float, is_mosaic: bool) -> bool:
         """Whether a sign at this place continues the run; then it does."""
         run = self.run
-        if (run is None or run.is_mosaic != is_mosaic or run.look != style.look or not _is_straight(style.size)
+        if (run is None or run.is_mosaic != is_mosaic or run.look != style.look or not _is_straight(style.size, is_mosaic)
                 or abs(run.end() - x) >= 0.01 or abs(run.y - y) >= 0.01):
             return False
         run.text.append(sign)
@@ -226,7 +236,7 @@ class Writing:
         """An accent with no letter after it stands alone, where the cursor is."""
         accent, self.accent = self.accent, None
         if accent is not None and self.last is not None:
-            self._letter(self._style(self.last), letters.ALONE[accent], counted=True)
+            self._letter(self._style(self.last), letters.ALONE[accent], COLUMNS - 1, counted=True)
 
     def _draw_run(self, run: LetterRun) -> None:
         (_, back), size, _ = run.look
@@ -260,9 +270,9 @@ class Writing:
         self.paper.put(shape, weight.outlined(weight.Extent(4, 2 * abs(wide) + 2 * abs(high), 0.0), 2.0, ()))
 
 
-def _is_straight(size: Cell) -> bool:
-    """Whether letters stand side by side on a level line."""
-    return size.path == RIGHT and size.rotation == 0 and size.spacing == 1.0
+def _is_straight(size: Cell, is_mosaic: bool) -> bool:
+    """Whether letters, or mosaics, stand side by side on a level line, a cell for each."""
+    return size.path == RIGHT and size.rotation == 0 and size.spacing == 1.0 and (is_mosaic or not size.by_letters)
 
 
 def _turned(part: Element, run: LetterRun) -> Element:
@@ -292,12 +302,20 @@ def _letters(run: LetterRun, wide: float, high: float) -> List[Element]:
 def _text(text: str, run: LetterRun, wide: float, high: float, front: str) -> Element:
     """The letters, stretched by a transform, which all viewers follow."""
     # (Chromium keeps blanks only where the text itself says so)
-    size = abs(high) * SIZE
+    size, (x, across) = abs(high) * SIZE, _place(run, wide)
     matrix = "matrix(%s 0 0 %d %s %s)" % (
-        fine(wide / (ADVANCE * size)), 1 if high > 0 else -1, num(run.x), num(run.y - high * BASE))
+        fine(across / (ADVANCE * size)), 1 if high > 0 else -1, num(x), num(run.y - high * BASE))
     return Element("text", {
         "transform": matrix, "font-size": num(size), "textLength": num(ADVANCE * size * len(run.text)), "fill": front,
         "xml:space": "preserve"}, text=text)
+
+
+def _place(run: LetterRun, wide: float) -> Tuple[float, float]:
+    """Where letters begin, and how wide each is: in proportional spacing as its place, or in the middle of that."""
+    if not run.look[1].by_letters:
+        return run.x, wide
+    place, across = ((columns + 1) * wide / COLUMNS for columns in (run.columns, max(run.columns, LEAST_COLUMNS)))
+    return run.x + (place - across) / 2, across
 
 
 def _cell(x: float, y: float, wide: float, high: float, colour: str) -> Element:

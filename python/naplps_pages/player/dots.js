@@ -962,6 +962,7 @@ const letterWeight = (wide, high) => (
 return { ADDRESS, HEIGHT, MOST_BYTES, MOST_COPIED, MOST_DRAWN, MOST_POINTS, MOST_WEIGHT, NOTHING, ONE, PATTERNED, RUN, STEPS, THIN, THIN_IN_GLYPH, TILE, WIDTH, between, boxWeight, dashPoints, distance, element, extentOf, filledWeight, fine, fixed, lengthOf, letterWeight, lineExtent, markup, moved, num, outlinedWeight, plus, scaled, sizeOf, sumOf, total };
 })();
 const module12 = (() => {
+const { COLUMNS } = module2;
 const { ADDRESS, HEIGHT, ONE, THIN, WIDTH } = module11;
 
 const OWN = "#ffffff", BLACK = "#000000";
@@ -999,7 +1000,7 @@ const composed = (accent, base) => (
 
 const SIZES = { small: [1 / 80, 5 / 128], medium: [1 / 32, 3 / 64], normal: [1 / 40, 5 / 128], tall: [1 / 40, 5 / 64],
   double: [1 / 20, 5 / 64] };
-const SPACINGS = [1, 1.25, 1.5, 1], RIGHT = 0, LEFT = 1, UP = 2, TOP = HEIGHT / WIDTH, DOT = THIN / WIDTH;
+const SPACINGS = [1, 1.25, 1.5, 1], PROPORTIONAL = 3, RIGHT = 0, LEFT = 1, UP = 2, TOP = HEIGHT / WIDTH, DOT = THIN / WIDTH;
 const SCREEN_FIELD = [0, 0, 1, TOP], NOWHERE = { x: 0, y: 0, known: false, scrolled: false, field: SCREEN_FIELD };
 const cells = new WeakMap();
 
@@ -1007,13 +1008,15 @@ function cellOf(text) {
   let cell = cells.get(text);
   if (!cell) {
     const [wide, high] = text.given ? text.given.map((side) => side / ONE) : SIZES[text.size], [first] = text.words;
-    const [rotation, path, spacing] = [first & 3, first >> 2 & 3, SPACINGS[first >> 4 & 3]];
-    cell = { wide, high, rotation, path, spacing, scroll: text.scroll };
+    const [rotation, path, kind] = [first & 3, first >> 2 & 3, first >> 4 & 3];
+    const byLetters = kind === PROPORTIONAL && (path === RIGHT || path === LEFT);
+    cell = { wide, high, rotation, path, spacing: SPACINGS[kind], byLetters, scroll: text.scroll };
     cells.set(text, cell);
   }
   return cell;
 }
 
+const advanceOf = ({ wide, spacing, byLetters }, columns) => byLetters ? wide * (columns + 1) / COLUMNS : wide * spacing;
 const isSameCell = (a, b) => a === b || Object.keys(a).every((name) => a[name] === b[name]);
 
 class TextCursor {
@@ -1085,9 +1088,9 @@ class TextCursor {
     }
   }
 
-  step(cell) {
-    if (cell.path === RIGHT) this.x += cell.wide * cell.spacing;
-    else if (cell.path === LEFT) this.x -= cell.wide * cell.spacing;
+  step(cell, columns) {
+    if (cell.path === RIGHT) this.x += advanceOf(cell, columns);
+    else if (cell.path === LEFT) this.x -= advanceOf(cell, columns);
     else if (cell.path === UP) this.y += cell.high * cell.spacing;
     else this.y -= cell.high * cell.spacing;
   }
@@ -1114,23 +1117,35 @@ class TextCursor {
     }
   }
 }
-return { ALONE, BLACK, FIRST, RIGHT, TextCursor, backOf, cellOf, composed, direct, frontOf, inMap, isAccent, isSameCell, letterOf };
+return { ALONE, BLACK, FIRST, RIGHT, TextCursor, advanceOf, backOf, cellOf, composed, direct, frontOf, inMap, isAccent, isSameCell, letterOf };
 })();
 const module13 = (() => {
 const { isAccent, letterOf } = module12;
-const { DOT, DotCursor, PROPORTIONAL, RIGHT, SIDE, advanceOf, cellOf } = module4;
 const { COLUMNS, markOf, rowsOf, widthOf } = module2;
-const { ACROSS, OF_ENTRY, over } = module3;
 
-const BLANK = 0x20, MOST_IN_LINE = 1000;
 const isWritten = (set) => set === "primary" || set === "supplementary";
-const isBlank = ({ set, character }) => character === BLANK && isWritten(set);
 
 function rowsOfEntry(entry, accent) {
   if (!isWritten(entry.set) || isAccent(entry)) return null;
   const sign = letterOf(entry);
   return accent && sign === " " ? markOf(accent) : rowsOf(sign, accent);
 }
+
+function columnsOf(entry, accent = 0) {
+  const rows = rowsOfEntry(entry, accent);
+  return rows ? widthOf(rows)[1] : COLUMNS - 1;
+}
+return { columnsOf, isWritten, rowsOfEntry };
+})();
+const module14 = (() => {
+const { isAccent } = module12;
+const { DOT, DotCursor, PROPORTIONAL, RIGHT, SIDE, advanceOf, cellOf } = module4;
+const { COLUMNS, markOf, widthOf } = module2;
+const { ACROSS, OF_ENTRY, over } = module3;
+const { columnsOf, isWritten, rowsOfEntry } = module13;
+
+const BLANK = 0x20, MOST_IN_LINE = 1000;
+const isBlank = ({ set, character }) => character === BLANK && isWritten(set);
 
 const extentOf = (set, rows, cell) => (
   cell.spacing !== PROPORTIONAL || !isWritten(set) || !rows ? [0, COLUMNS - 1] : widthOf(rows));
@@ -1208,7 +1223,7 @@ class DotWriting {
       if (!entry.text.wrap || isBlank(entry) || cell.path !== RIGHT || !(entry.pen.at === "after" || isFirst)) break;
       if (isAccent(entry)) continue;
       total = start + cell.wide;
-      start += advanceOf(cell, extentOf(entry.set, rowsOfEntry(entry, 0), cell)[1]);
+      start += advanceOf(cell, columnsOf(entry));
     }
     return total;
   }
@@ -1224,9 +1239,9 @@ class DotWriting {
     return columns;
   }
 }
-return { DotWriting, isWritten };
+return { DotWriting };
 })();
-const module14 = (() => {
+const module15 = (() => {
 const { glyphSpans, letterSpans, mosaicSpans, underlineSpans, wholeSpans } = module5;
 const { DOT } = module4;
 const {
@@ -1235,7 +1250,8 @@ const {
 const { rowsOf } = module2;
 const { ACROSS, MOST_COUNTED, OF_ENTRY, SCREEN, UP, over } = module3;
 const { PAGE, edgeOf, isFilled, painted } = module10;
-const { DotWriting, isWritten } = module13;
+const { isWritten } = module13;
+const { DotWriting } = module14;
 
 const TO_BLACK = [1, 7], TO_COLOUR = [2, 5, 6], NOTHING = 0, DRAWN = 1, EDGE = 2, BOX = rowsOf("\u25a1");
 const uncounted = (spans) => ({ spans, counted: 0 });
@@ -1435,12 +1451,12 @@ class Raster {
 const raster = (entries) => new Raster(entries).whole();
 return { ACROSS, DIRECT, MARK, Raster, UP, colourOf, raster };
 })();
-const module15 = (() => {
+const module16 = (() => {
 const { entriesOf } = module0;
-const { DIRECT, MARK, Raster } = module14;
+const { DIRECT, MARK, Raster } = module15;
 
 const rasterOf = (lines) => new Raster(entriesOf(lines));
 return { DIRECT, MARK, rasterOf };
 })();
-return module15;
+return module16;
 })();

@@ -80,6 +80,255 @@ const letterWeight = (wide, high) => (
 return { ADDRESS, HEIGHT, MOST_BYTES, MOST_COPIED, MOST_DRAWN, MOST_POINTS, MOST_WEIGHT, NOTHING, ONE, PATTERNED, RUN, STEPS, THIN, THIN_IN_GLYPH, TILE, WIDTH, between, boxWeight, dashPoints, distance, element, extentOf, filledWeight, fine, fixed, lengthOf, letterWeight, lineExtent, markup, moved, num, outlinedWeight, plus, scaled, sizeOf, sumOf, total };
 })();
 const module1 = (() => {
+const SIGNS = [
+  "space   !       \"       #       $       %       &       '       (       )       *       +",
+  ".....   .....   .....   .....   .....   .....   .....   .....   .....   .....   .....   .....",
+  ".....   ..#..   .#.#.   .#.#.   ..#..   ##...   .##..   ..#..   ...#.   .#...   .....   .....",
+  ".....   ..#..   .#.#.   .#.#.   .####   ##..#   #..#.   ..#..   ..#..   ..#..   ..#..   ..#..",
+  ".....   ..#..   .#.#.   #####   #.#..   ...#.   #.#..   .#...   .#...   ...#.   #.#.#   ..#..",
+  ".....   ..#..   .....   .#.#.   .###.   ..#..   .#...   .....   .#...   ...#.   .###.   #####",
+  ".....   ..#..   .....   #####   ..#.#   .#...   #.#.#   .....   .#...   ...#.   #.#.#   ..#..",
+  ".....   .....   .....   .#.#.   ####.   #..##   #..#.   .....   ..#..   ..#..   ..#..   ..#..",
+  ".....   ..#..   .....   .#.#.   ..#..   ...##   .##.#   .....   ...#.   .#...   .....   .....",
+  ".....   .....   .....   .....   .....   .....   .....   .....   .....   .....   .....   .....",
+  ".....   .....   .....   .....   .....   .....   .....   .....   .....   .....   .....   .....",
+  "",
+  ",       -       .       /       0       1       2       3       4       5       6       7",
+  ".....   .....   .....   .....   .....   .....   .....   .....   .....   .....   .....   .....",
+  ".....   .....   .....   .....   .###.   ..#..   .###.   #####   ...#.   #####   ..##.   #####",
+  ".....   .....   .....   ....#   #...#   .##..   #...#   ...#.   ..##.   #....   .#...   ....#",
+  ".....   .....   .....   ...#.   #..##   ..#..   ....#   ..#..   .#.#.   ####.   #....   ...#.",
+  ".....   #####   .....   ..#..   #.#.#   ..#..   ...#.   ...#.   #..#.   ....#   ####.   ..#..",
+  ".....   .....   .....   .#...   ##..#   ..#..   ..#..   ....#   #####   ....#   #...#   .#...",
+  ".##..   .....   .##..   #....   #...#   ..#..   .#...   #...#   ...#.   #...#   #...#   .#...",
+  "..#..   .....   .##..   .....   .###.   .###.   #####   .###.   ...#.   .###.   .###.   .#...",
+  ".#...   .....   .....   .....   .....   .....   .....   .....   .....   .....   .....   .....",
+  ".....   .....   .....   .....   .....   .....   .....   .....   .....   .....   .....   .....",
+  "",
+  "8       9       :       ;       <       =       >       ?       @       A       B       C",
+  ".....   .....   .....   .....   .....   .....   .....   .....   .....   .....   .....   .....",
+  ".###.   .###.   .....   .....   ...#.   .....   .#...   .###.   .###.   .###.   ####.   .###.",
+  "#...#   #...#   .##..   .##..   ..#..   .....   ..#..   #...#   #...#   #...#   #...#   #...#",
+  "#...#   #...#   .##..   .##..   .#...   #####   ...#.   ....#   #.###   #...#   #...#   #....",
+  ".###.   .####   .....   .....   #....   .....   ....#   ...#.   #.#.#   #####   ####.   #....",
+  "#...#   ....#   .##..   .##..   .#...   #####   ...#.   ..#..   #.###   #...#   #...#   #....",
+  "#...#   ...#.   .##..   ..#..   ..#..   .....   ..#..   .....   #....   #...#   #...#   #...#",
+  ".###.   .##..   .....   .#...   ...#.   .....   .#...   ..#..   .####   #...#   ####.   .###.",
+  ".....   .....   .....   .....   .....   .....   .....   .....   .....   .....   .....   .....",
+  ".....   .....   .....   .....   .....   .....   .....   .....   .....   .....   .....   .....",
+  "",
+  "D       E       F       G       H       I       J       K       L       M       N       O",
+  ".....   .....   .....   .....   .....   .....   .....   .....   .....   .....   .....   .....",
+  "###..   #####   #####   .###.   #...#   .###.   ..###   #...#   #....   #...#   #...#   .###.",
+  "#..#.   #....   #....   #...#   #...#   ..#..   ...#.   #..#.   #....   ##.##   #...#   #...#",
+  "#...#   #....   #....   #....   #...#   ..#..   ...#.   #.#..   #....   #.#.#   ##..#   #...#",
+  "#...#   ####.   ####.   #.###   #####   ..#..   ...#.   ##...   #....   #.#.#   #.#.#   #...#",
+  "#...#   #....   #....   #...#   #...#   ..#..   ...#.   #.#..   #....   #...#   #..##   #...#",
+  "#..#.   #....   #....   #...#   #...#   ..#..   #..#.   #..#.   #....   #...#   #...#   #...#",
+  "###..   #####   #....   .####   #...#   .###.   .##..   #...#   #####   #...#   #...#   .###.",
+  ".....   .....   .....   .....   .....   .....   .....   .....   .....   .....   .....   .....",
+  ".....   .....   .....   .....   .....   .....   .....   .....   .....   .....   .....   .....",
+  "",
+  "P       Q       R       S       T       U       V       W       X       Y       Z       [",
+  ".....   .....   .....   .....   .....   .....   .....   .....   .....   .....   .....   .....",
+  "####.   .###.   ####.   .####   #####   #...#   #...#   #...#   #...#   #...#   #####   .###.",
+  "#...#   #...#   #...#   #....   ..#..   #...#   #...#   #...#   #...#   #...#   ....#   .#...",
+  "#...#   #...#   #...#   #....   ..#..   #...#   #...#   #...#   .#.#.   #...#   ...#.   .#...",
+  "####.   #...#   ####.   .###.   ..#..   #...#   #...#   #.#.#   ..#..   .#.#.   ..#..   .#...",
+  "#....   #.#.#   #.#..   ....#   ..#..   #...#   #...#   #.#.#   .#.#.   ..#..   .#...   .#...",
+  "#....   #..#.   #..#.   ....#   ..#..   #...#   .#.#.   #.#.#   #...#   ..#..   #....   .#...",
+  "#....   .##.#   #...#   ####.   ..#..   .###.   ..#..   .#.#.   #...#   ..#..   #####   .###.",
+  ".....   .....   .....   .....   .....   .....   .....   .....   .....   .....   .....   .....",
+  ".....   .....   .....   .....   .....   .....   .....   .....   .....   .....   .....   .....",
+  "",
+  "\\       ]       ^       _       `       a       b       c       d       e       f       g",
+  ".....   .....   .....   .....   .....   .....   .....   .....   .....   .....   .....   .....",
+  ".....   .###.   ..#..   .....   .#...   .....   #....   .....   ....#   .....   ..##.   .....",
+  "#....   ...#.   .#.#.   .....   ..#..   .....   #....   .....   ....#   .....   .#..#   .....",
+  ".#...   ...#.   #...#   .....   ...#.   .###.   #.##.   .###.   .##.#   .###.   .#...   .##.#",
+  "..#..   ...#.   .....   .....   .....   ....#   ##..#   #....   #..##   #...#   ###..   #..##",
+  "...#.   ...#.   .....   .....   .....   .####   #...#   #....   #...#   #####   .#...   #...#",
+  "....#   ...#.   .....   .....   .....   #...#   #...#   #...#   #...#   #....   .#...   #...#",
+  ".....   .###.   .....   .....   .....   .####   ####.   .###.   .####   .###.   .#...   .####",
+  ".....   .....   .....   #####   .....   .....   .....   .....   .....   .....   .....   ....#",
+  ".....   .....   .....   .....   .....   .....   .....   .....   .....   .....   .....   .###.",
+  "",
+  "h       i       j       k       l       m       n       o       p       q       r       s",
+  ".....   .....   .....   .....   .....   .....   .....   .....   .....   .....   .....   .....",
+  "#....   ..#..   ...#.   #....   .##..   .....   .....   .....   .....   .....   .....   .....",
+  "#....   .....   .....   #....   ..#..   .....   .....   .....   .....   .....   .....   .....",
+  "#.##.   .##..   ..##.   #..#.   ..#..   ##.#.   #.##.   .###.   #.##.   .##.#   #.##.   .####",
+  "##..#   ..#..   ...#.   #.#..   ..#..   #.#.#   ##..#   #...#   ##..#   #..##   ##..#   #....",
+  "#...#   ..#..   ...#.   ##...   ..#..   #.#.#   #...#   #...#   #...#   #...#   #....   .###.",
+  "#...#   ..#..   ...#.   #.#..   ..#..   #.#.#   #...#   #...#   #...#   #...#   #....   ....#",
+  "#...#   .###.   ...#.   #..#.   .###.   #.#.#   #...#   .###.   ####.   .####   #....   ####.",
+  ".....   .....   #..#.   .....   .....   .....   .....   .....   #....   ....#   .....   .....",
+  ".....   .....   .##..   .....   .....   .....   .....   .....   #....   ....#   .....   .....",
+  "",
+  "t       u       v       w       x       y       z       {       |       }       ~       ¡",
+  ".....   .....   .....   .....   .....   .....   .....   .....   .....   .....   .....   .....",
+  ".#...   .....   .....   .....   .....   .....   .....   ...#.   ..#..   .#...   .....   ..#..",
+  ".#...   .....   .....   .....   .....   .....   .....   ..#..   ..#..   ..#..   .....   .....",
+  "###..   #...#   #...#   #...#   #...#   #...#   #####   ..#..   ..#..   ..#..   .#..#   ..#..",
+  ".#...   #...#   #...#   #...#   .#.#.   #...#   ...#.   .#...   ..#..   ...#.   #.#.#   ..#..",
+  ".#...   #...#   #...#   #.#.#   ..#..   #...#   ..#..   ..#..   ..#..   ..#..   #..#.   ..#..",
+  ".#..#   #..##   .#.#.   #.#.#   .#.#.   #...#   .#...   ..#..   ..#..   ..#..   .....   ..#..",
+  "..##.   .##.#   ..#..   .#.#.   #...#   .####   #####   ...#.   ..#..   .#...   .....   ..#..",
+  ".....   .....   .....   .....   .....   ....#   .....   .....   .....   .....   .....   .....",
+  ".....   .....   .....   .....   .....   .###.   .....   .....   .....   .....   .....   .....",
+  "",
+  "¢       £       ¥       §       ¤       ‘       “       «       ←       ↑       →       ↓",
+  ".....   .....   .....   .....   .....   .....   .....   .....   .....   .....   .....   .....",
+  "..#..   ..##.   #...#   .####   .....   ...#.   .#..#   .....   .....   ..#..   .....   ..#..",
+  ".####   .#..#   .#.#.   #....   #...#   ..#..   #..#.   ..#.#   ..#..   .###.   ..#..   ..#..",
+  "#.#..   .#...   #####   .###.   .###.   ..#..   #..#.   .#.#.   .#...   #.#.#   ...#.   ..#..",
+  "#.#..   ###..   ..#..   #...#   .#.#.   .....   .....   #.#..   #####   ..#..   #####   ..#..",
+  "#.#..   .#...   #####   .###.   .###.   .....   .....   .#.#.   .#...   ..#..   ...#.   #.#.#",
+  ".####   .#..#   ..#..   ....#   #...#   .....   .....   ..#.#   ..#..   ..#..   ..#..   .###.",
+  "..#..   #.##.   ..#..   ####.   .....   .....   .....   .....   .....   ..#..   .....   ..#..",
+  ".....   .....   .....   .....   .....   .....   .....   .....   .....   .....   .....   .....",
+  ".....   .....   .....   .....   .....   .....   .....   .....   .....   .....   .....   .....",
+  "",
+  "°       ±       ²       ³       ×       µ       ¶       ·       ÷       ’       ”       »",
+  ".....   .....   .....   .....   .....   .....   .....   .....   .....   .....   .....   .....",
+  ".##..   ..#..   .##..   .##..   .....   .....   .####   .....   .....   ..#..   .#..#   .....",
+  "#..#.   ..#..   ...#.   ..##.   #...#   .....   ###.#   .....   ..#..   ..#..   .#..#   #.#..",
+  "#..#.   #####   ..#..   ...#.   .#.#.   #...#   ###.#   .....   .....   .#...   #..#.   .#.#.",
+  ".##..   ..#..   .###.   .##..   ..#..   #...#   .##.#   .##..   #####   .....   .....   ..#.#",
+  ".....   ..#..   .....   .....   .#.#.   #...#   ..#.#   .##..   .....   .....   .....   .#.#.",
+  ".....   .....   .....   .....   #...#   #..##   ..#.#   .....   ..#..   .....   .....   #.#..",
+  ".....   #####   .....   .....   .....   ###.#   ..#.#   .....   .....   .....   .....   .....",
+  ".....   .....   .....   .....   .....   #....   .....   .....   .....   .....   .....   .....",
+  ".....   .....   .....   .....   .....   #....   .....   .....   .....   .....   .....   .....",
+  "",
+  "¼       ½       ¾       ¿       ―       ¹       ®       ©       ™       ♪       ¬       ¦",
+  ".....   .....   .....   .....   .....   .....   .....   .....   .....   .....   .....   .....",
+  ".##..   .##..   .###.   ..#..   .....   .#...   .###.   .###.   ###.#   ..#..   .....   ..#..",
+  "..#..   ..#..   ..##.   .....   .....   ##...   #...#   #...#   .#.##   ..##.   .....   ..#..",
+  "..#..   ..#..   .###.   ..#..   .....   .#...   #####   #.###   .#.#.   ..#.#   #####   ..#..",
+  "#####   #####   #####   .#...   #####   ###..   ##.##   ##..#   .....   ..#..   ....#   .....",
+  ".#.#.   .##..   .#.#.   #....   .....   .....   ####.   #.###   .....   .##..   ....#   ..#..",
+  ".###.   ...#.   .###.   #...#   .....   .....   ##.##   #...#   .....   ###..   .....   ..#..",
+  "...#.   ..#..   ...#.   .###.   .....   .....   .###.   .###.   .....   .#...   .....   ..#..",
+  "...#.   .###.   ...#.   .....   .....   .....   .....   .....   .....   .....   .....   .....",
+  ".....   .....   .....   .....   .....   .....   .....   .....   .....   .....   .....   .....",
+  "",
+  "Ω       Æ       Ð       ª       Ħ       Ĳ       Ŀ       Ł       Ø       Œ       º       Þ",
+  ".....   .....   .....   .....   .....   .....   .....   .....   .....   .....   .....   .....",
+  ".###.   .####   .###.   .##..   #...#   #..##   #....   .#...   .##.#   .####   .###.   #....",
+  "#...#   #.#..   .#..#   ..##.   #####   #...#   #....   .#...   #..#.   #.#..   .#.#.   ###..",
+  "#...#   #.#..   .#..#   .#.#.   #...#   #...#   #..#.   .##..   #.#.#   #.#..   .#.#.   #..#.",
+  "#...#   #####   ###.#   .####   #####   #...#   #..#.   .#...   #.#.#   #.###   .###.   #..#.",
+  ".#.#.   #.#..   .#..#   .....   #...#   #...#   #....   ##...   #.#.#   #.#..   .....   ###..",
+  ".#.#.   #.#..   .#..#   .####   #...#   #.#.#   #....   .#...   .#..#   #.#..   .###.   #....",
+  "##.##   #.###   .###.   .....   #...#   #..#.   #####   .####   #.##.   .####   .....   #....",
+  ".....   .....   .....   .....   .....   .....   .....   .....   .....   .....   .....   .....",
+  ".....   .....   .....   .....   .....   .....   .....   .....   .....   .....   .....   .....",
+  "",
+  "Ŧ       Ŋ       ŉ       ĸ       æ       đ       ð       ħ       ı       ĳ       ŀ       ł",
+  ".....   .....   .....   .....   .....   .....   .....   .....   .....   .....   .....   .....",
+  "#####   #...#   #....   .....   .....   ...#.   ..#.#   .#...   .....   #..#.   ##...   .##..",
+  "..#..   ##..#   #....   .....   .....   ..###   ...#.   ###..   .....   .....   .#...   ..#..",
+  "..#..   #.#.#   ..##.   #..#.   ##.#.   .##.#   ..#.#   .###.   .##..   #..#.   .#..#   ..##.",
+  ".###.   #..##   .#..#   #.#..   ..#.#   #..##   .####   .#..#   ..#..   #..#.   .#..#   ..#..",
+  "..#..   #...#   .#..#   ##...   #####   #...#   #...#   .#..#   ..#..   #..#.   .#...   .##..",
+  "..#..   #...#   .#..#   #.#..   #.#..   #...#   #...#   .#..#   ..#..   #..#.   .#...   ..#..",
+  "..#..   #...#   .#..#   #..#.   .####   .####   .###.   .#..#   .###.   #..#.   ###..   .###.",
+  ".....   ....#   .....   .....   .....   .....   .....   .....   .....   ...#.   .....   .....",
+  ".....   ..##.   .....   .....   .....   .....   .....   .....   .....   .##..   .....   .....",
+  "",
+  "ø       œ       ß       þ       ŧ       ŋ       □       ȷ",
+  ".....   .....   .....   .....   .....   .....   .....   .....",
+  ".....   .....   .##..   #....   .#...   .....   #####   .....",
+  "....#   .....   #..#.   #....   ###..   .....   #...#   .....",
+  ".###.   .#.#.   #..#.   ####.   .#...   #.##.   #...#   ..##.",
+  "#..##   #.#.#   #.#..   #...#   ###..   ##..#   #...#   ...#.",
+  "#.#.#   #.###   #..#.   #...#   .#...   #...#   #...#   ...#.",
+  "##..#   #.#..   #..#.   #...#   .#..#   #...#   #...#   ...#.",
+  ".###.   .####   #.##.   ####.   ..##.   #...#   #####   ...#.",
+  "#....   .....   .....   #....   .....   ....#   .....   #..#.",
+  ".....   .....   .....   #....   .....   ..##.   .....   .##..",
+];
+
+const MARKS = [
+  "41      42      43      44      45      46      47      48      49      4a      4b      4c",
+  ".#...   ...#.   ..#..   .##.#   #####   #...#   ..#..   .#.#.   .#.#.   .###.   .....   .....",
+  "..#..   ..#..   .#.#.   #.##.   .....   .###.   .....   .....   .....   .#.#.   .....   .....",
+  ".....   .....   .....   .....   .....   .....   .....   .....   .....   .....   .....   .....",
+  ".....   .....   .....   .....   .....   .....   .....   .....   .....   .....   .....   .....",
+  ".....   .....   .....   .....   .....   .....   .....   .....   .....   .....   .....   .....",
+  ".....   .....   .....   .....   .....   .....   .....   .....   .....   .....   .....   .....",
+  ".....   .....   .....   .....   .....   .....   .....   .....   .....   .....   .....   .....",
+  ".....   .....   .....   .....   .....   .....   .....   .....   .....   .....   .....   .....",
+  ".....   .....   .....   .....   .....   .....   .....   .....   .....   .....   ..#..   .....",
+  ".....   .....   .....   .....   .....   .....   .....   .....   .....   .....   .#...   #####",
+  "",
+  "4d      4e      4f",
+  ".#..#   .....   .#.#.",
+  "#..#.   .....   ..#..",
+  ".....   .....   .....",
+  ".....   .....   .....",
+  ".....   .....   .....",
+  ".....   .....   .....",
+  ".....   .....   .....",
+  ".....   .....   .....",
+  ".....   ..#..   .....",
+  ".....   ..##.   .....",
+];
+return { MARKS, SIGNS };
+})();
+const module2 = (() => {
+const { MARKS, SIGNS } = module1;
+
+const COLUMNS = 6, ROWS = 10, STEP = 8, LETTER = 5, BELOW = [0x4b, 0x4c, 0x4e];
+const DOTLESS = { i: "\u0131", j: "\u0237" }, BLOCK = "\u2588", UNKNOWN = "\u25a1";
+
+function tableOf(lines) {
+  const found = new Map();
+  for (let start = 0; start < lines.length; start += ROWS + 2) {
+    const head = lines[start], rows = lines.slice(start + 1, start + 1 + ROWS).reverse();
+    for (let left = 0; left < head.length; left += STEP) {
+      const name = head.slice(left, left + STEP).trim();
+      found.set(name === "space" ? " " : name, rows.map((row) => (
+        Uint8Array.from({ length: COLUMNS }, (_, k) => Number(k < LETTER && row[left + k] === "#")))));
+    }
+  }
+  return found;
+}
+
+const signs = tableOf(SIGNS), marks = tableOf(MARKS);
+const markOf = (accent) => marks.get(accent.toString(16));
+const isBlankRow = (row) => !row.includes(1);
+const BLANK_ROW = new Uint8Array(COLUMNS), known = new Map();
+
+function underAccent(sign, base) {
+  const rows = DOTLESS[sign] ? signs.get(DOTLESS[sign]) : base;
+  return isBlankRow(rows[8]) && isBlankRow(rows[7]) ? rows : [...rows.slice(0, 7), rows[8], BLANK_ROW, BLANK_ROW];
+}
+
+function compose(sign, accent) {
+  const block = () => Array.from({ length: ROWS }, () => new Uint8Array(COLUMNS).fill(1));
+  const base = sign === BLOCK ? block() : signs.get(sign) || signs.get(UNKNOWN);
+  if (!accent) return base;
+  const rows = BELOW.includes(accent) ? base : underAccent(sign, base), mark = markOf(accent);
+  return rows.map((row, at) => row.map((dot, k) => dot | mark[at][k]));
+}
+
+function rowsOf(sign, accent = 0) {
+  const key = `${accent} ${sign}`;
+  if (!known.has(key)) known.set(key, compose(sign, accent));
+  return known.get(key);
+}
+
+function widthOf(rows) {
+  const used = Array.from({ length: COLUMNS }, (_, k) => rows.some((row) => row[k]));
+  if (!used.includes(true)) return [0, 3];
+  return [used.indexOf(true), used.lastIndexOf(true) - used.indexOf(true) + 1];
+}
+return { COLUMNS, ROWS, markOf, rowsOf, widthOf };
+})();
+const module3 = (() => {
+const { COLUMNS } = module2;
 const { ADDRESS, HEIGHT, ONE, THIN, WIDTH } = module0;
 
 const OWN = "#ffffff", BLACK = "#000000";
@@ -117,7 +366,7 @@ const composed = (accent, base) => (
 
 const SIZES = { small: [1 / 80, 5 / 128], medium: [1 / 32, 3 / 64], normal: [1 / 40, 5 / 128], tall: [1 / 40, 5 / 64],
   double: [1 / 20, 5 / 64] };
-const SPACINGS = [1, 1.25, 1.5, 1], RIGHT = 0, LEFT = 1, UP = 2, TOP = HEIGHT / WIDTH, DOT = THIN / WIDTH;
+const SPACINGS = [1, 1.25, 1.5, 1], PROPORTIONAL = 3, RIGHT = 0, LEFT = 1, UP = 2, TOP = HEIGHT / WIDTH, DOT = THIN / WIDTH;
 const SCREEN_FIELD = [0, 0, 1, TOP], NOWHERE = { x: 0, y: 0, known: false, scrolled: false, field: SCREEN_FIELD };
 const cells = new WeakMap();
 
@@ -125,13 +374,15 @@ function cellOf(text) {
   let cell = cells.get(text);
   if (!cell) {
     const [wide, high] = text.given ? text.given.map((side) => side / ONE) : SIZES[text.size], [first] = text.words;
-    const [rotation, path, spacing] = [first & 3, first >> 2 & 3, SPACINGS[first >> 4 & 3]];
-    cell = { wide, high, rotation, path, spacing, scroll: text.scroll };
+    const [rotation, path, kind] = [first & 3, first >> 2 & 3, first >> 4 & 3];
+    const byLetters = kind === PROPORTIONAL && (path === RIGHT || path === LEFT);
+    cell = { wide, high, rotation, path, spacing: SPACINGS[kind], byLetters, scroll: text.scroll };
     cells.set(text, cell);
   }
   return cell;
 }
 
+const advanceOf = ({ wide, spacing, byLetters }, columns) => byLetters ? wide * (columns + 1) / COLUMNS : wide * spacing;
 const isSameCell = (a, b) => a === b || Object.keys(a).every((name) => a[name] === b[name]);
 
 class TextCursor {
@@ -203,9 +454,9 @@ class TextCursor {
     }
   }
 
-  step(cell) {
-    if (cell.path === RIGHT) this.x += cell.wide * cell.spacing;
-    else if (cell.path === LEFT) this.x -= cell.wide * cell.spacing;
+  step(cell, columns) {
+    if (cell.path === RIGHT) this.x += advanceOf(cell, columns);
+    else if (cell.path === LEFT) this.x -= advanceOf(cell, columns);
     else if (cell.path === UP) this.y += cell.high * cell.spacing;
     else this.y -= cell.high * cell.spacing;
   }
@@ -232,9 +483,9 @@ class TextCursor {
     }
   }
 }
-return { ALONE, BLACK, FIRST, RIGHT, TextCursor, backOf, cellOf, composed, direct, frontOf, inMap, isAccent, isSameCell, letterOf };
+return { ALONE, BLACK, FIRST, RIGHT, TextCursor, advanceOf, backOf, cellOf, composed, direct, frontOf, inMap, isAccent, isSameCell, letterOf };
 })();
-const module2 = (() => {
+const module4 = (() => {
 const { MOST_BYTES, MOST_COPIED, MOST_WEIGHT, NOTHING, element, fixed, plus, sizeOf, total } = module0;
 
 class Full extends Error {}
@@ -351,7 +602,7 @@ class Paper {
 }
 return { Full, Paper };
 })();
-const module3 = (() => {
+const module5 = (() => {
 const { WIDTH, between, distance, extentOf, moved, num, sumOf } = module0;
 
 const stepsOf = (piece) => Math.min(Math.max(8, Math.ceil(piece.length() / 8)), 256);
@@ -578,9 +829,9 @@ function curvePieces(points) {
 }
 return { Straight, arcExtent, arcPath, arcPieces, isLarge, same };
 })();
-const module4 = (() => {
+const module6 = (() => {
 const { WIDTH, between, distance, filledWeight, lengthOf, num } = module0;
-const { Straight } = module3;
+const { Straight } = module5;
 
 function sideOf(size, least) {
   if (!size) return [-least / 2, least / 2];
@@ -659,14 +910,14 @@ function dashed(pieces, pel, dashes) {
 }
 return { dashed, pelOf, sweep, unitOfPiece };
 })();
-const module5 = (() => {
+const module7 = (() => {
 const {
   HEIGHT, ONE, PATTERNED, STEPS, THIN, THIN_IN_GLYPH, TILE, WIDTH, boxWeight, dashPoints, element, extentOf,
   filledWeight, fine, lengthOf, lineExtent, num, outlinedWeight, plus, scaled, sumOf,
 } = module0;
-const { Straight, arcExtent, arcPath, arcPieces, isLarge, same } = module3;
-const { dashed, pelOf, sweep, unitOfPiece } = module4;
-const { BLACK, backOf, frontOf } = module1;
+const { Straight, arcExtent, arcPath, arcPieces, isLarge, same } = module5;
+const { dashed, pelOf, sweep, unitOfPiece } = module6;
+const { BLACK, backOf, frontOf } = module3;
 
 const DASHES = [[], [1, 2], [5, 3], [5, 2, 1, 2]], USUAL_MASK = 24;
 const dashesOf = (entry) => DASHES[entry.texture.word & 3];
@@ -794,7 +1045,25 @@ class Shapes {
 }
 return { Shapes };
 })();
-const module6 = (() => {
+const module8 = (() => {
+const { isAccent, letterOf } = module3;
+const { COLUMNS, markOf, rowsOf, widthOf } = module2;
+
+const isWritten = (set) => set === "primary" || set === "supplementary";
+
+function rowsOfEntry(entry, accent) {
+  if (!isWritten(entry.set) || isAccent(entry)) return null;
+  const sign = letterOf(entry);
+  return accent && sign === " " ? markOf(accent) : rowsOf(sign, accent);
+}
+
+function columnsOf(entry, accent = 0) {
+  const rows = rowsOfEntry(entry, accent);
+  return rows ? widthOf(rows)[1] : COLUMNS - 1;
+}
+return { columnsOf, isWritten, rowsOfEntry };
+})();
+const module9 = (() => {
 const { num } = module0;
 
 const MOSAIC_ROWS = [[1, 2], [4, 8], [16, 64]], GAP = 0.15;
@@ -823,21 +1092,24 @@ function* blockParts(row, isApart) {
 }
 return { blocksPath, numberOfBlocks };
 })();
-const module7 = (() => {
+const module10 = (() => {
 const {
   HEIGHT, NOTHING, RUN, WIDTH, boxWeight, element, fine, letterWeight, num, outlinedWeight, plus, scaled,
 } = module0;
-const { same } = module3;
-const { blocksPath, numberOfBlocks } = module6;
+const { COLUMNS } = module2;
+const { columnsOf, isWritten } = module8;
+const { same } = module5;
+const { blocksPath, numberOfBlocks } = module9;
 const {
-  ALONE, BLACK, RIGHT, TextCursor, inMap, backOf, cellOf, composed, frontOf, isAccent, isSameCell, letterOf,
-} = module1;
+  ALONE, BLACK, RIGHT, TextCursor, advanceOf, inMap, backOf, cellOf, composed, frontOf, isAccent, isSameCell, letterOf,
+} = module3;
 
-const ADVANCE = 0.602, SIZE = 0.86, BASE = 0.22, MOST_IN_LINE = 1000;
+const ADVANCE = 0.602, SIZE = 0.86, BASE = 0.22, MOST_IN_LINE = 1000, LEAST_COLUMNS = 3;
 const A_LETTER = 16, A_RUN = 1024;
 const A_BLOCK = 64, A_ROW = 256;
-const isStraight = (cell) => cell.path === RIGHT && cell.rotation === 0 && cell.spacing === 1;
-const isBlank = ({ set, character }) => character === 0x20 && (set === "primary" || set === "supplementary");
+const isStraight = (cell, isMosaic) => (
+  cell.path === RIGHT && cell.rotation === 0 && cell.spacing === 1 && (isMosaic || !cell.byLetters));
+const isBlank = ({ set, character }) => character === 0x20 && isWritten(set);
 const cellBox = (x, y, wide, high, fill) => element("rect", { x: num(Math.min(x, x + wide)),
   y: num(Math.min(y - high, y)), width: num(Math.abs(wide)), height: num(Math.abs(high)), fill });
 const boxPath = (x, y, wide, high) => `M${num(x)} ${num(y)}h${num(wide)}v${num(high)}h${num(-wide)}z`;
@@ -867,10 +1139,12 @@ class Writing {
       this.accent = entry.character;
       return;
     }
-    if (entry.set === "primary" || entry.set === "supplementary") {
+    let columns = COLUMNS - 1;
+    if (isWritten(entry.set)) {
       const sign = letterOf(entry), { accent } = this;
       this.accent = null;
-      this.letter(style, accent === null ? sign : composed(accent, sign));
+      if (cell.byLetters) columns = columnsOf(entry, accent || 0);
+      this.letter(style, accent === null ? sign : composed(accent, sign), columns);
     } else if (entry.set === "mosaic") {
       if (this.accent !== null) this.endAccent();
       this.mosaic(entry.character, style);
@@ -878,7 +1152,7 @@ class Writing {
       this.flush();
       this.sign(entry.character, style);
     }
-    this.cursor.step(cell);
+    this.cursor.step(cell, columns);
   }
 
   isWithin(entry, cell) {
@@ -901,7 +1175,7 @@ class Writing {
       if (!entry.text.wrap || isBlank(entry) || cell.path !== RIGHT || !(entry.pen.at === "after" || isFirst)) break;
       if (!isAccent(entry)) {
         most = width + cell.wide;
-        width += cell.wide * cell.spacing;
+        width += advanceOf(cell, cell.byLetters ? columnsOf(entry) : 0);
       }
     }
     return most;
@@ -947,12 +1221,12 @@ class Writing {
     return [this.cursor.x * WIDTH, (this.paper.open ? WIDTH : HEIGHT) - this.cursor.y * WIDTH];
   }
 
-  letter(style, sign, isCounted = false) {
+  letter(style, sign, columns, isCounted = false) {
     const [x, y] = this.corner(style.cell);
     if (this.joined(style, sign, x, y, false)) return;
     this.flush();
     if (!isCounted) this.paper.spend(A_RUN, RUN);
-    this.run = { ...style, signs: [sign], entries: [this.paper.entry], x, y, isMosaic: false };
+    this.run = { ...style, signs: [sign], entries: [this.paper.entry], x, y, isMosaic: false, columns };
   }
 
   mosaic(code, style) {
@@ -971,7 +1245,7 @@ class Writing {
 
   joined({ cell, ink, underline }, sign, x, y, isMosaic) {
     const { run } = this;
-    if (!run || run.isMosaic !== isMosaic || !isStraight(cell)) return false;
+    if (!run || run.isMosaic !== isMosaic || !isStraight(cell, isMosaic)) return false;
     const isAlike = same(run.ink, ink) && run.underline === underline && isSameCell(run.cell, cell);
     const end = run.x + run.signs.length * run.cell.wide * WIDTH;
     if (!isAlike || Math.abs(end - x) >= 0.01 || Math.abs(run.y - y) >= 0.01) return false;
@@ -983,7 +1257,7 @@ class Writing {
   endAccent() {
     const { accent } = this;
     this.accent = null;
-    if (accent !== null && this.last) this.letter(this.style(this.last), ALONE[accent - 0x41], true);
+    if (accent !== null && this.last) this.letter(this.style(this.last), ALONE[accent - 0x41], COLUMNS - 1, true);
   }
 
   drawRun(run) {
@@ -1034,20 +1308,27 @@ function lettersAndLine(run, wide, high) {
   return parts;
 }
 
-function textOf(text, { x, y, signs }, wide, high, fill) {
-  const size = Math.abs(high) * SIZE, across = fine(wide / (ADVANCE * size)), down = high > 0 ? 1 : -1;
-  const transform = `matrix(${across} 0 0 ${down} ${num(x)} ${num(y - high * BASE)})`;
+function placeOf({ cell, x, columns }, wide) {
+  if (!cell.byLetters) return [x, wide];
+  const [place, letter] = [columns, Math.max(columns, LEAST_COLUMNS)].map((each) => (each + 1) * wide / COLUMNS);
+  return [x + (place - letter) / 2, letter];
+}
+
+function textOf(text, run, wide, high, fill) {
+  const { y, signs } = run;
+  const size = Math.abs(high) * SIZE, [x, letter] = placeOf(run, wide), down = high > 0 ? 1 : -1;
+  const transform = `matrix(${fine(letter / (ADVANCE * size))} 0 0 ${down} ${num(x)} ${num(y - high * BASE)})`;
   const textLength = num(ADVANCE * size * signs.length);
   return element("text", { transform, "font-size": num(size), textLength, fill, "xml:space": "preserve" }, [], text);
 }
 return { Writing };
 })();
-const module8 = (() => {
+const module11 = (() => {
 const { ADDRESS, HEIGHT, MOST_DRAWN, MOST_POINTS, WIDTH } = module0;
-const { BLACK, FIRST, inMap, direct, frontOf } = module1;
-const { Full, Paper } = module2;
-const { Shapes } = module5;
-const { Writing } = module7;
+const { BLACK, FIRST, inMap, direct, frontOf } = module3;
+const { Full, Paper } = module4;
+const { Shapes } = module7;
+const { Writing } = module10;
 
 const TO_BLACK = [1, 7], TO_COLOUR = [2, 5, 6];
 
@@ -1157,7 +1438,7 @@ function drawing(entries) {
 }
 return { drawing };
 })();
-const module9 = (() => {
+const module12 = (() => {
 const NUMBER = "[0-9]{1,10}", PAIR = `-?${NUMBER},-?${NUMBER}`, THREE = [NUMBER, NUMBER, NUMBER].join();
 const HEX = "[0-9a-f]{2}";
 const HELD = {
@@ -1254,13 +1535,13 @@ function entriesOf(lines) {
 }
 return { NotALine, entriesOf };
 })();
-const module10 = (() => {
-const { drawing } = module8;
+const module13 = (() => {
+const { drawing } = module11;
 const { MOST_DRAWN } = module0;
-const { entriesOf } = module9;
+const { entriesOf } = module12;
 
 const drawingOf = (lines) => drawing(entriesOf(lines.slice(0, MOST_DRAWN)));
 return { drawing, drawingOf, entriesOf };
 })();
-return module10;
+return module13;
 })();

@@ -2,13 +2,15 @@
 from functools import lru_cache
 from typing import Dict, Tuple
 
-from .. import letters
+from . import letters
 from .font_table import MARKS, SIGNS
 
 # The columns and rows of a cell.
 COLUMNS, ROWS = 6, 10
 # Ten rows, the lowest first, each of six bits of which the highest is the left column.
 Rows = Tuple[int, ...]
+# The sets that have letters.
+WRITTEN = ("primary", "supplementary")
 # How wide a band of the table is for each letter, and how many columns of that the letter has.
 STEP, LETTER = 8, 5
 DOTLESS = {"i": "\u0131", "j": "\u0237"}
@@ -72,3 +74,17 @@ def width(rows: Rows) -> Tuple[int, int]:
         return 0, 3
     first = COLUMNS - used.bit_length()
     return first, COLUMNS - first - (used & -used).bit_length() + 1
+
+
+def rows_of_character(of: str, code: int, accent: int = 0) -> Rows:
+    """The rows of a character of this set, with the accent that came before it; none where it is no letter."""
+    if of not in WRITTEN or letters.is_accent(of, code):
+        return ()
+    sign = letters.letter(of, code)
+    return accent_alone(accent) if accent and sign == " " else rows_of(sign, accent)
+
+
+def columns_of(of: str, code: int, accent: int = 0) -> int:
+    """How many columns a character has in proportional spacing: a letter from its first dot to its last one."""
+    rows = rows_of_character(of, code, accent)
+    return width(rows)[1] if rows else COLUMNS - 1
