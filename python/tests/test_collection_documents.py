@@ -1,4 +1,4 @@
-"""What docs/COLLECTIONS.md shows of the tool: each command prints what stands after it, in their order."""
+"""What docs/COLLECTIONS.md and docs/STORE.md show: each command prints what stands after it, in their order."""
 import argparse
 import json
 import os
@@ -18,6 +18,8 @@ from scans import tree
 
 with open(os.path.join(TOP, "docs", "COLLECTIONS.md"), encoding="utf-8") as document:
     TEXT = document.read()
+with open(os.path.join(TOP, "docs", "STORE.md"), encoding="utf-8") as document:
+    STORE = document.read()
 
 
 @pytest.fixture
@@ -51,7 +53,7 @@ def test_the_tour(archive):
 def test_questions_to_the_store(archive):
     shell(archive, "naplps-pages scan pages --into pages.db")
     asked = {name: shell(archive, words) for name, words in re.findall(
-        r"<!-- store: (\w+) -->\n```sh\n(.*?)```", TEXT, re.DOTALL)}
+        r"<!-- store: (\w+) -->\n```sh\n(.*?)```", STORE, re.DOTALL)}
     assert asked == {
         "listing": "14|/archive/pages/hello.nap\n10|/archive/pages/glyph.nap\n4|/archive/pages/fence by macro.nap\n",
         "reasons": "accepted||9\nrefused|Cut|1\nrefused|LeftOut|1\nrefused|Outside|1\n", "missing": ""}
@@ -73,15 +75,15 @@ def test_the_tables_of_the_store(tmp_path):
              connection.execute("SELECT name FROM sqlite_master WHERE type = 'table'").fetchall()}
     columns = [row[1] for row in connection.execute("PRAGMA table_info(listing)")]
     connection.close()
-    told = dict(re.findall(r"^\| `(\w+)` \| (.*) \|$", TEXT[TEXT.index("### The store"):], re.MULTILINE))
+    told = dict(re.findall(r"^\| `(\w+)` \| (.*) \|$", STORE, re.MULTILINE))
     assert set(told) == set(found) - set(word_index.SHADOWS)
-    assert all(f"`{name}`" in TEXT for name in word_index.SHADOWS)
+    assert all(f"`{name}`" in STORE for name in word_index.SHADOWS)
     for name, row in told.items():
         if name != "meta":
             assert re.findall(r"`(\w+)`", row) == found[name], name
-    assert re.findall(r"`(\w+)`", re.search(r"a row for each file:([^.]*)\.", TEXT.replace("\n", " "))[1]) == columns
+    assert re.findall(r"`(\w+)`", re.search(r"a row for each file:([^.]*)\.", STORE.replace("\n", " "))[1]) == columns
     for states in (tables.FILE_STATES, tables.PAGE_STATES, tables.KINDS, tables.GRADES):
-        assert ", ".join("%d %s" % each for each in enumerate(states)) in TEXT.replace("\n", " ").replace(
+        assert ", ".join("%d %s" % each for each in enumerate(states)) in " ".join(STORE.split()).replace(
             "changed while it was read", "changed")
 
 
@@ -142,6 +144,7 @@ def test_metadata_of_datasette(archive):
 
 @pytest.mark.skipif(not has("jq"), reason="there is no jq")
 def test_a_note_as_an_event_of_premis(archive):
+    os.symlink(os.path.join(TOP, "examples"), os.path.join(archive, "examples"))
     tree(archive, {"a&b.nap": b"\x0fHELLO\x1a<\x1a"})
     subprocess.run(["naplps-pages", "cures", "a&b.nap", "--into", "treated"], cwd=archive, capture_output=True)
     with open(os.path.join(archive, "treated", "a&b.nap.json"), encoding="utf-8") as file:

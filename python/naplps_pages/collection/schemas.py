@@ -1,4 +1,4 @@
-"""The tables of a store in SQL, as docs/COLLECTIONS.md describes them; and those of the schema before, and of both the
+"""The tables of a store in SQL, as docs/STORE.md describes them; and those of the schema before, and of both the
 view for people.
 """
 from typing import Dict, Iterator, Tuple

@@ -1,4 +1,4 @@
-"""What the values in a store mean, as docs/COLLECTIONS.md describes them."""
+"""What the values in a store mean, as docs/STORE.md describes them."""
 
 HASH = "sha256"
 
