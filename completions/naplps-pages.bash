@@ -1,7 +1,7 @@
 # Completion of naplps-pages for bash.
 _naplps_pages() {
     local word=${COMP_WORDS[COMP_CWORD]} before=${COMP_WORDS[COMP_CWORD - 1]} command='' words index
-    local commands='check list canon explain look play text describe cures split carve census make source diff near scan merge equal refused convert status files find report serve'
+    local commands='check list canon explain look play text describe cures split carve census make source diff near box scan merge equal refused convert status files find report serve'
     for ((index = 1; index < COMP_CWORD; index++)); do
         if [[ " $commands " = *" ${COMP_WORDS[index]} "* ]]; then
             command=${COMP_WORDS[index]}
@@ -34,6 +34,7 @@ _naplps_pages() {
         source) words='--budget --seconds --help' ;;
         near) words='--json --processes --budget --seconds --help' ;;
         diff) words='--html --budget --seconds --help' ;;
+        box) words='--into --processes --no-words --no-cures --no-carve --budget --seconds --help' ;;
         scan) words='--into --processes --on --part --most --again --cures --words --near --pictures --budget --seconds --help' ;;
         merge) words='--unfinished --help' ;;
         equal) words='--by --processes --copies --treated --guesses --verify --null --json --csv --seconds --help' ;;

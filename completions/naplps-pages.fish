@@ -16,6 +16,7 @@ complete -c naplps-pages -n __fish_use_subcommand -a make -d 'Make pages of text
 complete -c naplps-pages -n __fish_use_subcommand -a source -d 'Print a page as people write it, for make'
 complete -c naplps-pages -n __fish_use_subcommand -a diff -d 'Print two pages side by side'
 complete -c naplps-pages -n __fish_use_subcommand -a near -d 'Print pages that are almost equal'
+complete -c naplps-pages -n __fish_use_subcommand -a box -d 'Find all that is in folders, and put it into one'
 complete -c naplps-pages -n __fish_use_subcommand -a scan -d 'Ask about all pages in folders, and keep the answers'
 complete -c naplps-pages -n __fish_use_subcommand -a merge -d 'Join stores, as those of the parts of a scan'
 complete -c naplps-pages -n __fish_use_subcommand -a equal -d 'Print groups of pages that draw the same'
@@ -30,7 +31,7 @@ complete -c naplps-pages -n '__fish_seen_subcommand_from check list cures split 
     -d 'Print JSON, an object on each line'
 complete -c naplps-pages -n '__fish_seen_subcommand_from equal refused convert status files find' -l csv -d 'Print the table as CSV'
 complete -c naplps-pages -n '__fish_seen_subcommand_from equal refused files find' -l null -d 'Print only names, each ended by NUL'
-complete -c naplps-pages -n '__fish_seen_subcommand_from canon look play cures split carve make scan convert report' -l into -r \
+complete -c naplps-pages -n '__fish_seen_subcommand_from canon look play cures split carve make box scan convert report' -l into -r \
     -d 'The folder or file to write into, or the store of a scan'
 complete -c naplps-pages -n '__fish_seen_subcommand_from explain report serve' -l full -d 'A row for each character'
 complete -c naplps-pages -n '__fish_seen_subcommand_from check list explain look play text describe' -l after -r \
@@ -48,7 +49,10 @@ complete -c naplps-pages -n '__fish_seen_subcommand_from carve' -l dry-run -d 'P
 complete -c naplps-pages -n '__fish_seen_subcommand_from carve' -l least -x -d 'How many entries a page has at least'
 complete -c naplps-pages -n '__fish_seen_subcommand_from make' -s o -r -d 'Write the page to this file'
 complete -c naplps-pages -n '__fish_seen_subcommand_from make' -l look -d 'Make a sketch of the page, too'
-complete -c naplps-pages -n '__fish_seen_subcommand_from scan report near equal' -l processes -x -d 'How many processes work'
+complete -c naplps-pages -n '__fish_seen_subcommand_from box scan report near equal' -l processes -x -d 'How many processes work'
+complete -c naplps-pages -n '__fish_seen_subcommand_from box' -l no-words -d 'Keep no text of pages'
+complete -c naplps-pages -n '__fish_seen_subcommand_from box' -l no-cures -d 'Try no treatments'
+complete -c naplps-pages -n '__fish_seen_subcommand_from box' -l no-carve -d 'Look for no pages inside files'
 complete -c naplps-pages -n '__fish_seen_subcommand_from scan' -l on -r -d 'Work on Dask: the address or file of its scheduler'
 complete -c naplps-pages -n '__fish_seen_subcommand_from scan' -l part -x -d 'Take one of N parts of the files'
 complete -c naplps-pages -n '__fish_seen_subcommand_from scan' -l most -x -d 'How many bytes a page may have'
@@ -69,9 +73,9 @@ complete -c naplps-pages -n '__fish_seen_subcommand_from equal' -l guesses \
 complete -c naplps-pages -n '__fish_seen_subcommand_from equal' -l verify -d 'Read all files again, and compare canonical bytes'
 complete -c naplps-pages -n '__fish_seen_subcommand_from refused' -l number -x -d 'Only this refusal'
 complete -c naplps-pages -n '__fish_seen_subcommand_from refused' -l reason -x -d 'Only this refusal or code'
-complete -c naplps-pages -n '__fish_seen_subcommand_from check list canon explain look play text describe cures split carve census source diff near scan' -l budget -x \
+complete -c naplps-pages -n '__fish_seen_subcommand_from check list canon explain look play text describe cures split carve census source diff near box scan' -l budget -x \
     -d 'How many bytes of macro bodies a page may be charged'
-complete -c naplps-pages -n '__fish_seen_subcommand_from check list canon explain look play text describe cures split carve census make source diff near scan equal convert report serve' \
+complete -c naplps-pages -n '__fish_seen_subcommand_from check list canon explain look play text describe cures split carve census make source diff near box scan equal convert report serve' \
     -l seconds -x \
     -d 'How many seconds the program may take for a page'
 complete -c naplps-pages -n '__fish_seen_subcommand_from report' -l sketches -x -d 'How many pages have a sketch'

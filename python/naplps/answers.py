@@ -165,7 +165,8 @@ def with_body(call: str, answer: Answer, body: bytes) -> Answer:
 class AnswerParser:
     """Takes the answers to a call on some pages as `naplps batch` prints them, in pieces of any lengths.
 
-    A body is held, if it has no more than `most` bytes. Where `most` is None bodies are hashed, and none is held.
+    A body is held, if it has no more than `most` bytes. Where `most` is None bodies are hashed, and those of accepted
+    pages are held too that have no more than `keeps` bytes.
     """
 
     call: str
@@ -173,6 +174,7 @@ class AnswerParser:
     most: Optional[int]
     # Called after a piece that ended an answer, where more answers are to come.
     goes_on: Callable[[], None] = lambda: None
+    keeps: int = 0
     answers: List[HashedAnswer] = field(default_factory=list)
     # Of `make`, the line that is wrong, where one is; no page is answered then.
     wrong_line: Optional[WrongLine] = None
@@ -203,7 +205,7 @@ class AnswerParser:
             self._lacks -= len(part)
             if self.most is None:
                 self._hash.update(part)
-            else:
+            if self.most is not None or self._length <= self.keeps:
                 self._body.write(part)
             if not self._lacks:
                 assert self._answer is not None
@@ -212,13 +214,20 @@ class AnswerParser:
                     self._body = io.BytesIO()
                 else:
                     canon = self._hash.digest() if self._length else None
-                    self.answers.append(HashedAnswer(self._answer, canon, self._length or None))
+                    self.answers.append(HashedAnswer(self._kept(self._answer), canon, self._length or None))
                 self._answer = None
         self._rest = come[at:]
         whole = len(self.answers) == len(self.pages)
         if not whole and len(self.answers) > before:
             self.goes_on()
         return whole
+
+    def _kept(self, answer: Answer) -> Answer:
+        """The answer whose body was hashed, with the body where that is held too."""
+        if not self.keeps:
+            return answer
+        body, self._body = self._body.getvalue(), io.BytesIO()
+        return replace(answer, body=body) if isinstance(answer, Accepted) else answer
 
     def _head(self, come: bytes, at: int) -> Optional[int]:
         """Takes the two lines before a body; where they end, or None where they aren't whole yet."""

@@ -78,14 +78,15 @@ class Client:
             answers += [each.answer for each in some]
         return answers
 
-    def hash_canon(self, pages: Sequence[bytes]) -> List[HashedAnswer]:
-        """The answers to `canon` on each of these pages. The requests are written ahead, and canonical bytes hashed.
+    def hash_canon(self, pages: Sequence[bytes], keeps: int = 0) -> List[HashedAnswer]:
+        """The answers to `canon` on each of these pages. The requests are written ahead, and canonical bytes hashed;
+        those of no more than `keeps` bytes are held too.
 
         Where the process fails, the first page without an answer has none, and the later ones are asked of a new one.
         """
         answers: List[HashedAnswer] = []
         while len(answers) < len(pages):
-            answers += self._answers(AnswerParser("canon", pages[len(answers):], None, self._go_on))
+            answers += self._answers(AnswerParser("canon", pages[len(answers):], None, self._go_on, keeps))
         return answers
 
     def _answers(self, parser: AnswerParser) -> List[HashedAnswer]:

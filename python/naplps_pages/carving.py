@@ -76,8 +76,7 @@ class _Carving:
             self.state = CarveState(os.path.join(folder, f".{name}.carve.json"), shown(self.page.name), terms)
             begin, self.found = self.state.load()
         finder = PageFinder(session.program, session.least, self._beat)
-        source: Members = {"source_" + key: value for key, value in as_json(self.page.name).items()}
-        source["source"] = {"bytes": self.length, "sha256": own}
+        source = source_of(self.page.name, self.length, own)
         try:
             self.file.seek(begin)
             for found in finder.find(self._read, begin):
@@ -142,16 +141,14 @@ class _Carving:
         self.progress.clear()
         path = name
         if session.into is not None:
-            path = "%s-%0*d.nap" % (self.stem, LEAST_DIGITS, found.offset)
+            path = path_of(self.stem, found.offset)
             try:
                 require_free(path, found.data)
             except NotWritten as taken:
                 tell(str(taken))
                 session.fail(FAILED)
                 return
-            note = {**source, **_places(found), "answer": _said(found), "least": session.least,
-                    "program": version(session.program.path, session.program.limits), "tool": f"{TOOL} {VERSION}",
-                    "copy": {"bytes": len(found.data), "sha256": hashlib.sha256(found.data).hexdigest()}}
+            note = note_of(source, found, session.least, version(session.program.path, session.program.limits))
             self._put(path, found, (json.dumps(note, indent=2) + "\n").encode("ascii"))
         self.found += 1
         if session.json:
@@ -170,6 +167,25 @@ class _Carving:
             if self.state:
                 self.state.keep(found.offset, self.found)
             raise
+
+
+def source_of(name: str, length: int, own: str) -> Members:
+    """What the notes on all pages of a source tell: its name, its length and its hash."""
+    source: Members = {"source_" + key: value for key, value in as_json(name).items()}
+    source["source"] = {"bytes": length, "sha256": own}
+    return source
+
+
+def path_of(stem: str, offset: int) -> str:
+    """The path of the page at an offset, beside the path that is made of its source's name."""
+    return "%s-%0*d.nap" % (stem, LEAST_DIGITS, offset)
+
+
+def note_of(source: Members, found: CarvedPage, least: int, program: str) -> Members:
+    """What the note on a page tells."""
+    return {**source, **_places(found), "answer": _said(found), "least": least, "program": program,
+            "tool": f"{TOOL} {VERSION}",
+            "copy": {"bytes": len(found.data), "sha256": hashlib.sha256(found.data).hexdigest()}}
 
 
 def _of(page: Page) -> IO[bytes]:

@@ -273,6 +273,21 @@ def _scan_options(one: Parser) -> None:
     _asking_options(one)
 
 
+def _box_options(one: Parser) -> None:
+    from .collection.pool import MOST_PROCESSES
+    one.add_argument("folders", metavar="FOLDER", nargs="+", type=name,
+                     help="a folder of files, a pack of them, which is a tar, tar.gz or zip file, or a file")
+    one.add_argument("--into", metavar="PLACE", type=name, required=True,
+                     help="the folder of all that is found: a new one, or that of a run before")
+    one.add_argument("--no-words", action="store_true", help="keep no text of pages, so that none is found by words")
+    one.add_argument("--no-cures", action="store_true", help="try no treatments of refused pages")
+    one.add_argument("--no-carve", action="store_true", help="look for no pages inside files of no known kind")
+    one.add_argument("--processes", metavar="N", type=partial(whole_number, least=1, most=MOST_PROCESSES),
+                     help="how many processes work; by default one for each processor")
+    one.set_defaults(most=MOST_PAGE)
+    _asking_options(one)
+
+
 def _merge_options(one: Parser) -> None:
     one.add_argument("into", metavar="INTO", type=name, help="the new store, a file that isn't there yet")
     one.add_argument("parts", metavar="STORE", nargs="+", type=name,
@@ -398,6 +413,7 @@ COMMANDS = {
     "diff": Command("print two pages side by side, as people write them", OF_DIFF, _page_options),
     "near": Command("print pages that are almost equal, or beginnings of others", EPILOG, _page_options),
     "source": Command("print a page as people write it, for `make`", EPILOG, _page_options),
+    "box": Command("find all that is in folders of files, and put it into one folder", OF_COLLECTIONS, _box_options),
     "scan": Command("ask about all pages in folders, and keep the answers in a store", OF_COLLECTIONS,
                     _scan_options),
     "merge": Command("join stores, as those of the parts of a scan, in a new one", OF_COLLECTIONS, _merge_options),
@@ -513,6 +529,9 @@ def main(words: List[str], command: str) -> int:
 
 def _on_stores(given: argparse.Namespace, command: str) -> int:
     """Runs a command on a store; the status. What one command needs, the others don't wait for."""
+    if given.command == "box":
+        from .box import commands as of_box
+        return of_box.run(given, command)
     if given.command in REPORTING:
         from .report import commands as reporting
         return reporting.run(given, command)

@@ -50,7 +50,8 @@ def _report(session: Session, page: Page, answer: Answer, cure: Optional[Cure], 
         reasons = None if cure or not isinstance(answer, Refusal) else [
             {"treatment": name, "reason": why} for name, why in unsure.items()]
         session.output.line(dumps({
-            **answered(page.name, answer), "cure": _members(page, cure) if cure else None, "unsure": reasons}))
+            **answered(page.name, answer), "cure": members_of(page.data or b"", cure) if cure else None,
+            "unsure": reasons}))
         return
     lines = [answer.line] if isinstance(answer, (Accepted, Refusal)) else []
     if isinstance(answer, Refusal):
@@ -78,8 +79,8 @@ def _told(page: Page, cure: Cure) -> List[str]:
     return lines + [warning(cure)]
 
 
-def _members(page: Page, cure: Cure) -> Members:
-    source = page.data or b""
+def members_of(source: bytes, cure: Cure) -> Members:
+    """What JSON tells of a treated copy of these bytes."""
     return {"treatments": [told_change(*step) for step in cure.treated.steps()],
             "grade": WITHIN if cure.treated.is_guess else AROUND, "entries": cure.entries,
             "source": _bytes(source), "copy": _bytes(cure.treated.data)}
@@ -106,26 +107,31 @@ def _bytes(data: bytes) -> Members:
 
 def _write(session: Session, page: Page, answer: Refusal, cure: Cure) -> None:
     """Writes the treated copy, and before it, beside it, where it comes from."""
-    path, data = session.path_for(page.name), cure.treated.data
+    path = session.path_for(page.name)
+    told: Members = {**members_of(page.data or b"", cure),
+                     "program": version(session.program.path, session.program.limits)}
+    put_copy(path, cure.treated.data, provenance(page.name, answer, told, session.program.budget))
+    if not session.json:
+        session.output.line(f"{session.front(page.name)}written: {shown(path)}, and {shown(path + '.json')}")
+
+
+def put_copy(path: str, data: bytes, members: Members) -> None:
+    """Writes a treated copy, and before it its note. Raises NotWritten."""
     note = path + ".json"
-    members = _provenance(session, page, answer, cure)
     require_free(path, data)
-    if not _tells_the_same(note, members):
+    if not tells_the_same(note, members):
         put_inside(note, _as_note(members))
     put_inside(path, data)
-    if not session.json:
-        session.output.line(f"{session.front(page.name)}written: {shown(path)}, and {shown(note)}")
 
 
-def _provenance(session: Session, page: Page, answer: Refusal, cure: Cure) -> Members:
+def provenance(name: str, answer: Refusal, told: Members, budget: int) -> Members:
     """Where a treated copy comes from, by what, and when."""
-    members: Members = {"source_" + key: value for key, value in as_json(page.name).items()}
+    members: Members = {"source_" + key: value for key, value in as_json(name).items()}
     members["refusal"] = answer.line
-    members.update(_members(page, cure))
-    members["program"] = version(session.program.path, session.program.limits)
+    members.update(told)
     members["tool"] = f"{TOOL} {VERSION}"
-    members["budget"] = session.program.budget
-    members["note"] = warning(cure)
+    members["budget"] = budget
+    members["note"] = GUESS + WARNING if told["grade"] == WITHIN else WARNING
     members["time"] = datetime.datetime.now(datetime.timezone.utc).strftime("%Y-%m-%dT%H:%M:%SZ")
     return members
 
@@ -134,7 +140,7 @@ def _as_note(members: Members) -> bytes:
     return (json.dumps(members, indent=2) + "\n").encode("ascii")
 
 
-def _tells_the_same(note: str, members: Members) -> bool:
+def tells_the_same(note: str, members: Members) -> bool:
     """Whether there is such a note already, of an earlier time: then that stays, also if it is spaced otherwise."""
     try:
         if not os.path.isfile(note) or os.path.getsize(note) > MOST_SPACED * len(_as_note(members)):

@@ -5,10 +5,9 @@ begin a page. What can't be one, by its first codes, is passed over; of the rest
 more each time, until it refuses or the row ends. It is given no more than 16 bytes for each byte that was read.
 """
 import re
-from typing import Callable, Iterator, List, NamedTuple, Optional
+from typing import Callable, Iterator, List, NamedTuple, Optional, Protocol
 
 from naplps.answers import Accepted, Answer, Refusal, Unanswered
-from naplps.client import Client
 from naplps.treating.page_codes import DEFINED, LEADING_ON, SEPARATING, SHAPE, UNREAD, PageCode, PageCodes
 
 # The number of bytes for each byte of the source that the program is given, and of entries that a page has at least;
@@ -38,6 +37,13 @@ OF_MEANING = ("Outside", "PenUnknown", "NoAddress", "Missing", "ManyColours", "N
               "ShiftedCode", "Budget", "Store")
 
 
+class Asks(Protocol):
+    """The program, as a client asks it."""
+
+    def ask(self, call: str, page: bytes, /) -> Answer:
+        """The answer to a call on some bytes."""
+
+
 class CarvedPage(NamedTuple):
     """A page in a source: its bytes, where they are, at least and at most how many of them it has, and its answer."""
 
@@ -63,7 +69,7 @@ class _Head(NamedTuple):
 class PageFinder:
     """Goes through a source. `given` counts the bytes that the program got, `skipped` beginnings it couldn't get."""
 
-    def __init__(self, program: Client, least: int = LEAST_ENTRIES,
+    def __init__(self, program: Asks, least: int = LEAST_ENTRIES,
                  beat: Callable[[int], bool] = lambda at: False) -> None:
         self.program, self.least, self.beat = program, least, beat
         self.shapes = max(1, least // EACH_SHAPE)
@@ -257,7 +263,7 @@ def _text_before(held: bytes, start: int, begin: int) -> int:
     return start - at if PRINTED.search(held, at, start) else 0
 
 
-def all_pages(program: Client, data: bytes, least: int = LEAST_ENTRIES) -> List[CarvedPage]:
+def all_pages(program: Asks, data: bytes, least: int = LEAST_ENTRIES) -> List[CarvedPage]:
     """The pages in some bytes."""
     at = 0
 

@@ -8,7 +8,7 @@ from naplps.answers import Accepted, Answer, Refusal, Unanswered
 from naplps.names import Members, as_json, shown
 from naplps.program import version
 from naplps.treating.borders import Piece, pieces, text_length
-from naplps.treating.search import TreatmentSearch
+from naplps.treating.search import Ask, TreatmentSearch
 from naplps.version import VERSION
 
 from . import TOOL, file_kinds
@@ -68,14 +68,9 @@ def _fail(session: Session, page: Page, why: str) -> None:
 def _cut(session: Session, page: Page, some: List[Piece]) -> None:
     """Asks about the parts of a capture, and writes them where a page is among them."""
     assert page.data is not None
-    parts: List[CutPart] = []
-    for piece in some:
-        data = page.data[piece.offset:piece.end]
-        after = page.data[piece.end:] if piece is some[-1] else b""
-        parts.append(CutPart(piece, data, page.data[piece.offset - piece.before:piece.offset], after,
-                          session.program.ask("check", data)))
+    parts = parts_of(session.program.ask, page.data, some)
     lacking = [each.answer for each in parts if isinstance(each.answer, Unanswered)]
-    if not lacking and not any(part.is_page or _is_readable(session, part) for part in parts):
+    if not has_a_page(session.program.ask, parts):
         _fail(session, page, NONE_ACCEPTED % len(parts))
         return
     _write(session, page, parts)
@@ -87,11 +82,27 @@ def _cut(session: Session, page: Page, some: List[Piece]) -> None:
         session.fail(FAILED)
 
 
-def _is_readable(session: Session, part: CutPart) -> bool:
+def parts_of(ask: Ask, data: bytes, some: List[Piece]) -> List[CutPart]:
+    """The parts of a capture, with the answers to them."""
+    parts: List[CutPart] = []
+    for piece in some:
+        part = data[piece.offset:piece.end]
+        after = data[piece.end:] if piece is some[-1] else b""
+        parts.append(CutPart(piece, part, data[piece.offset - piece.before:piece.offset], after, ask("check", part)))
+    return parts
+
+
+def has_a_page(ask: Ask, parts: List[CutPart]) -> bool:
+    """Whether a page is among the parts, or of one it isn't known."""
+    return any(isinstance(part.answer, Unanswered) for part in parts) or any(
+        part.is_page or _is_readable(ask, part) for part in parts)
+
+
+def _is_readable(ask: Ask, part: CutPart) -> bool:
     """Whether it is refused, and what a treatment graded around leaves of it is accepted as a page."""
     if not isinstance(part.answer, Refusal):
         return False
-    cure = TreatmentSearch(session.program.ask).find(part.data, part.answer.place)
+    cure = TreatmentSearch(ask).find(part.data, part.answer.place)
     return (cure is not None and not cure.treated.is_guess
             and file_kinds.kind((cure.data,), Accepted(cure.entries)) == file_kinds.PAGE)
 
@@ -99,24 +110,39 @@ def _is_readable(session: Session, part: CutPart) -> bool:
 def _write(session: Session, page: Page, parts: List[CutPart]) -> None:
     """Writes the parts, each after its note."""
     assert page.data is not None
-    source = {**{"source_" + key: value for key, value in as_json(page.name).items()},
-              "source": {"bytes": len(page.data), "sha256": hashlib.sha256(page.data).hexdigest()},
-              "pages": len(parts), "program": version(session.program.path, session.program.limits),
-              "tool": f"{TOOL} {VERSION}"}
-    stem, ending = os.path.splitext(session.path_for(page.name))
+    source = source_of(page.name, page.data, len(parts), version(session.program.path, session.program.limits))
+    beside = session.path_for(page.name)
     if session.into is not None:
         make_folder(session.into)
     for number, part in enumerate(parts, 1):
-        path = "%s-%0*d%s" % (stem, max(3, len(str(len(parts)))), number, ending or ".nap")
+        path = path_of(beside, number, len(parts))
         if isinstance(part.answer, Unanswered):
             session.complain(path, part.answer.reason)
-        require_free(path, part.data)
-        put_inside(path + ".json", (json.dumps(_note(source, number, part), indent=2) + "\n").encode("ascii"))
-        put_inside(path, part.data)
+        put_part(path, part, note_of(source, number, part))
         _tell(session, path, part)
 
 
-def _note(source: Members, number: int, part: CutPart) -> Members:
+def source_of(name: str, data: bytes, parts: int, program: str) -> Members:
+    """What the notes on all parts of a capture tell."""
+    return {**{"source_" + key: value for key, value in as_json(name).items()},
+            "source": {"bytes": len(data), "sha256": hashlib.sha256(data).hexdigest()},
+            "pages": parts, "program": program, "tool": f"{TOOL} {VERSION}"}
+
+
+def path_of(capture: str, number: int, parts: int) -> str:
+    """The path of a part beside the path that is made of its capture's name."""
+    stem, ending = os.path.splitext(capture)
+    return "%s-%0*d%s" % (stem, max(3, len(str(parts))), number, ending or ".nap")
+
+
+def put_part(path: str, part: CutPart, note: Members) -> None:
+    """Writes a part after its note. Raises NotWritten."""
+    require_free(path, part.data)
+    put_inside(path + ".json", (json.dumps(note, indent=2) + "\n").encode("ascii"))
+    put_inside(path, part.data)
+
+
+def note_of(source: Members, number: int, part: CutPart) -> Members:
     """Where a part comes from, and what stands before it in the capture, or after the last one."""
     return {**source, "page": number, "offset": part.piece.offset, "cut_at": part.piece.cut_at,
             "before": part.before.hex(), "after": part.after.hex(),

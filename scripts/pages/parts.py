@@ -12,6 +12,11 @@ class Part(NamedTuple):
 
 
 PARTS: Dict[str, Part] = {
+    "box": Part(
+        "boxes of files of all kinds: what the command box makes is what eight commands make, and runs that are killed, "
+        "full disks and foreign files lose nothing",
+        ("box",),
+    ),
     "canonical": Part(
         "readers of canonical streams, in Python, JavaScript and C, beside the program, and the document of these; the "
         "drawing in JavaScript beside that in Python, the element for pages of the web, and the page in browsers",

@@ -1,7 +1,7 @@
 """The forms in which a table of a store is printed: text, JSON, CSV, and names alone, each ended by NUL."""
 import os
 import sys
-from typing import List, Sequence
+from typing import IO, List, Optional, Sequence
 
 from naplps.names import Members, as_json, printable, shown
 
@@ -13,11 +13,11 @@ END = b"\0"
 
 
 class Printer:
-    """Prints a table in one of the forms."""
+    """Prints a table in one of the forms, on standard output or into a file."""
 
-    def __init__(self, form: str, columns: Sequence[str]) -> None:
+    def __init__(self, form: str, columns: Sequence[str], file: Optional[IO[bytes]] = None) -> None:
         self.form, self.columns = form, list(columns)
-        self.output = Output(sys.stdout.buffer)
+        self.output = Output(file or sys.stdout.buffer)
         if form == "csv":
             self._csv(self.columns)
 

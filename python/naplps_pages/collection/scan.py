@@ -8,7 +8,7 @@ import sys
 from collections import Counter
 from dataclasses import dataclass, replace
 from typing import Counter as Counts
-from typing import Iterator, List, Optional, Tuple
+from typing import Iterator, List, Optional, Protocol, Sequence, Tuple, Union
 
 from naplps.answers import Unanswered
 from naplps.client import Client
@@ -30,10 +30,10 @@ from .kept_options import keep
 from .lock import Busy, Lock
 from .part import Part, keep_part
 from .pack_state import MOST_BROKEN, broken
-from .pool import NoWorkers, Pool
+from .pool import MAIN, NoWorkers, Pool
 from .progress import Counting, Progress
 from .remote import alike
-from .rows import File, Piece
+from .rows import Answered, File, Piece
 from .schemas import INDICES
 from .search import Scope, Search, apart
 from .stopping import Stopping
@@ -55,6 +55,19 @@ READ_NOW = ("is being read, so its last rows are in %s: a copy of the store need
 EXPECTED = (OSError, sqlite3.Error, NoWorkers, ClusterFailed, StoreFailed)
 
 
+class Beside(Protocol):
+    """Keeps more of each page than a store does: by workers of a module of its own, which are told `first` too."""
+
+    module: str
+    first: Tuple[object, ...]
+
+    def take(self, answers: Sequence[Answered]) -> None:
+        """Takes what workers found."""
+
+    def write(self) -> None:
+        """Keeps what was taken. The rows of these pages are written into the store after that alone."""
+
+
 @dataclass(frozen=True)
 class ScanOptions:
     """What was asked for."""
@@ -65,6 +78,7 @@ class ScanOptions:
     how: WorkerOptions
     part: Optional[Part] = None
     on: Optional[str] = None
+    beside: Optional[Beside] = None
 
 
 def terms_of(how: WorkerOptions) -> Terms:
@@ -87,7 +101,18 @@ def terms_of(how: WorkerOptions) -> Terms:
 
 
 def scan(options: ScanOptions) -> int:
-    """Scans folders into a store; the status."""
+    """Scans folders into a store, and prints what that came to; the status."""
+    run = scanned(options)
+    if isinstance(run, int):
+        return run
+    output = Output(sys.stdout.buffer)
+    output.line(run.line)
+    output.flush()
+    return run.status
+
+
+def scanned(options: ScanOptions) -> "Union[ScanRun, int]":
+    """Scans folders into a store; what that came to, or a status where it didn't come to its end."""
     try:
         terms = terms_of(options.how)
     except (OSError, ValueError) as error:
@@ -96,9 +121,9 @@ def scan(options: ScanOptions) -> int:
     cluster: Optional[Cluster] = None
     try:
         roots = apart(map(absolute, options.folders))
-        missing = [(root, why) for root, why in zip(roots, map(_not_there, roots)) if why]
-        if len(missing) == len(roots) and not os.path.lexists(options.store):
-            for root, why in missing:
+        lacking = missing(roots)
+        if len(lacking) == len(roots) and not os.path.lexists(options.store):
+            for root, why in lacking:
                 tell(f"{shown(os.fsdecode(root))}: {why}")
             return SOME_LACK  # (a store of nothing is of no use)
         if options.on is not None:
@@ -119,12 +144,12 @@ def scan(options: ScanOptions) -> int:
         if cluster:
             cluster.close()
     stopping.act()
-    if run is None:
-        return FAILED
-    output = Output(sys.stdout.buffer)
-    output.line(run.line)
-    output.flush()
-    return run.status
+    return FAILED if run is None else run
+
+
+def missing(roots: List[bytes]) -> List[Tuple[bytes, str]]:
+    """The folders and files that aren't there, and why."""
+    return [(root, why) for root, why in zip(roots, map(_not_there, roots)) if why]
 
 
 def _not_there(root: bytes) -> Optional[str]:
@@ -212,19 +237,22 @@ class ScanRun:
     def scan(self, roots: List[bytes], cluster: Optional[Cluster]) -> None:
         """Scans, on processes of this machine if there is no cluster."""
         first = (self.options.how, self.options.store, self.writer.terms, self.writer.run)
-        workers = cluster or Pool(self.options.processes, first, PATIENCE + 2 * self.options.how.seconds)
+        beside = self.options.beside
+        workers = cluster or Pool(
+            self.options.processes, (*first, *(beside.first if beside else ())),
+            PATIENCE + 2 * self.options.how.seconds, beside.module if beside else MAIN)
         try:
             for piece in workers.run(self.search.chunks(roots)):
                 self._take(piece)
                 if self.stopping.number is not None:
                     break
         except ClusterFailed as failed:
-            self.writer.write()
+            self._write()
             raise ClusterFailed(f"{failed}; {KEPT}") from None
         finally:
             workers.close()
             self.progress.clear()
-        self.writer.write()
+        self._write()
         try:
             with self.stopping.ends(self.writer.connection):
                 if self.stopping.number is None:
@@ -255,11 +283,19 @@ class ScanRun:
         if piece:
             self.found += sum(1 for file in piece[0] if file.name)
             self.writer.take(piece)
+            if self.options.beside:
+                self.options.beside.take(piece[1])
             for file, why in _lacking(piece):
                 self._complain_of(file.folder, file.name, why)
         if self.writer.is_due:
-            self.writer.write()
+            self._write()
         self.progress.show(self.search.known + self.found)
+
+    def _write(self) -> None:
+        """Writes the step; what is kept beside the store of its pages comes first."""
+        if self.options.beside:
+            self.options.beside.write()
+        self.writer.write()
 
     def _complain_of(self, folder: int, name: bytes, why: str) -> None:
         """Tells what is wrong with a file; of a pack's members with the first ones."""

@@ -71,6 +71,9 @@ class Worker:
         self.program = Client(how.program, how.budget, MODEST._replace(seconds=how.seconds), beat)
         self.asked: "OrderedDict[bytes, None]" = OrderedDict()
         self.left: Chunk = ()
+        # The number of bytes of a canonical stream that is held; and whether more is asked than for answers.
+        self.keeps = 0
+        self.has_more = how.wanted.cures or how.wanted.words
 
     def pieces(self, chunk: Chunk) -> Iterator[Piece]:
         """The rows of a chunk, in the order of its files."""
@@ -127,9 +130,9 @@ class Worker:
 
     def _answered(self, window: List[Seen]) -> Piece:
         asked = self._unknown(window)
-        said = self.ahead.hash_canon(list(asked.values()))
+        said = self.ahead.hash_canon(list(asked.values()), self.keeps)
         rows = [self._row(own, data, each) for (own, data), each in zip(asked.items(), said)]
-        if self.how.wanted.cures or self.how.wanted.words:
+        if self.has_more:
             rows = [self._more(each, asked[each.own]) for each in rows]
         self._remember(asked)
         return tuple(seen.file for seen in window), tuple(rows)

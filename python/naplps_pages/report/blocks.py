@@ -1,9 +1,7 @@
 """Blocks of a report: pages whose drawings are packed together, by the process that draws them."""
 from typing import Callable, Dict, List, NamedTuple, Sequence
 
-from naplps.client import Client
-
-from .drawing import Drawing, DrawingLimits, WantedDrawing, draw
+from .drawing import Drawing, WantedDrawing
 from .embedding import packed
 
 
@@ -32,11 +30,11 @@ class DrawnBlock(NamedTuple):
     pages: List[DrawnPage]
 
 
-def draw_block(program: Client, block: Block, most: DrawingLimits, tell: Callable[[DrawnPage], None]) -> str:
+def draw_block(draws: Callable[[WantedDrawing], Drawing], block: Block, tell: Callable[[DrawnPage], None]) -> str:
     """Draws the pages of a block, tells of each as it comes, and packs them."""
     drawings: List[Drawing] = []
     for at, it in enumerate(block.pages):
-        drawing = Drawing(why=block.without[at]) if at in block.without else draw(program, it, most)
+        drawing = Drawing(why=block.without[at]) if at in block.without else draws(it)
         drawings.append(drawing)
         tell(_told(drawing))
     return pack(drawings)

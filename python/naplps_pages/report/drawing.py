@@ -109,7 +109,7 @@ def _drawn_treated(program: Client, page: Page, it: WantedDrawing, most: Drawing
     """Draws the treated copy of a page."""
     answer = program.ask("check", page)
     if not isinstance(answer, Refusal) or answer.line != it.line or page.data is None:
-        return _shown(page, Listed(answer), it._replace(treated=None), most)
+        return drawn_of(page, Listed(answer), it._replace(treated=None), most)
     cure = find(program.ask, page.data, answer.place)
     if cure is None or it.treated is None or hashed(cure.data) != it.treated.own:
         return Drawing(why=OTHER_COPY)
@@ -119,10 +119,11 @@ def _drawn_treated(program: Client, page: Page, it: WantedDrawing, most: Drawing
 def _drawn(program: Client, page: Page, it: WantedDrawing, most: DrawingLimits) -> Drawing:
     before = read_line(it.line.encode("ascii"), None)
     has_few = isinstance(before, Accepted) and before.entries <= MOST_LISTED
-    return _shown(page, listed_of_few(program, page, it.is_played) if has_few else listed(program, page), it, most)
+    return drawn_of(page, listed_of_few(program, page, it.is_played) if has_few else listed(program, page), it, most)
 
 
-def _shown(page: Page, told: Listed, it: WantedDrawing, most: DrawingLimits) -> Drawing:
+def drawn_of(page: Page, told: Listed, it: WantedDrawing, most: DrawingLimits) -> Drawing:
+    """The drawing of a page that has this answer and these entries."""
     answer = told.answer
     if isinstance(answer, Unanswered):
         return Drawing(why=answer.reason)

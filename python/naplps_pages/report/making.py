@@ -46,6 +46,8 @@ class ReportOptions(NamedTuple):
     seconds: float
     replace: bool = False
     full: bool = False
+    # (the path of what a box keeps of its pages)
+    kept: str = ""
 
 
 class ReportTotals(NamedTuple):
@@ -88,7 +90,7 @@ def make(connection: sqlite3.Connection, options: ReportOptions) -> ReportTotals
     """Makes the file. Raises NotWritten or TooLarge."""
     require_room(options.into, options.replace)
     most = DrawingLimits(HELD_SKETCH, HELD_TEXT, HELD_LINES, HELD_PLAYER, options.full, shortens=True)
-    how = DrawingOptions(options.program, options.seconds, most)
+    how = DrawingOptions(options.program, options.seconds, most, options.kept)
     # (the processes begin while the store is read, and to draw before all of it is)
     with BlockQueue(how, _processes(connection, options), Room(MOST_HELD)) as queue:
         connection.execute("BEGIN")

@@ -6,7 +6,7 @@ import subprocess
 import sys
 from multiprocessing.connection import Connection, Pipe
 from types import FrameType
-from typing import NamedTuple, Optional, Union
+from typing import Callable, NamedTuple, Optional, Union
 
 from naplps.client import Client
 
@@ -25,11 +25,13 @@ OBJECTS = 100_000
 
 
 class DrawingOptions(NamedTuple):
-    """The program that is asked, how long it may take for a page, and how much is kept of each."""
+    """The program that is asked, how long it may take for a page, and how much is kept of each; and what a box keeps of
+    its pages, which is asked before."""
 
     program: str
     seconds: float
     most: DrawingLimits
+    kept: str = ""
 
 
 class SketchWorker:
@@ -95,16 +97,24 @@ def main(descriptor: int) -> None:
     connection = Connection(descriptor)
     how = connection.recv()
     program = Client(how.program, limits=MODEST._replace(seconds=how.seconds))
+    draws = _drawer(program, how)
     try:
         while True:
             it = connection.recv()
-            made = (draw_block(program, it, how.most, connection.send) if isinstance(it, Block)
-                    else draw(program, it, how.most))
+            made = draw_block(draws, it, connection.send) if isinstance(it, Block) else draws(it)
             connection.send(made)
     except (EOFError, OSError):
         pass  # nobody waits for it any more
     finally:
         program.close()
+
+
+def _drawer(program: Client, how: DrawingOptions) -> Callable[[WantedDrawing], Drawing]:
+    """What draws a page."""
+    if how.kept:
+        from ..box.kept_drawing import drawer  # (a report of no box doesn't wait for it)
+        return drawer(program, how.kept, how.most)
+    return lambda it: draw(program, it, how.most)
 
 
 def _end(number: int, _: Optional[FrameType]) -> None:

@@ -1,0 +1,1 @@
+"""The command box: folders of files into one folder with all that is found in them."""

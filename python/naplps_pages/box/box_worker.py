@@ -1,0 +1,132 @@
+"""The process of a worker of a box: looks at files as that of a scan does, and makes all that is kept of their pages
+while their bytes are there.
+"""
+from typing import Any, Callable, Dict, List, Optional, Sequence
+
+from naplps.answers import Accepted, Answer, HashedAnswer, Refusal, Unanswered
+from naplps.limits import MOST_LISTED
+from naplps.treating.borders import pieces
+from naplps.treating.search import Cure
+
+from .. import curing
+from ..collection import tables
+from ..collection.file_reader import Seen
+from ..collection.known_hashes import KnownHashes
+from ..collection.rows import Answered, Cured, Piece
+from ..collection.worker import Knows, Worker, WorkerOptions
+from ..collection.worker_process import PieceMaker, serve
+from ..listing import PLACES
+from ..page_finder import CarvedPage, all_pages
+from ..report.limits import HELD_PLAYER
+from ..splitting import MOST_PAGES, has_a_page, parts_of
+from .asked_once import AskedOnce
+from .kept_pages import KeptPage, KeptPart
+
+# A longer canonical stream isn't kept; and no more bytes of a page behind the one that it is refused at.
+MOST_CANON, MOST_BEHIND = 16 << 20, 64 << 10
+# A player has each byte in base64, so of a longer page it has none.
+MOST_PLAYED = HELD_PLAYER * 3 // 4
+
+
+class BoxWorker(Worker):
+    """Turns chunks into rows that have what is kept of each page too."""
+
+    def __init__(self, how: WorkerOptions, knows: Knows, beat: Callable[[], None], carves: bool) -> None:
+        super().__init__(how, knows, beat)
+        self.carves = carves
+        self.keeps, self.has_more = MOST_CANON, True
+        self.once = AskedOnce(self.program, beat)
+        self.streams: Dict[bytes, bytes] = {}
+        self.cure: Optional[Cure] = None
+
+    def _answered(self, window: List[Seen]) -> Piece:
+        try:
+            return super()._answered(window)
+        finally:
+            self.once.forget()
+            self.streams.clear()
+
+    def answered(self, window: List[Seen]) -> Piece:
+        """The rows of files that were read."""
+        return self._answered(window)
+
+    def _row(self, own: bytes, data: bytes, said: HashedAnswer) -> Answered:
+        if isinstance(said.answer, Accepted) and said.answer.body:
+            self.streams[own] = said.answer.body
+        return super()._row(own, data, said)
+
+    def _more(self, answered: Answered, data: bytes) -> Answered:
+        self.cure = None
+        answered = super()._more(answered, data)
+        if answered.state == tables.NO_ANSWER:
+            return answered
+        return answered._replace(values=self._kept(answered, data).values)
+
+    def _treated(self, cure: Cure) -> Cured:
+        made = super()._treated(cure)
+        self.cure = None if made.why else cure
+        return made
+
+    def _ask(self, command: str, data: bytes) -> Answer:
+        return self.once.ask(command, data)
+
+    def _kept(self, answered: Answered, data: bytes) -> KeptPage:
+        """What is kept of a page that has an answer."""
+        if answered.state == tables.ACCEPTED:
+            return KeptPage(_front(data, len(data)), self._places(data, answered.entries),
+                            self.streams.get(answered.own))
+        kept = KeptPage(_front(data, answered.place or 0))
+        if answered.kind == tables.CAPTURE:
+            kept = kept._replace(data=data, parts=self._parts(data))
+        if self.cure:
+            copy = self.cure.data
+            return kept._replace(cure=curing.members_of(data, self.cure), copy=copy,
+                                 copied=self._places(copy, self.cure.entries))
+        kept = kept._replace(places=self._places(data))
+        if self.carves and answered.kind is None and not answered.looks_like:
+            return self._carved(kept, data)
+        return kept
+
+    def _places(self, data: bytes, entries: Optional[int] = None) -> Optional[bytes]:
+        """The body of `places` for a page, where it isn't too much."""
+        if entries is not None and entries > MOST_LISTED:
+            return None
+        told = self._ask(PLACES, data)
+        return None if isinstance(told, Unanswered) else told.body
+
+    def _parts(self, data: bytes) -> List[KeptPart]:
+        """The parts of a capture; none where they are too many, or no page is among them."""
+        some = pieces(data)
+        parts = parts_of(self._ask, data, some) if len(some) <= MOST_PAGES else []
+        return [KeptPart(each.offset, each.length, (each.before, int(each.draws)), each.cut_at, *_line_of(it.answer))
+                for each, it in zip(some, parts)] if has_a_page(self._ask, parts) else []
+
+    def _carved(self, kept: KeptPage, data: bytes) -> KeptPage:
+        """What is kept of a file of no known kind, with the pages inside it."""
+        found = all_pages(self.once, data)
+        return kept._replace(carved=[part_of(each) for each in found], cut=b"".join(each.data for each in found))
+
+
+def part_of(found: CarvedPage) -> KeptPart:
+    """A carved page as it is kept."""
+    return KeptPart(found.offset, len(found.data), (found.least_end, found.most_begin), "", *_line_of(found.answer))
+
+
+def _line_of(answer: Answer) -> Sequence[str]:
+    """The line of an answer, and why there is none."""
+    return (answer.line, "") if isinstance(answer, (Accepted, Refusal)) else ("", answer.reason)
+
+
+def _front(data: bytes, refused_at: int) -> Optional[bytes]:
+    """The bytes of a page that a player has, where it isn't too long for one."""
+    return data[:refused_at + MOST_BEHIND] if min(len(data), refused_at + 1) <= MOST_PLAYED else None
+
+
+def main(descriptor: int) -> None:
+    """Works until the connection ends."""
+    serve(descriptor, _worker)
+
+
+def _worker(first: Sequence[Any], beat: Callable[[], None]) -> PieceMaker:
+    how, store, terms, run, carves = first
+    return BoxWorker(how, KnownHashes(store, terms, run, how.wanted), beat, carves)

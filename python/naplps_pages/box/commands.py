@@ -1,0 +1,161 @@
+"""The command box, as it was asked for on the command line."""
+import argparse
+import gc
+import os
+import sqlite3
+import sys
+from typing import List, Optional
+
+from naplps.faults import NoProgram
+from naplps.names import shown
+from naplps.program import find
+
+from ..collection import every_file, tables
+from ..collection.every_file import FileFacts
+from ..collection.file_reader import Seen
+from ..collection.folders import absolute
+from ..collection.page_reader import Otherwise, read
+from ..collection.pool import processors
+from ..collection.rows import AskAgain, File
+from ..collection.scan import ScanOptions, ScanRun, missing, scanned
+from ..collection.search import apart
+from ..collection.session import Names
+from ..collection.status import status
+from ..collection.stopping import Stopping
+from ..collection.store import StoreFailed, open_to_read
+from ..collection.worker import WorkerOptions
+from ..console import COMPLETE, FAILED, SOME_LACK, Output, tell
+from ..new_files import NotWritten
+from ..report import groups, making
+from ..report.limits import USUAL_SKETCHES
+from ..report.sketch_workers import OBJECTS
+from ..unexpected import told
+from . import summary
+from .box_worker import BoxWorker
+from .kept_pages import KeptPage, KeptPages
+from .making import BoxFiles, How
+from .folder import KEPT, REPORT, STORE, BoxFolder
+from .put_files import PutFiles
+
+Given = argparse.Namespace
+GOES_ON = "what was found is kept, and the same command goes on"
+STOPPED = "stopped; " + GOES_ON
+
+
+def run(given: Given, command: str) -> int:
+    """Runs the command; the status. `command` is the path of the tool, beside which naplps may stand."""
+    try:
+        return _run(given, command)
+    except (NoProgram, NotWritten, StoreFailed, making.TooLarge) as error:
+        tell(str(error))
+    except BrokenPipeError:
+        raise
+    except sqlite3.Error as error:
+        tell(f"{shown(given.into)}: {error}; {GOES_ON}")
+    except Exception as error:  # pylint: disable=broad-except
+        tell(f"{shown(given.into)}: {told(error)}")
+    return FAILED
+
+
+def _run(given: Given, command: str) -> int:
+    how = WorkerOptions(find(command), given.budget, given.seconds, given.most)
+    roots = apart(map(absolute, given.folders))
+    lacking = missing(roots)
+    if lacking and not os.path.lexists(given.into):
+        for root, why in lacking:
+            tell(f"{shown(os.fsdecode(root))}: {why}")
+        return SOME_LACK
+    with BoxFolder(given.into, roots) as place:
+        return BoxRun(place, how, given).fill()
+
+
+class BoxRun:
+    """One run over a box."""
+
+    def __init__(self, place: BoxFolder, how: WorkerOptions, given: Given) -> None:
+        self.place, self.given = place, given
+        is_lost = os.path.lexists(place.of(STORE)) and not os.path.lexists(place.of(KEPT))
+        wanted = AskAgain(again=is_lost, cures=not given.no_cures, words=not given.no_words)
+        self.how = how._replace(wanted=wanted)
+        self.processes = given.processes or processors()
+        self.kept = KeptPages(place.of(KEPT), carves=not given.no_carve, is_new=True)
+        self.status = COMPLETE
+        self.worker: Optional[BoxWorker] = None
+
+    def fill(self) -> int:
+        """Scans, makes the files, and prints what all came to; the status."""
+        try:
+            found = scanned(ScanOptions(list(self.given.folders), self.place.of(STORE), self.processes, self.how,
+                                        beside=self.kept))
+            if isinstance(found, int):
+                return found
+            self.status = found.status
+            with Stopping() as stopping:
+                lines = self._made(found)
+            stopping.act()
+        finally:
+            if self.worker:
+                self.worker.close()
+            self.kept.close()
+        output = Output(sys.stdout.buffer)
+        for line in lines:
+            output.line(line)
+        output.flush()
+        return self.status
+
+    def _made(self, found: ScanRun) -> List[str]:
+        """Makes the files; the lines that tell of them."""
+        connection = open_to_read(self.place.of(STORE))
+        version, = connection.execute("SELECT version FROM terms WHERE id = ?", (found.writer.terms,)).fetchone()
+        files = BoxFiles(PutFiles(self.place, self.kept.connection, self._complain), How(version, self.how.budget),
+                         Names(connection), self._find, self._complain)
+        files.make(every_file.load(connection, None, None))
+        connection.execute("DROP TABLE temp.kept")
+        self._report()
+        it = status(connection, self.place.of(STORE))
+        return summary.lines(self.place, connection, it, files.totals, len(groups.load(connection)))
+
+    def _report(self) -> None:
+        """Makes the report, of what is kept."""
+        gc.set_threshold(OBJECTS)  # (a large store has many objects, all of which are needed)
+        made = making.make(open_to_read(self.place.of(STORE)), making.ReportOptions(
+            self.place.of(STORE), self.place.of(REPORT), self.how.program, USUAL_SKETCHES, False, self.processes,
+            self.how.seconds, replace=True, kept=self.place.of(KEPT)))
+        for path, why in made.missed:
+            self._complain(path, f"no sketch: {why}")
+
+    def _complain(self, name: str, why: str) -> None:
+        tell(f"{shown(name)}: {why}")
+        self.status = max(self.status, SOME_LACK)
+
+    def _find(self, file: FileFacts) -> Optional[KeptPage]:
+        """What is kept of a file's page. Where too little is, the file is read again."""
+        assert file.own is not None
+        kept = self.kept.of(file.own)
+        if kept is None or self._lacks(file, kept):
+            self._fill(file, file.own)
+            kept = self.kept.of(file.own)
+        return kept
+
+    def _lacks(self, file: FileFacts, kept: KeptPage) -> bool:
+        """Whether more is asked for now than is kept of a page."""
+        if file.answer == tables.ACCEPTED:
+            return kept.canon is None
+        is_unknown = file.kind is None and file.looks_like is None and file.treated is None
+        return (is_unknown and kept.carved is None and not self.given.no_carve) or (
+            file.treated is not None and kept.copy is None)
+
+    def _fill(self, file: FileFacts, own: bytes) -> None:
+        """Reads a file again, and keeps what its page comes to."""
+        try:
+            page = read(file.at_path, own)
+        except Otherwise as otherwise:
+            self._complain(file.at_path.path, str(otherwise))
+            return
+        page.close()
+        if page.data is not None:
+            self.worker = self.worker or BoxWorker(self.how, lambda _: set(), lambda: None, not self.given.no_carve)
+            _, answers = self.worker.answered([Seen(File(0, b"", tables.READ, own=own), page.data)])
+            self.kept.take(answers)
+            self.kept.write()
+

@@ -1,0 +1,160 @@
+"""What a box keeps of each page beside its store: enough to make all files of it without the page or the program.
+
+It is a SQLite file that one run writes. A page is in it before it is in the store.
+"""
+import json
+import os
+import sqlite3
+import zlib
+from typing import Iterable, List, NamedTuple, Optional, Sequence, Tuple
+
+from naplps.names import Members, shown
+
+from ..collection.rows import Answered, Values
+from ..collection.store import StoreFailed
+
+# "npbx", by which the file is known again, and its form.
+APPLICATION, FORM = 0x6E706278, 1
+COLUMNS = ("data", "places", "canon", "cure", "copy", "copied", "parts", "carved", "cut")
+# The pages by their hashes; and the hashes of what was made at a path in the folder, and of what will be.
+TABLES = (f"CREATE TABLE pages(own BLOB PRIMARY KEY, {', '.join(COLUMNS)})",
+          "CREATE TABLE made(path BLOB, hash BLOB, PRIMARY KEY(path, hash)) WITHOUT ROWID")
+WRITE = f"INSERT OR REPLACE INTO pages(own, {', '.join(COLUMNS)}) VALUES(?{', ?' * len(COLUMNS)})"
+READ = f"SELECT {', '.join(COLUMNS)} FROM pages WHERE own = ?"
+# Pages are small, and there are many.
+LEVEL = 1
+# No page and no answer that is kept is longer.
+MOST_LENGTH = 64 << 20
+FOREIGN = "isn't what a box keeps of its pages: take it away, and the next run reads all files anew"
+
+
+class KeptPart(NamedTuple):
+    """A part of a file: where it is, what is told of it, and the line of the answer to it, or why there is none."""
+
+    offset: int
+    length: int
+    # (of a capture how many bytes stand before it, of a carved page where it ends at least and begins at most)
+    more: Tuple[int, int]
+    cut_at: str
+    line: str
+    why: str
+
+
+class KeptPage(NamedTuple):
+    """What is kept of a page.
+
+    Its first bytes, and of a capture all; the body of `places`, its canonical stream; the note on its treated copy,
+    that copy and the body of `places` for it; the parts of a capture; the pages that were carved out of it, and their
+    bytes one after another.
+    """
+
+    data: Optional[bytes] = None
+    places: Optional[bytes] = None
+    canon: Optional[bytes] = None
+    cure: Optional[Members] = None
+    copy: Optional[bytes] = None
+    copied: Optional[bytes] = None
+    parts: Optional[List[KeptPart]] = None
+    carved: Optional[List[KeptPart]] = None
+    cut: Optional[bytes] = None
+
+    @property
+    def values(self) -> Values:
+        """This as a worker sends it, and as it stands in the file."""
+        return (_packed(self.data), _packed(self.places), _packed(self.canon), _told(self.cure), _packed(self.copy),
+                _packed(self.copied), _told(self.parts), _told(self.carved), _packed(self.cut))
+
+
+def _packed(data: Optional[bytes]) -> Optional[bytes]:
+    return None if data is None else zlib.compress(data, LEVEL)
+
+
+def _told(value: object) -> Optional[str]:
+    return None if value is None else json.dumps(value)
+
+
+def _unpacked(data: Optional[bytes]) -> Optional[bytes]:
+    if data is None:
+        return None
+    unpacker = zlib.decompressobj()
+    made = unpacker.decompress(data, MOST_LENGTH)
+    if not unpacker.eof:
+        raise ValueError
+    return made
+
+
+def _parts(told: Optional[str]) -> Optional[List[KeptPart]]:
+    return None if told is None else [
+        KeptPart(offset, length, (more[0], more[1]), cut_at, line, why)
+        for offset, length, more, cut_at, line, why in json.loads(told)]
+
+
+class KeptPages:
+    """The file, to be read; or to be written, as what stands beside a scan."""
+
+    module = "naplps_pages.box.box_worker"
+
+    def __init__(self, path: str, carves: bool = False, is_new: bool = False) -> None:
+        """Opens it, and makes it where it isn't there and may be made. Raises StoreFailed or sqlite3.Error."""
+        self.path = path
+        self.first: Tuple[object, ...] = (carves,)
+        self.rows: List[Tuple[bytes, Values]] = []
+        mode = "rwc" if is_new else "rw"
+        name = "".join(chr(each) if chr(each).isalnum() and each < 128 else f"%{each:02X}" for each in os.fsencode(
+            os.path.abspath(path)))
+        self.connection = sqlite3.connect(f"file:/{name}?mode={mode}", uri=True, timeout=60, isolation_level=None)
+        try:
+            self._look(is_new)
+        except sqlite3.DatabaseError as error:
+            self.connection.close()
+            if isinstance(error, sqlite3.OperationalError):
+                raise
+            raise StoreFailed(path, FOREIGN) from None
+        except BaseException:
+            self.connection.close()
+            raise
+
+    def _look(self, is_new: bool) -> None:
+        ask = self.connection.execute
+        ask("PRAGMA trusted_schema = OFF")
+        if is_new and not ask("SELECT 1 FROM sqlite_master LIMIT 1").fetchone():
+            self.connection.executescript(f"BEGIN IMMEDIATE; PRAGMA application_id = {APPLICATION}; "
+                                          f"PRAGMA user_version = {FORM}; {'; '.join(TABLES)}; COMMIT;")
+        known = [ask(f"PRAGMA {name}").fetchone()[0] for name in ("application_id", "user_version")]
+        some = [sql for sql, in ask("SELECT sql FROM sqlite_master WHERE sql IS NOT NULL")]
+        if known != [APPLICATION, FORM] or some != [*TABLES]:
+            raise StoreFailed(self.path, FOREIGN)
+
+    def take(self, answers: Sequence[Answered]) -> None:
+        """Takes what workers found."""
+        self.rows += [(each.own, each.values) for each in answers if each.values is not None]
+
+    def write(self) -> None:
+        """Writes what was taken, and waits until it is on the disk."""
+        self.put(self.rows)
+        self.rows = []
+
+    def put(self, rows: Iterable[Tuple[bytes, Values]]) -> None:
+        """Writes pages by their hashes."""
+        some = [(own, *values) for own, values in rows]
+        if some:
+            self.connection.execute("BEGIN IMMEDIATE")
+            self.connection.executemany(WRITE, some)
+            self.connection.execute("COMMIT")
+
+    def of(self, own: bytes) -> Optional[KeptPage]:
+        """What is kept of the page with this hash. Raises StoreFailed where that isn't what was written."""
+        row = self.connection.execute(READ, (own,)).fetchone()
+        if row is None:
+            return None
+        data, places, canon, cure, copy, copied, parts, carved, cut = row
+        try:
+            return KeptPage(_unpacked(data), _unpacked(places), _unpacked(canon),
+                            None if cure is None else json.loads(cure), _unpacked(copy), _unpacked(copied),
+                            _parts(parts), _parts(carved), _unpacked(cut))
+        except (ValueError, TypeError, IndexError, zlib.error, RecursionError):
+            raise StoreFailed(self.path, f"what it has of the page {shown(own.hex())} can't be read") from None
+
+    def close(self) -> None:
+        """Closes it."""
+        self.connection.close()
