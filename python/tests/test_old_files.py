@@ -7,7 +7,7 @@ from collections import Counter
 
 import pytest
 
-from conftest import COMMAND, TOP, file
+from conftest import COMMAND, file
 from naplps.answers import Accepted
 from naplps.client import Client
 from naplps.treating.borders import pieces
@@ -334,11 +334,36 @@ def test_the_report_counts_what_was_put_in(files, checked, naplps, store, tmp_pa
     assert {reason: number for reason, number in told.items() if number} == readable
 
 
-def test_the_walk_of_the_documents(files, naplps, tmp_path):
-    """Each block of the walk from a box of disks, in its order, on a small box; and what it leaves."""
-    with open(os.path.join(TOP, "docs", "COLLECTIONS.md"), encoding="utf-8") as document:
-        blocks = dict(re.findall(r"<!-- box: (\w+) -->\n```sh\n(.*?)```", document.read(), re.DOTALL))
-    assert list(blocks) == ["scan", "reasons", "captures", "treated", "groups", "report"]
+# The way from a box of disks by single commands.
+WALK = {
+    "scan": (
+        "naplps-pages scan box --into box.db --cures\n"
+        "naplps-pages status box.db\n"
+    ),
+    "reasons": (
+        "naplps-pages refused box.db > ../refused.txt\n"
+        "naplps-pages refused box.db --reason SDC\n"
+        "naplps-pages census box.db\n"
+    ),
+    "captures": (
+        "naplps-pages files box.db --kind capture > ../captures.txt\n"
+        "naplps-pages split box.db --into pages > ../split.txt || true\n"
+        "naplps-pages scan box pages --into box.db\n"
+    ),
+    "treated": (
+        "naplps-pages cures box.db --into ../treated > ../cures.txt || true\n"
+        "naplps-pages look box.db --into ../pictures 2> ../looks.txt || true\n"
+    ),
+    "groups": (
+        "naplps-pages equal box.db --treated\n"
+        "naplps-pages equal box.db --guesses --csv > ../equal.csv\n"
+    ),
+    "report": "naplps-pages report box.db --into ../box.html\n",
+}
+
+
+def test_the_walk_by_single_commands(files, naplps, tmp_path):
+    """Each command of the walk from a box of disks, in its order, on a small box; and what it leaves."""
     room, some = tmp_path / "room", list(files.values())[::12]
     some += [next(each for each in files.values() if each.sort == sort) for sort in ("tape", "wide")]
     sources = {each.data: each for each in files.values() if each.sort == "picture"}
@@ -352,7 +377,7 @@ def test_the_walk_of_the_documents(files, naplps, tmp_path):
     (tmp_path / "bin" / "naplps-pages").symlink_to(COMMAND)
     env = dict(os.environ, NAPLPS=naplps, PATH=f"{tmp_path / 'bin'}{os.pathsep}{os.environ['PATH']}")
     said = {}
-    for name, words in blocks.items():
+    for name, words in WALK.items():
         done = subprocess.run(["sh", "-ec", words], cwd=room / "work", env=env, capture_output=True, text=True)
         assert done.returncode == 0 and "Traceback" not in done.stderr, (name, done)
         said[name] = done.stdout
