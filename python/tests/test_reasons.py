@@ -117,4 +117,4 @@ def test_the_report_has_the_text_of_the_code(run, store, tmp_path):
     assert run(["report", store, "--into", made]).returncode == 0
     with open(made, encoding="utf-8") as report:
         html = report.read()
-    assert "To CP/M and MS-DOS it is the mark that a file ends" in html and "The profile leaves" not in html
+    assert "CP/M and MS-DOS end a file with it" in html and "The profile leaves" not in html

@@ -144,7 +144,7 @@ def test_what_is_held_of_pages(made):
     assert all(each.startswith("<svg") for each in block["sketch"])
     assert block["lines"][at[1]] == "POINT 4194304,4194304 pel=0,0 colour=own-start"
     assert table["answers"] == ["accepted", "10 Outside"] and table["numbers"] == [0, 10]
-    assert table["refusals"]["10"]["means"].startswith("A point of the picture code isn't in the square")
+    assert table["refusals"]["10"]["means"].startswith("A point of the picture code isn't on the unit screen")
     assert [group[1:] for group in table["groups"]] == [[2, 2, 1, 12]]
 
 

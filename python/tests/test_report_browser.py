@@ -159,7 +159,7 @@ def test_reasons(page):
     page.run(CLICK % (".chart button", "10 Outside"))
     page.until(TOLD % "files" + " === '1 to 1 of 1 file'")
     text = details(page, "refused/outside.nap")
-    assert "A point of the picture code isn't in the square" in text and "Place of the refusal\n3" in text
+    assert "A point of the picture code isn't on the unit screen" in text and "Place of the refusal\n3" in text
     assert "What to do" in text and page.run("document.activeElement.id") == "details-title"
 
 
