@@ -1,18 +1,44 @@
 """The command box: what it makes is what the single commands make of the same files, in one run that opens each file
-once, whatever ends it."""
+once, whatever ends it.
+
+KILLED names how often a run is ended at a moment by chance.
+"""
 import csv
 import hashlib
 import io
 import json
 import os
 import re
+import resource
+import signal
 import subprocess
+from collections import Counter
+from random import Random
 
 import pytest
 
 from conftest import COMMAND, file
 from mixed_box import write
-from scans import every_table
+from samples import POINT, SPELLED, has
+from scans import every_table, start, tree, wait_until
+
+KILLED = int(os.environ.get("KILLED", "6"))
+needs_strace = pytest.mark.skipif(not has("strace"), reason="there is no strace")
+# The program, which writes down what it is asked.
+LOGS = """
+import hashlib, subprocess
+real = {!r}
+if sys.argv[1:] != ["batch"]:
+    os.execv(real, [real, *sys.argv[1:]])
+child = subprocess.Popen([real, "batch"], stdin=subprocess.PIPE)
+log = os.open({!r}, os.O_WRONLY | os.O_APPEND | os.O_CREAT)
+for line in iter(sys.stdin.buffer.readline, b""):
+    call, _, length = line.split()
+    page = sys.stdin.buffer.read(int(length))
+    os.write(log, b"%s %s\n" % (call, hashlib.sha256(page).hexdigest().encode()))
+    child.stdin.write(line + page)
+    child.stdin.flush()
+"""
 
 # The files of a box, and those that are the same bytes whenever it is made.
 FILES = {"box.db", "box.json", "pages.db", "index.html", "files.csv", "cut.csv"}
@@ -37,6 +63,12 @@ def place(mixed, naplps, tmp_path_factory):
                          env=dict(os.environ, NAPLPS=naplps))
     assert (ran.returncode, ran.stderr) == (0, b""), ran
     return made, ran.stdout.decode()
+
+
+def byte_of(escape):
+    """The byte that strace shows so."""
+    digits = escape[1]
+    return bytes([int(digits[1:], 16) if digits.startswith(b"x") else int(digits, 8)])
 
 
 def files_in(folder):
@@ -174,3 +206,181 @@ def test_a_folder_that_is_no_box_stays_as_it_is(run, mixed, tmp_path):
     ran = run(["box", mixed, "--into", str(other)])
     assert ran.returncode == 3 and b"isn't empty, and is no box of this tool: it has letter.txt" in ran.stderr
     assert files_in(other) == {b"letter.txt": b"mine"}
+
+
+def test_a_file_of_somebody_else_in_place_of_one_of_its_own_stays(run, tmp_path):
+    disks, place = tmp_path / "disks", tmp_path / "box"
+    tree(disks, {"a.nap": POINT, "sick.nap": POINT + b"\x1a"})
+    assert run(["box", str(disks), "--into", str(place)]).returncode == 0
+    for name in ("files.csv", "readable/sick.nap"):
+        (place / name).write_bytes(b"mine")
+    tree(disks, {"b.nap": SPELLED})
+    ran = run(["box", str(disks), "--into", str(place)])
+    assert ran.returncode == 1 and ran.stderr.decode().splitlines() == [
+        f"naplps-pages: {place}/{name}: isn't as the box made it, and isn't written over: move it away, and the same "
+        "command makes it anew" for name in ("readable/sick.nap", "files.csv")]
+    assert (place / "files.csv").read_bytes() == (place / "readable/sick.nap").read_bytes() == b"mine"
+    for name in ("files.csv", "readable/sick.nap"):
+        os.unlink(place / name)
+    assert run(["box", str(disks), "--into", str(place)]).returncode == 0
+    assert len(rows_of((place / "files.csv").read_bytes())) == 3
+    assert (place / "readable" / "sick.nap").read_bytes() == POINT
+
+
+def test_a_copy_of_a_file_that_changed_is_made_anew(run, tmp_path):
+    disks, place = tmp_path / "disks", tmp_path / "box"
+    tree(disks, {"sick.nap": POINT + b"\x1a"})
+    assert run(["box", str(disks), "--into", str(place)]).returncode == 0
+    tree(disks, {"sick.nap": SPELLED + b"\x1a\x1a"})
+    assert run(["box", str(disks), "--into", str(place)]).stderr == b""
+    assert (place / "readable" / "sick.nap").read_bytes() == SPELLED
+    note = json.loads((place / "readable" / "sick.nap.json").read_bytes())
+    assert note["source"]["sha256"] == hashlib.sha256(SPELLED + b"\x1a\x1a").hexdigest()
+
+
+@pytest.mark.parametrize("into", ["", ".", "below", "below/deeper", "link/box"])
+def test_a_place_within_what_is_searched_is_refused(run, tmp_path, into):
+    disks = tmp_path / "disks"
+    tree(disks, {"a.nap": POINT, "below/b.nap": POINT})
+    (tmp_path / "link").symlink_to(disks / "below")
+    place = str(tmp_path / into) if into.startswith("link") else os.path.join(str(disks), into)
+    ran = run(["box", str(disks), "--into", place])
+    assert ran.returncode == 3 and f"stands in {disks}, of which it would be the box" in ran.stderr.decode()
+    assert set(files_in(disks)) == {b"a.nap", b"below/b.nap"}
+
+
+def test_a_folder_within_the_place_is_refused(run, tmp_path):
+    tree(tmp_path / "box", {"disks/a.nap": POINT})
+    ran = run(["box", str(tmp_path / "box" / "disks"), "--into", str(tmp_path / "box")])
+    assert ran.returncode == 3 and b"a box has a folder of its own" in ran.stderr
+    assert set(files_in(tmp_path / "box")) == {b"disks/a.nap"}
+
+
+def test_what_is_foreign_in_a_box_is_refused_before_anything_is_written(run, tmp_path):
+    disks, place = tmp_path / "disks", tmp_path / "box"
+    tree(disks, {"a.nap": POINT})
+    tree(tmp_path, {"mine/letter": b"mine"})
+    assert run(["box", str(disks), "--into", str(place)]).returncode == 0
+    tree(disks, {"b.nap": SPELLED, "sick.nap": POINT + b"\x1a"})
+    before = files_in(place)
+
+    def refused(name, why):
+        ran = run(["box", str(disks), "--into", str(place)])
+        assert ran.returncode == 3 and f"{place}/{name}: {why}" in ran.stderr.decode(), ran
+    os.symlink(tmp_path / "mine", place / "readable")
+    refused("readable", "isn't a folder of the box, which has one of that name; move it away")
+    os.unlink(place / "readable")
+    for name in ("box.db", "pages.db", "index.html"):
+        os.rename(place / name, tmp_path / "kept")
+        os.symlink(tmp_path / "mine" / "letter", place / name)
+        refused(name, "isn't a file of the box, which has one of that name; move it away")
+        os.replace(tmp_path / "kept", place / name)
+    os.rename(place / "box.json", tmp_path / "kept")
+    for marker in (b"", b"{}", b"[1]", b"{" * 5000, b'{"what": "a box", "folders": []}', b"\xff"):
+        (place / "box.json").write_bytes(marker)
+        refused("box.json", "isn't the marker of a box of this tool")
+    os.replace(tmp_path / "kept", place / "box.json")
+    assert files_in(place) == before and files_in(tmp_path / "mine") == {b"letter": b"mine"}
+    assert run(["box", str(disks), "--into", str(place)]).returncode == 0
+
+
+def test_a_box_of_other_folders_is_refused(run, tmp_path):
+    for name in ("one", "other"):
+        tree(tmp_path / name, {"a.nap": POINT})
+    place = tmp_path / "box"
+    assert run(["box", str(tmp_path / "one"), "--into", str(place)]).returncode == 0
+    before = files_in(place)
+    ran = run(["box", str(tmp_path / "other"), "--into", str(place)])
+    assert ran.returncode == 3 and f"is the box of {tmp_path}/one" in ran.stderr.decode()
+    assert files_in(place) == before
+
+
+def test_folders_that_are_not_there_leave_nothing(run, tmp_path):
+    ran = run(["box", str(tmp_path / "none"), "--into", str(tmp_path / "box")])
+    assert ran.returncode == 1 and b"No such file or directory" in ran.stderr
+    assert not (tmp_path / "box").exists()
+
+
+def test_two_at_once(naplps, run, fake, tmp_path):
+    disks, place, go = tmp_path / "disks", tmp_path / "box", tmp_path / "go"
+    tree(disks, {f"{number}.nap": b"page %d" % number for number in range(20)})
+    waits = f"while not os.path.exists({str(go)!r}): time.sleep(0.01)\nos.execv({naplps!r}, [{naplps!r}, *sys.argv[1:]])"
+    first = start(["box", str(disks), "--into", str(place), "--seconds", "900"], fake(waits))
+    wait_until(lambda: (place / "box.lock").exists() and (place / "box.lock").read_bytes(), first)
+    ran = run(["box", str(disks), "--into", str(place)])
+    assert ran.returncode == 3
+    assert f"another run is at work on it: process {first.pid}" in ran.stderr.decode()
+    go.touch()
+    assert first.wait() == 0, first.communicate()
+    assert (place / "index.html").exists() and not (place / "box.lock").exists()
+
+
+def test_killed_at_any_moment_it_continues_to_the_same_folder(naplps, mixed, place, tmp_path):
+    """Ends a run at moments by chance, again and again, until it comes to its end; KILLED names how many times."""
+    chance, again = Random(7), str(tmp_path / "box")
+    ends = [signal.SIGKILL, signal.SIGTERM, signal.SIGINT, signal.SIGKILL]
+    for number in range(KILLED):
+        process = start(["box", mixed, "--into", again], naplps)
+        try:
+            process.wait(chance.uniform(0.2, 1.5 + number / 2))
+        except subprocess.TimeoutExpired:
+            process.send_signal(ends[number % len(ends)])
+        process.communicate()
+    process = start(["box", mixed, "--into", again], naplps)
+    told, complaint = process.communicate()
+    assert (process.returncode, complaint) == (0, b"")
+    assert told.decode().replace(again, place[0]) == place[1]
+    assert tables_of(again) == tables_of(place[0])
+    assert sorted(os.listdir(again)) == sorted(FILES | set(FOLDERS))
+
+
+def test_a_full_disk_gets_a_message_and_loses_nothing(run, mixed, place, small_disk):
+    into = os.path.join(small_disk, "box")
+    ran = run(["box", mixed, "--into", into])
+    assert ran.returncode == 3 and re.search(b"No space left on device|database or disk is full", ran.stderr), ran
+    subprocess.run(["mount", "-o", "remount,size=200m", small_disk], check=True)
+    ran = run(["box", mixed, "--into", into])
+    assert (ran.returncode, ran.stderr) == (0, b"")
+    assert tables_of(into) == tables_of(place[0])
+
+
+@pytest.mark.parametrize("most", [4096, 100_000, 400_000])
+def test_files_that_may_not_become_long_get_a_message_and_lose_nothing(naplps, run, mixed, place, tmp_path, most):
+    into = str(tmp_path / "box")
+    ran = subprocess.run([COMMAND, "box", mixed, "--into", into], capture_output=True,
+                         env=dict(os.environ, NAPLPS=naplps),
+                         preexec_fn=lambda: resource.setrlimit(resource.RLIMIT_FSIZE, (most, most)))
+    assert ran.returncode == 3 and ran.stderr.count(b"\n") == 1 and b"the tool itself failed" not in ran.stderr, ran
+    ran = run(["box", mixed, "--into", into])
+    assert (ran.returncode, ran.stderr) == (0, b"")
+    assert tables_of(into) == tables_of(place[0])
+
+
+def test_each_file_is_opened_once_and_each_page_is_asked_about_once(naplps, fake, mixed, tmp_path):
+    log = str(tmp_path / "log")
+    program = fake(LOGS.format(naplps, log))
+    into = str(tmp_path / "box")
+    process = start(["box", mixed, "--into", into, "--processes", "3"], program)
+    assert process.communicate()[1] == b""
+    with open(log, encoding="ascii") as asked:
+        counts = Counter(asked.read().splitlines())
+    of_pages = {row["hash"] for row in rows_of(files_in(into)[b"files.csv"])} - {hashlib.sha256(b"").hexdigest()}
+    canon = {line.split()[1]: number for line, number in counts.items() if line.startswith("canon ")}
+    assert of_pages <= set(canon) and max(number for own, number in canon.items() if own in of_pages) == 1
+    assert not any(line.startswith("list ") for line in counts)
+
+
+@needs_strace
+def test_no_file_is_opened_twice(naplps, mixed, tmp_path):
+    trace = str(tmp_path / "trace")
+    subprocess.run(["strace", "-f", "-e", "trace=openat", "-y", "-s", "4096", "-o", trace, COMMAND, "box", mixed,
+                    "--into", str(tmp_path / "box"), "--processes", "2"], check=True, capture_output=True,
+                   env=dict(os.environ, NAPLPS=naplps))
+    opened = Counter()
+    with open(trace, "rb") as lines:
+        for line in lines:
+            found = re.search(rb"= \d+<(/.*)>$", line.rstrip())
+            if found:
+                opened[re.sub(rb"\\([0-7]{3}|x[0-9a-f]{2})", byte_of, found[1])] += 1
+    files = [os.path.join(os.fsencode(mixed), name) for name in files_in(mixed)]
+    assert len(files) > 100 and {opened[path] for path in files} == {1}

@@ -8,8 +8,8 @@ from naplps.treating.changes import digest
 
 from ..listing import LIST, PLACES
 
-# The number of bytes of answers that are known at once.
-MOST_KNOWN = 64 << 20
+# The number of answers that are known at once, and of bytes of these.
+MOST_KNOWN, MOST_BYTES = 100_000, 64 << 20
 PLACE = re.compile(rb"(?m)^[0-9]+ ")
 
 
@@ -34,7 +34,7 @@ class AskedOnce:
         if key not in self.known:
             answer = self.program.ask(call, data)
             self.held += len(getattr(answer, "body", b""))
-            if self.held > MOST_KNOWN:
+            if self.held > MOST_BYTES or len(self.known) >= MOST_KNOWN:
                 self.forget()
                 return answer
             self.known[key] = answer

@@ -20,6 +20,7 @@ from ..page_finder import CarvedPage, all_pages
 from ..report.limits import HELD_PLAYER
 from ..splitting import MOST_PAGES, has_a_page, parts_of
 from .asked_once import AskedOnce
+from .claims import Claims
 from .kept_pages import KeptPage, KeptPart
 
 # A longer canonical stream isn't kept; and no more bytes of a page behind the one that it is refused at.
@@ -31,9 +32,10 @@ MOST_PLAYED = HELD_PLAYER * 3 // 4
 class BoxWorker(Worker):
     """Turns chunks into rows that have what is kept of each page too."""
 
-    def __init__(self, how: WorkerOptions, knows: Knows, beat: Callable[[], None], carves: bool) -> None:
+    def __init__(self, how: WorkerOptions, knows: Knows, beat: Callable[[], None], carves: bool,
+                 claims: Optional[Claims] = None) -> None:
         super().__init__(how, knows, beat)
-        self.carves = carves
+        self.carves, self.claims = carves, claims
         self.keeps, self.has_more = MOST_CANON, True
         self.once = AskedOnce(self.program, beat)
         self.streams: Dict[bytes, bytes] = {}
@@ -43,8 +45,12 @@ class BoxWorker(Worker):
         try:
             return super()._answered(window)
         finally:
-            self.once.forget()
             self.streams.clear()
+
+    def _unknown(self, window: List[Seen]) -> Dict[bytes, bytes]:
+        some = super()._unknown(window)
+        mine = self.claims.taken(list(some)) if self.claims and some else some
+        return {own: data for own, data in some.items() if own in mine}
 
     def answered(self, window: List[Seen]) -> Piece:
         """The rows of files that were read."""
@@ -128,5 +134,5 @@ def main(descriptor: int) -> None:
 
 
 def _worker(first: Sequence[Any], beat: Callable[[], None]) -> PieceMaker:
-    how, store, terms, run, carves = first
-    return BoxWorker(how, KnownHashes(store, terms, run, how.wanted), beat, carves)
+    how, store, terms, run, carves, claims = first
+    return BoxWorker(how, KnownHashes(store, terms, run, how.wanted), beat, carves, Claims(claims) if claims else None)

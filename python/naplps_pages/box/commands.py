@@ -1,6 +1,7 @@
 """The command box, as it was asked for on the command line."""
 import argparse
 import gc
+import hashlib
 import os
 import sqlite3
 import sys
@@ -9,6 +10,7 @@ from typing import List, Optional
 from naplps.faults import NoProgram
 from naplps.names import shown
 from naplps.program import find
+from naplps.version import VERSION
 
 from ..collection import every_file, tables
 from ..collection.every_file import FileFacts
@@ -32,9 +34,10 @@ from ..report.sketch_workers import OBJECTS
 from ..unexpected import told
 from . import summary
 from .box_worker import BoxWorker
+from .claims import Claims
 from .kept_pages import KeptPage, KeptPages
 from .making import BoxFiles, How
-from .folder import KEPT, REPORT, STORE, BoxFolder
+from .folder import CLAIMS, KEPT, REPORT, STORE, BoxFolder
 from .put_files import PutFiles
 
 Given = argparse.Namespace
@@ -78,7 +81,8 @@ class BoxRun:
         wanted = AskAgain(again=is_lost, cures=not given.no_cures, words=not given.no_words)
         self.how = how._replace(wanted=wanted)
         self.processes = given.processes or processors()
-        self.kept = KeptPages(place.of(KEPT), carves=not given.no_carve, is_new=True)
+        Claims(place.of(CLAIMS), is_new=True)
+        self.kept = KeptPages(place.of(KEPT), not given.no_carve, place.of(CLAIMS), is_new=True)
         self.status = COMPLETE
         self.worker: Optional[BoxWorker] = None
 
@@ -94,6 +98,7 @@ class BoxRun:
                 lines = self._made(found)
             stopping.act()
         finally:
+            os.unlink(self.place.of(CLAIMS))
             if self.worker:
                 self.worker.close()
             self.kept.close()
@@ -104,15 +109,19 @@ class BoxRun:
         return self.status
 
     def _made(self, found: ScanRun) -> List[str]:
-        """Makes the files; the lines that tell of them."""
+        """Makes the files, and the report where it would show anything else; the lines that tell of all."""
         connection = open_to_read(self.place.of(STORE))
         version, = connection.execute("SELECT version FROM terms WHERE id = ?", (found.writer.terms,)).fetchone()
-        files = BoxFiles(PutFiles(self.place, self.kept.connection, self._complain), How(version, self.how.budget),
-                         Names(connection), self._find, self._complain)
+        put = PutFiles(self.place, self.kept.connection, self._complain)
+        files = BoxFiles(put, How(version, self.how.budget), Names(connection), self._find, self._complain)
         files.make(every_file.load(connection, None, None))
         connection.execute("DROP TABLE temp.kept")
-        self._report()
         it = status(connection, self.place.of(STORE))
+        shown_by = hashlib.sha256(repr((VERSION, version, it.roots, it.tally.left)).encode("ascii", "backslashreplace"))
+        shown_by.update(files.table.getvalue())
+        if not put.has_shown(REPORT, shown_by.digest()):
+            self._report()
+            put.show(REPORT, shown_by.digest())
         return summary.lines(self.place, connection, it, files.totals, len(groups.load(connection)))
 
     def _report(self) -> None:

@@ -26,7 +26,8 @@ LOCKED = "box"
 LOCK = LOCKED + ".lock"
 WHAT = f"a box: what {TOOL} found in these folders; the same command goes on in it"
 MOST_MARKER = 1 << 20
-# A file that isn't whole, of a run that was killed.
+# That of which worker asks about which page; and files that aren't whole, of a run that was killed.
+CLAIMS = ".naplps-claiming"
 UNFINISHED = re.compile(r"\.naplps-[a-z0-9_]{8}")
 WITHIN = "stands in %s, of which it would be the box"
 AROUND = "%s stands in it: a box has a folder of its own"

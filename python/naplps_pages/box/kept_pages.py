@@ -94,10 +94,11 @@ class KeptPages:
 
     module = "naplps_pages.box.box_worker"
 
-    def __init__(self, path: str, carves: bool = False, is_new: bool = False) -> None:
+    def __init__(self, path: str, carves: bool = False, claims: str = "", is_new: bool = False) -> None:
         """Opens it, and makes it where it isn't there and may be made. Raises StoreFailed or sqlite3.Error."""
         self.path = path
-        self.first: Tuple[object, ...] = (carves,)
+        self.first: Tuple[object, ...] = (carves, claims)
+        self.anew: Tuple[object, ...] = (carves, "")
         self.rows: List[Tuple[bytes, Values]] = []
         mode = "rwc" if is_new else "rw"
         name = "".join(chr(each) if chr(each).isalnum() and each < 128 else f"%{each:02X}" for each in os.fsencode(

@@ -49,14 +49,19 @@ class PutFiles:
         self.waiting, self.length = [], 0
         known = {path: self._hashes(path) for path in some}
         new = {path: hashlib.sha256(data).digest() for path, data in some.items()}
-        rows = [(os.fsencode(path), own) for path, own in new.items() if own not in known[path]]
-        if rows:
-            self.connection.execute("BEGIN IMMEDIATE")
-            self.connection.executemany("INSERT OR IGNORE INTO made(path, hash) VALUES(?, ?)", rows)
-            self.connection.execute("COMMIT")
+        self._note({path: own for path, own in new.items() if own not in known[path]})
         for path, data in some.items():
             self._put(path, data, new[path], known[path])
         self._forget({path: own for path, own in new.items() if known[path] - {own} and path not in self.lost})
+
+    def has_shown(self, path: str, own: bytes) -> bool:
+        """Whether the file at a path is there, and was made of what has this hash."""
+        return os.path.isfile(self.place.of(path)) and own in self._hashes(path)
+
+    def show(self, path: str, own: bytes) -> None:
+        """Notes of what the file at a path was made."""
+        self._note({path: own})
+        self._forget({path: own})
 
     def _hashes(self, path: str) -> Set[bytes]:
         """What the runs before made there."""
@@ -76,6 +81,14 @@ class PutFiles:
         else:
             self.lost.add(path)
             self.complain(whole, CHANGED)
+
+    def _note(self, new: Dict[str, bytes]) -> None:
+        """Notes what will stand where."""
+        if new:
+            self.connection.execute("BEGIN IMMEDIATE")
+            self.connection.executemany("INSERT OR IGNORE INTO made(path, hash) VALUES(?, ?)", (
+                (os.fsencode(path), own) for path, own in new.items()))
+            self.connection.execute("COMMIT")
 
     def _forget(self, new: Dict[str, bytes]) -> None:
         """Forgets what stood there before, once it doesn't any more."""

@@ -8,7 +8,7 @@ import sys
 from collections import Counter
 from dataclasses import dataclass, replace
 from typing import Counter as Counts
-from typing import Iterator, List, Optional, Protocol, Sequence, Tuple, Union
+from typing import Dict, Iterator, List, Optional, Protocol, Sequence, Tuple, Union
 
 from naplps.answers import Unanswered
 from naplps.client import Client
@@ -33,7 +33,7 @@ from .pack_state import MOST_BROKEN, broken
 from .pool import MAIN, NoWorkers, Pool
 from .progress import Counting, Progress
 from .remote import alike
-from .rows import Answered, File, Piece
+from .rows import Answered, Chunk, File, FolderFiles, Piece
 from .schemas import INDICES
 from .search import Scope, Search, apart
 from .stopping import Stopping
@@ -56,10 +56,15 @@ EXPECTED = (OSError, sqlite3.Error, NoWorkers, ClusterFailed, StoreFailed)
 
 
 class Beside(Protocol):
-    """Keeps more of each page than a store does: by workers of a module of its own, which are told `first` too."""
+    """Keeps more of each page than a store does: by workers of a module of its own, which are told `first` too.
+
+    Of workers that meet copies at the same time one asks about these. `anew` is told to those that go through files
+    again, of whose page none did, since its worker ended.
+    """
 
     module: str
     first: Tuple[object, ...]
+    anew: Tuple[object, ...]
 
     def take(self, answers: Sequence[Answered]) -> None:
         """Takes what workers found."""
@@ -193,7 +198,7 @@ def _scan(options: ScanOptions, terms: Terms, stopping: Stopping, roots: List[by
         if options.how.wanted.words:
             with stopping.ends(connection):
                 _keep_words(connection, options.store)
-        writer = Writer(connection, os.fsencode(options.how.program), terms)
+        writer = Writer(connection, os.fsencode(options.how.program), terms, options.beside is not None)
         run = ScanRun(options, writer, progress, stopping)
         try:
             run.scan(roots, cluster)
@@ -236,13 +241,30 @@ class ScanRun:
 
     def scan(self, roots: List[bytes], cluster: Optional[Cluster]) -> None:
         """Scans, on processes of this machine if there is no cluster."""
-        first = (self.options.how, self.options.store, self.writer.terms, self.writer.run)
         beside = self.options.beside
-        workers = cluster or Pool(
-            self.options.processes, (*first, *(beside.first if beside else ())),
-            PATIENCE + 2 * self.options.how.seconds, beside.module if beside else MAIN)
+        self._work(cluster or self._pool(beside.first if beside else ()), self.search.chunks(roots))
+        if beside and self.writer.files and self.stopping.number is None:
+            self._work(self._pool(beside.anew), iter(self._waiting()))
         try:
-            for piece in workers.run(self.search.chunks(roots)):
+            with self.stopping.ends(self.writer.connection):
+                if self.stopping.number is None:
+                    self._finish()
+        except sqlite3.OperationalError:
+            if self.stopping.number is None:
+                raise
+        if not self.line:
+            tell(STOPPED)
+
+    def _pool(self, more: Tuple[object, ...]) -> Pool:
+        """Workers of this machine."""
+        first = (self.options.how, self.options.store, self.writer.terms, self.writer.run, *more)
+        module = self.options.beside.module if self.options.beside else MAIN
+        return Pool(self.options.processes, first, PATIENCE + 2 * self.options.how.seconds, module)
+
+    def _work(self, workers: Union[Pool, Cluster], chunks: Iterator[Chunk]) -> None:
+        """Takes what workers find in the files of these chunks, until it is to stop."""
+        try:
+            for piece in workers.run(chunks):
                 self._take(piece)
                 if self.stopping.number is not None:
                     break
@@ -253,15 +275,18 @@ class ScanRun:
             workers.close()
             self.progress.clear()
         self._write()
-        try:
-            with self.stopping.ends(self.writer.connection):
-                if self.stopping.number is None:
-                    self._finish()
-        except sqlite3.OperationalError:
-            if self.stopping.number is None:
-                raise
-        if not self.line:
-            tell(STOPPED)
+
+    def _waiting(self) -> List[Chunk]:
+        """The files that still wait for the answer to their page; of a pack all."""
+        names: Dict[int, List[bytes]] = {}
+        for file in self.writer.files:
+            names.setdefault(file.folder, []).append(file.name)
+        self.writer.files = []
+        chunks: List[Chunk] = []
+        for folder, some in names.items():
+            path, = self.writer.connection.execute("SELECT path FROM folders WHERE id = ?", (folder,)).fetchone()
+            chunks.append((FolderFiles(folder, path, (b"",) if folder in self.writer.packs else tuple(some)),))
+        return chunks
 
     def compare(self) -> None:
         """Makes the values of pages in those tables that are asked for, where the scan came to its end."""

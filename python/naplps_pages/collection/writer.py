@@ -57,8 +57,8 @@ class Terms(NamedTuple):
 class Writer:
     """One run of a scan, as it is written."""
 
-    def __init__(self, connection: sqlite3.Connection, program: bytes, terms: Terms) -> None:
-        self.connection = connection
+    def __init__(self, connection: sqlite3.Connection, program: bytes, terms: Terms, holds: bool = False) -> None:
+        self.connection, self.holds = connection, holds
         self.files: List[File] = []
         self.answers: List[Answered] = []
         self.gone: List[Tuple[int, bytes]] = []
@@ -139,16 +139,18 @@ class Writer:
 
     def write(self) -> None:
         """Writes the step."""
+        held: List[File] = []
         if self.files or self.answers or self.gone:
             self._begin()
             self._pages()
+            held = self._held() if self.holds else []
             self._files()
             self.connection.executemany(
                 f"UPDATE files SET state = {GONE}, why = NULL, run = ? WHERE folder = ? AND name = ?",
                 ((self.run, *each) for each in self.gone))
         if self.connection.in_transaction:
             self.connection.execute("COMMIT")
-        self.files, self.answers, self.gone = [], [], []
+        self.files, self.answers, self.gone = held, [], []
         self.began = time.monotonic()
 
     @property
@@ -184,6 +186,16 @@ class Writer:
         if not names.items() <= self.names.items():
             self.names.update(names)
             self.connection.executemany("INSERT OR REPLACE INTO faults(number, name) VALUES(?, ?)", names.items())
+
+    def _held(self) -> List[File]:
+        """Takes the files out of the step that wait for the answer to their page, and packs of which members wait."""
+        owns = {file.own for file in self.files if file.own is not None}
+        known = {own for own in owns if self.connection.execute("SELECT 1 FROM pages WHERE own = ?", (own,)).fetchone()}
+        folders = {file.folder for file in self.files if file.own is not None and file.own not in known}
+        held = [file for file in self.files if (file.own is not None and file.own not in known) or (
+            not file.name and file.folder in folders)]
+        self.files = [file for file in self.files if file not in held] if held else self.files
+        return held
 
     def _files(self) -> None:
         plain = [file for file in self.files if file.folder not in self.packs] if self.packs else self.files
