@@ -35,7 +35,7 @@ _naplps_pages() {
         near) words='--json --processes --budget --seconds --help' ;;
         diff) words='--html --budget --seconds --help' ;;
         box) words='--into --processes --no-words --no-cures --no-carve --budget --seconds --help' ;;
-        scan) words='--into --processes --on --part --most --again --cures --words --near --pictures --budget --seconds --help' ;;
+        scan) words='--into --processes --on --part --most --again --no-words --no-cures --near --pictures --budget --seconds --help' ;;
         merge) words='--unfinished --help' ;;
         equal) words='--by --processes --copies --treated --guesses --verify --null --json --csv --seconds --help' ;;
         refused) words='--number --reason --null --json --csv --help' ;;

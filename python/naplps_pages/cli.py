@@ -265,12 +265,19 @@ def _scan_options(one: Parser) -> None:
     one.add_argument("--part", metavar="K/N", type=part,
                      help="take only one of N parts of the files, the first of which is 0/N")
     one.add_argument("--again", action="store_true", help="read all files and ask about all pages again")
-    one.add_argument("--cures", action="store_true", help="try treatments of refused pages")
-    one.add_argument("--words", action="store_true", help="keep the text of each page, for `find`")
+    _usual_options(one)
     one.add_argument("--near", action="store_true", help="keep keys of each page, for `near`")
     one.add_argument("--pictures", action="store_true",
                      help="keep the hash of the picture of each page, for `equal --by picture`")
     _asking_options(one)
+
+
+def _usual_options(one: Parser) -> None:
+    """The options that refuse what a new store keeps to, and those that ask one for it that doesn't."""
+    for option, kept in (("words", "keep no text of pages, so that `find` finds none"),
+                         ("cures", "try no treatments of refused pages")):
+        one.add_argument(f"--no-{option}", action="store_true", help=f"{kept}; for a new store")
+        one.add_argument(f"--{option}", action="store_true", help=argparse.SUPPRESS)
 
 
 def _box_options(one: Parser) -> None:
@@ -279,8 +286,7 @@ def _box_options(one: Parser) -> None:
                      help="a folder of files, a pack of them, which is a tar, tar.gz or zip file, or a file")
     one.add_argument("--into", metavar="PLACE", type=name, required=True,
                      help="the folder of all that is found: a new one, or that of a run before")
-    one.add_argument("--no-words", action="store_true", help="keep no text of pages, so that none is found by words")
-    one.add_argument("--no-cures", action="store_true", help="try no treatments of refused pages")
+    _usual_options(one)
     one.add_argument("--no-carve", action="store_true", help="look for no pages inside files of no known kind")
     one.add_argument("--processes", metavar="N", type=partial(whole_number, least=1, most=MOST_PROCESSES),
                      help="how many processes work; by default one for each processor")
@@ -504,6 +510,9 @@ def _given(words: List[str]) -> argparse.Namespace:
             given.parser.error("- stands for standard input, and can be named once")
     if given.command == "equal":
         _check_equal(given)
+    for option in ("words", "cures") if given.command in ("scan", "box") else ():
+        if getattr(given, option) and getattr(given, f"no_{option}"):
+            given.parser.error(f"--{option} and --no-{option} exclude each other")
     return given
 
 

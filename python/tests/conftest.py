@@ -30,6 +30,21 @@ for number in (signal.SIGINT, signal.SIGTERM, signal.SIGHUP):
     if signal.getsignal(number) == signal.SIG_IGN:
         signal.signal(number, lambda *_: None)
 
+OPTIONS = ("words", "cures")
+
+
+def bare(words: List[str], cwd: Optional[str] = None) -> List[str]:
+    """The words; a scan into a new store gets what they ask for and nothing else, in place of what is usual.
+
+    So a test sees the questions and the rows that it is about. test_usual.py has what is usual.
+    """
+    if words[:1] != ["scan"] or "--into" not in words[:-1]:
+        return words
+    if os.path.lexists(os.path.join(cwd or "", words[words.index("--into") + 1])):
+        return words
+    return [*words, *(f"--no-{each}" for each in OPTIONS if f"--{each}" not in words and f"--no-{each}" not in words)]
+
+
 Run = Callable[..., "subprocess.CompletedProcess[bytes]"]
 
 
@@ -48,7 +63,7 @@ def run(naplps: str) -> Run:
     def runs(words: List[str], stdin: bytes = b"", program: Optional[str] = None, cwd: Optional[str] = None,
              env: Optional[Dict[str, str]] = None) -> "subprocess.CompletedProcess[bytes]":
         where = dict(os.environ, NAPLPS=program or naplps, PYTHONDONTWRITEBYTECODE="1", **(env or {}))
-        return subprocess.run([COMMAND, *words], input=stdin, capture_output=True, cwd=cwd, env=where, timeout=900)
+        return subprocess.run([COMMAND, *bare(words, cwd)], input=stdin, capture_output=True, cwd=cwd, env=where, timeout=900)
     return runs
 
 
@@ -86,7 +101,7 @@ def run_as_nobody(naplps: str, tmp_path: pathlib.Path) -> Run:
     where = dict(os.environ, NAPLPS=str(program))
 
     def runs(*words: str, cwd: Optional[str] = None) -> "subprocess.CompletedProcess[bytes]":
-        return subprocess.run([str(copy / "naplps-pages"), *words], capture_output=True, cwd=cwd, env=where,
+        return subprocess.run([str(copy / "naplps-pages"), *bare([*words], cwd)], capture_output=True, cwd=cwd, env=where,
                               user=NOBODY, group=NOBODY, extra_groups=[])
     return runs
 

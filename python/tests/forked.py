@@ -8,7 +8,7 @@ import sys
 import time
 import traceback
 
-from conftest import COMMAND
+from conftest import COMMAND, bare
 from naplps_pages.__main__ import run
 
 Said = collections.namedtuple("Said", "status out err")
@@ -63,7 +63,7 @@ def _be(words, folder, program, out, err):
         sys.stderr = io.TextIOWrapper(open(2, "wb", closefd=False), "utf-8", errors="backslashreplace")
         os.chdir(folder)
         os.environ["NAPLPS"] = program
-        sys.argv = [COMMAND, *words]
+        sys.argv = [COMMAND, *bare([*words])]
         run(COMMAND)
     except SystemExit as end:
         status = end.code or 0

@@ -7,7 +7,7 @@ import subprocess
 import time
 from typing import NamedTuple, Optional
 
-from conftest import COMMAND
+from conftest import COMMAND, bare
 from naplps_pages.collection import schemas, tables
 from naplps_pages.collection.part import keep_part, read_part
 from naplps_pages.collection.rows import Answered, File
@@ -184,7 +184,7 @@ def is_sound(store):
 
 def start(words, program, **more):
     """A command that is at work."""
-    return subprocess.Popen([COMMAND, *words], env=dict(os.environ, NAPLPS=program, PYTHONDONTWRITEBYTECODE="1"),
+    return subprocess.Popen([COMMAND, *bare(words, more.get("cwd"))], env=dict(os.environ, NAPLPS=program, PYTHONDONTWRITEBYTECODE="1"),
                             stdout=subprocess.PIPE, stderr=subprocess.PIPE, **more)
 
 

@@ -25,7 +25,7 @@ PARTS: Dict[str, Part] = {
     ),
     "collections": Part(
         "scans of folders, what is printed of their store, the documents and completions of that",
-        ("pipelined", "walk", "scan", "collection_tables", "collection_documents", "schemas", "equal_treated",
+        ("pipelined", "walk", "scan", "usual", "collection_tables", "collection_documents", "schemas", "equal_treated",
          "store_files", "files", "near", "equal_pictures"),
     ),
     "commands": Part(

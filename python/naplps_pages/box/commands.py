@@ -16,6 +16,7 @@ from ..collection import every_file, tables
 from ..collection.every_file import FileFacts
 from ..collection.file_reader import Seen
 from ..collection.folders import absolute
+from ..collection.kept_options import refused_by
 from ..collection.page_reader import Otherwise, read
 from ..collection.pool import processors
 from ..collection.rows import AskAgain, File
@@ -78,7 +79,7 @@ class BoxRun:
     def __init__(self, place: BoxFolder, how: WorkerOptions, given: Given) -> None:
         self.place, self.given = place, given
         is_lost = os.path.lexists(place.of(STORE)) and not os.path.lexists(place.of(KEPT))
-        wanted = AskAgain(again=is_lost, cures=not given.no_cures, words=not given.no_words)
+        wanted = AskAgain(again=is_lost, cures=given.cures, words=given.words)
         self.how = how._replace(wanted=wanted)
         self.processes = given.processes or processors()
         Claims(place.of(CLAIMS), is_new=True)
@@ -90,7 +91,7 @@ class BoxRun:
         """Scans, makes the files, and prints what all came to; the status."""
         try:
             found = scanned(ScanOptions(list(self.given.folders), self.place.of(STORE), self.processes, self.how,
-                                        beside=self.kept))
+                                        beside=self.kept, refused=refused_by(self.given)))
             if isinstance(found, int):
                 return found
             self.status = found.status

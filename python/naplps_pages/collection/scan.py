@@ -8,7 +8,7 @@ import sys
 from collections import Counter
 from dataclasses import dataclass, replace
 from typing import Counter as Counts
-from typing import Dict, Iterator, List, Optional, Protocol, Sequence, Tuple, Union
+from typing import Dict, FrozenSet, Iterator, List, Optional, Protocol, Sequence, Tuple, Union
 
 from naplps.answers import Unanswered
 from naplps.client import Client
@@ -26,7 +26,7 @@ from .canon_tables import CANON_TABLES
 from .cluster import MOST_FILES, MOST_NAMES, Cluster, ClusterFailed
 from .counts import counted
 from .folders import absolute, is_gone, join, reason
-from .kept_options import keep
+from .kept_options import KEEPS_TO, keep
 from .lock import Busy, Lock
 from .part import Part, keep_part
 from .pack_state import MOST_BROKEN, broken
@@ -84,6 +84,8 @@ class ScanOptions:
     part: Optional[Part] = None
     on: Optional[str] = None
     beside: Optional[Beside] = None
+    # (the options that a new store doesn't get; where nothing is said of that, it gets those alone that are asked for)
+    refused: Optional[FrozenSet[str]] = None
 
 
 def terms_of(how: WorkerOptions) -> Terms:
@@ -183,7 +185,11 @@ def _scan(options: ScanOptions, terms: Terms, stopping: Stopping, roots: List[by
     connection = open_to_write(options.store)
     try:
         keep_part(connection, options.store, options.part, roots)
-        options = replace(options, how=options.how._replace(wanted=keep(connection, options.how.wanted)))
+        wanted = keep(connection, options.how.wanted, options.refused)
+        for name in sorted(options.refused or ()):
+            if getattr(wanted, name):
+                tell(f"{shown(options.store)}: {KEEPS_TO[name]}")
+        options = replace(options, how=options.how._replace(wanted=wanted))
         if cluster:
             cluster.how = options.how
         if options.how.wanted.words or options.how.wanted.near:

@@ -2,7 +2,7 @@
 import os
 import sqlite3
 from dataclasses import dataclass, field
-from typing import Dict, List, NamedTuple, Optional, Tuple, TypeVar
+from typing import Dict, List, NamedTuple, Optional, Sequence, Tuple, TypeVar
 
 from naplps.names import Members, as_json, shown
 
@@ -10,7 +10,7 @@ from . import tables
 from .beside import LOG
 from .canon_tables import CANON_TABLES
 from .counts import UNKNOWN
-from .kept_options import kept
+from .kept_options import kept, lacking
 from .kinds import checked, one
 from .lock import is_held
 from .part import Part, kept_part
@@ -136,6 +136,7 @@ class Status(NamedTuple):
     canonical: int
     part: Optional[Part]
     log: int = 0
+    lacking: Sequence[Tuple[str, str]] = ()
 
     @property
     def counts(self) -> Dict[str, int]:
@@ -164,7 +165,8 @@ def status(connection: sqlite3.Connection, path: str) -> Status:
             tally.left[name] = number
     roots = [(each, why) for each, _, why in checked(connection.execute(ROOTS), "path run why?")]
     pages, canonical = connection.execute(PAGES).fetchone()
-    return Status(path, is_held(path), run, roots, tally, pages, canonical, kept_part(connection), log_of(connection))
+    return Status(path, is_held(path), run, roots, tally, pages, canonical, kept_part(connection), log_of(connection),
+                  lacking(connection))
 
 
 def state_of(it: Status) -> str:
@@ -191,7 +193,7 @@ def lines(it: Status) -> List[Tuple[str, str]]:
     for name, number in sorted(it.counts.items(), key=lambda each: -each[1]):
         some.append((name, str(number)))
         some += [("", told) for told in it.tally.told_below(name)]
-    some += [("distinct pages", str(it.pages)), ("canonical pages", str(it.canonical))]
+    some += [("distinct pages", str(it.pages)), ("canonical pages", str(it.canonical)), *it.lacking]
     left = [f"{number} {name}" for name, number in it.tally.left.items()]
     if it.run and not it.run.ended:
         left.append("what the scan hasn't reached")
@@ -221,6 +223,6 @@ def _object(it: Status) -> Members:
             "files": it.counts, "kinds": it.tally.kinds, "perhaps_several": it.tally.several,
             "captures": {"files": it.tally.captures, "pages": it.tally.pages},
             "looks_like": dict(_most_first(it.tally.looks)), "pages": it.pages, "canonical": it.canonical,
-            "left": it.tally.left,
+            "left": it.tally.left, "lacking": [name for name, _ in it.lacking],
             "reasons": [{"status": name, "reason": why, "files": number}
                         for (name, why), number in sorted(it.tally.reasons.items()) if why]}

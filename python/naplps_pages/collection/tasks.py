@@ -18,6 +18,7 @@ from ..refusals import Reason
 from . import census_of_store, convert, equal, equal_over, equal_pictures, equal_treated, near_of_store, refused
 from .canon_filling import CanonFilling
 from .equal_over import most_budget
+from .kept_options import refused_by
 from .merge import merge
 from .picture_table import PICTURES
 from .pool import processors
@@ -43,7 +44,7 @@ def _scan(given: Given, command: str) -> int:
     how = WorkerOptions(find(command), given.budget, given.seconds, given.most, AskAgain(
         given.again, given.cures, given.words, given.near, given.pictures))
     processes = given.processes or processors()
-    return scan(ScanOptions(given.folders, given.into, processes, how, given.part, given.on))
+    return scan(ScanOptions(given.folders, given.into, processes, how, given.part, given.on, refused=refused_by(given)))
 
 
 class ErrorReporter:

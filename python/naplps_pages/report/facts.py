@@ -8,7 +8,7 @@ from .. import refusals
 from ..collection import refused, tables
 from ..collection.counts import UNKNOWN
 from ..collection.kinds import checked
-from ..collection.status import LastRun, status
+from ..collection.status import LACK, LACKING, LastRun, status
 from . import groups as of_groups
 from . import store_words
 from .choices import Choices
@@ -62,12 +62,19 @@ def load_facts(connection: sqlite3.Connection, path: str, groups: List[of_groups
     counts = [("files", files), ("accepted", number("accepted", 0)), *kinds, ("refused", number("refused", 0)),
               *([("refused: captures", it.tally.captures)] if it.tally.captures else []),
               ("without an answer", number("no answer", 0)), ("not read", files - answered),
+              *_lacking(connection),
               ("different pages", it.pages), ("different canonical pages", it.canonical),
               ("groups of equal pages that are spelled differently", spelled),
               ("groups of copies alone", len(groups) - spelled)]
     roots = load(connection)
     return Facts(it.run, roots, counts, _reasons(connection), load_choices(connection, roots), files,
                  store_words.are_found(connection))
+
+
+def _lacking(connection: sqlite3.Connection) -> List[Tuple[str, int]]:
+    """What isn't known of some pages, and of how many."""
+    some = {name: connection.execute(LACK.format(words)).fetchone()[0] for name, words in LACKING.values()}
+    return [(f"different pages {name}", int(number)) for name, number in some.items() if number]
 
 
 def _reasons(connection: sqlite3.Connection) -> List[ReasonRow]:
