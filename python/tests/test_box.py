@@ -21,6 +21,7 @@ from conftest import COMMAND, file
 from mixed_box import write
 from samples import POINT, SPELLED, has
 from scans import every_table, start, tree, wait_until
+from spelled import logo
 
 KILLED = int(os.environ.get("KILLED", "6"))
 needs_strace = pytest.mark.skipif(not has("strace"), reason="there is no strace")
@@ -384,3 +385,22 @@ def test_no_file_is_opened_twice(naplps, mixed, tmp_path):
                 opened[re.sub(rb"\\([0-7]{3}|x[0-9a-f]{2})", byte_of, found[1])] += 1
     files = [os.path.join(os.fsencode(mixed), name) for name in files_in(mixed)]
     assert len(files) > 100 and {opened[path] for path in files} == {1}
+
+
+def test_pages_are_found_in_a_file_too_long_for_a_page(run, tmp_path):
+    disks, place = tmp_path / "disks", tmp_path / "box"
+    at = (17 << 20) + 300
+    data = Random(3).randbytes(1 << 20) * 17 + bytes(300) + logo() + bytes(2 << 20)
+    tree(disks, {"disk.img": data, "film.img": b"\xff\xd8\xff" + data})
+    ran = run(["box", str(disks), "--into", str(place)])
+    assert ran.returncode in (0, 1), ran
+    row, = rows_of((place / "cut.csv").read_bytes())
+    assert (row["source"], row["how"]) == (f"{disks}/disk.img", "carve")
+    made = place / "carved" / f"disk.img-{int(row['offset']):010}.nap"
+    cut = made.read_bytes()
+    assert cut == data[int(row["offset"]):int(row["offset"]) + int(row["bytes"])] and int(row["offset"]) == at
+    note = json.loads((place / "carved" / f"{made.name}.json").read_bytes())
+    assert note["source"] == {"bytes": len(data), "sha256": hashlib.sha256(data).hexdigest()}
+    assert "carved:          1 page out of 1 file, in carved" in ran.stdout.decode()
+    again = run(["box", str(disks), "--into", str(place)])
+    assert (again.stdout, again.returncode) == (ran.stdout, ran.returncode)

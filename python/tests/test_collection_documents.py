@@ -41,7 +41,7 @@ def shell(folder, words):
 
 def test_the_tour(archive):
     shown = re.findall(r"^    (naplps-pages .*)\n((?:    # .*\n)+)", TEXT, re.MULTILINE)
-    assert len(shown) == 11
+    assert len(shown) == 10
     with open(os.path.join(TOP, "examples", "gallery", "logo.nap"), "rb") as logo, open(
             os.path.join(archive, "disk.img"), "wb") as disk:
         disk.write((bytes(100_000) + logo.read() + b"\x1a").ljust(164_000, b"\xe5"))

@@ -5,8 +5,10 @@ import hashlib
 import os
 import sqlite3
 import sys
+from contextlib import suppress
 from typing import List, Optional
 
+from naplps.ending import Stopped
 from naplps.faults import NoProgram
 from naplps.names import shown
 from naplps.program import find
@@ -24,7 +26,6 @@ from ..collection.scan import ScanOptions, ScanRun, missing, scanned
 from ..collection.search import apart
 from ..collection.session import Names
 from ..collection.status import status
-from ..collection.stopping import Stopping
 from ..collection.store import StoreFailed, open_to_read
 from ..collection.worker import WorkerOptions
 from ..console import COMPLETE, FAILED, SOME_LACK, Output, tell
@@ -33,7 +34,7 @@ from ..report import groups, making
 from ..report.limits import USUAL_SKETCHES
 from ..report.sketch_workers import OBJECTS
 from ..unexpected import told
-from . import summary
+from . import long_files, summary
 from .box_worker import BoxWorker
 from .claims import Claims
 from .kept_pages import KeptPage, KeptPages
@@ -82,8 +83,8 @@ class BoxRun:
         wanted = AskAgain(again=is_lost, cures=given.cures, words=given.words)
         self.how = how._replace(wanted=wanted)
         self.processes = given.processes or processors()
-        Claims(place.of(CLAIMS), is_new=True)
         self.kept = KeptPages(place.of(KEPT), not given.no_carve, place.of(CLAIMS), is_new=True)
+        Claims(place.of(CLAIMS), is_new=True)
         self.status = COMPLETE
         self.worker: Optional[BoxWorker] = None
 
@@ -95,11 +96,14 @@ class BoxRun:
             if isinstance(found, int):
                 return found
             self.status = found.status
-            with Stopping() as stopping:
+            try:
                 lines = self._made(found)
-            stopping.act()
+            except Stopped:
+                tell(STOPPED)
+                raise
         finally:
-            os.unlink(self.place.of(CLAIMS))
+            with suppress(OSError):
+                os.unlink(self.place.of(CLAIMS))
             if self.worker:
                 self.worker.close()
             self.kept.close()
@@ -140,12 +144,31 @@ class BoxRun:
 
     def _find(self, file: FileFacts) -> Optional[KeptPage]:
         """What is kept of a file's page. Where too little is, the file is read again."""
-        assert file.own is not None
+        if file.own is None:
+            return self._find_long(file)
         kept = self.kept.of(file.own)
         if kept is None or self._lacks(file, kept):
             self._fill(file, file.own)
             kept = self.kept.of(file.own)
         return kept
+
+    def _find_long(self, file: FileFacts) -> Optional[KeptPage]:
+        """What is kept of a file that is too long for a page; where nothing is, it is read."""
+        key = long_files.key_of(file)
+        kept = self.kept.of(key)
+        if kept is None and not self.given.no_carve:
+            try:
+                kept = long_files.carve(file, self._own_worker().program)
+            except long_files.NotCarved as why:
+                self._complain(file.at_path.path, str(why))
+                return None
+            self.kept.put([(key, kept.values)])
+        return kept
+
+    def _own_worker(self) -> BoxWorker:
+        """A worker in this process."""
+        self.worker = self.worker or BoxWorker(self.how, lambda _: set(), lambda: None, not self.given.no_carve)
+        return self.worker
 
     def _lacks(self, file: FileFacts, kept: KeptPage) -> bool:
         """Whether more is asked for now than is kept of a page."""
@@ -164,8 +187,7 @@ class BoxRun:
             return
         page.close()
         if page.data is not None:
-            self.worker = self.worker or BoxWorker(self.how, lambda _: set(), lambda: None, not self.given.no_carve)
-            _, answers = self.worker.answered([Seen(File(0, b"", tables.READ, own=own), page.data)])
+            _, answers = self._own_worker().answered([Seen(File(0, b"", tables.READ, own=own), page.data)])
             self.kept.take(answers)
             self.kept.write()
 

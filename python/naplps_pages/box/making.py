@@ -14,6 +14,7 @@ from ..collection.every_file import FileFacts
 from ..collection.printing import Printer
 from ..collection.session import Names
 from ..new_files import NotWritten
+from ..packs.naming import pack_of
 from ..page_finder import LEAST_ENTRIES, CarvedPage
 from .kept_pages import KeptPage, KeptPart
 from .folder import CANONICAL, CAPTURES, CARVED, CUT, READABLE, TABLE
@@ -64,6 +65,8 @@ class BoxFiles:
                     self._canonical(file)
                 elif file.answer == tables.REFUSED:
                     self._refused(file)
+                elif file.state == tables.TOO_LONG and pack_of(file.folder) is None:
+                    self._long(file)
             except NotNamed as error:
                 self.complain(file.at_path.path, str(error))
         self.put.put(TABLE, self.table.getvalue())
@@ -109,7 +112,13 @@ class BoxFiles:
         if file.kind == tables.CAPTURE and kept.parts is not None:
             self._parts(file, kept)
         if kept.carved:
-            self._carved(file, kept.carved, kept.cut or b"")
+            self._carved(file, kept.carved, kept.cut or b"", file.own or b"")
+
+    def _long(self, file: FileFacts) -> None:
+        """The pages inside a file that is too long for one."""
+        kept = self.find(file)
+        if kept is not None and kept.carved and kept.data is not None:
+            self._carved(file, kept.carved, kept.cut or b"", kept.data)
 
     def _named(self, folder: str, file: FileFacts) -> str:
         """The path for what is made of a file, below the folder of the box. Raises NotNamed."""
@@ -140,10 +149,10 @@ class BoxFiles:
             self.cut.append({"path": shown(path), "source": shown(name), "how": "split", "offset": part.piece.offset,
                              "bytes": part.piece.length, "cut_at": part.piece.cut_at, "answer": _said(part.answer)})
 
-    def _carved(self, file: FileFacts, parts: List[KeptPart], cut: bytes) -> None:
-        """The pages inside a file of no known kind."""
+    def _carved(self, file: FileFacts, parts: List[KeptPart], cut: bytes, own: bytes) -> None:
+        """The pages inside a file of no known kind, which has this hash."""
         name, stem = file.at_path.path, self._named(CARVED, file)
-        source = carving.source_of(name, file.size or 0, (file.own or b"").hex())
+        source = carving.source_of(name, file.size or 0, own.hex())
         at = 0
         for part in parts:
             found = CarvedPage(part.offset, cut[at:at + part.length], *part.more, _answer(part))
