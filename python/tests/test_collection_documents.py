@@ -41,7 +41,7 @@ def shell(folder, words):
 
 def test_the_tour(archive):
     shown = re.findall(r"^    (naplps-pages .*)\n((?:    # .*\n)+)", TEXT, re.MULTILINE)
-    assert len(shown) == 10
+    assert len(shown) == 9
     with open(os.path.join(TOP, "examples", "gallery", "logo.nap"), "rb") as logo, open(
             os.path.join(archive, "disk.img"), "wb") as disk:
         disk.write((bytes(100_000) + logo.read() + b"\x1a").ljust(164_000, b"\xe5"))
@@ -89,7 +89,7 @@ def test_the_tables_of_the_store(tmp_path):
 
 def recipe(name):
     """The lines of a recipe for other tools."""
-    return re.search(r"<!-- other: %s -->\n```sh\n(.*?)```" % name, TEXT, re.DOTALL)[1]
+    return re.search(r"<!-- other: %s -->\n```sh\n(.*?)```" % name, STORE, re.DOTALL)[1]
 
 
 def scripted(folder, name, *words):
