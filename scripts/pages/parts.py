@@ -13,8 +13,8 @@ class Part(NamedTuple):
 
 PARTS: Dict[str, Part] = {
     "box": Part(
-        "boxes of files of all kinds: what the command box makes is what eight commands make, and runs that are killed, "
-        "full disks and foreign files lose nothing",
+        "boxes of files of all kinds: what the command box makes is what eight commands make, and runs that are "
+        "killed, full disks and foreign files lose nothing",
         ("box",),
     ),
     "canonical": Part(
