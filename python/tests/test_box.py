@@ -10,6 +10,7 @@ import json
 import os
 import re
 import resource
+import shutil
 import signal
 import subprocess
 from collections import Counter
@@ -404,3 +405,63 @@ def test_pages_are_found_in_a_file_too_long_for_a_page(run, tmp_path):
     assert "carved:          1 page out of 1 file, in carved" in ran.stdout.decode()
     again = run(["box", str(disks), "--into", str(place)])
     assert (again.stdout, again.returncode) == (ran.stdout, ran.returncode)
+
+
+def image():
+    """Bytes of no known kind with a page inside."""
+    return Random(5).randbytes(700) + b"\xf6" * 90 + logo() + b"\xf6" * 90 + Random(6).randbytes(500)
+
+
+def made_in(run, folder, *words, place="box"):
+    """The names of the files of a box of a folder's disks, after a run that goes well."""
+    into = os.path.join(os.fspath(folder), place)
+    ran = run(["box", os.path.join(str(folder), "disks"), "--into", into, *words])
+    assert (ran.returncode, ran.stderr) == (0, b""), ran
+    return {os.fsdecode(name) for name in files_in(into)} - FILES
+
+
+def test_what_was_refused_first_is_made_once_it_is_asked_for(run, tmp_path):
+    tree(tmp_path / "disks", {"sick.nap": POINT + b"\x1a", "disk.img": image()})
+    at = "carved/disk.img-0000000790.nap"
+    assert made_in(run, tmp_path, "--no-carve", "--no-cures", "--no-words") == set()
+    assert made_in(run, tmp_path, "--no-carve") == set()
+    assert made_in(run, tmp_path) == {at, at + ".json"}
+    some = {at, at + ".json", "readable/sick.nap", "readable/sick.nap.json"}
+    assert made_in(run, tmp_path, "--cures", "--words") == some
+    assert made_in(run, tmp_path) == some
+    assert b"hello" not in files_in(tmp_path / "box")[b"files.csv"]
+
+
+@pytest.mark.parametrize("name", ["box.db", "pages.db", "cut.csv", "index.html", "readable", "carved"])
+def test_what_was_taken_away_is_made_again(run, tmp_path, name):
+    tree(tmp_path / "disks", {"a.nap": SPELLED, "sick.nap": POINT + b"\x1a", "disk.img": image()})
+    made_in(run, tmp_path)
+    before = tables_of(str(tmp_path / "box"))
+    at = tmp_path / "box" / name
+    if at.is_dir():
+        shutil.rmtree(at)
+    else:
+        at.unlink()
+    made_in(run, tmp_path)
+    assert tables_of(str(tmp_path / "box")) == before
+
+
+@pytest.mark.parametrize("data", [b"mine", b"SQLite format 3\0" + bytes(4080), b""])
+def test_a_foreign_file_in_place_of_what_is_kept_is_told(run, tmp_path, data):
+    tree(tmp_path / "disks", {"sick.nap": POINT + b"\x1a"})
+    made_in(run, tmp_path)
+    kept = tmp_path / "box" / "pages.db"
+    kept.write_bytes(data)
+    ran = run(["box", str(tmp_path / "disks"), "--into", str(tmp_path / "box")])
+    if data:
+        assert ran.returncode == 3 and b"pages.db: isn't what a box keeps of its pages" in ran.stderr
+        assert kept.read_bytes() == data
+        kept.unlink()
+    made_in(run, tmp_path)
+    assert (tmp_path / "box" / "readable" / "sick.nap").read_bytes() == POINT
+
+
+def test_a_place_of_any_name(run, tmp_path):
+    tree(tmp_path / "disks", {"sick.nap": POINT + b"\x1a"})
+    for place in (os.fsdecode(b"bo\xeete"), "a?b#c%d e"):
+        assert "readable/sick.nap" in made_in(run, tmp_path, place=place)

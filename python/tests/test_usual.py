@@ -46,6 +46,16 @@ def test_a_new_store_has_texts_and_treatments(tool, tmp_path):
     assert status["lacking"] == [] and status["left"] == {}
 
 
+def test_a_store_has_texts_in_a_folder_of_any_name(tool, tmp_path):
+    folder = os.fsdecode(b"bo\xeete")
+    os.mkdir(tmp_path / folder)
+    store = f"{folder}/x.db"
+    tool("scan", "pages", "--into", store)
+    assert found(tool, store) == ["a.nap"] and "left:            nothing" in tool("status", store)
+    tool("merge", f"{folder}/y.db", store)
+    assert found(tool, f"{folder}/y.db") == ["a.nap"]
+
+
 def test_it_keeps_to_them_and_what_is_refused_then_is_told(tool, tmp_path):
     tool("scan", "pages", "--into", "x.db")
     tree(tmp_path / "pages", {"b.nap": MORE})

@@ -3,7 +3,6 @@
 It is a SQLite file that one run writes. A page is in it before it is in the store.
 """
 import json
-import os
 import sqlite3
 import zlib
 from typing import Iterable, List, NamedTuple, Optional, Sequence, Tuple
@@ -11,7 +10,7 @@ from typing import Iterable, List, NamedTuple, Optional, Sequence, Tuple
 from naplps.names import Members, shown
 
 from ..collection.rows import Answered, Values
-from ..collection.store import StoreFailed
+from ..collection.store import StoreFailed, address
 
 # "npbx", by which the file is known again, and its form.
 APPLICATION, FORM = 0x6E706278, 1
@@ -100,10 +99,8 @@ class KeptPages:
         self.first: Tuple[object, ...] = (carves, claims)
         self.anew: Tuple[object, ...] = (carves, "")
         self.rows: List[Tuple[bytes, Values]] = []
-        mode = "rwc" if is_new else "rw"
-        name = "".join(chr(each) if chr(each).isalnum() and each < 128 else f"%{each:02X}" for each in os.fsencode(
-            os.path.abspath(path)))
-        self.connection = sqlite3.connect(f"file:/{name}?mode={mode}", uri=True, timeout=60, isolation_level=None)
+        name = address(path, "rwc" if is_new else "rw")
+        self.connection = sqlite3.connect(name, uri=True, timeout=60, isolation_level=None)
         try:
             self._look(is_new)
         except sqlite3.DatabaseError as error:

@@ -18,7 +18,7 @@ from .printing import numbered
 from .progress import Progress
 from .sources import Source, Sources, lacking, require_apart
 from .stopping import Stopping
-from .store import StoreFailed, keep_private, open_to_write
+from .store import StoreFailed, keep_private, open_to_write, path_of
 
 # No log is needed: what isn't whole is thrown away.
 FAST = "PRAGMA journal_mode = OFF; PRAGMA synchronous = OFF;"
@@ -108,7 +108,7 @@ def _require_same(into: str, sources: List[Source], stopping: Stopping) -> None:
 
 def _joined(connection: sqlite3.Connection, sources: List[Source], finished: bool, stopping: Stopping) -> Counts:
     """Joins the stores, and tells meanwhile how much is written of what will be."""
-    path = connection.execute("PRAGMA database_list").fetchone()[2]
+    path = path_of(connection)
     total = sum(os.path.getsize(source.path) for source in sources) >> 20
     progress = Progress(sys.stderr, lambda: total, what="MiB")
 

@@ -40,12 +40,12 @@ class StoreFailed(Exception):
 
 
 def _connected(path: str, mode: str) -> sqlite3.Connection:
-    connection = sqlite3.connect(_named(path, mode), uri=True, timeout=PATIENCE, isolation_level=None)
+    connection = sqlite3.connect(address(path, mode), uri=True, timeout=PATIENCE, isolation_level=None)
     connection.execute("PRAGMA trusted_schema = OFF")
     return connection
 
 
-def _named(path: str, mode: str) -> str:
+def address(path: str, mode: str) -> str:
     """The address of a file for SQLite, where a byte that could say something there stands by its number."""
     name = "".join(chr(byte) if byte in PLAIN else f"%{byte:02X}" for byte in os.fsencode(os.path.abspath(path)))
     return f"file:{name}?mode={mode}"
@@ -83,7 +83,7 @@ def open_unchanged(path: str) -> sqlite3.Connection:
 
 def attach(connection: sqlite3.Connection, path: str, name: str) -> None:
     """Gives another store, which is only read, to a connection by this name."""
-    connection.execute(f"ATTACH ? AS {name}", (_named(path, "ro"),))
+    connection.execute(f"ATTACH ? AS {name}", (address(path, "ro"),))
 
 
 def show_present(connection: sqlite3.Connection) -> bool:
@@ -256,6 +256,15 @@ def kept(connection: sqlite3.Connection, words: str, told: str, **named: str) ->
     return checked(connection.execute("SELECT * FROM kept ORDER BY rowid"), told)
 
 
+def path_of(connection: sqlite3.Connection) -> str:
+    """The path of the file, which may have any bytes."""
+    before, connection.text_factory = connection.text_factory, bytes
+    try:
+        return os.fsdecode(connection.execute("PRAGMA database_list").fetchone()[2])
+    finally:
+        connection.text_factory = before
+
+
 def keep_private(connection: sqlite3.Connection) -> None:
     """Lets only its owner read a store that gets its first texts, as they may be those of pages that others can't read.
 
@@ -263,7 +272,7 @@ def keep_private(connection: sqlite3.Connection) -> None:
     """
     some = ["texts", *[NEAR_KEYS.name] * NEAR_KEYS.is_there(connection)]
     if all(connection.execute(f"SELECT 1 FROM main.{name} LIMIT 1").fetchone() is None for name in some):
-        path = connection.execute("PRAGMA database_list").fetchone()[2]
+        path = path_of(connection)
         mode = stat.S_IMODE(os.stat(path).st_mode)
         if mode & OF_OTHERS:
             os.chmod(path, mode & ~OF_OTHERS)
@@ -311,7 +320,7 @@ def _is_moved(connection: sqlite3.Connection) -> bool:
 
 def log_of(connection: sqlite3.Connection) -> int:
     """How many bytes of the store are in its log."""
-    path = connection.execute("PRAGMA database_list").fetchone()[2]
+    path = path_of(connection)
     try:
         return os.lstat(place(path, LOG)).st_size
     except OSError:
