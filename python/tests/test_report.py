@@ -145,7 +145,7 @@ def test_what_is_held_of_pages(made):
     assert block["lines"][at[1]] == "POINT 4194304,4194304 pel=0,0 colour=own-start"
     assert table["answers"] == ["accepted", "10 Outside"] and table["numbers"] == [0, 10]
     assert table["refusals"]["10"]["means"].startswith("A point of the picture code isn't on the unit screen")
-    assert [group[1:] for group in table["groups"]] == [[2, 2, 1, 12]]
+    assert [group[1:] for group in table["groups"]] == [[2, 2, 1, 12, 0]]
 
 
 def test_a_long_list_is_held_in_part(made):

@@ -89,6 +89,73 @@ def test_pages_of_a_kind(wall, kind, wanted):
     wall.until(WALL_TOLD + " === 'no pages'")
 
 
+def test_what_is_no_page_is_hidden_until_it_is_asked_for_and_is_a_tile_with_its_kind(wall):
+    wall.until("%s.join('/') === 'a page.nap/one.nap/out.nap/parity.nap/two.nap'" % LEAVES)
+    assert "(3)" in wall.run("document.getElementById('others').parentElement.textContent")
+    wall.run("document.getElementById('others').click()")
+    wall.until(LEAVES + ".length === 8")
+    assert wall.run(LEAVES) == ["a page.nap", "gif.nap", "one.nap", "out.nap", "parity.nap", "two.nap", "text.nap",
+                                "blank.nap"]
+    tiles = ("[...document.querySelectorAll('#wall .tile')].map((each) => "
+             "each.querySelector('.none')?.textContent || '')")
+    wall.until("document.querySelectorAll('#wall img').length === 5")
+    assert wall.run(tiles) == ["", "GIF", "", "", "", "", "text", "blank"]
+
+
+def test_each_page_is_shown_once(wall):
+    wall.run("document.getElementById('once').click()")
+    wall.until("%s.join('/') === 'a page.nap/one.nap/out.nap/parity.nap'" % LEAVES)
+    assert wall.run(WALL_TOLD) == "1 to 4 of 4 pages"
+    wall.run("document.getElementById('once').click()")
+    wall.until(LEAVES + ".length === 5")
+
+
+def test_names_have_their_folders_in_small_print_and_what_is_told_in_words(wall):
+    wall.run("document.getElementById('others').click()")
+    wall.until(LEAVES + ".length === 8")
+    told = ("[...document.querySelectorAll('#wall .tile')].map((each) => ['.leaf', '.folder', '.badge'].map("
+            "(part) => each.querySelector(part)?.textContent || ''))")
+    found = {leaf: more for leaf, *more in wall.run(told)}
+    assert found["text.nap"] == ["long " * 40 + "/", ""] and found["one.nap"] == ["", ""]
+    assert found["out.nap"] == ["", "refused: outside"] and found["parity.nap"] == ["", "readable by parity"]
+
+
+def test_on_a_phone_the_filters_are_behind_one_button(wall):
+    seen = ("[...document.querySelectorAll('#bar select, #bar [type=checkbox], #filters')]"
+            ".filter((each) => each.offsetParent).map((each) => each.id)")
+    every = wall.run(seen)
+    assert "filters" not in every and {"kind", "answer", "cure", "folder", "order", "once", "others"} <= set(every)
+    wall.size(390, 844)
+    assert wall.run(seen) == ["filters"]
+    wall.run("document.getElementById('filters').click()")
+    assert set(wall.run(seen)) == {*every, "filters"}
+    assert wall.run("document.getElementById('filters').getAttribute('aria-expanded')") == "true"
+    choose(wall, "kind", "page")
+    wall.until("document.getElementById('filters').textContent === 'Filters (1)'")
+
+
+@pytest.mark.parametrize("served", [False, True])
+def test_a_readable_copy_says_which_page_draws_the_same(browser, naplps, tmp_path, served):
+    tree(str(tmp_path / "pages"), {"plain.nap": words("ONE"), "old/parity.nap": with_parity(words("ONE")),
+                                   "other.nap": words("TWO")})
+    made(naplps, str(tmp_path), "scan", "pages", "--into", "pages.db", "--cures")
+    store = str(tmp_path / "pages.db")
+    with start(["serve", store], naplps) as server:
+        browser.open(server.stdout.readline().decode().strip() if served else report(naplps, store, "x.html"))
+        browser.until("document.querySelector('#groups li')")
+        said = browser.run("document.querySelector('#groups').innerText")
+        assert "2 files, 2 spellings" in said and "1 readable copy" in said and "readable by parity" in said
+        assert said.index("plain.nap") < said.index("readable by parity") < said.index("old/parity.nap")
+        browser.run(CLICK % ("#files button.name", "old/parity.nap"))
+        browser.until(OPEN + " && %s.includes('draws what plain.nap draws')" % SHOWN)
+        browser.run(CLICK % (".reasons button.name", "plain.nap"))
+        browser.until("document.getElementById('details-title').textContent === 'plain.nap'")
+        assert "readable by parity" in browser.run(SHOWN)
+        browser.run("document.getElementById('close').click(); document.getElementById('once').click()")
+        browser.until("%s.join('/') === 'other.nap/plain.nap'" % LEAVES)
+        server.terminate()
+
+
 @pytest.mark.parametrize("view, what, name", [("pages", "pages", "wall"), ("list", "files", "files")])
 def test_where_nothing_is_found_there_is_a_way_back(wall, view, what, name):
     wall.run("location.hash = %r" % ("#" + view))
@@ -128,7 +195,7 @@ def test_a_capture_is_named_and_says_what_cuts_it(browser, naplps, tmp_path, ser
     store = str(tmp_path / "pages.db")
     with start(["serve", store], naplps) as server:
         browser.open(server.stdout.readline().decode().strip() if served else report(naplps, store, "x.html"))
-        browser.until("document.querySelector('#wall')?.innerText.includes('capture, 6 LeftOut CAN')")
+        browser.until("document.querySelector('#wall')?.innerText.includes('capture')")
         assert browser.run("document.querySelector('#wall').innerText.match(/capture/g).length") == 1
         browser.run(CLICK % ("#files button.name", "a tape"))
         browser.until(OPEN + " && %s.includes('Kind capture')" % SHOWN)
@@ -148,7 +215,9 @@ def test_the_top_says_how_many_pages_can_be_played():
 @pytest.mark.parametrize("width", [390, 700, 1240])
 def test_the_fields_of_the_form_are_as_wide_as_there_is_room(wall, width):
     wall.size(width, 900)
-    boxes = wall.run("[...document.querySelectorAll('#bar input, #bar select')].map((each) => {const box = "
+    if width <= 700:
+        wall.run("document.getElementById('filters').click()")
+    boxes = wall.run("[...document.querySelectorAll('#bar [type=search], #bar select')].map((each) => {const box = "
                      "each.getBoundingClientRect(); return [box.left, box.right, box.top, box.bottom]})")
     assert all(0 <= left < right <= width for left, right, _, _ in boxes)
     assert all(one[1] <= two[0] or two[1] <= one[0] or one[3] <= two[2] or two[3] <= one[2]

@@ -161,7 +161,7 @@ def test_files_by_folder_and_by_group(served):
 def test_a_thumbnail(served):
     drawing = served.json("/drawing?key=" + key(served, "a.nap"))
     assert served.json("/thumbnail?key=" + key(served, "a.nap")) == {
-        "sketch": drawing["sketch"], "text": "", "why": ""}
+        "sketch": drawing["sketch"], "text": "", "why": "", "entries": 1}
 
 
 def test_the_head_of_an_answer(served):

@@ -7,16 +7,18 @@ class Asked {
   }
 
   async ask(what, words) {
-    const answer = await fetch(what + "?" + new URLSearchParams(words));
+    const plain = Object.entries(words).map(([name, value]) => (
+      [name, typeof value === "boolean" ? String(Number(value)) : value]));
+    const answer = await fetch(what + "?" + new URLSearchParams(plain));
     if (!answer.ok) throw new Error(await answer.text());
     return answer.json();
   }
 
-  files({pages, ...words}) { return this.ask("files", {pages: pages ? "1" : "0", ...words}); }
+  files(words) { return this.ask("files", words); }
 
-  find({pages, ...words}) { return this.ask("find", {pages: pages ? "1" : "0", ...words}); }
+  find(words) { return this.ask("find", words); }
 
-  groups({copies, ...words}) { return this.ask("groups", {copies: copies ? "1" : "0", ...words}); }
+  groups(words) { return this.ask("groups", words); }
 
   details(key) { return this.ask("details", {key}); }
 

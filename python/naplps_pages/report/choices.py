@@ -14,6 +14,10 @@ REASON = "state:file_state why? answer:page_state? number? fault? left_out? why?
 CURES = f"SELECT c.treatments, count(*) {FROM} WHERE {THERE} AND c.page IS NOT NULL GROUP BY 1"
 KINDS = f"SELECT p.kind, p.looks_like, count(*) {FROM} WHERE {THERE} GROUP BY 1, 2"
 FOLDERS = f"SELECT d.path, count(*) {FROM} WHERE {THERE} GROUP BY d.id"
+# The kinds that are shown on the wall before others are asked for; what a readable copy was made of is shown too.
+IS_SHOWN = ("(c.treatments IS NOT NULL OR coalesce(p.looks_like, '') = '' AND "
+            f"(p.kind IS NULL OR p.kind IN ({tables.PAGE}, {tables.CAPTURE})))")
+OTHERS = f"SELECT count(*) {FROM} WHERE {THERE} AND p.id IS NOT NULL AND NOT {IS_SHOWN}"
 # How many folders of a path can be chosen.
 MOST_DEPTH = 8
 # Of a page that no treatment makes readable.
@@ -29,6 +33,8 @@ class Choices(NamedTuple):
     answers: List[Choice]
     cures: List[Choice]
     folders: List[Choice]
+    # (how many files that aren't pages are hidden on the wall)
+    others: int = 0
 
 
 def load(connection: sqlite3.Connection, roots: Roots) -> Choices:
@@ -41,7 +47,8 @@ def load(connection: sqlite3.Connection, roots: Roots) -> Choices:
         connection.execute(KINDS), "kind? looks_like? count"))
     kinds.pop("", None)
     folders = ((roots.relative(path), number) for path, number in checked(connection.execute(FOLDERS), "path count"))
-    return Choices(_frequent(kinds)[:MOST_FOLDERS], _frequent(answers), _frequent(cures), _folders(folders))
+    others: int = connection.execute(OTHERS).fetchone()[0]
+    return Choices(_frequent(kinds)[:MOST_FOLDERS], _frequent(answers), _frequent(cures), _folders(folders), others)
 
 
 def kind(number: Optional[int], looks_like: Optional[str]) -> str:

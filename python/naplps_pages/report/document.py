@@ -17,6 +17,7 @@ POLICY = ("default-src 'none'; script-src %s; style-src %s; img-src blob:; %sbas
 # What a page that is served may ask for: its own server.
 ASKING = "connect-src 'self'; "
 SCRIPTS = ("elements.js", "wall.js", "play_tab.js", "page.js", "report.js")
+READABLE = " Copies that treatments made readable are among them, and marked."
 MARK = re.compile(r"@([A-Z]+)@")
 
 
@@ -36,7 +37,8 @@ class Document:
             "FIND": "words, or part of a name" if source == "held.js" or facts.has_words else "part of a name",
             "KINDS": _choice("kind", "Kind", "each kind", facts.choices.kinds),
             "CURES": _choice("cure", "Treatment", "each", facts.choices.cures),
-            "FOLDERS": _choice("folder", "Folder", "each folder", facts.choices.folders)}
+            "FOLDERS": _choice("folder", "Folder", "each folder", facts.choices.folders),
+            "OTHERS": _others(facts.choices.others)}
 
     def html(self, held: str, data: str) -> str:
         """The page, with a sentence on what it holds and with its data."""
@@ -95,9 +97,15 @@ def _choice(name: str, label: str, every: str, some: List[Choice]) -> str:
 def _told_groups(groups: List[GroupSummary]) -> str:
     if not groups:
         return "No two files have equal pages."
-    spelled = of_spellings(groups)
-    return "Pages of one group draw the same. %s differently spelled pages, %s plain copies alone." % (
-        _so_many(spelled), _so_many(len(groups) - spelled))
+    spelled, copies = of_spellings(groups), any(group.copies for group in groups)
+    return "Pages of one group draw the same. %s differently spelled pages, %s plain copies alone.%s" % (
+        _so_many(spelled), _so_many(len(groups) - spelled), READABLE if copies else "")
+
+
+def _others(number: int) -> str:
+    """The box that shows files that aren't pages, where there are any."""
+    told = "also texts, blank files and others ({:,})".format(number)
+    return f'<label class="check"><input type="checkbox" id="others"> {told}</label>\n' if number else ""
 
 
 def _so_many(number: int) -> str:

@@ -83,11 +83,11 @@ class Drawing(NamedTuple):
         """How many characters it has."""
         return len(self.sketch) + len(self.text) + sum(map(len, self.lines)) + len(self.played)
 
-    def small(self) -> Dict[str, str]:
+    def small(self) -> Dict[str, object]:
         """What a thumbnail shows of it."""
-        if len(self.sketch) > SMALL_SKETCH:
-            return {"sketch": "", "text": self.text[:SMALL_TEXT], "why": TOO_LARGE}
-        return {"sketch": self.sketch, "text": self.text[:SMALL_TEXT], "why": self.why}
+        is_small = len(self.sketch) <= SMALL_SKETCH
+        return {"sketch": self.sketch if is_small else "", "text": self.text[:SMALL_TEXT], "entries": self.entries,
+                "why": self.why if is_small else TOO_LARGE}
 
 
 def draw(program: Client, it: WantedDrawing, most: DrawingLimits) -> Drawing:

@@ -30,8 +30,25 @@ function tell(error) {
   document.body.dataset.fault = fault.textContent;
 }
 
-// The kind of a file that has several pages.
-const CAPTURE = "capture";
+// The kinds of files: one that has several pages, and one that draws nothing.
+const CAPTURE = "capture", BLANK = "blank", LOOKS_LIKE = "looks like ";
+const isTreated = (file) => file.treated !== "";
+// Whether a file is a page, or was one before something happened to it; a readable copy says so.
+const isPage = (file) => ["", "page", CAPTURE].includes(file.kind) || isTreated(file);
+// What a file is that isn't a page, in a word or two.
+const kindOf = (file) => file.kind.startsWith(LOOKS_LIKE) ? file.kind.slice(LOOKS_LIKE.length) : file.kind;
+
+// An answer without its number: "6 LeftOut CAN" is "refused: left out CAN".
+function inWords(answer) {
+  const [, name, rest] = /^[0-9]+ (\w+)(.*)$/.exec(answer) || [];
+  return name ? `refused: ${name.replace(/\B[A-Z]/g, (letter) => " " + letter).toLowerCase()}${rest}` : answer;
+}
+
+// By what a readable copy was made: the treatments, and whether they are a guess.
+function madeBy(treated) {
+  const [names] = treated.split(" ");
+  return treated.includes("guess") ? `guess: ${names}` : `readable by ${names}`;
+}
 
 const doing = (action) => (event) => Promise.resolve(action(event)).catch(tell);
 
@@ -63,6 +80,13 @@ function instead(why, ...commands) {
   return make("div", {className: "none"}, make("p", {}, why, ...some));
 }
 
+// The same drawing where it has anything to show of a file.
+function toShow(drawing, file) {
+  const isEmpty = drawing.sketch && drawing.entries === 0;
+  if (isEmpty) return {sketch: "", why: (file.kind === BLANK ? "Blank: n" : "N") + "othing is drawn"};
+  return isPage(file) || !file.kind.startsWith(LOOKS_LIKE) ? drawing : {sketch: "", why: "It " + file.kind};
+}
+
 // The sketch as an image of its own, in which nothing can act; or why there is none.
 function picture(drawing, name) {
   if (!drawing.sketch) return instead(drawing.why || "No sketch", ...(drawing.commands || []));
@@ -78,6 +102,7 @@ function picture(drawing, name) {
 
 // The same drawing without the strip below the screen, and without what is above it: for thumbnails.
 function cropped(drawing) {
+  if (drawing.sketch && drawing.entries === 0) return {...drawing, sketch: "", why: "nothing drawn"};
   if (!drawing.sketch) return {...drawing, why: drawing.why || "No sketch"};
   const head = 'viewBox="0 0 1024 800" width="1024" height="800"';
   return {...drawing, sketch: drawing.sketch.replace(/viewBox="[-0-9 ]+" width="[0-9]+" height="[0-9]+"/, head)};

@@ -69,6 +69,12 @@ class ReportFile(NamedTuple):
         return None if self.canon is None or self.form is None else (self.canon, self.form)
 
     @property
+    def drawn_key(self) -> Optional[Tuple[bytes, str]]:
+        """The same of what is drawn of it: the page, or a readable copy."""
+        canon = self.canon or self.treated_canon
+        return None if canon is None or self.form is None else (canon, self.form)
+
+    @property
     def said(self) -> Answer:
         """The answer to its page."""
         if self.answer == tables.ACCEPTED and self.entries is not None:

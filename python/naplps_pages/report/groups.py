@@ -1,23 +1,39 @@
-"""Groups of equal pages in a store: those of one canonical stream in several files."""
+"""Groups of equal pages in a store: those of one canonical stream in several files, readable copies among them."""
 import sqlite3
 from typing import List, NamedTuple, Tuple
 
-from ..collection import equal
+from ..collection import equal, equal_treated
 from ..collection.kinds import checked
 
-# (`found` is a table that equal.GROUPS makes.)
-ORDERED = """SELECT g.canon, g.form, g.spellings, g.files, max(p.entries), max(p.canon_size) FROM found g
-    CROSS JOIN pages p ON p.canon = g.canon CROSS JOIN terms t ON t.id = p.terms AND t.form = g.form
-    GROUP BY g.canon, g.form ORDER BY g.spellings DESC, g.files DESC, g.canon, g.form"""
+# The readable copies of refused pages.
+COPIES = ("""CREATE TEMP TABLE copies AS SELECT c.canon AS canon, t.form AS form, c.page AS page, c.entries AS entries,
+    c.canon_size AS canon_size FROM cures c CROSS JOIN pages p ON p.id = c.page AND p.terms = c.terms
+    CROSS JOIN terms t ON t.id = c.terms WHERE c.canon IS NOT NULL""",
+          "CREATE INDEX temp.copies_by_canon ON copies(canon, page)")
+SEVERAL = "CREATE TEMP TABLE several AS " + equal.SEVERAL + equal.COPIES + "".join(
+    each.format("copies") for each in (
+        " UNION " + equal_treated.AMONG_THEM, equal_treated.WITH_PAGES, equal_treated.OF_COPIES))
+MEMBERS = """SELECT p.canon AS canon, t.form AS form, p.id AS page, p.entries AS entries, p.canon_size AS canon_size,
+    0 AS is_copy FROM several s CROSS JOIN pages p ON p.canon = s.canon CROSS JOIN terms t ON t.id = p.terms
+    CROSS JOIN present f ON f.page = p.id
+    UNION ALL SELECT c.canon, c.form, c.page, c.entries, c.canon_size, 1 FROM several s
+    CROSS JOIN copies c ON c.canon = s.canon CROSS JOIN present f ON f.page = c.page"""
+# (those that draw nothing stand behind the others of their kind)
+ORDERED = f"""SELECT canon, form, count(DISTINCT page) AS spellings, count(*) AS files, sum(is_copy) AS copies,
+    max(entries) AS entries, max(canon_size) FROM ({MEMBERS}) GROUP BY canon, form HAVING count(*) > 1
+    ORDER BY count(DISTINCT page) = 1, max(entries) = 0, spellings DESC, files DESC, canon, form"""
+TABLES = ("copies", "several")
 
 
 class GroupSummary(NamedTuple):
-    """How many spellings and files a canonical stream has, and how long it is."""
+    """How many spellings and files a canonical stream has, for how many of these it is that of a readable copy, and how
+    long it is."""
 
     canon: bytes
     form: str
     spellings: int
     files: int
+    copies: int
     entries: int
     length: int
 
@@ -29,10 +45,12 @@ class GroupSummary(NamedTuple):
 
 def load(connection: sqlite3.Connection) -> List[GroupSummary]:
     """The groups, those of most spellings first: plain copies, which have one spelling, stand at the end."""
-    connection.execute("DROP TABLE IF EXISTS temp.found")
-    connection.execute(equal.GROUPS.format(equal.SEVERAL + equal.COPIES, "count(*) > 1"))
+    for name in TABLES:
+        connection.execute(f"DROP TABLE IF EXISTS temp.{name}")
+    for statement in (*COPIES, SEVERAL):
+        connection.execute(statement)
     return [GroupSummary._make(row) for row in checked(
-        connection.execute(ORDERED), "canon form count files entries canon_size")]
+        connection.execute(ORDERED), "canon form count files count entries canon_size")]
 
 
 def of_spellings(groups: List[GroupSummary]) -> int:

@@ -92,8 +92,25 @@ class Held {
       if (takes.every((each) => each(key))) keys.push(key);
     }
     if (words.order === "group") this.byGroup(keys);
-    this.found = {named, keys};
-    return keys;
+    const ordered = words.pages ? this.blankLast(words.once ? this.once(keys) : keys) : keys;
+    this.found = {named, keys: ordered};
+    return ordered;
+  }
+
+  // Of the files that draw the same the first, or the first that isn't a readable copy.
+  once(keys) {
+    const {group, page} = this.columns, taken = new Map(), isCopy = (key) => isTreated(this.file(key));
+    const drawing = (key) => group[key] < 0 ? "page " + page[key] : group[key];
+    for (const key of [...keys].sort((one, other) => isCopy(one) - isCopy(other) || one - other)) {
+      if (!taken.has(drawing(key))) taken.set(drawing(key), key);
+    }
+    return keys.filter((key) => taken.get(drawing(key)) === key);
+  }
+
+  // Those that draw nothing stand behind all others.
+  blankLast(keys) {
+    const blank = this.table.kinds.indexOf(BLANK), {kind} = this.columns;
+    return [...keys.filter((key) => kind[key] !== blank), ...keys.filter((key) => kind[key] === blank)];
   }
 
   // Those of a group side by side, by their spellings; after them those that have no group.
@@ -103,9 +120,10 @@ class Held {
     keys.sort((one, other) => rank(one) - rank(other) || spelling[one] - spelling[other] || one - other);
   }
 
-  conditions({text, kind, answer, cure, folder, pages}) {
+  conditions({text, kind, answer, cure, folder, pages, others}) {
     const {columns, table} = this, some = [], group = /^group ([0-9]{1,9})$/i.exec(text);
     if (pages) some.push((key) => columns.page[key] >= 0);
+    if (pages && !others && !kind) some.push((key) => isPage(this.file(key)));
     if (answer) {
       const number = table.answers.indexOf(answer);
       const numbers = new Set(table.answers.flatMap((each, at) => each === answer ? [at] : []));
@@ -166,15 +184,18 @@ class Held {
   }
 
   group(number, names) {
-    const [canonical, spellings, files, entries, length] = this.table.groups[number];
+    const [canonical, spellings, files, entries, length, copies] = this.table.groups[number];
     const of = this.columns.spelling, keys = this.members[number], some = new Map();
     const order = [...keys].sort((one, other) => of[one] - of[other] || one - other);
     for (const key of order.slice(0, names)) {
       const spelling = of[key];
-      if (!some.has(spelling)) some.set(spelling, {spelling, size: this.columns.size[key], files: []});
+      if (!some.has(spelling)) {
+        const {size, treated} = this.file(key);
+        some.set(spelling, {spelling, size, treated, files: []});
+      }
       some.get(spelling).files.push({key, name: this.name(key)});
     }
-    return {number: number + 1, canonical, spellings, files, entries, length, key: keys[0],
+    return {number: number + 1, canonical, spellings, files, copies, entries, length, key: order[0],
             members: [...some.values()]};
   }
 
@@ -200,7 +221,8 @@ class Held {
 
   async thumbnail(key) {
     const {at, held, why} = await this.block(key), text = this.file(key).says;
-    return at < 0 ? {sketch: "", text, why} : {sketch: held.sketch[at], text, why: held.why[at]};
+    return at < 0 ? {sketch: "", text, why}
+      : {sketch: held.sketch[at], text, why: held.why[at], entries: held.entries[at]};
   }
 
   async drawing(key) {

@@ -68,11 +68,12 @@ class PageView {
 
   // The page, and at its left the one that is held beside it.
   pictures(file, drawing) {
-    const one = (it, isBeside) => make("figure", {}, picture(it.drawing, it.file.name), ...(this.beside
+    const one = (it, isBeside) => make("figure", {}, picture(toShow(it.drawing, it.file), it.file.name), ...(this.beside
       ? [make("figcaption", {}, make("strong", {}, it.file.name + (isBeside ? " (held)" : "")))] : []));
     const shown = make("div", {className: this.beside ? "pictures two" : "pictures"},
       ...(this.beside ? [one(this.beside, true)] : []), one({file, drawing}, false));
-    return this.beside || !drawing.sketch ? shown : new PlayTab(shown, () => this.source.played(file.key)).whole;
+    const isStill = this.beside || !toShow(drawing, file).sketch;
+    return isStill ? shown : new PlayTab(shown, () => this.source.played(file.key)).whole;
   }
 
   // The page in words, as its sketch has them for those who don't see it.
@@ -109,14 +110,18 @@ class PageView {
     const treatments = file.cure === null ? "" : file.cure
       ? `readable by ${file.cure}: the picture, the text and the list are those of the treated copy`
       : "none makes it readable";
+    const twin = file.cure && file.equal && file.equal.members.find((each) => !each.treated);
+    const draws = twin ? make("span", {}, "draws what ", link(twin.files[0].name, () => this.open(twin.files[0].key)),
+      " draws") : "";
     return [make("h3", {}, "Why it is refused"), facts([["It means", refusal.means],
       ["It may come from", refusal.causes], ["What to do", refusal.do],
       ["Command", refusal.command && command(refusal.command.replace("PAGE", () => quoted(file.name)))],
-      ["Treatments", treatments]], "facts reasons")];
+      ["Treatments", treatments], ["The treated copy", draws]], "facts reasons")];
   }
 
   equal(group) {
-    const size = `${counted(group.files, "file")}, ${counted(group.spellings, "spelling")}`;
+    const size = [counted(group.files, "file"), counted(group.spellings, "spelling"),
+      ...(group.copies ? [readable(group)] : [])].join(", ");
     return [make("h3", {}, `Equal pages: group ${group.number}, ${size}`), make("ul", {className: "equal"},
       ...group.members.map((each) => make("li", {}, make("div", {className: "thumb"}), ...this.spelling(each)))),
       ...this.others(group)];
@@ -131,7 +136,8 @@ class PageView {
   }
 
   spelling(each) {
-    return [make("h4", {}, `Spelling ${letters(each.spelling)}, ${counted(each.size, "byte")}`),
+    const by = each.treated ? [", ", make("span", {className: "copy"}, madeBy(each.treated))] : [];
+    return [make("h4", {}, `Spelling ${letters(each.spelling)}, ${counted(each.size, "byte")}`, ...by),
       make("ul", {}, ...each.files.map((file) => make("li", {}, link(file.name, () => this.open(file.key)))))];
   }
 

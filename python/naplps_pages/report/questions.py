@@ -4,7 +4,7 @@ from typing import Dict, List, NamedTuple, Optional, Set, Tuple
 
 from naplps.treating.treatments import graded
 
-from ..collection import word_index
+from ..collection import tables, word_index
 from ..collection.kinds import checked, one
 from ..collection.store import open_to_read
 from ..packs.naming import MOST_NAME
@@ -25,8 +25,14 @@ Words = Dict[str, str]
 GROUP = re.compile(r"group ([0-9]{1,9})", re.IGNORECASE)
 KEY = re.compile(r"([0-9]{1,18})-((?:[0-9a-f]{2}){0,%d})" % MOST_NAME)
 NAMES = 12
-HITS = "CREATE TEMP TABLE hits AS SELECT f.folder AS folder, f.name AS name %s WHERE %s ORDER BY %sd.path, f.name"
-BY_GROUP = "group_rank(p.canon, t.form), p.own, "
+# (`rank` is the number of its group where that is asked for, and `nth` which of the files it is that draw the same)
+HITS = """CREATE TEMP TABLE hits AS SELECT folder, name FROM (SELECT f.folder AS folder, f.name AS name,
+    d.path AS path, p.own AS own, p.canon IS NULL AS is_copy, {blank} AS is_blank, {rank} AS rank, {nth} AS nth
+    {files} WHERE {conditions}) WHERE nth = 1 ORDER BY is_blank, {order}path, name"""
+BLANK_LAST, RANK, BY_GROUP = f"p.kind IS {tables.BLANK}", "group_rank(coalesce(p.canon, c.canon), t.form)", \
+    "rank, CASE rank WHEN {last} THEN 0 ELSE is_copy END, CASE rank WHEN {last} THEN x'' ELSE own END, "
+NTH = "row_number() OVER (PARTITION BY coalesce(p.canon, c.canon, p.own), t.form " \
+    "ORDER BY p.canon IS NULL, d.path, f.name)"
 POSITION = "SELECT rowid FROM hits WHERE folder = ? AND name = ?"
 HASH = re.compile(r"[0-9a-f]{%d,64}" % HASH_DIGITS)
 OF_HASH = "SELECT f.folder, f.name FROM pages p CROSS JOIN files f ON f.page = p.id AND f.state = 0 " \
@@ -41,10 +47,14 @@ MEMBERS = "SELECT %s FROM pages p CROSS JOIN terms t ON t.id = p.terms CROSS JOI
     "f.state = 0 CROSS JOIN folders d ON d.id = f.folder LEFT JOIN faults n ON n.number = p.number LEFT JOIN cures c " \
     "ON c.page = p.id AND c.terms = p.terms WHERE p.canon = ? AND t.form = ? ORDER BY p.own, d.path, f.name LIMIT ?" \
     % of_files.COLUMNS
+COPIES = "SELECT %s FROM cures c CROSS JOIN pages p ON p.id = c.page AND p.terms = c.terms CROSS JOIN terms t ON " \
+    "t.id = p.terms CROSS JOIN files f ON f.page = p.id AND f.state = 0 CROSS JOIN folders d ON d.id = f.folder LEFT " \
+    "JOIN faults n ON n.number = p.number WHERE c.canon = ? AND t.form = ? ORDER BY p.own, d.path, f.name LIMIT ?" \
+    % of_files.COLUMNS
 
 
 # The words by which files are found, and those of them that a value has to be equal to.
-FIELDS = ("text", "folder", "kind", "answer", "cure", "order", "pages")
+FIELDS = ("text", "folder", "kind", "answer", "cure", "order", "pages", "once", "others")
 EQUALS = {"kind": "kind_of(p.kind, p.looks_like) = ?", "answer": f"told({of_files.REASONS}) = ?",
           "cure": "c.page IS NOT NULL AND cure_of(c.treatments) = ?"}
 
@@ -150,9 +160,17 @@ class Questions:
         self.found = ()
         self.connection.execute("DROP TABLE IF EXISTS temp.hits")
         with word_index.used():
-            self.connection.execute(HITS % (of_files.FROM, " AND ".join(conditions),
-                                            BY_GROUP if words.get("order") == "group" else ""), values)
+            self.connection.execute(self._hits(words, " AND ".join(conditions)), values)
         self.found = named
+
+    def _hits(self, words: Words, conditions: str) -> str:
+        """What makes the table `hits`: on the wall, which has pages alone, those that draw nothing stand last."""
+        is_wall, by_group = words.get("pages") == "1", words.get("order") == "group"
+        last = len(self._now().groups) + 1
+        return HITS.format(
+            files=of_files.FROM, conditions=conditions, blank=BLANK_LAST if is_wall else "0",
+            rank=RANK if by_group else "0", order=BY_GROUP.format(last=last) if by_group else "",
+            nth=NTH if is_wall and words.get("once") == "1" else "1")
 
     def _conditions(self, words: Words) -> Tuple[List[str], List[object]]:
         """What files must fulfil, and the values of that."""
@@ -161,7 +179,7 @@ class Questions:
         text, folder = words.get("text", ""), words.get("folder", "")
         group = GROUP.fullmatch(text)
         if group:
-            conditions.append("p.canon = ? AND t.form = ?")
+            conditions.append("coalesce(p.canon, c.canon) = ? AND t.form = ?")
             values += self._key(int(group[1]))
         elif text:
             self.part = text.lower()
@@ -177,6 +195,8 @@ class Questions:
                 values.append(words[name])
         if words.get("pages") == "1":
             conditions.append("p.id IS NOT NULL")
+            if words.get("others") != "1" and not words.get("kind"):
+                conditions.append(choices.IS_SHOWN)
         return conditions, values
 
     def _key(self, number: int) -> Tuple[bytes, str]:
@@ -194,18 +214,21 @@ class Questions:
     def _group(self, number: int, names: int) -> Answer:
         group = self._now().groups[number - 1]
         some = list(of_files.read(self.connection.execute(MEMBERS, (*group.key, max(names, 1)))))
+        if group.copies and len(some) < max(names, 1):
+            some += of_files.read(self.connection.execute(COPIES, (*group.key, max(names, 1) - len(some))))
         members: List[Answer] = []
         last: Optional[bytes] = None
         for file in some[:names]:
             if not members or file.own != last:
-                members.append({"spelling": len(members), "size": file.size, "files": []})
+                members.append({"spelling": len(members), "size": file.size, "files": [],
+                                "treated": "" if file.canon else graded(file.treatments or "")})
                 last = file.own
             named = members[-1]["files"]
             assert isinstance(named, list)
             named.append({"key": key_of(file), "name": self._name(file)})
         return {"number": number, "canonical": group.canon.hex(), "spellings": group.spellings, "files": group.files,
-                "entries": group.entries, "length": group.length, "key": key_of(some[0]) if some else "",
-                "members": members}
+                "copies": group.copies, "entries": group.entries, "length": group.length,
+                "key": key_of(some[0]) if some else "", "members": members}
 
     def _name(self, file: ReportFile) -> str:
         return joined(self.folders.get(file.folder, ""), file.name)
@@ -216,7 +239,7 @@ class Questions:
                 "kind": choices.kind(file.kind, file.looks_like),
                 "treated": graded(file.treatments) if file.treatments else "",
                 "entries": file.at if file.entries is None else file.entries,
-                "group": self._now().numbers.get(file.key, 0) if file.key else 0}
+                "group": self._now().numbers.get(file.drawn_key, 0) if file.drawn_key else 0}
 
     def _details(self, words: Words) -> Answer:
         file = self._file(words)

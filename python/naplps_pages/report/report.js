@@ -4,6 +4,10 @@ const FILES = 100, GROUPS = 12, NAMES = 8, VIEWS = ["pages", "list", "equal", "s
 const HASH_DIGITS = 64;
 // (there is no field where there is nothing to choose)
 const FIELDS = ["text", "kind", "answer", "cure", "folder", "order"].filter(byId);
+const BOXES = ["once", "others"].filter(byId);
+
+// How many files of a group have readable copies that draw what it draws.
+const readable = (group) => counted(group.copies, "readable copy", "readable copies");
 
 class Report {
   constructor(source) {
@@ -12,7 +16,7 @@ class Report {
     this.groups = new Pager("groups", GROUPS, "group",
       (from, count) => source.groups({copies: byId("copies").checked, from, count, names: NAMES}),
       (found) => found.groups.map((group) => this.group(group)));
-    this.files = new Pager("files", FILES, "file", (from, count) => this.search(from, count),
+    this.files = new Pager("files", FILES, "file", (from, count) => this.search(from, count, false),
       (found, from) => found.files.map((file, at) => this.row(file, from + at)));
     this.wall = new Wall(byId("wall"), (from, count) => this.search(from, count, true),
       (key) => source.thumbnail(key), (key, at) => this.page.open(key, at), (file) => this.label(file));
@@ -22,7 +26,8 @@ class Report {
 
   // The words of the form.
   words() {
-    return Object.fromEntries(FIELDS.map((name) => [name, byId(name).value.trim()]));
+    return Object.fromEntries([...FIELDS.map((name) => [name, byId(name).value.trim()]),
+      ...BOXES.map((name) => [name, byId(name).checked])]);
   }
 
   // A part of the files that are found; or of those alone that have a page.
@@ -36,11 +41,11 @@ class Report {
             at: async (position) => (await this.search(position, 1)).files[0]};
   }
 
-  // What stands at the corner of a thumbnail.
+  // What stands below a thumbnail, in words.
   label(file) {
-    const [name] = file.treated.split(" "), isGuess = file.treated.includes("guess");
-    const some = [name ? (isGuess ? "guess by " : "treated by ") + name : "",
-      file.kind === CAPTURE ? CAPTURE : "", file.answer === "accepted" ? "" : file.answer];
+    const isKnown = file.answer === "accepted" || file.kind === CAPTURE || !isPage(file);
+    const some = [file.kind === CAPTURE ? CAPTURE : "",
+      isTreated(file) ? madeBy(file.treated) : isKnown ? "" : inWords(file.answer)];
     if (byId("order").value === "group" && file.group) some.push("group " + file.group);
     return some.filter(Boolean).join(", ");
   }
@@ -58,7 +63,7 @@ class Report {
       "aria-label": `Details of group ${group.number}` + (words ? ", with the text: " + words : "")},
       picture(cropped(drawing), title));
     const size = [counted(group.files, "file"), counted(group.spellings, "spelling"),
-      counted(group.entries, "entry", "entries")];
+      counted(group.entries, "entry", "entries"), ...(group.copies ? [readable(group)] : [])];
     return make("li", {}, sketch, make("h3", {}, title), make("div", {}, size.join(", ")),
       make("div", {className: "dim", title: "so the hash of the canonical bytes begins"},
         make("code", {}, group.canonical.slice(0, 16))),
@@ -82,6 +87,7 @@ class Report {
   // Shows the files with these words, and goes there.
   async find(words) {
     for (const name of FIELDS) byId(name).value = words[name] || "";
+    for (const name of BOXES) byId(name).checked = name === "others" && Object.keys(words).length > 0;
     this.page.close();
     this.show(this.view === "pages" ? "pages" : "list");
     history.replaceState(null, "", "#" + this.view);
@@ -90,7 +96,16 @@ class Report {
     byId(this.view + "-title").focus({preventScroll: true});
   }
 
+  // Shows the filters where they have no room by themselves, or only the button for them.
+  unfold(isOpen) {
+    byId("filters").setAttribute("aria-expanded", isOpen);
+    byId("bar").classList.toggle("open", isOpen);
+  }
+
   async refresh() {
+    const chosen = FIELDS.slice(1).filter((name) => byId(name).value).length
+      + BOXES.filter((name) => byId(name).checked).length;
+    byId("filters").textContent = chosen ? `Filters (${chosen})` : "Filters";
     await Promise.all([this.wall.show(), this.files.show(0)]);
     this.nothing("wall", this.wall.total, "pages");
     this.nothing("files", this.files.total, "files");
@@ -100,7 +115,10 @@ class Report {
   nothing(name, total, what) {
     const isAll = FIELDS.every((field) => !byId(field).value);
     const back = make("button", {type: "button", onclick: doing(() => this.find({}))}, "Show all " + what);
-    byId(name + "-none").replaceChildren(...(total ? [] : [`There are no such ${what}.`, ...(isAll ? [] : [" ", back])]));
+    const others = byId("others"), isHiding = what === "pages" && others && !others.checked && !this.words().kind;
+    const more = make("button", {type: "button", onclick: doing(() => others.click())}, "Show also what is no page");
+    byId(name + "-none").replaceChildren(...(total ? [] : [`There are no such ${what}.`, ...(isAll ? [] : [" ", back]),
+      ...(isHiding ? [" ", more] : [])]));
   }
 
   // Shows one of the views; the others are there for print alone.
@@ -148,7 +166,8 @@ class Report {
       clearTimeout(waiting);
       waiting = setTimeout(doing(() => this.refresh()), 150);
     };
-    for (const name of FIELDS.slice(1)) byId(name).onchange = doing(() => this.refresh());
+    for (const name of [...FIELDS.slice(1), ...BOXES]) byId(name).onchange = doing(() => this.refresh());
+    byId("filters").onclick = () => this.unfold(byId("filters").getAttribute("aria-expanded") !== "true");
     byId("copies").onchange = doing(() => this.groups.show(0));
     for (const form of document.forms) form.onsubmit = (event) => event.preventDefault();
     for (const button of document.querySelectorAll("[data-answer]")) {

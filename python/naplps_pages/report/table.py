@@ -49,15 +49,16 @@ class Table:
         self.roots, self.near = roots, NearFiles(connection)
         self.columns: Dict[str, List[object]] = {name: [] for name in COLUMNS}
         numbers = {group.key: number for number, group in enumerate(groups)}
-        # The groups of the files by their numbers, or NONE.
-        self.in_group = [numbers.get(file.key, NONE) if file.key else NONE for file in self.files]
+        # The groups of the files by their numbers, or NONE; and of the files that are accepted alone.
+        self.shown_in = [numbers.get(file.drawn_key, NONE) if file.drawn_key else NONE for file in self.files]
+        self.in_group = [group if file.key else NONE for file, group in zip(self.files, self.shown_in)]
 
     def fill(self) -> None:
         """Fills the columns."""
-        spellings = _spellings(self.files, self.in_group)
+        spellings = _spellings(self.files, self.shown_in)
         relative: Dict[int, str] = {}
         rows = []
-        for file, group in zip(self.files, self.in_group):
+        for file, group in zip(self.files, self.shown_in):
             if file.folder not in relative:
                 relative[file.folder] = self.roots.relative(file.path)
             rows.append(self._row(file, relative[file.folder], group, spellings.get((group, file.own), NONE)))
@@ -89,8 +90,8 @@ class Table:
         return {"folders": self.folders.names, "answers": self.answers.names, "cures": self.cures.names,
                 "kinds": self.kinds.names, "numbers": self._numbers(), "hashes": self.hashes.names, "says": self.says,
                 "columns": self.columns, "near": self._near(),
-                "groups": [[group.canon.hex()[:16], group.spellings, group.files, group.entries, group.length]
-                           for group in self.groups]}
+                "groups": [[group.canon.hex()[:16], group.spellings, group.files, group.entries, group.length,
+                            group.copies] for group in self.groups]}
 
     def _near(self) -> Dict[object, List[Tuple[int, str]]]:
         """The files that are almost equal, and what is told of each, by the numbers of pages."""
@@ -114,9 +115,9 @@ def _picture(file: ReportFile) -> object:
 
 
 def _spellings(files: List[ReportFile], in_group: List[int]) -> Dict[Tuple[int, Optional[bytes]], int]:
-    """The number of each spelling within its group, in the order of their hashes."""
-    owns: Dict[int, Set[bytes]] = {}
+    """The number of each spelling within its group, in the order of their hashes, those of readable copies last."""
+    owns: Dict[int, Set[Tuple[bool, bytes]]] = {}
     for file, group in zip(files, in_group):
         if group != NONE and file.own is not None:
-            owns.setdefault(group, set()).add(file.own)
-    return {(group, own): number for group, some in owns.items() for number, own in enumerate(sorted(some))}
+            owns.setdefault(group, set()).add((file.key is None, file.own))
+    return {(group, own): number for group, some in owns.items() for number, (_, own) in enumerate(sorted(some))}

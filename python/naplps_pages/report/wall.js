@@ -1,6 +1,6 @@
 
 // The wall: thumbnails of all pages that are found. Only those that can be seen have elements.
-const PART = 120, HELD_PARTS = 40, BUSY = 6, NARROW = 150, WIDE = 200, GAP = 10, CAPTION = 46, ROWS_AHEAD = 2;
+const PART = 120, HELD_PARTS = 40, BUSY = 6, NARROW = 150, WIDE = 200, GAP = 10, CAPTION = 80, LINE = 16, ROWS_AHEAD = 2;
 // Drawings that are held; for how many ms the wall counts as scrolled after the last of it, and how many lie between
 // two pictures meanwhile.
 const HELD_DRAWINGS = 150, STILL = 120, BETWEEN = 30;
@@ -30,7 +30,7 @@ class Parts {
 }
 
 class Wall {
-  // `thumbnail` draws a file, `open` shows its page, `label` says what stands at its corner.
+  // `thumbnail` draws a file, `open` shows its page, `label` says what stands below it.
   constructor(box, ask, thumbnail, open, label) {
     Object.assign(this, {box, thumbnail, open, label, parts: new Parts(ask), tiles: new Map(), waiting: [], busy: 0,
       drawings: new Map(), ready: [], resting: [], scrolled: -STILL, was: 0, at: 0, columns: 1, row: 1, turn: 0,
@@ -66,7 +66,7 @@ class Wall {
     const first = this.first(), least = width < 500 ? NARROW : WIDE;
     this.columns = Math.max(1, Math.floor((width + GAP) / (least + GAP)));
     this.side = (width - GAP * (this.columns - 1)) / this.columns;
-    this.row = Math.ceil(this.side * 800 / 1024) + CAPTION + GAP;
+    this.row = Math.ceil(this.side * 800 / 1024) + CAPTION + (least === NARROW ? LINE : 0) + GAP;
     this.box.style.height = Math.ceil(this.total / this.columns) * this.row + "px";
     for (const [at, tile] of this.tiles) this.place(at, tile);
     if (first >= this.columns) scrollTo(0, this.top() + Math.floor(first / this.columns) * this.row);
@@ -135,15 +135,17 @@ class Wall {
   async fill(at, tile, button) {
     const file = await this.parts.file(at);
     if (!file || !tile.isConnected) return;
-    const leaf = file.name.slice(file.name.lastIndexOf("/") + 1) || file.name;
-    const says = make("span", {className: "says"}, file.says || "");
-    button.append(make("span", {className: "leaf"}, leaf), says);
-    const label = this.label(file);
-    if (label) button.append(make("span", {className: "badge"}, label));
+    const cut = file.name.lastIndexOf("/") + 1, leaf = file.name.slice(cut);
+    const folder = file.name.slice(0, leaf ? cut : 0);
+    const line = (className, text) => make("span", {className}, text);
+    const says = line("says", file.says || ""), label = this.label(file);
+    button.append(line("leaf", leaf || file.name), ...(folder ? [line("folder", folder)] : []), says,
+      ...(label ? [line("badge", label)] : []));
     button.title = file.name;
     button.setAttribute("aria-label", [file.name, label, file.says].filter(Boolean).join(", "));
     button.onclick = doing(() => this.open(file.key, at));
-    this.waiting.push({at, file, tile, thumb: button.firstChild, says});
+    if (!isPage(file)) button.firstChild.replaceChildren(instead(kindOf(file)));
+    else this.waiting.push({at, file, tile, thumb: button.firstChild, says});
     this.soonDrawn ||= requestAnimationFrame(() => { this.soonDrawn = 0; this.draw(); });
   }
 
@@ -191,9 +193,11 @@ class Wall {
     });
   }
 
-  // A word at the corner of a page of which parts blink.
+  // A word below a page of which parts blink.
   markBlinking(button) {
-    button.append(make("span", {className: "badge blinks"}, "blinks"));
+    if (!button.querySelector(".badge")) button.append(make("span", {className: "badge"}));
+    const badge = button.querySelector(".badge");
+    badge.append(make("span", {className: "blinks"}, badge.textContent ? ", blinks" : "blinks"));
     button.setAttribute("aria-label", button.getAttribute("aria-label") + ", blinks");
   }
 
