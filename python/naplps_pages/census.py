@@ -7,6 +7,7 @@ from naplps.answers import Accepted, Refusal, Unanswered
 from naplps.names import Members, printable
 
 from .codes import Code, Cutter
+from .file_kinds import described
 from .json_lines import dumps
 from .page_session import Session
 from .source import Page
@@ -23,6 +24,8 @@ ESCAPES = ("announcer", "designation of a C0 set", "designation of a C1 set", "s
 UNKNOWN_SET = "unknown set"
 EIGHTH_BIT, TRANSPARENT = "eighth bit", "SET COLOR without a colour"
 MOST_SHOWN = 5
+# How many codes are printed where none stops a page alone.
+MOST_NOT_ALONE = 10
 # The number of bytes after the place of a refusal that belong to its escape sequence.
 MOST_BEHIND = 64
 ESTIMATE = ("first: the refusal's own, which is exact. The rest is an estimate, by a reading of codes that goes on "
@@ -47,6 +50,8 @@ class Census:
     refused: int = 0
     without: int = 0
     in_part: int = 0
+    # (refused files that look like another format; they are counted as refused too)
+    others: int = 0
     rows: "dict[str, Row]" = field(default_factory=dict)
 
     def take(self, names: List[str]) -> None:
@@ -65,8 +70,8 @@ class Census:
             row.only += len(counts) == 1
 
     def sorted(self) -> List["tuple[str, Row]"]:
-        """The codes, those on most pages first."""
-        return sorted(self.rows.items(), key=lambda each: (-each[1].pages, -each[1].times, each[0]))
+        """The codes: those first that alone stop most pages, then those on most pages."""
+        return sorted(self.rows.items(), key=lambda each: (-each[1].only, -each[1].pages, -each[1].times, each[0]))
 
 
 def census(session: Session) -> int:
@@ -79,6 +84,9 @@ def census(session: Session) -> int:
             found.without += 1
         elif isinstance(answer, Accepted):
             found.accepted += 1
+        elif described(page, answer).looks_like:
+            found.refused += 1
+            found.others += 1
         else:
             names = stops(page.data, answer)
             found.in_part += names[-1:] == [""]
@@ -160,11 +168,20 @@ def lines(found: Census) -> Iterator[str]:
     without = f", {found.without} without an answer" if found.without else ""
     yield "%d %s: %d accepted, %d refused%s" % (
         every, "page" if every == 1 else "pages", found.accepted, found.refused, without)
+    if found.others:
+        told = "is of another format, and isn't" if found.others == 1 else "are of other formats, and aren't"
+        yield f"{found.others} of the refused files {told} in the table."
     if not found.rows:
         return
     yield "%-44s %8s %8s %8s %8s" % ("What stops pages", "first", "pages", "alone", "times")
-    for name, row in found.sorted():
+    some = found.sorted()
+    alone = [each for each in some if each[1].only] or some[:MOST_NOT_ALONE]
+    for name, row in alone:
         yield "%-44s %8d %8d %8d %8d" % (name, row.first, row.pages, row.only, row.times)
+    if len(alone) < len(some):
+        left = len(some) - len(alone)
+        yield "%d more %s no page alone; --json prints %s." % (
+            left, *(("code stops", "it") if left == 1 else ("codes stop", "them")))
     yield ESTIMATE
     if found.in_part:
         yield f"{found.in_part} of the refused pages were read on in part, or not at all."
@@ -175,4 +192,4 @@ def members(found: Census) -> Members:
     codes: List[Members] = [{"code": name, "first": row.first, "pages": row.pages, "alone": row.only,
                              "times": row.times} for name, row in found.sorted()]
     return {"accepted": found.accepted, "refused": found.refused, "no_answer": found.without,
-            "in_part": found.in_part, "codes": codes}
+            "in_part": found.in_part, "other_formats": found.others, "codes": codes}

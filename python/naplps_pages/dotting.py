@@ -29,6 +29,8 @@ def look(session: Session) -> int:
         if told.every.lines is None:
             session.complain(page.name, TOO_MUCH)
             return
+        if not session.takes(Listed(told.last.answer, told.every.rows)):
+            return
         _tell_of(session, page, told.last)
         make = _moving if session.animate else _still
         made = make(session, page, told.every, len(told.every.lines) - len(told.last.lines or ()))
@@ -41,7 +43,7 @@ def look(session: Session) -> int:
 
 def _tell_of(session: Session, page: Page, last: Listed) -> None:
     """Tells that a page is refused, and what its picture shows then."""
-    if isinstance(last.answer, Refusal):
+    if isinstance(last.answer, Refusal) and not session.is_quiet:
         session.output.flush()
         tell(f"{shown(page.name)}: {last.answer.line}; the picture shows what comes before")
 

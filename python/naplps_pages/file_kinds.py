@@ -1,4 +1,5 @@
 """What a file is, by its bytes and the answer: a page, text alone or blank; and what a refused file looks like."""
+import codecs
 import re
 from typing import IO, Iterable, Iterator, NamedTuple, Optional, Tuple
 
@@ -10,8 +11,14 @@ from .source import PIECE, Page
 
 PAGE, TEXT, BLANK, CAPTURE = "page", "text", "blank", "capture"
 # The number of bytes of a file that are looked at for what it looks like.
-MOST_LOOKED_AT = 512
+MOST_LOOKED_AT = 4096
 MAC_HEADER = 128
+ARC_HEADER, MOST_ARC_METHOD, ARC_NAME = 29, 11, re.compile(rb"[!-~]{1,12}")
+# What texts are made of; and letters of other codes, each of which stands in a word, with at least so many bytes of
+# ASCII for each. (Without the controls 80 to 9F, and the few signs of Latin-1 that texts have.)
+TEXT_BYTES, LEAST_PLAIN = re.compile(rb"[\t\n\x0c\r\x20-\x7e\x80-\xff]*"), 4
+LATIN_1 = re.compile(rb"[\t-\r\x20-\x7e\xa0\xa1\xa3\xa7-\xab\xb0-\xb7\xb9-\xbf\xc0-\xff]*")
+OF_DOS = re.compile(rb"[\t-\r\x20-\x7e\x80-\xa8\xad-\xaf\xb3\xba-\xbc\xbf-\xc0\xc4\xc8-\xc9\xcd\xd9-\xda\xe1\xf8]*")
 # In an accepted page they stand in the bodies of its macros alone.
 DEFINITION, BEGINNINGS = b"\x1b\x40", re.compile(rb"\x1f|\x1b[\x22\x25]")
 
@@ -29,13 +36,21 @@ MAGIC = tuple(Magic(offset, data, name) for offset, data, name in (
     (0, b"II*\0", "TIFF"), (0, b"MM\0*", "TIFF"), (0, b"BM", "BMP"), (8, b"ILBM", "IFF picture"),
     (0, b"RIFF", "RIFF (WAV or AVI)"), (0, b"PK\3\4", "ZIP"), (0, b"PK\5\6", "ZIP"), (0, b"\x1f\x8b", "gzip"),
     (0, b"\x1f\x9d", "compress"), (0, b"BZh", "bzip2"), (0, b"\xfd7zXZ\0", "xz"), (0, b"7z\xbc\xaf\x27\x1c", "7z"),
-    (0, b"Rar!\x1a\7", "RAR"), (2, b"-lh", "LHA"), (20, b"\xdc\xa7\xc4\xfd", "ZOO"), (0, b"SIT!", "StuffIt"),
+    (0, b"Rar!\x1a\7", "RAR"), (2, b"-lh", "LHA"), (2, b"-lz", "LHA"), (20, b"\xdc\xa7\xc4\xfd", "ZOO"),
+    (0, b"SIT!", "StuffIt"), (0, b"StuffIt (c)", "StuffIt"), (0, b"\x60\xea", "ARJ"), (7, b"**ACE**", "ACE"),
+    (0, b"HLSQZ", "SQZ"), (0, b"UC2\x1a", "UC2"), (0, b"MSCF", "CAB"), (0, b"SZDD\x88\xf0\x27\x33", "SZDD"),
+    (0, b"\x0a\0\1", "PCX"), (0, b"\x0a\2\1", "PCX"), (0, b"\x0a\3\1", "PCX"), (0, b"\x0a\5\1", "PCX"),
+    (0, b"MThd", "MIDI"), (0, b".snd", "AU"), (0, b"FORM", "IFF"), (0, b"Creative Voice File\x1a", "VOC"),
+    (0, b"\0\0\2\0\4\4\6\0", "Lotus 1-2-3"), (0, b"\0\0\2\0\6\4\6\0", "Lotus 1-2-3"),
+    (0, b"\x31\xbe\0\0", "Word for DOS, or Write"),
+    (0, b"\x32\xbe\0\0", "Write"),
+    (0, b"DOS\0", "disk of an Amiga"),
     (257, b"ustar", "tar"), (0, b"%PDF-", "PDF"), (0, b"%!PS", "PostScript"), (0, b"{\\rtf", "RTF"),
     (0, b"\xd0\xcf\x11\xe0\xa1\xb1\x1a\xe1", "OLE (an older Office file)"), (0, b"\xffWPC", "WordPerfect"),
     (0, b"\0\5\x16\7", "AppleDouble"), (0, b"\0\5\x16\0", "AppleSingle"), (0, b"\0\0\0\1Bud1", ".DS_Store"),
     (0, b"MZ", "program of DOS or Windows"), (0, b"\x7fELF", "ELF program"), (0, b"SQLite format 3\0", "SQLite"),
     (0, b"<!DOCTYPE", "HTML"), (0, b"<!doctype", "HTML"), (0, b"<html", "HTML"), (0, b"<HTML", "HTML"),
-    (0, b"<?xml", "XML"), (0, b"\xef\xbb\xbf", "text in UTF-8"), (0, b"\xff\xfe", "text in UTF-16"),
+    (0, b"<?xml", "XML"), (0, b"<svg", "SVG"), (0, b"\xef\xbb\xbf", "text in UTF-8"), (0, b"\xff\xfe", "text in UTF-16"),
     (0, b"\xfe\xff", "text in UTF-16"), (0, b"SAUCE00", "SAUCE record")))
 
 
@@ -81,7 +96,49 @@ def looks_like(beginning: bytes, length: int) -> Optional[str]:
     for magic in MAGIC if beginning.startswith(FRONTS) else BEHIND:
         if beginning.startswith(magic.data, magic.offset):
             return magic.name
-    return "MacBinary" if _is_mac_binary(beginning, length) else None
+    for name, is_it in (("MacBinary", _is_mac_binary), ("ARC", _is_arc), ("disk of DOS", _is_dos_disk)):
+        if is_it(beginning, length):
+            return name
+    return _text_in(beginning, length)
+
+
+def _is_arc(beginning: bytes, _length: int) -> bool:
+    """Whether it begins as an ARC archive: a mark, a method, and a name that ends by zero."""
+    if beginning[:1] != b"\x1a" or len(beginning) < ARC_HEADER or not 1 <= beginning[1] <= MOST_ARC_METHOD:
+        return False
+    name, end, _ = beginning[2:15].partition(b"\0")
+    return ARC_NAME.fullmatch(name) is not None and end != b""
+
+
+def _is_dos_disk(beginning: bytes, _length: int) -> bool:
+    """Whether it begins with the boot sector of a disk: a jump, bytes of a sector, and the mark at its end."""
+    return (beginning[:1] in (b"\xeb", b"\xe9") and beginning[510:512] == b"\x55\xaa"
+            and int.from_bytes(beginning[11:13], "little") in (128, 256, 512, 1024, 2048, 4096))
+
+
+def _text_in(beginning: bytes, length: int) -> Optional[str]:
+    """In which code it is a text, where it has letters that ASCII lacks, and few of them."""
+    text = beginning.rstrip(b"\x1a")
+    high = sum(1 for byte in text if byte >= 0x80)
+    if not high or TEXT_BYTES.fullmatch(text) is None:
+        return None
+    if _is_utf_8(text, len(beginning) == length):
+        return "text in UTF-8"
+    if high * LEAST_PLAIN > len(text):
+        return None
+    for name, letters in (("Latin-1", LATIN_1), ("a code page of DOS", OF_DOS)):
+        if letters.fullmatch(text):
+            return "text in " + name
+    return None
+
+
+def _is_utf_8(text: bytes, is_whole: bool) -> bool:
+    """Whether it is UTF-8, but for a letter that is cut at the end of a beginning."""
+    try:
+        codecs.getincrementaldecoder("utf-8")().decode(text, is_whole)
+    except UnicodeDecodeError:
+        return False
+    return True
 
 
 def _is_mac_binary(beginning: bytes, length: int) -> bool:

@@ -12,6 +12,7 @@ from naplps.reading import NotALine
 from .console import ACCEPTED, FAILED, REFUSED, Output, OutputLost, tell
 from .earlier import Earlier, Heard, heard
 from .json_lines import dumps
+from .listing import Listed
 from .new_files import NotWritten, below, make_folders
 from .png import NoPng
 from .schema import answered, unread
@@ -42,6 +43,9 @@ class Session:
     speed: int = 1200
     # (what is told of a store in place of a page, where that isn't asked about as any file)
     of_store: str = ""
+    # (by what the page at work is treated; and whether refusals are counted, and not told each)
+    treated: str = ""
+    is_quiet: bool = False
     earlier: Earlier = field(default_factory=Earlier)
     output: Output = field(default_factory=lambda: Output(sys.stdout.buffer))
     status: int = ACCEPTED
@@ -83,6 +87,10 @@ class Session:
             return False
         if isinstance(answer, Refusal):
             self.fail(REFUSED)
+        return True
+
+    def takes(self, _told: Listed) -> bool:
+        """Whether what a page draws is shown."""
         return True
 
     def heard(self, page: Page) -> Heard:

@@ -45,7 +45,7 @@ def look(session: Session) -> int:
 
     def work(page: Page) -> None:
         heard = session.heard(page)
-        if not session.answered(page, heard.last.answer):
+        if not _is_shown(session, page, heard):
             return
         made = _made(session, _drawn(session, page, heard).svg)
         if session.into is not None:
@@ -65,8 +65,8 @@ def _sheet(session: Session, path: str) -> int:
     def work(page: Page) -> None:
         heard = session.heard(page)
         answer = heard.last.answer
-        if session.answered(page, answer):
-            said = answer.line if isinstance(answer, (Accepted, Refusal)) else ""
+        if _is_shown(session, page, heard):
+            said = session.treated or (answer.line if isinstance(answer, (Accepted, Refusal)) else "")
             told = _with_guess(session, page, heard)
             drawn = None if told.entries is None else drawing.drawn(told.entries, "", told.guess, sheet.prefix())
             said += "; then a guess" if told.guess else ""
@@ -75,6 +75,16 @@ def _sheet(session: Session, path: str) -> int:
     status = session.each(work)
     put(path, _made(session, sheet.svg()))
     return status
+
+
+def _is_shown(session: Session, page: Page, heard: Heard) -> bool:
+    """Whether there is a picture of a page that was asked about."""
+    return session.answered(page, heard.last.answer) and session.takes(_listed(heard))
+
+
+def _listed(heard: Heard) -> Listed:
+    """The answer to a page, with the entries of those before it."""
+    return Listed(heard.last.answer, heard.every.rows)
 
 
 def _made(session: Session, svg: str) -> bytes:
@@ -92,7 +102,7 @@ class _Shown(NamedTuple):
 
 def _with_guess(session: Session, page: Page, heard: Heard) -> _Shown:
     """What is drawn of a page that was answered. A refusal is reported, and what the sketch shows then."""
-    told, answer = Listed(heard.last.answer, heard.every.rows), heard.last.answer
+    told, answer = _listed(heard), heard.last.answer
     if not isinstance(answer, Refusal):
         return _Shown(told.entries)
     first = len(session.earlier.data)
@@ -103,7 +113,8 @@ def _with_guess(session: Session, page: Page, heard: Heard) -> _Shown:
     shows = "; the sketch shows what comes before" if told.lines is not None else ""
     if session.past:
         shows += ", and hatched a guess of what stands behind" if guessed else "; what stands behind can't be read on"
-    tell(f"{shown(page.name)}: {answer.line}{shows}")
+    if not session.is_quiet:
+        tell(f"{shown(page.name)}: {answer.line}{shows}")
     if guessed is None:
         return _Shown(told.entries)
     return _Shown(Entries(guessed.lines), drawing.Guess(guessed.start, guessed.said(first)))
@@ -113,7 +124,7 @@ def _drawn(session: Session, page: Page, heard: Heard) -> drawing.Sketch:
     """The sketch of a page that was answered."""
     told = _with_guess(session, page, heard)
     if told.guess is None or told.entries is None:
-        return picture(Listed(heard.last.answer, heard.every.rows))
+        return picture(_listed(heard), session.treated)
     answer = heard.last.answer
     return drawing.draw(told.entries, f"then {answer.line}" if isinstance(answer, Refusal) else "", told.guess)
 

@@ -16,7 +16,7 @@ from test_reasons import LEFT_OUT
 PAGES = {
     "fine": POINT, "one": POINT + b"\x18", "twice": b"\x18" + POINT + b"\x18", "both": POINT + b"\x18\x0fA\x1a",
     "line": b"\x0e\x3a\x52\x0f", "escapes": b"\x1b\x22\x46" + POINT + b"\x1b\x25\x41\x1b\x22\x46",
-    "outside": OUTSIDE + b"\x0f\x1a", "bits": b"\xff\xfeA\x18", "transparent": b"\x0e\x3c\x0f" + POINT}
+    "outside": OUTSIDE + b"\x0f\x1a", "bits": b"\xf1\xf2A\x18", "transparent": b"\x0e\x3c\x0f" + POINT}
 # By what the pages were made of: first, pages, alone, times.
 WANTED = {
     "CAN": (3, 4, 2, 5), "SDC": (0, 2, 0, 2), "INCREMENTAL-LINE": (1, 1, 1, 1),
@@ -34,16 +34,18 @@ def test_what_stops_pages(run, names):
     assert (said.stderr, said.returncode) == (b"", 1)
     row = json.loads(said.stdout)
     codes = row.pop("codes")
-    assert row == {"accepted": 1, "refused": 8, "no_answer": 0, "in_part": 0}
+    assert row == {"accepted": 1, "refused": 8, "no_answer": 0, "in_part": 0, "other_formats": 0}
     assert {each["code"]: tuple(each[key] for key in ("first", "pages", "alone", "times")) for each in codes} == WANTED
-    assert [each["code"] for each in codes[:2]] == ["CAN", "SDC"]
+    assert [each["code"] for each in codes[:4]] == ["CAN", "INCREMENTAL-LINE", "SET COLOR without a colour", "SDC"]
 
 
 def test_for_people(run, tmp_path, names):
     lines = run(["census", *names]).stdout.decode().splitlines()
     assert lines[0] == "9 pages: 1 accepted, 8 refused"
     assert lines[1].split() == ["What", "stops", "pages", "first", "pages", "alone", "times"]
-    assert {line[:44].rstrip(): tuple(map(int, line[44:].split())) for line in lines[2:-1]} == WANTED
+    alone = {name: row for name, row in WANTED.items() if row[2]}
+    assert {line[:44].rstrip(): tuple(map(int, line[44:].split())) for line in lines[2:-2]} == alone
+    assert lines[-2] == "5 more codes stop no page alone; --json prints them."
     assert "an estimate" in lines[-1]
     said = run(["census", names[0]])
     assert (said.stdout, said.returncode) == (b"1 page: 1 accepted, 0 refused\n", 0)
@@ -58,6 +60,20 @@ def test_each_code_is_counted_by_its_name(run, tmp_path, name):
     data = POINT + code + b"\x0f\x0e" + code + b"\x0f"
     row = json.loads(run(["census", "--json", file(tmp_path, "page", data)]).stdout)
     assert row["codes"] == [{"code": name, "first": 1, "pages": 1, "alone": 1, "times": 2}]
+
+
+def test_files_of_other_formats_are_counted_and_not_in_the_table(run, tmp_path):
+    some = {"page": POINT + b"\x18", "gif": b"GIF89a\x81\x18\x1b\x22\x46",
+            "latin": "\u00e9t\u00e9 \u00e0 la mer\n".encode("latin-1") * 9}
+    names = [file(tmp_path, name, data) for name, data in some.items()]
+    row = json.loads(run(["census", "--json", *names]).stdout)
+    assert (row["refused"], row["other_formats"]) == (3, 2) and [each["code"] for each in row["codes"]] == ["CAN"]
+    told = run(["census", *names]).stdout.decode().splitlines()
+    assert told[:2] == ["3 pages: 0 accepted, 3 refused",
+                        "2 of the refused files are of other formats, and aren't in the table."]
+    store = str(tmp_path / "pages.db")
+    assert run(["scan", str(tmp_path), "--into", store]).returncode == 0
+    assert json.loads(run(["census", "--json", store]).stdout) == row
 
 
 def test_long_and_hostile_pages_are_read_in_part(run, tmp_path):

@@ -17,7 +17,7 @@ from naplps.answers import Accepted, Refusal
 from naplps.client import Client
 from naplps.reading import read_line
 from naplps_pages.file_kinds import MAGIC, kind, looks_like
-from samples import OUTSIDE, POINT
+from samples import OUTSIDE, POINT, with_parity
 
 TYPING = {"CHAR", "MOVE", "CLEAR", "BELL"}
 BYTES = st.lists(st.sampled_from([b"A", b"\n", b"\x0c", b"\x07", b"\x0f", b"\0", b"\x1c\x41\x42", b"\x1e", b"\x09",
@@ -118,3 +118,31 @@ def test_any_bytes_have_an_answer(data, length):
 def test_no_page_looks_like_another_format():
     assert [looks_like(data[:512], len(data)) for data in gallery.pages().values()] == [None] * len(gallery.pages())
     assert kind([POINT], Accepted(1)) == "page" and Refusal(1, "EighthBit", None, 0).line == "refused 1 EighthBit at 0"
+
+
+FRENCH = "L'\u00e9t\u00e9 \u00e0 Montr\u00e9al, caf\u00e9 et th\u00e9\u00e2tre.\r\n" * 5
+# (by the table of code page 437: \u00e9 is 82, \u00e0 is 85, \u00e2 is 83)
+OF_437 = FRENCH.replace("\u00e9", "\x82").replace("\u00e0", "\x85").replace("\u00e2", "\x83").encode("latin-1")
+
+
+@pytest.mark.parametrize("data, wanted", [
+    (FRENCH.encode("latin-1"), "text in Latin-1"), (FRENCH.encode("latin-1") + b"\x1a", "text in Latin-1"),
+    ("caf\u00e9".encode("latin-1"), "text in Latin-1"), (FRENCH.encode("utf-8"), "text in UTF-8"),
+    (("a" * 4096 + "\u00e9").encode("utf-8"), None),
+    (("\u00e9" + "a" * 4093 + "\u00e9").encode("utf-8"), "text in UTF-8"),
+    (OF_437, "text in a code page of DOS"), (FRENCH.encode("ascii", "ignore"), None),
+    (b"\x0e" + FRENCH.encode("latin-1"), None), (with_parity(FRENCH.encode("ascii", "ignore")), None),
+    (b"\x1a\x08PAGE.NAP\0\0\0\0\0" + struct.pack("<L", 20) + bytes(30), "ARC"), (b"\x1a\x08" + bytes(60), None),
+    (b"\x1a\x08PAGE.NAP", None), (b"\x1a\x0cPAGE.NAP" + bytes(40), None),
+    (b"\x60\xea\x20\0", "ARJ"), (b"!\x0b-lzs-", "LHA"), (b"SZDD\x88\xf0\x27\x33A", "SZDD"), (b"\x0a\5\1\x08", "PCX"),
+    (b"\xeb\x3c\x90MSDOS3.3" + struct.pack("<H", 512) + bytes(497) + b"\x55\xaa", "disk of DOS"),
+    (b"\xeb\x3c\x90MSDOS3.3" + struct.pack("<H", 512) + bytes(499), None)], ids=lambda each: str(each)[:20])
+def test_texts_and_what_else_a_box_holds(data, wanted):
+    assert looks_like(data[:4096], len(data)) == wanted
+
+
+@given(st.binary(max_size=600))
+def test_what_looks_like_a_text_has_no_control_of_pages(data):
+    told = looks_like(data, len(data))
+    if told and told.startswith("text in ") and not data.startswith((b"\xff\xfe", b"\xfe\xff", b"\xef\xbb\xbf")):
+        assert not set(data.rstrip(b"\x1a")) & {0x0E, 0x0F, 0x19, 0x1B, 0x1D}

@@ -103,7 +103,11 @@ def test_sketches_stand_under_their_folders(run, store, pages, tmp_path):
     to = os.path.join(str(tmp_path), "to")
     said = run(["look", store, "--into", to])
     assert said.returncode == 1 and set(made(to)) == {
-        os.fsencode(name) + b".svg" for name in (*FILES, "d.tar!disk 3/MENU.NAP")}
+        os.fsencode(name) + b".svg" for name in (*FILES, "d.tar!disk 3/MENU.NAP")} - {b"gif.svg"}
+    assert said.stderr.decode() == (
+        f"naplps-pages: {store}: 8 pictures, 5 of readable copies, 1 of what comes before a refusal; left out: "
+        "1 of other formats\n")
+    assert b"; treated by parity (around)<" in made(to)[b"a/MENU.NAP.svg"]
     assert made(to)[b"copy.svg"] == run(["look", os.path.join(pages, "page")]).stdout
     said = run(["look", store])
     assert (said.stdout, said.returncode) == (b"", 2) and b"a store needs --into FOLDER or --sheet FILE" in said.stderr
@@ -115,7 +119,7 @@ def test_one_sheet_of_a_store(run, store, tmp_path):
     assert said.returncode == 1 and said.stdout == b""
     with open(sheet, encoding="utf-8") as made:
         names = [told[0] for told, _ in tiles(made.read())]
-    assert names == ["copy", "gif", "out", "page", "\\xff", "a/MENU.NAP", "b/MENU.NAP", "b/c/MENU.NAP",
+    assert names == ["copy", "out", "page", "\\xff", "a/MENU.NAP", "b/MENU.NAP", "b/c/MENU.NAP",
                      "d.tar!disk 3/MENU.NAP"]
     said = run(["look", store, "--sheet", sheet])
     assert said.returncode == 1 and b"isn't written over" not in said.stderr
@@ -124,12 +128,14 @@ def test_one_sheet_of_a_store(run, store, tmp_path):
 
 
 def test_a_sheet_of_a_store_has_no_more_pages_than_others(run, tmp_path):
-    top = tree(os.path.join(str(tmp_path), "pages"), {"%04d" % at: b"\x0f%d" % at for at in range(MOST_PAGES + 2)})
+    some = {"%04d" % at: b"\x0f%d" % at for at in range(MOST_PAGES + 2)}
+    top = tree(os.path.join(str(tmp_path), "pages"), {**some, "0000 blank": b"", "0001 blank": b"\0"})
     store, sheet = os.path.join(str(tmp_path), "pages.db"), os.path.join(str(tmp_path), "sheet.svg")
     assert run(["scan", top, "--into", store]).returncode == 0
     said = run(["look", store, "--sheet", sheet])
     assert (said.returncode, said.stderr.decode()) == (
-        3, "naplps-pages: %s: a sheet has 1000 pages at most: 2 files aren't in it\n" % store)
+        3, f"naplps-pages: {store}: 1000 pictures; left out: 2 that draw nothing\n"
+        f"naplps-pages: {store}: a sheet has 1000 pages at most: 2 files aren't in it\n")
     with open(sheet, encoding="utf-8") as made:
         assert [told[0] for told, _ in tiles(made.read())] == ["%04d" % at for at in range(MOST_PAGES)]
 

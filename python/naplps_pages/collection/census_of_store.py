@@ -23,10 +23,14 @@ MEMBERS = ("accepted", "refused", "without")
 # The name of what a page is refused for: an eighth bit, a code by its name, or the fault.
 NAME = f"CASE p.number WHEN 1 THEN '{EIGHTH_BIT}' ELSE coalesce(p.left_out, p.stop, n.name, '') END"
 FIRST = f"""SELECT {NAME}, count(*) FROM pages p LEFT JOIN faults n ON n.number = p.number
-    WHERE p.number IS NOT NULL AND EXISTS(SELECT 1 FROM present f WHERE f.page = p.id) GROUP BY 1"""
+    WHERE p.number IS NOT NULL AND coalesce(p.looks_like, '') = ''
+    AND EXISTS(SELECT 1 FROM present f WHERE f.page = p.id) GROUP BY 1"""
+OTHERS = """SELECT count(*) FROM pages p WHERE p.number IS NOT NULL AND p.looks_like <> ''
+    AND EXISTS(SELECT 1 FROM present f WHERE f.page = p.id)"""
 PAGES = f"""SELECT p.own, p.number, coalesce(n.name, ''), p.left_out, p.place, {NAME}, d.path, f.name, f.at FROM pages p
     CROSS JOIN present f ON f.page = p.id CROSS JOIN folders d ON d.id = f.folder LEFT JOIN faults n
-    ON n.number = p.number WHERE p.number IS NOT NULL GROUP BY p.id ORDER BY d.path, f.name LIMIT {MOST_READ}"""
+    ON n.number = p.number WHERE p.number IS NOT NULL AND coalesce(p.looks_like, '') = '' GROUP BY p.id
+    ORDER BY d.path, f.name LIMIT {MOST_READ}"""
 PAGE = "own number fault left_out? at:count stop path name inode?"
 
 
@@ -37,6 +41,7 @@ def exact(connection: sqlite3.Connection) -> Census:
         setattr(found, MEMBERS[state], number)
     for name, number in checked(connection.execute(FIRST), "stop count"):
         found.rows[name] = Row(first=number)
+    found.others = connection.execute(OTHERS).fetchone()[0]
     return found
 
 

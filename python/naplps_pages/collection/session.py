@@ -2,7 +2,6 @@
 import os
 import sqlite3
 from dataclasses import dataclass, field
-from itertools import islice
 from typing import Callable, Iterator, List, NamedTuple, Optional, Sequence
 
 from naplps.names import shown
@@ -22,9 +21,10 @@ from .tables import CAPTURE, REFUSED
 
 ROOTS = "SELECT path, max(run) FROM roots GROUP BY path ORDER BY path"
 # The files with an answer, in the order of their names.
-FILES = """SELECT p.own, d.path, f.name, f.at FROM present f CROSS JOIN pages p ON p.id = f.page
-    CROSS JOIN folders d ON d.id = f.folder WHERE p.state {} ORDER BY d.path, f.name"""
-FILE = "own path name inode?"
+FILES = """SELECT p.own, d.path, f.name, f.at, p.place, p.entries, p.looks_like, c.treatments, c.copy FROM present f
+    CROSS JOIN pages p ON p.id = f.page CROSS JOIN folders d ON d.id = f.folder LEFT JOIN cures c ON c.page = p.id AND
+    c.terms = p.terms AND c.treatments IS NOT NULL WHERE p.state {} ORDER BY d.path, f.name"""
+FILE = "own path name inode? place? entries? looks_like? treatments? copy?"
 ANSWERED, REFUSED_ALONE = f"<= {REFUSED}", f"= {REFUSED}"
 CAPTURES_ALONE = f"= {REFUSED} AND p.kind = {CAPTURE}"
 NO_PATH = "no file can be named after it: its name in the store isn't that of a file"
@@ -32,16 +32,32 @@ NOT_BELOW = "no file can be named after it: it stands in no folder that was scan
 
 
 class StoredFile(NamedTuple):
-    """A file of a store, and the hash of its page."""
+    """A file of a store, and the hash of its page: where that is refused, or how many entries it has; what it looks
+    like; and the hash of its readable copy, with the treatments that make this."""
 
     place: Place
     own: bytes
+    at: Optional[int] = None
+    entries: Optional[int] = None
+    looks_like: Optional[str] = None
+    treatments: Optional[str] = None
+    copy: Optional[bytes] = None
+
+    @property
+    def is_empty(self) -> bool:
+        """Whether it is known to draw nothing."""
+        return self.entries == 0
+
+    @property
+    def is_other(self) -> bool:
+        """Whether it is of another format, and has no readable copy."""
+        return bool(self.looks_like) and self.copy is None
 
 
 def files(connection: sqlite3.Connection, which: str = ANSWERED) -> Iterator[StoredFile]:
     """The files of which the pages have such an answer."""
-    for own, *place in kept(connection, FILES.format(which), FILE):
-        yield StoredFile(Place(*place), own)
+    for own, path, name, begins, *more in kept(connection, FILES.format(which), FILE):
+        yield StoredFile(Place(path, name, begins), own, *more)
 
 
 class Names:
@@ -108,16 +124,30 @@ class StoreSession(Session):
         return shown(self.stored.of(self.current.place))
 
     def each(self, work: Callable[[Page], None], more: Sequence[str] = ()) -> int:
-        """Does the work for each file, but for those for which a sheet has no room; the status of the whole."""
-        some = self.files if self.sheet is None else islice(self.files, MOST_PAGES)
-        for self.current in some:
-            self.names = [self.current.place.path]
-            super().each(work, more)
-        left = sum(1 for _ in self.files)
+        """Does the work for each file, but for those for which there is no room; the status of the whole."""
+        left: List[StoredFile] = []
+        for self.current in self.files:
+            if not self.has_room():
+                left.append(self.current)
+            elif self.take(self.current):
+                self.names = [self.current.place.path]
+                super().each(work, more)
+        self.end(left)
+        return self.status
+
+    def take(self, _stored: StoredFile) -> bool:
+        """Whether the work is done for a file."""
+        return True
+
+    def has_room(self) -> bool:
+        """Whether there is room for another file."""
+        return True
+
+    def end(self, left: List[StoredFile]) -> None:
+        """Tells of the files for which there was no room."""
         if left:
             self.complain(self.store, "a sheet has %d pages at most: %s in it" % (
-                MOST_PAGES, numbered(left, "file isn't", "files aren't")))
-        return self.status
+                MOST_PAGES, numbered(len(left), "file isn't", "files aren't")))
 
     def _read(self, _name: str, _seconds: float) -> Page:
         """The page of the file that is at work. Raises Unread."""

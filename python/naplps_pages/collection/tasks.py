@@ -26,6 +26,7 @@ from .printing import Printer, numbered
 from .progress import Progress
 from .rows import AskAgain
 from .scan import ScanOptions, scan
+from .looking import LookSession
 from .session import ANSWERED, CAPTURES_ALONE, REFUSED_ALONE, Names, StoreSession, files
 from .store import StoreFailed, open_to_read
 from .verify import verified
@@ -173,8 +174,9 @@ def of_store(given: Given, client: Client, earlier: Earlier) -> int:
             return _near(given, client)
         run, which = OF_STORE[given.command]
         options = {name: getattr(given, name) for name in STORED if name in given}
-        return run(StoreSession(client, given.pages, **options, earlier=earlier, files=files(connection, which),
-                                stored=Names(connection)))
+        kind = LookSession if given.command == "look" else StoreSession
+        return run(kind(client, given.pages, **options, earlier=earlier, files=files(connection, which),
+                        stored=Names(connection)))
     except (StoreFailed, sqlite3.Error) as error:
         tell(str(error) if isinstance(error, StoreFailed) else f"{shown(given.pages[0])}: {error}")
     return FAILED
