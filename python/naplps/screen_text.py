@@ -105,7 +105,7 @@ class Screens:
         self._put(pen, size, sign if accent is None else letters.composed(accent, sign), columns)
 
     def _put(self, pen: Pen, size: Cell, text: str, columns: Sequence[int]) -> None:
-        """Puts letters where the pen is, and from there on along their path; `columns` are given where spacing is by them."""
+        """Puts letters where the pen is, and from there on along their path; `columns` where spacing is by them."""
         cursor = self.cursor
         cursor.take(pen, size)
         step = size.wide * size.spacing

@@ -42,16 +42,14 @@ MAGIC = tuple(Magic(offset, data, name) for offset, data, name in (
     (0, b"\x0a\0\1", "PCX"), (0, b"\x0a\2\1", "PCX"), (0, b"\x0a\3\1", "PCX"), (0, b"\x0a\5\1", "PCX"),
     (0, b"MThd", "MIDI"), (0, b".snd", "AU"), (0, b"FORM", "IFF"), (0, b"Creative Voice File\x1a", "VOC"),
     (0, b"\0\0\2\0\4\4\6\0", "Lotus 1-2-3"), (0, b"\0\0\2\0\6\4\6\0", "Lotus 1-2-3"),
-    (0, b"\x31\xbe\0\0", "Word for DOS, or Write"),
-    (0, b"\x32\xbe\0\0", "Write"),
-    (0, b"DOS\0", "disk of an Amiga"),
+    (0, b"\x31\xbe\0\0", "Word for DOS, or Write"), (0, b"\x32\xbe\0\0", "Write"), (0, b"DOS\0", "disk of an Amiga"),
     (257, b"ustar", "tar"), (0, b"%PDF-", "PDF"), (0, b"%!PS", "PostScript"), (0, b"{\\rtf", "RTF"),
     (0, b"\xd0\xcf\x11\xe0\xa1\xb1\x1a\xe1", "OLE (an older Office file)"), (0, b"\xffWPC", "WordPerfect"),
     (0, b"\0\5\x16\7", "AppleDouble"), (0, b"\0\5\x16\0", "AppleSingle"), (0, b"\0\0\0\1Bud1", ".DS_Store"),
     (0, b"MZ", "program of DOS or Windows"), (0, b"\x7fELF", "ELF program"), (0, b"SQLite format 3\0", "SQLite"),
     (0, b"<!DOCTYPE", "HTML"), (0, b"<!doctype", "HTML"), (0, b"<html", "HTML"), (0, b"<HTML", "HTML"),
-    (0, b"<?xml", "XML"), (0, b"<svg", "SVG"), (0, b"\xef\xbb\xbf", "text in UTF-8"), (0, b"\xff\xfe", "text in UTF-16"),
-    (0, b"\xfe\xff", "text in UTF-16"), (0, b"SAUCE00", "SAUCE record")))
+    (0, b"<?xml", "XML"), (0, b"<svg", "SVG"), (0, b"\xef\xbb\xbf", "text in UTF-8"),
+    (0, b"\xff\xfe", "text in UTF-16"), (0, b"\xfe\xff", "text in UTF-16"), (0, b"SAUCE00", "SAUCE record")))
 
 
 # What files begin with, of all formats but those that are known by later bytes.

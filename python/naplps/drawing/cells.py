@@ -21,8 +21,8 @@ FIRST_OF_APS = 0x20
 
 @dataclass(frozen=True)
 class Cell:
-    """A cell: its size, what the bits of TEXT say of rotation, path and spacing, whether spacing is by the letters, and whether
-    text scrolls."""
+    """A cell: its size, what the bits of TEXT say of rotation, path and spacing, whether that is by the letters, and
+    whether text scrolls."""
 
     wide: float
     high: float

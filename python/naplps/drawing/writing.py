@@ -220,8 +220,8 @@ class Writing:
     def _joined(self, style: LetterStyle, sign: str, x: float, y: float, is_mosaic: bool) -> bool:
         """Whether a sign at this place continues the run; then it does."""
         run = self.run
-        if (run is None or run.is_mosaic != is_mosaic or run.look != style.look or not _is_straight(style.size, is_mosaic)
-                or abs(run.end() - x) >= 0.01 or abs(run.y - y) >= 0.01):
+        if (run is None or run.is_mosaic != is_mosaic or run.look != style.look
+                or not _is_straight(style.size, is_mosaic) or abs(run.end() - x) >= 0.01 or abs(run.y - y) >= 0.01):
             return False
         run.text.append(sign)
         run.entries.append(self.paper.entry)
