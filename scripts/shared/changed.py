@@ -18,6 +18,7 @@ SCRIPTS = "scripts/shared/test-scripts"
 # Where Python is: the folder that its modules are imported from, and that of the files.
 ROOTS = (("python", "python"), ("python/tests", "python/tests"), ("scripts", "scripts"), ("library", "library"))
 PLAIN_WORDS = "scripts/prove/test-plain-words"
+SAID_ONCE = "scripts/test/test-said-once"
 HOUSE = "scripts/test-pages house"
 OF_PROGRAM = (
     "scripts/test/test-words", "scripts/test/test-make", "scripts/test/test-batch", "scripts/test/test-man",
@@ -55,7 +56,9 @@ RULES = (
     )),
     Rule("vectors/dots*", ("scripts/test-pages raster", SCRIPTS)),
     Rule("vectors/*", ("scripts/vectors/test-vectors", "library/test-library")),
-    Rule("man/*", ("scripts/test/test-man", HOUSE, "scripts/test-pages commands", "scripts/test-pages collections")),
+    Rule("man/*", (
+        "scripts/test/test-man", SAID_ONCE, HOUSE, "scripts/test-pages commands", "scripts/test-pages collections",
+    )),
     Rule("completions/*", ("scripts/test/test-man", HOUSE, "scripts/test-pages collections")),
     Rule("examples/*", ("scripts/test/test-examples", "scripts/test-pages sketches", "scripts/pages/test-gallery")),
     Rule("library/*", ("library/test-library", "scripts/test-pages module", SCRIPTS)),
@@ -71,7 +74,7 @@ RULES = (
     Rule("scripts/*", (SCRIPTS, "scripts/prove/test-headline")),
     Rule("*.md", (
         "scripts/prove/test-headline", PLAIN_WORDS, "scripts/test/test-examples", "scripts/test/test-ways",
-        "scripts/test-pages commands",
+        "scripts/test-pages commands", SAID_ONCE,
     )),
     Rule("docs/*", ("scripts/prove/test-headline", PLAIN_WORDS, "scripts/test/test-examples")),
 )
