@@ -306,7 +306,8 @@ def test_folders_that_are_not_there_leave_nothing(run, tmp_path):
 def test_two_at_once(naplps, run, fake, tmp_path):
     disks, place, go = tmp_path / "disks", tmp_path / "box", tmp_path / "go"
     tree(disks, {f"{number}.nap": b"page %d" % number for number in range(20)})
-    waits = f"while not os.path.exists({str(go)!r}): time.sleep(0.01)\nos.execv({naplps!r}, [{naplps!r}, *sys.argv[1:]])"
+    waits = (f"while not os.path.exists({str(go)!r}): time.sleep(0.01)\n"
+             f"os.execv({naplps!r}, [{naplps!r}, *sys.argv[1:]])")
     first = start(["box", str(disks), "--into", str(place), "--seconds", "900"], fake(waits))
     wait_until(lambda: (place / "box.lock").exists() and (place / "box.lock").read_bytes(), first)
     ran = run(["box", str(disks), "--into", str(place)])

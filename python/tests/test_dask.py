@@ -9,7 +9,7 @@ import threading
 
 import pytest
 
-from conftest import COMMAND
+from conftest import COMMAND, bare
 from naplps_pages.cli import main
 from naplps_pages.collection.cluster import ClusterFailed, address_of
 from naplps_pages.collection.remote import alike, difference
@@ -265,7 +265,7 @@ def test_a_worker_that_is_silent_is_named_and_left_out(monkeypatch, capfd, fake,
         first.send_signal(signal.SIGSTOP)
     stopper = threading.Thread(target=stops)
     stopper.start()
-    assert main(["scan", top, "--into", store, "--on", cluster.file], COMMAND) == 0
+    assert main(bare(["scan", top, "--into", store, "--on", cluster.file]), COMMAND) == 0
     stopper.join()
     first.send_signal(signal.SIGCONT)
     said = capfd.readouterr()
@@ -359,16 +359,16 @@ def test_a_worker_that_is_silent_before_the_scan_begins(monkeypatch, capfd, napl
     monkeypatch.setattr("naplps_pages.collection.cluster_watch.LOOK", 0.5)
     monkeypatch.setenv("NAPLPS", naplps)
     if known:
-        assert main(["scan", top, "--into", store + ".first", "--on", cluster.file], COMMAND) == 0
+        assert main(bare(["scan", top, "--into", store + ".first", "--on", cluster.file]), COMMAND) == 0
         capfd.readouterr()
     silent.send_signal(signal.SIGSTOP)
     silence = r"naplps-pages: tcp://127\.0\.0\.1:\d+: this worker has been silent for 25 s: it gets nothing\n"
-    assert main(["scan", top, "--into", store, "--on", cluster.file], COMMAND) == 3
+    assert main(bare(["scan", top, "--into", store, "--on", cluster.file]), COMMAND) == 3
     said = capfd.readouterr()
     assert said.out == "" and not os.path.exists(store)
     assert re.fullmatch(silence + r"naplps-pages: tcp://\S+: no worker answers\n", said.err), said.err
     cluster.worker()
-    assert main(["scan", top, "--into", store, "--on", cluster.file], COMMAND) == 0
+    assert main(bare(["scan", top, "--into", store, "--on", cluster.file]), COMMAND) == 0
     said = capfd.readouterr()
     silent.send_signal(signal.SIGCONT)
     assert said.out.startswith("60 files: 60 accepted ") and re.fullmatch(

@@ -30,7 +30,8 @@ def tool(naplps, tmp_path):
 
 def found(tool, store):
     """The names of the pages that have a word."""
-    return [os.path.basename(json.loads(line)["name"]) for line in tool("find", "harbour", store, "--json").splitlines()]
+    lines = tool("find", "harbour", store, "--json").splitlines()
+    return [os.path.basename(json.loads(line)["name"]) for line in lines]
 
 
 def kept(store):
