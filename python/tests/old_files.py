@@ -178,7 +178,8 @@ def swallowed(chance: Random, number: int) -> Old:
 
 # What formats junk is of, as it is told.
 LOOKS = {"gif": "GIF", "gz": "gzip", "pdf": "PDF", "doc": "OLE (an older Office file)", "zipped": "ZIP",
-         "DS_Store": ".DS_Store", "exe": "program of DOS or Windows"}
+         "DS_Store": ".DS_Store", "exe": "program of DOS or Windows", "utf8": "text in UTF-8",
+         "cp437": "text in a code page of DOS", "latin1": "text in Latin-1"}
 
 
 def box(number: int = 3000, seed: int = 1983) -> List[Old]:

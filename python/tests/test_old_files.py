@@ -244,11 +244,13 @@ def test_refused_counts_what_was_put_in(files, checked, naplps, store):
 def test_the_census_of_the_store_counts_what_was_put_in(files, checked, naplps, store):
     row = json.loads(asked(naplps, "census", store, "--json"))
     pages = {each.data: each for each in kept(files).values() if each.sort not in KINDS}
-    first = Counter(stop(each, checked[each.name]) for each in pages.values())
+    others = [each for each in pages.values() if checked[each.name]["looks_like"]]
+    assert row["other_formats"] == len(others) > 100
+    first = Counter(stop(each, checked[each.name]) for each in pages.values() if each not in others)
     named = {code: number for (_, code), number in first.items() if code}
     told = {each["code"]: each for each in row["codes"]}
     assert {code: told[code]["first"] for code in named} == named
-    assert sum(each["first"] for each in row["codes"]) == row["refused"] == len(pages)
+    assert sum(each["first"] for each in row["codes"]) == row["refused"] - len(others) == len(pages) - len(others)
     assert row["accepted"] == len({each.data for each in kept(files).values() if each.sort in KINDS})
     assert (row["no_answer"], row["in_part"]) == (0, 0)
     for code in STOPS:  # (after the refusals of junk such codes are found by chance)
@@ -395,6 +397,9 @@ def test_the_walk_by_single_commands(files, naplps, tmp_path):
     assert said["captures"].startswith(f"{len(some) + cut} files: ")
     copies = [path.name for path in (room / "treated").rglob("*") if path.is_file() and path.suffix != ".json"]
     assert {each.name for each in some if each.treatments} <= set(copies) and len(copies) <= len(some) + cut
-    assert len([path for path in (room / "pictures").rglob("*.svg")]) == len(some) + cut
+    counts = {what: int(number) for number, what in re.findall(
+        r"(\d+) (pictures|that draw nothing|of other formats)", (room / "looks.txt").read_text())}
+    assert sum(counts.values()) == len(some) + cut
+    assert len([path for path in (room / "pictures").rglob("*.svg")]) == counts["pictures"] >= len(set(copies)) + cut
     assert "treated by" in said["groups"] and "within" in (room / "equal.csv").read_text()
     assert (room / "box.html").stat().st_size > 100_000
