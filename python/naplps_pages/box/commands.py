@@ -30,7 +30,7 @@ from ..collection.store import StoreFailed, open_to_read
 from ..collection.worker import WorkerOptions
 from ..console import COMPLETE, FAILED, SOME_LACK, Output, tell
 from ..new_files import NotWritten
-from ..report import groups, making
+from ..report import making
 from ..report.limits import USUAL_SKETCHES
 from ..report.sketch_workers import OBJECTS
 from ..unexpected import told
@@ -127,7 +127,7 @@ class BoxRun:
         if not put.has_shown(REPORT, shown_by.digest()):
             self._report()
             put.show(REPORT, shown_by.digest())
-        return summary.lines(self.place, connection, it, files.totals, len(groups.load(connection)))
+        return summary.lines(self.place, connection, it, files.totals)
 
     def _report(self) -> None:
         """Makes the report, of what is kept."""

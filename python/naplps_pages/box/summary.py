@@ -4,7 +4,7 @@ from typing import List
 
 from naplps.names import shown
 
-from ..collection import tables
+from ..collection import equal, tables
 from ..collection.counts import UNKNOWN, WORDS
 from ..collection.printing import numbered
 from ..collection.status import Status
@@ -19,8 +19,11 @@ OTHERS = f"""SELECT count(*) FROM present f CROSS JOIN pages p ON p.id = f.page
 MOST_NAMED = 4
 
 
-def lines(place: BoxFolder, connection: sqlite3.Connection, it: Status, totals: Totals, groups: int) -> List[str]:
+def lines(place: BoxFolder, connection: sqlite3.Connection, it: Status, totals: Totals) -> List[str]:
     """The ten lines."""
+    connection.execute("DROP TABLE IF EXISTS temp.found")
+    connection.execute(equal.GROUPS.format(equal.SEVERAL + equal.COPIES, "count(*) > 1"))
+    groups = int(connection.execute("SELECT count(*) FROM found").fetchone()[0])
     unknown, known = (int(connection.execute(OTHERS.format(is_so)).fetchone()[0]) for is_so in ("=", "<>"))
     counts, kinds = it.counts.get, it.tally.kinds.get
     folder = shown(place.path)
