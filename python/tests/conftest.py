@@ -63,7 +63,8 @@ def run(naplps: str) -> Run:
     def runs(words: List[str], stdin: bytes = b"", program: Optional[str] = None, cwd: Optional[str] = None,
              env: Optional[Dict[str, str]] = None) -> "subprocess.CompletedProcess[bytes]":
         where = dict(os.environ, NAPLPS=program or naplps, PYTHONDONTWRITEBYTECODE="1", **(env or {}))
-        return subprocess.run([COMMAND, *bare(words, cwd)], input=stdin, capture_output=True, cwd=cwd, env=where, timeout=900)
+        return subprocess.run([COMMAND, *bare(words, cwd)], input=stdin, capture_output=True, cwd=cwd, env=where,
+                              timeout=900)
     return runs
 
 
@@ -101,8 +102,8 @@ def run_as_nobody(naplps: str, tmp_path: pathlib.Path) -> Run:
     where = dict(os.environ, NAPLPS=str(program))
 
     def runs(*words: str, cwd: Optional[str] = None) -> "subprocess.CompletedProcess[bytes]":
-        return subprocess.run([str(copy / "naplps-pages"), *bare([*words], cwd)], capture_output=True, cwd=cwd, env=where,
-                              user=NOBODY, group=NOBODY, extra_groups=[])
+        return subprocess.run([str(copy / "naplps-pages"), *bare([*words], cwd)], capture_output=True, cwd=cwd,
+                              env=where, user=NOBODY, group=NOBODY, extra_groups=[])
     return runs
 
 

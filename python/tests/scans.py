@@ -184,8 +184,8 @@ def is_sound(store):
 
 def start(words, program, **more):
     """A command that is at work."""
-    return subprocess.Popen([COMMAND, *bare(words, more.get("cwd"))], env=dict(os.environ, NAPLPS=program, PYTHONDONTWRITEBYTECODE="1"),
-                            stdout=subprocess.PIPE, stderr=subprocess.PIPE, **more)
+    return subprocess.Popen([COMMAND, *bare(words, more.get("cwd"))], stdout=subprocess.PIPE, stderr=subprocess.PIPE,
+                            env=dict(os.environ, NAPLPS=program, PYTHONDONTWRITEBYTECODE="1"), **more)
 
 
 def count(store):

@@ -300,7 +300,9 @@ def test_status(run, naplps, store, pages):
         "program:         %s, %s" % (naplps, version), "program hash:    " + program_hash, "budget:          1048576",
         "folder:          " + pages, "files:           9", "accepted:        5",
         "                 3: page", "                 2: text", "refused:         4",
-        "distinct pages:  6", "canonical pages: 2", "left:            nothing"]
+        "distinct pages:  6", "canonical pages: 2",
+        "words:           no text is kept, and nothing is found: `scan --words` keeps texts",
+        "treatments:      none is tried: `scan --cures` tries them", "left:            nothing"]
     it = json.loads(lines(run(["status", store, "--json"]))[0])
     assert (it["files"], it["pages"], it["canonical"], it["left"], it["at_work"]) == (
         {"accepted": 5, "refused": 4}, 6, 2, {}, False)
