@@ -19,8 +19,6 @@ Beside what each one names, a function raises
 import importlib
 from typing import TYPE_CHECKING, List
 
-from .version import VERSION
-
 if TYPE_CHECKING:
     from .checker import Checker
     from .dots import Raster, raster
@@ -37,6 +35,7 @@ if TYPE_CHECKING:
     from .protocols import Backend, Data
     from .treating.changes import Change, Edit
     from .treating.search import Cure
+    from .version import __version__
 
 __all__ = [
     "MOST_BUDGET", "ONE", "USUAL_BUDGET", "Arc", "Backend", "Bell", "Blink", "BlinkEnd", "BlinkMark", "Change",
@@ -46,7 +45,6 @@ __all__ = [
     "Unavailable", "Wait", "WrongLibrary", "__version__", "backend", "canon", "canon_form1", "check", "entries",
     "is_plain", "lines", "make", "places", "raster", "svg", "text", "treatments",
 ]
-__version__ = VERSION
 # Where the names stand. A module is imported once the first of them is asked for, as few programs need them all.
 _NAMES = {
     "checker": ("Checker",), "dots": ("Raster", "raster"),
@@ -59,7 +57,8 @@ _NAMES = {
     "pages": (
         "Places", "backend", "canon", "canon_form1", "check", "entries", "is_plain", "lines", "places", "svg", "text",
         "treatments"),
-    "protocols": ("Backend", "Data"), "treating.changes": ("Change", "Edit"), "treating.search": ("Cure",)}
+    "protocols": ("Backend", "Data"), "treating.changes": ("Change", "Edit"), "treating.search": ("Cure",),
+    "version": ("__version__",)}
 _MODULES = {name: module for module, names in _NAMES.items() for name in names}
 
 

@@ -61,3 +61,7 @@ class WrongLibrary(Unavailable):
 
 class NoProgram(Exception):
     """There is no program to ask, with the reason."""
+
+
+class NotALine(ValueError):
+    """A line that `naplps list` doesn't print."""

@@ -19,6 +19,10 @@ class Limits(NamedTuple):
     answer: int = 1 << 29
 
 
+# What the program may take for entries that are to be shown.
+MODEST = Limits(memory=256 << 20, answer=64 << 20)
+
+
 def budget_of(number: int) -> int:
     """The budget as an int. Raises TypeError for what is no whole number, and ValueError beyond 0 to MOST_BUDGET."""
     budget = operator.index(number)

@@ -5,11 +5,11 @@ from . import drawing
 from .answers import Accepted, Answer, Refusal
 from .backends import found
 from .entry import Entry
-from .faults import NoAnswer, Refused
+from .faults import NoAnswer, NotALine, Refused
 from .limits import MOST_LISTED, USUAL_BUDGET, budget_of
 from .page_text import lines_of
 from .protocols import Backend, Data, Reply, taken
-from .reading import NotALine, placed, read_line
+from .reading import placed, read_line
 from .treating.search import Cure, find
 
 

@@ -9,6 +9,7 @@ from .entry import (
     Arc, Bell, Blink, BlinkEnd, BlinkMark, Char, Clear, Colour, Cursor, DefEnd, Entry, Field, GlyphStart, Line, Look,
     Map, MaskStart, Pen, Point, Poly, Position, Rect, Reset, TextMove, Texture, ToEol, Wait,
 )
+from .faults import NotALine
 
 _NUMBER = "[0-9]{1,10}"
 _POINT = f"-?{_NUMBER},-?{_NUMBER}"
@@ -29,10 +30,6 @@ _SOME, _MORE = f"((?: {_POINT})+)", f"((?: {_POINT}){{3,}})"
 _XY = f"(-?{_NUMBER}),(-?{_NUMBER})"
 # What the lines of characters begin with.
 OFTEN = "CHAR "
-
-
-class NotALine(ValueError):
-    """A line that `naplps list` doesn't print."""
 
 
 def _position(text: str) -> Position:

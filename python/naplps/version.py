@@ -15,4 +15,4 @@ def read_version() -> str:
     return metadata.version("naplps")
 
 
-VERSION = read_version()
+__version__ = VERSION = read_version()

@@ -1,4 +1,4 @@
-"""The commands check, list and canon: the program's answers for files."""
+"""The commands list and canon: the program's answers for files."""
 from typing import Iterable
 
 from naplps.answers import Accepted, Answer, Refusal, Unanswered
@@ -6,29 +6,13 @@ from naplps.entry_json import members_of
 from naplps.names import shown
 from naplps.reading import lines_in, read_line
 
-from . import file_kinds
 from .console import tell
-from .json_lines import AT_ONCE, dumps, pieces_of
+from .json_lines import AT_ONCE, pieces_of
 from .listing import Row, command_of, rows_of
 from .new_files import made_folder, put_inside
 from .page_session import Session
 from .schema import answered
 from .source import Page
-
-
-def check(session: Session) -> int:
-    """Whether each page is accepted, or why not; and what the file is."""
-    def work(page: Page) -> None:
-        after = bool(session.earlier.names)
-        answer = session.heard(page).last.answer if after else session.program.ask("check", page)
-        there = session.answered(page, answer)
-        it = file_kinds.described(page, answer)
-        if session.json:
-            session.output.line(dumps({**answered(page.name, answer), **it._asdict()}))
-        elif there and isinstance(answer, (Accepted, Refusal)):
-            more = "" if it.kind == file_kinds.PAGE else file_kinds.told(it)
-            session.output.line(session.front(page.name) + answer.line + more)
-    return session.each(work, more=("kind", "looks_like", "pages"))
 
 
 def list_entries(session: Session) -> int:
@@ -38,7 +22,7 @@ def list_entries(session: Session) -> int:
 
 
 def _list_lines(session: Session, page: Page) -> None:
-    if session.earlier.names:
+    if session.after:
         _list_after(session, page)
         return
     answer = _limited(session.program.ask("list", page))
@@ -69,7 +53,7 @@ def _list_after(session: Session, page: Page) -> None:
 
 def _list_json(session: Session, page: Page) -> None:
     rows: Iterable[Row] = ()
-    if session.earlier.names:
+    if session.after:
         told = session.heard(page).last
         answer, rows = told.answer, told.rows or ()
     else:
@@ -81,7 +65,7 @@ def _list_json(session: Session, page: Page) -> None:
                     read_line(line)
     session.answered(page, answer)
     if not isinstance(answer, Accepted):
-        session.output.line(dumps({**answered(page.name, answer), "list": None}))
+        session.print_answer(page, answer, list=None)
         return
     written = (members_of(read_line(line), place) for place, line in rows)
     for piece in pieces_of(answered(page.name, answer), "list", written):

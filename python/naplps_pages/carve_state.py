@@ -8,7 +8,8 @@ from typing import List, Tuple
 from naplps.version import VERSION
 
 from . import TOOL
-from .new_files import NotWritten, replace
+from .console import NotWritten
+from .new_files import replace
 
 WHAT, MOST_LENGTH = "how far naplps-pages carve has come; the same command goes on", 1 << 16
 

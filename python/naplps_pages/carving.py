@@ -16,9 +16,9 @@ from . import TOOL
 from .carve_state import CarveState
 from .collection.progress import Progress
 from .collection.stopping import Stopping
-from .console import FAILED, REFUSED, tell
+from .console import FAILED, REFUSED, NotWritten, tell
 from .json_lines import dumps
-from .new_files import NotWritten, made_folder, put_inside, require_free
+from .new_files import made_folder, put_inside, require_free
 from .page_finder import CarvedPage, PageFinder
 from .page_session import Session
 from .schema import answered

@@ -2,14 +2,20 @@
 import sys
 from typing import IO, NamedTuple
 
-from naplps.names import printable
+from naplps.names import printable, shown
 
 from . import TOOL
-from .new_files import NotWritten
 
 ACCEPTED, REFUSED, WRONG_WORDS, FAILED = range(4)
 # Those of a command on a collection, beside FAILED.
 COMPLETE, SOME_LACK = 0, 1
+
+
+class NotWritten(Exception):
+    """A file or standard output couldn't be written, with its name and the system's reason."""
+
+    def __init__(self, name: str, reason: str) -> None:
+        super().__init__(f"{shown(name)}: {reason}")
 
 
 class OutputLost(NotWritten):

@@ -7,18 +7,17 @@ from naplps.names import shown
 
 from .console import tell
 from .listing import Listed
-from .new_files import make_folder, put_inside
+from .new_files import make_folder, put, put_inside
 from .page_session import Session
 from .source import Page
 
-MOST_SCALE, MOST_SPEED, USUAL_SPEED = 8, 1_000_000, 1200
 TOO_MUCH = "too many entries for a picture"
 ENDS = "the picture ends before entry %d: what comes before paints as much as a picture may"
 CUT = "the picture has the first %d frames; what comes then isn't in it"
 
 
 def look(session: Session) -> int:
-    """The raster of each page: printed, or put into a folder."""
+    """The raster of each page: printed, or put into a file or a folder."""
     if session.into is not None:
         make_folder(session.into)
 
@@ -36,6 +35,8 @@ def look(session: Session) -> int:
         made = make(session, page, told.every, len(told.every.lines) - len(told.last.lines or ()))
         if session.into is not None:
             put_inside(session.path_for(page.name, ".png"), made)
+        elif session.output_file is not None:
+            put(session.output_file, made)
         else:
             session.output.bytes(made)
     return session.each(work)

@@ -4,8 +4,7 @@ import re
 from typing import IO, Iterable, Iterator, NamedTuple, Optional, Tuple
 
 from naplps.answers import Accepted, Answer, Refusal
-from naplps.treating.borders import pages_in
-from naplps.treating.page_codes import LEADING_ON
+from naplps.treating import LEADING_ON
 
 from .source import PIECE, Page
 
@@ -72,6 +71,7 @@ def described(page: Page, answer: Answer) -> Description:
         return Description(kind((page.data,) if page.data is not None else _pieces(page.file), answer))
     if not isinstance(answer, Refusal):
         return Description()
+    from naplps.treating.borders import pages_in  # (which takes much more, and few need it)
     pages = pages_in(page.data) if page.data is not None else 0
     return Description(CAPTURE if pages else None, looks_like(*_beginning(page)), pages or None)
 

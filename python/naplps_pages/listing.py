@@ -5,15 +5,13 @@ from typing import Iterator, List, Optional, Tuple, Union
 
 from naplps.answers import NONSENSE, Accepted, Answer, Refusal, Unanswered
 from naplps.client import Client
-from naplps.limits import MOST_LISTED, Limits
+from naplps.limits import MOST_LISTED
 from naplps.reading import Entries, lines_in, placed
 
 from .source import Page
 
 # The commands that tell entries, without their places and with them.
 LIST, PLACES = "list", "places"
-# What the program may take for entries that are to be shown.
-MODEST = Limits(memory=256 << 20, answer=64 << 20)
 # The place of the byte with which an entry came, where that is known, and the entry's line.
 Row = Tuple[Optional[int], str]
 

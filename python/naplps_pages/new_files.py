@@ -4,14 +4,9 @@ import errno
 import os
 from typing import Dict, Iterable, Iterator, Optional
 
-from naplps.names import leaf, shown
+from naplps.names import leaf
 
-
-class NotWritten(Exception):
-    """A file or standard output couldn't be written, with its name and the system's reason."""
-
-    def __init__(self, name: str, reason: str) -> None:
-        super().__init__(f"{shown(name)}: {reason}")
+from .console import NotWritten
 
 
 def put(path: str, data: bytes) -> None:

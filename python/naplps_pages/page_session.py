@@ -1,23 +1,27 @@
 """The run of a command on single pages, with its status."""
 import os
 import sys
+from argparse import Namespace
 from dataclasses import dataclass, field
-from typing import Callable, Dict, List, Optional, Sequence
+from typing import TYPE_CHECKING, Callable, Dict, List, Optional, Sequence
 
 from naplps.answers import NONSENSE, Answer, Refusal, Unanswered
 from naplps.client import Client
-from naplps.names import Members, shown
-from naplps.reading import NotALine
+from naplps.faults import NoProgram, NotALine
+from naplps.limits import MODEST, Limits
+from naplps.names import shown
+from naplps.program import find
 
-from .console import ACCEPTED, FAILED, REFUSED, Output, OutputLost, tell
-from .earlier import Earlier, Heard, heard
-from .json_lines import dumps
-from .listing import Listed
-from .new_files import NotWritten, below, make_folders
-from .png import NoPng
-from .schema import answered, unread
+from .console import ACCEPTED, FAILED, REFUSED, NotWritten, Output, OutputLost, tell
 from .source import Page, Unread, is_store, read
-from .unexpected import told
+
+if TYPE_CHECKING:
+    from .earlier import Earlier, Heard
+    from .listing import Listed
+
+# The options that a session has.
+OPTIONS = ("json", "into", "full", "past", "png", "sheet", "look", "output_file", "html", "least", "dots", "animate",
+           "scale", "speed")
 
 
 @dataclass
@@ -28,7 +32,6 @@ class Session:
     names: List[str]
     json: bool = False
     into: Optional[str] = None
-    svg: Optional[str] = None
     full: bool = False
     past: bool = False
     png: bool = False
@@ -46,11 +49,19 @@ class Session:
     # (by what the page at work is treated; and whether refusals are counted, and not told each)
     treated: str = ""
     is_quiet: bool = False
-    earlier: Earlier = field(default_factory=Earlier)
+    after: "Optional[Earlier]" = None
     output: Output = field(default_factory=lambda: Output(sys.stdout.buffer))
     status: int = ACCEPTED
     paths: Dict[str, str] = field(default_factory=dict)
     reader: Callable[[str, float], Page] = read
+
+    @property
+    def earlier(self) -> "Earlier":
+        """The pages that come before, if there are any."""
+        if self.after is None:
+            from .earlier import Earlier  # (what few need, the others don't wait for)
+            self.after = Earlier()
+        return self.after
 
     def fail(self, status: int) -> None:
         """Keeps the gravest status."""
@@ -73,6 +84,7 @@ class Session:
     def path_for(self, name: str, ending: str = "") -> str:
         """The path of the file for a page in the folder that is given, where folders are made. Raises NotWritten."""
         assert self.into is not None
+        from .new_files import below, make_folders
         if name not in self.paths:
             self.paths.update(below(self.names))
         path = self.paths[name] + ending
@@ -89,13 +101,24 @@ class Session:
             self.fail(REFUSED)
         return True
 
-    def takes(self, _told: Listed) -> bool:
+    def takes(self, _told: "Listed") -> bool:
         """Whether what a page draws is shown."""
         return True
 
-    def heard(self, page: Page) -> Heard:
+    def heard(self, page: Page) -> "Heard":
         """The answer to a page with its entries, after the earlier pages if there are any."""
+        from .earlier import heard
         return heard(self.program, self.earlier, page)
+
+    def answer_to(self, page: Page) -> Answer:
+        """The answer to a page alone, after the earlier pages if there are any."""
+        return self.program.ask("check", page) if self.after is None else self.heard(page).last.answer
+
+    def print_answer(self, page: Page, answer: Answer, **more: object) -> None:
+        """Prints an answer as JSON."""
+        from .json_lines import dumps
+        from .schema import answered
+        self.output.line(dumps({**answered(page.name, answer), **more}))
 
     def each(self, work: Callable[[Page], None], more: Sequence[str] = ()) -> int:
         """Does the work for each page; the status of the whole. `more` names what JSON has beside the answer."""
@@ -109,24 +132,62 @@ class Session:
             except (OutputLost, BrokenPipeError):
                 raise
             except Unread as error:
-                self._without(name, unread(name, str(error)), more)
+                self._without(name, str(error), more)
             except NotALine:
-                self._without(name, answered(name, Unanswered(NONSENSE)), more)
-            except NoPng as error:
-                self.complain(name, str(error))
+                self._without(name, NONSENSE, more, was_read=True)
             except NotWritten as error:
                 tell(str(error))
                 self.fail(FAILED)
             except Exception as error:  # pylint: disable=broad-except
-                self._without(name, unread(name, told(error)), more)
+                from .unexpected import told
+                self._without(name, told(error), more)
             finally:
                 if page and page.file:
                     page.file.close()
         self.output.flush()
         return self.status
 
-    def _without(self, name: str, members: Members, more: Sequence[str]) -> None:
+    def _without(self, name: str, reason: str, more: Sequence[str], was_read: bool = False) -> None:
         """Tells of a page of which there is nothing to say."""
-        self.complain(name, str(members["reason"]))
+        self.complain(name, reason)
         if self.json:
+            from .json_lines import dumps
+            from .schema import answered, unread
+            members = answered(name, Unanswered(reason)) if was_read else unread(name, reason)
             self.output.line(dumps({**members, **dict.fromkeys(more)}))
+
+
+# What runs a command on the files of a store.
+OfStore = Callable[[Namespace, Client, "Optional[Earlier]"], int]
+
+
+def on_pages(given: Namespace, tool: str, work: Callable[[Session], int], limits: Limits = MODEST, of_store: str = "",
+             on_store: Optional[OfStore] = None) -> int:
+    """Runs a command on pages; the status. `of_store` is told where one of them is a store, `on_store` takes one that
+    is named alone, and `tool` is the path of the tool, beside which naplps may stand."""
+    client = None
+    try:
+        client = Client(find(tool), given.budget, limits._replace(seconds=given.seconds))
+        after: Optional["Earlier"] = None
+        is_of_store = on_store is not None and _is_store(given.pages)
+        if getattr(given, "after", None):
+            from .earlier import read_earlier
+            after = read_earlier(given.after, given.seconds)
+        if on_store is not None and is_of_store:
+            return on_store(given, client, after)
+        options = {name: value for name, value in vars(given).items() if name in OPTIONS}
+        return work(Session(client, given.pages, **options, of_store=of_store, after=after))
+    except (NoProgram, NotWritten, Unread) as error:
+        tell(str(error))
+        return FAILED
+    finally:
+        if client:
+            client.close()
+
+
+def _is_store(pages: List[str]) -> bool:
+    """Whether there is one name, and it is that of a store."""
+    if len(pages) != 1:
+        return False
+    from .collection.header import is_store as has_header
+    return has_header(pages[0])

@@ -26,13 +26,13 @@ def play(session: Session) -> int:
         told, answer = heard.last, heard.last.answer
         if not session.answered(page, answer):
             return
-        assert isinstance(answer, (Accepted, Refusal)) and session.into is not None
+        assert isinstance(answer, (Accepted, Refusal)) and session.output_file is not None
         if page.data is None or not can_be_played(told):
             session.complain(page.name, UNKNOWN_PLACES if page.data is None else TOO_MUCH)
             return
         made = played(page.data, told, before=_before(heard))
         name = "A page" if page.name == "-" else shown(os.path.basename(page.name))
-        put(session.into, html(TITLE % name, _said(answer, session.earlier), made).encode("utf-8"))
+        put(session.output_file, html(TITLE % name, _said(answer, session.earlier), made).encode("utf-8"))
         if isinstance(answer, Refusal):
             tell(f"{shown(page.name)}: {answer.line}; the player shows what comes before")
     return session.each(work)

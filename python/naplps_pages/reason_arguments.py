@@ -1,9 +1,8 @@
-"""Words of the command line that need more than others: refusals, codes, and parts of scans."""
+"""Refusals and codes as words of the command line."""
 import argparse
 
 from . import refusals
 from .collection.every_file import ANY
-from .collection.part import MOST_PARTS, Part, read_part
 
 
 def refusal(text: str) -> int:
@@ -31,12 +30,3 @@ def reason_or_any(text: str) -> refusals.Reason:
 
 def _refusals() -> str:
     return ", ".join(f"{each.number} {each.name}" for each in refusals.load().values())
-
-
-def part(text: str) -> Part:
-    """The part of a scan that is named K/N."""
-    try:
-        return read_part(text)
-    except ValueError:
-        raise argparse.ArgumentTypeError(
-            f"a part K/N, where N is from 1 to {MOST_PARTS} and K from 0 to N - 1, not {text!r}") from None

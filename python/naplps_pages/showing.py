@@ -5,11 +5,11 @@ from naplps import drawing
 from naplps.answers import Accepted, Refusal
 from naplps.limits import MOST_LISTED
 from naplps.names import shown
-from naplps.page_text import lines_of
 from naplps.reading import Entries
+from naplps.screen_text import lines_of
 
 from . import png
-from .console import tell
+from .console import FAILED, tell
 from .earlier import Heard
 from .guessing import Guesser
 from .listing import Listed
@@ -38,20 +38,29 @@ def look(session: Session) -> int:
     if session.dots or session.animate:
         from . import dotting  # (a sketch doesn't wait for it)
         return dotting.look(session)
-    if session.png:
-        png.find()
-    if session.sheet is not None:
-        return _sheet(session, session.sheet)
+    try:
+        if session.png:
+            png.find()
+        return _look(session) if session.sheet is None else _sheet(session, session.sheet)
+    except png.NoPng as error:
+        tell(str(error))
+        return FAILED
 
+
+def _look(session: Session) -> int:
     def work(page: Page) -> None:
         heard = session.heard(page)
         if not _is_shown(session, page, heard):
             return
-        made = _made(session, _drawn(session, page, heard).svg)
+        try:
+            made = _made(session, _drawn(session, page, heard).svg)
+        except png.NoPng as error:
+            session.complain(page.name, str(error))
+            return
         if session.into is not None:
             put_inside(session.path_for(page.name, ".png" if session.png else ".svg"), made)
-        elif session.svg is not None:
-            put(session.svg, made)
+        elif session.output_file is not None:
+            put(session.output_file, made)
         else:
             session.output.bytes(made)
     with made_folder(session.into):
@@ -136,17 +145,19 @@ def sketch(session: Session, page: Page) -> Optional[str]:
 
 
 def text(session: Session) -> int:
-    """The text of each page."""
+    """The text of each page, as lines of the screen."""
     def work(page: Page) -> None:
         told = session.heard(page).last
         answer, entries = told.answer, told.entries
         if not session.answered(page, answer):
             return
-        if entries is None:
+        if told.lines is None or entries is None:
             session.complain(page.name, "too much for its text to be asked")
             return
+        list(entries)  # (raises NotALine where one isn't that of an entry)
         front = session.front(page.name)
-        session.output.text("".join(front + line + "\n" for line in lines_of(entries)))
+        session.output.text("".join(front + line + "\n" for line in lines_of("".join(
+            f"{each}\n" for each in told.lines))))
         if isinstance(answer, Refusal):
             session.output.flush()
             tell(f"{shown(page.name)}: {answer.line}; the text is what comes before")

@@ -9,11 +9,6 @@ from typing import IO, List, Optional, cast
 
 from naplps.limits import MOST_PAGE
 
-from .collection.header import HEADER, MAGIC, begins_store
-from .packs.naming import BETWEEN, is_pack
-from .packs.reading import NoMember, Packs
-from .pipe import Pipe
-
 PIECE = 1 << 20
 # So much of a pipe is put into a temporary file: what the program takes at most.
 MOST_SPOOLED = 1 << 32
@@ -21,8 +16,6 @@ DEVICES = {stat.S_IFCHR: "it is a device", stat.S_IFBLK: "it is a device", stat.
 A_FOLDER = "it is a folder: name the files in it, or let `naplps-pages scan FOLDER --into STORE` take them"
 # (a name in a pack may be longer than one of a file)
 NO_SUCH_FILE = (errno.ENOENT, errno.ENOTDIR, errno.ENAMETOOLONG)
-# The packs of which members are read.
-PACKS = Packs(MOST_PAGE)
 
 
 @dataclass(frozen=True)
@@ -41,6 +34,7 @@ class Page:
 
 def is_store(page: Page) -> bool:
     """Whether the bytes are those of a store of this tool."""
+    from .collection.header import HEADER, MAGIC, begins_store  # (what few need, the others don't wait for)
     if page.data is not None:
         return page.data.startswith(MAGIC) and begins_store(page.data)
     assert page.file
@@ -69,6 +63,7 @@ def read(name: str, seconds: float) -> Page:
         if kind in DEVICES:
             raise Unread(DEVICES[kind])  # (to open it might do something, and some have no end)
         if kind == stat.S_IFIFO and not _is_unnamed(name):
+            from .pipe import Pipe
             with Pipe(name, seconds) as pipe:
                 return _gathered(name, cast(IO[bytes], pipe))
         with open(name, "rb", buffering=0) as file:
@@ -94,10 +89,12 @@ def _is_unnamed(name: str) -> bool:
 
 def _member(name: str) -> Optional[Page]:
     """The member of a pack, where the name begins with a pack that is there. Raises Unread."""
+    from .packs.naming import BETWEEN, is_pack
     at = name.find(BETWEEN)
     while at >= 0:
         pack = os.path.abspath(os.fsencode(name[:at]))
         if is_pack(pack) and os.path.isfile(pack):
+            from .packs.reading import PACKS, NoMember
             try:
                 return Page(name, PACKS.read(pack, os.fsencode(name[at + 1:])))
             except NoMember as error:

@@ -3,6 +3,7 @@ import collections
 import io
 import os
 import random
+import re
 import signal
 import sys
 import time
@@ -15,6 +16,8 @@ Said = collections.namedtuple("Said", "status out err")
 # What a command may end with.
 STATUSES = (0, 1, 3)
 HANGS = "hangs"
+# What a word of an earlier version says of the new one, which is no matter here.
+OLD_WORD = re.compile(rb"naplps-pages: `[^\n]*; the next version takes only that\n")
 
 
 def forked(words, folder, program, seconds=900):
@@ -48,7 +51,7 @@ def ended(child, folder, seconds=900):
         time.sleep(0.001)
     with open(out, "rb") as said, open(err, "rb") as told:
         return Said(os.waitstatus_to_exitcode(status) if hasattr(os, "waitstatus_to_exitcode") else status >> 8,
-                    said.read(), told.read())
+                    said.read(), OLD_WORD.sub(b"", told.read()))
 
 
 def _be(words, folder, program, out, err):

@@ -45,7 +45,7 @@ COMPARED = """
 
 def play(naplps, page, html, *words):
     """Makes the player of a page; what the command said, and the address."""
-    said = subprocess.run([COMMAND, "play", page, "--into", html, *words], env=dict(os.environ, NAPLPS=naplps),
+    said = subprocess.run([COMMAND, "play", page, "-o", html, *words], env=dict(os.environ, NAPLPS=naplps),
                           capture_output=True)
     return said, "file://" + os.path.abspath(html)
 

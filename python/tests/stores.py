@@ -13,12 +13,14 @@ FILES = {"a.nap": POINT, "b.nap": SPELLED, "c.nap": POINT, "d/e.nap": OUTSIDE, "
          "g.nap": b"hello", "h.nap": CANCELLED}
 # The commands that take a store, each with the words for one that is named STORE.
 COMMANDS = (
-    ["status"], ["status", "--json"], ["status", "--csv"], ["equal"], ["equal", "--json"], ["equal", "--csv"],
-    ["equal", "--copies", "--null"], ["equal", "--copies", "--verify"], ["equal", "--guesses"], ["equal", "OTHER"],
-    ["refused"], ["census"], ["cures", "--into", "canonical"], ["look", "--into", "canonical"],
-    ["refused", "--json"], ["refused", "--csv"], ["files"], ["files", "--json"], ["files", "--csv", "--refused", "any"],
-    ["refused", "--number", "10"], ["convert", "--into", "canonical"],
-    ["report", "--into", "report.html", "--processes", "1"], ["scan"], ["merge"], ["merge", "OTHER", "--unfinished"])
+    ["files"], ["status", "--json"], ["status", "--csv"], ["equal"], ["equal", "--json"], ["equal", "--csv"],
+    ["equal", "--with", "copies", "--null"], ["equal", "--with", "copies", "--verify"], ["equal", "--with", "guesses"],
+    ["equal", "OTHER"],
+    ["files", "--refused"], ["census"], ["cures", "--into", "canonical"], ["look", "--into", "canonical"],
+    ["refused", "--json"], ["refused", "--csv"], ["files", "--kind", "any"], ["files", "--json"],
+    ["files", "--csv", "--refused"],
+    ["refused", "--number", "10"], ["canon", "--into", "canonical"],
+    ["report", "-o", "report.html", "--processes", "1"], ["scan"], ["merge"], ["merge", "OTHER", "--unfinished"])
 
 
 def words_of(command, store, other, pages):
@@ -27,7 +29,7 @@ def words_of(command, store, other, pages):
     if name == "scan":
         return [name, pages, "--into", store, "--processes", "1", *rest]
     if name == "merge":
-        return [name, "merged.db", store, *rest]
+        return [name, store, *rest, "--into", "merged.db"]
     return [name, store, *rest]
 
 

@@ -116,14 +116,14 @@ def test_a_player_has_the_entries_of_earlier_pages_in_front(run, folder):
     file(folder, "point", POINT + b"\x0f")
     file(folder, "text", b"A")
     html = os.path.join(folder, "player.html")
-    said = run(["play", "text", "--after", "first", "--after", "point", "--into", html], cwd=folder)
+    said = run(["play", "text", "--after", "first", "--after", "point", "-o", html], cwd=folder)
     assert (said.stdout, said.stderr, said.returncode) == (b"", b"", 0)
     it = held(html)
     assert (it["before"], it["length"], it["places"], it["codes"]["entry"]) == (1, 1, [-1, 0], [-1, 0])
     assert it["lines"] == [POINT_LINE, *lines(run, folder, "list", "text", "--after", "first", "--after", "point")]
     with open(html, encoding="utf-8") as made:
         assert "It comes after first, point: " in made.read()
-    said = run(["play", "second", "--after", "bad", "--into", html + "2"], cwd=folder)
+    said = run(["play", "second", "--after", "bad", "-o", html + "2"], cwd=folder)
     assert said.returncode == 3 and said.stderr.endswith(b"the page before it, bad, is refused 6 LeftOut CAN at 1\n")
     assert not os.path.exists(html + "2")
 

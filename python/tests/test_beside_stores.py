@@ -16,10 +16,11 @@ from naplps_pages.collection.store import open_to_write
 from stores import archive, copied, words_of
 
 NOT_OWN = "naplps-pages: %s: what stands beside it, as %s, is no file of its own\n"
-COMMANDS = (["status"], ["equal"], ["equal", "OTHER"], ["refused"], ["census"], ["files"], ["find", "hello"],
-            ["cures", "--into", "canonical"], ["look", "--into", "canonical"], ["convert", "--into", "canonical"],
-            ["report", "--into", "report.html"], ["serve"], ["scan"], ["merge"])
-FEW, EACH = (["status"], ["scan"], ["merge"]), ("a hard link", "a fifo")
+COMMANDS = (["files"], ["equal"], ["equal", "OTHER"], ["files", "--refused"], ["census"], ["files", "--json"],
+            ["find", "hello"],
+            ["cures", "--into", "canonical"], ["look", "--into", "canonical"], ["canon", "--into", "canonical"],
+            ["report", "-o", "report.html"], ["serve"], ["scan"], ["merge"])
+FEW, EACH = (["files"], ["scan"], ["merge"]), ("a hard link", "a fifo")
 
 
 def plain(path, _):
@@ -121,7 +122,7 @@ def test_what_stands_there_before_a_store_is_made(made, naplps, ending, kind):
     try:
         KINDS[kind](path, os.path.join(folder, "victim"))
         before = hashes(folder)
-        for command in (["scan", pages, "--into", "new.db"], ["merge", "new.db", "good.db"]):
+        for command in (["scan", pages, "--into", "new.db"], ["merge", "--into", "new.db", "good.db"]):
             said = forked(command, folder, naplps, 120)
             assert said.status == 3 and said.err.decode() == NOT_OWN % ("new.db", ending), (command, said)
             assert hashes(folder) == before, command
@@ -135,7 +136,7 @@ def test_no_other_store_is_put_beside_what_a_store_left(made, naplps):
         path = os.path.join(folder, "new.db" + ending)
         with open(path, "wb") as file:
             file.write(data)
-        said = forked(["merge", "new.db", "good.db"], folder, naplps)
+        said = forked(["merge", "--into", "new.db", "good.db"], folder, naplps)
         os.unlink(path)
         assert said == (3, b"", b"naplps-pages: new.db: isn't made: what is left of another store stands there, as %s\n"
                         % ending.encode())
@@ -188,5 +189,5 @@ def test_a_store_that_was_just_put_in_its_place_can_be_read(made, naplps):
     folder, _ = made
     copied(os.path.join(folder, "good.db"), os.path.join(folder, "bad.db"))
     os.link(os.path.join(folder, "bad.db"), os.path.join(folder, "bad.db.new"))
-    assert forked(["status", "bad.db"], folder, naplps).status == 0
+    assert forked(["files", "bad.db"], folder, naplps).status == 0
     os.unlink(os.path.join(folder, "bad.db.new"))

@@ -115,14 +115,14 @@ def separately(run, folder, into):
     ran("scan", folder, "--into", store, "--words", "--cures", statuses=(0,))
     with open(os.path.join(into, "files.csv"), "wb") as table:
         table.write(ran("files", store, "--csv"))
-    ran("convert", store, "--into", os.path.join(into, "canonical"), statuses=(0,))
+    ran("canon", store, "--into", os.path.join(into, "canonical"), statuses=(0,))
     ran("cures", store, "--into", os.path.join(into, "readable"))
     ran("split", store, "--into", os.path.join(into, "captures"))
-    some = map(json.loads, ran("files", store, "--json", "--refused", "any").splitlines())
+    some = map(json.loads, ran("files", store, "--json", "--refused").splitlines())
     unknown = [os.fsdecode(bytes.fromhex(it["name_hex"])) if "name_hex" in it else it["name"] for it in some
                if all(it[name] is None for name in UNKNOWN)]
     ran("carve", *unknown, "--into", os.path.join(into, "carved"))
-    ran("report", store, "--into", os.path.join(into, "index.html"), statuses=(0,))
+    ran("report", store, "-o", os.path.join(into, "index.html"), statuses=(0,))
 
 
 def test_it_makes_what_the_single_commands_make(run, mixed, place, tmp_path):

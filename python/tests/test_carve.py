@@ -18,7 +18,7 @@ from conftest import COMMAND, file
 from naplps.answers import Accepted
 from naplps.client import Client
 from naplps_pages import carving
-from naplps_pages.new_files import NotWritten
+from naplps_pages.console import NotWritten
 from naplps_pages.page_finder import MOST_GIVEN, SHAPES, PageFinder
 from packers import pack
 from planted import pool
@@ -161,21 +161,20 @@ def test_each_page_is_a_file_with_a_note(run, tmp_path):
     assert run(["scan", to, "--into", to + ".db"]).stdout.startswith(b"2 files: 2 accepted (2 pages)")
 
 
-def test_a_dry_run_makes_nothing_and_least_is_kept(run, tmp_path):
+def test_without_a_folder_nothing_is_made_and_least_is_kept(run, tmp_path):
     path = file(tmp_path, "disk.img", DISK)
-    said = run(["carve", path, "--dry-run", "--json"])
+    said = run(["carve", path, "--json"])
     rows = [json.loads(line) for line in said.stdout.splitlines()]
     assert [(row["name"], row["status"], row["offset"], row["bytes"]) for row in rows] == [
         (path, "accepted", 100_000, len(LOGO)), (path, "accepted", DISK.rindex(LOGO), len(LOGO))]
-    said = run(["carve", path, "--dry-run", "--least", "37"])
+    said = run(["carve", path, "--least", "37"])
     assert said.stdout.decode() == f"{path}: 0 pages found in {len(DISK)} bytes\n" and said.returncode == 1
     assert os.listdir(str(tmp_path)) == ["disk.img"]
-    assert run(["carve", path]).returncode == run(["carve", path, "--into", "x", "--dry-run"]).returncode == 2
 
 
 def test_members_of_packs_and_standard_input(run, tmp_path):
     pack(os.path.join(str(tmp_path), "old.tar"), {"disk.img": DISK})
-    said = run(["carve", os.path.join(str(tmp_path), "old.tar") + "!disk.img", "--dry-run"])
+    said = run(["carve", os.path.join(str(tmp_path), "old.tar") + "!disk.img"])
     assert said.returncode == 0 and said.stdout.count(b"accepted 36 entries") == 2
     said = run(["carve", "-", "--into", os.path.join(str(tmp_path), "to")], DISK)
     assert said.returncode == 0 and os.path.exists(os.path.join(str(tmp_path), "to", "page-0000100000.nap"))

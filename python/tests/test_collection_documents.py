@@ -1,17 +1,17 @@
 """What docs/COLLECTIONS.md and docs/STORE.md show: each command prints what stands after it, in their order."""
-import argparse
 import json
 import os
 import re
 import shutil
 import sqlite3
 import subprocess
+import sys
 from xml.etree import ElementTree
 
 import pytest
 
 from conftest import COMMAND, TOP
-from naplps_pages import cli
+from naplps_pages import commands
 from naplps_pages.collection import canon_tables, store, tables, word_index
 from samples import has
 from scans import tree
@@ -160,26 +160,23 @@ def test_a_note_as_an_event_of_premis(archive):
     assert texts["eventOutcomeDetailNote"] == note["note"]
 
 
-def options(name, command):
-    """The options of a command that its help has."""
-    parser = cli.Parser(prog=name)
-    command.options(parser)
-    return sorted(word for action in parser._actions for word in action.option_strings
-                  if word.startswith("--") and action.help != argparse.SUPPRESS)
+COMMANDS = {name: sorted(each.word for each in commands.options(commands.command(name).parts()) if not each.now)
+            for name in commands.NAMES if name not in commands.OLD}
 
 
-COMMANDS = {name: options(name, command) for name, command in cli.COMMANDS.items()}
+def test_completions_and_synopses_are_made_of_the_commands():
+    script = os.path.join(TOP, "scripts", "pages", "make-completions")
+    said = subprocess.run([sys.executable, "-B", script, "--check"], capture_output=True, text=True)
+    assert (said.stdout, said.stderr, said.returncode) == ("", "", 0)
 
 
 @pytest.mark.parametrize("name", sorted(COMMANDS))
-def test_each_option_is_in_the_manual_and_in_the_completions(name):
-    for path in ["man/naplps-pages.1", "completions/naplps-pages.bash", "completions/_naplps-pages",
-                 "completions/naplps-pages.fish"]:
-        with open(os.path.join(TOP, path), encoding="utf-8") as file:
-            text = file.read()
-        for word in [name, *COMMANDS[name]]:
-            before = r"(--|-l |Fl Fl )" if word.startswith("--") else r"(^|[^a-z])"
-            assert re.search(before + word.lstrip("-") + r"([^a-z]|$)", text, re.MULTILINE), (path, word)
+def test_each_option_is_described_in_the_manual(name):
+    with open(os.path.join(TOP, "man", "naplps-pages.1"), encoding="utf-8") as file:
+        text = file.read()
+    text = text[text.index(".Sh DESCRIPTION"):]
+    for word in COMMANDS[name]:
+        assert re.search(r"Fl " + ("Fl " + word[2:] if word.startswith("--") else word[1:]) + r"\b", text), word
 
 
 @pytest.mark.skipif(not has("bash"), reason="there is no bash")
@@ -188,7 +185,7 @@ def test_completion_by_bash(name):
     line = '. "$1"; COMP_WORDS=(naplps-pages "$2" --); COMP_CWORD=2; _naplps_pages; printf "%s\\n" "${COMPREPLY[@]}"'
     said = subprocess.run(["bash", "-c", line, "bash", os.path.join(TOP, "completions", "naplps-pages.bash"), name],
                           capture_output=True, text=True)
-    assert sorted(said.stdout.split()) == COMMANDS[name]
+    assert sorted(said.stdout.split()) == sorted({*COMMANDS[name], "--help"} - {"-o"})
 
 
 def test_completion_of_files_by_bash(tmp_path):

@@ -47,6 +47,12 @@ def lines(said):
     return said.stdout.decode("utf-8").splitlines()
 
 
+def of_old_word(said):
+    """The lines that a word of an earlier version prints; on standard error it says which word is written now."""
+    assert said.returncode == 0 and said.stderr.count(b"\n") == 1 and b"the next version takes only that" in said.stderr
+    return said.stdout.decode().splitlines()
+
+
 def in_order(*groups):
     """Spellings stand in the order of their hashes."""
     return [each for _, each in sorted(groups)]
@@ -57,7 +63,7 @@ def test_equal(run, store, pages):
     wanted = ["2 spellings, 3 files, 1 entry: canonical " + CANON_HASH,
               *("  1: " + each % pages for each in one), *("  2: " + each % pages for each in two)]
     assert lines(run(["equal", store])) == wanted
-    found = lines(run(["equal", store, "--copies"]))
+    found = lines(run(["equal", store, "--with", "copies"]))
     # (a terminal's own text of HELLO isn't canonical: its hash is the program's to say)
     assert found[:4] == wanted and found[4].startswith("1 spelling, 2 files, 5 entries: canonical ")
     assert found[5:] == ["  1: %s/hello" % pages, "  1: %s/x/hello" % pages]
@@ -71,7 +77,7 @@ def test_equal_for_programs(run, store, pages):
     raw = run(["equal", store, "--null"]).stdout.decode()
     assert raw == "".join(name + "\0" for own in sorted(files) for name in files[own]) + "\0"
     copies = "%s/hello\0%s/x/hello\0\0" % (pages, pages)
-    assert run(["equal", store, "--null", "--copies"]).stdout.decode() == raw + copies
+    assert run(["equal", store, "--null", "--with", "copies"]).stdout.decode() == raw + copies
     table = list(csv.DictReader(io.StringIO(run(["equal", store, "--csv"]).stdout.decode())))
     columns = ("canonical", "spellings", "files", "entries", "spelling", "hash", "name", "name_hex")
     assert [tuple(row[column] for column in columns) for row in table] == [
@@ -80,8 +86,8 @@ def test_equal_for_programs(run, store, pages):
 
 
 def test_a_store_without_indices_tells_the_same(run, store, tmp_path):
-    words = (["equal", store], ["equal", store, "--copies"], ["refused", store], ["status", store, "--csv"],
-             ["convert", store, "--into", os.path.join(str(tmp_path), "to"), "--csv"])
+    words = (["equal", store], ["equal", store, "--with", "copies"], ["files", store, "--refused"], ["files", store],
+             ["canon", store, "--into", os.path.join(str(tmp_path), "to"), "--csv"])
     run(words[-1])                                              # (what is there is told as that)
     before = [lines(run(each)) for each in words]
     connection = sqlite3.connect(store)
@@ -97,15 +103,15 @@ def test_a_store_without_indices_tells_the_same(run, store, tmp_path):
 def test_refused(run, store, pages):
     wanted = ["10 Outside: 1 page, 2 files", "  %s/out at 3" % pages, "  %s/\\xff out at 3" % pages,
               "19 Cut: 2 pages, 2 files", "  %s/cut at 1" % pages, "  %s/cut too at 2" % pages]
-    assert lines(run(["refused", store])) == wanted
-    assert lines(run(["refused", store, "--number", "19"])) == wanted[3:]
-    assert lines(run(["refused", store, "--number", "1"])) == []
+    assert lines(run(["files", store, "--refused"])) == wanted
+    assert of_old_word(run(["refused", store, "--number", "19"])) == wanted[3:]
+    assert of_old_word(run(["refused", store, "--number", "1"])) == []
     raw = run(["refused", store, "--null", "--number", "10"]).stdout
     assert raw == os.fsencode(pages) + b"/out\0" + os.fsencode(pages) + b"/\xff out\0"
     out = {"status": "refused", "number": 10, "fault": "Outside", "code": None, "place": 3, "entries": None,
            "reason": None, "stops": None, "hash": hashlib.sha256(OUTSIDE).hexdigest(), "tried": False,
            "treatments": None, "grade": None}
-    assert [json.loads(line) for line in lines(run(["refused", store, "--json"]))[:2]] == [
+    assert [json.loads(line) for line in of_old_word(run(["refused", store, "--json"]))[:2]] == [
         {"name": pages + "/out", **out},
         {"name": pages + "/\\xff out", "name_hex": os.fsencode(pages + "/").hex() + b"\xff out".hex(), **out}]
     table = list(csv.reader(io.StringIO(run(["refused", store, "--csv", "--number", "19"]).stdout.decode())))
@@ -125,7 +131,8 @@ def test_names_in_csv_are_shown(run, tmp_path):
         **{name: POINT for name in NAMES}, **{b"x" + name: OUTSIDE for name in NAMES}})
     store, into = os.path.join(str(tmp_path), "pages.db"), os.path.join(str(tmp_path), "to")
     assert run(["scan", pages, "--into", store]).returncode == 0
-    for words in (["equal", store, "--copies"], ["refused", store], ["convert", store, "--into", into]):
+    for words in (["equal", store, "--with", "copies"], ["files", store, "--refused"],
+                  ["canon", store, "--into", into]):
         said = run([*words, "--csv"])
         assert said.returncode == 0 and said.stdout.decode().replace("\n", "").isprintable()
         found = list(csv.DictReader(io.StringIO(said.stdout.decode())))
@@ -147,7 +154,7 @@ def test_treatments_are_told(run, tmp_path):
     pages = tree(os.path.join(str(tmp_path), "pages"), {"parity": with_parity(POINT), "none": OUTSIDE})
     store = os.path.join(str(tmp_path), "pages.db")
     run(["scan", pages, "--into", store, "--cures"])
-    assert lines(run(["refused", store])) == [
+    assert lines(run(["files", store, "--refused"])) == [
         "1 EighthBit: 1 page, 1 file", "  %s/parity at 0: readable by parity (around)" % pages,
         "10 Outside: 1 page, 1 file", "  %s/none at 3: no treatment makes it readable" % pages]
 
@@ -156,7 +163,7 @@ def test_verify(run, fake, store, pages):
     assert lines(run(["equal", store, "--verify"])) == lines(run(["equal", store]))
     tree(pages, {"a point": HELLO})
     os.unlink(os.path.join(pages, "b", "other"))
-    said = run(["equal", store, "--verify", "--copies"])
+    said = run(["equal", store, "--verify", "--with", "copies"])
     assert said.returncode == 1 and said.stdout.decode().splitlines()[1:] == [
         "  1: %s/hello" % pages, "  1: %s/x/hello" % pages]
     assert sorted(said.stderr.decode().splitlines()) == [
@@ -194,13 +201,13 @@ def test_pages_of_one_hash_and_other_bytes(fake, pages, monkeypatch):
 @pytest.mark.parametrize("target", ["/proc", "a file"])
 def test_convert_into_what_takes_no_files(run, store, tmp_path, target):
     into = os.path.join(str(tree(tmp_path, {"file": b""})), "file") if target == "a file" else target
-    said = run(["convert", store, "--into", into])
+    said = run(["canon", store, "--into", into])
     assert (said.stdout, said.returncode) == (b"", 3) and said.stderr.count(b"\n") == 1
 
 
 def test_convert(run, store, pages, tmp_path):
     into = os.path.join(str(tmp_path), "canonical")
-    assert lines(run(["convert", store, "--into", into])) == ["2 written, 0 there"]
+    assert lines(run(["canon", store, "--into", into])) == ["2 written, 0 there"]
     path = os.path.join(into, CANON_HASH[:2], CANON_HASH + ".nap")
     made = sorted(os.path.join(folder, name) for folder, _, names in os.walk(into) for name in names)
     assert path in made and len(made) == 2
@@ -208,9 +215,9 @@ def test_convert(run, store, pages, tmp_path):
         with open(name, "rb") as file:
             assert hashlib.sha256(file.read()).hexdigest() == os.path.basename(name)[:-4]
     tree(pages, {"a point": HELLO})                             # (what is there needs no file)
-    assert lines(run(["convert", store, "--into", into])) == ["0 written, 2 there"]
+    assert lines(run(["canon", store, "--into", into])) == ["0 written, 2 there"]
     os.unlink(path)
-    said = run(["convert", store, "--into", into])              # (the next file that has the bytes is taken)
+    said = run(["canon", store, "--into", into])              # (the next file that has the bytes is taken)
     assert (said.stdout, said.returncode) == (b"1 written, 1 there, 1 files changed since the scan\n", 1)
     assert said.stderr.decode() == "naplps-pages: %s/a point: it isn't as it was when it was scanned\n" % pages
     with open(path, "rb") as file:
@@ -221,7 +228,7 @@ def test_convert_writes_nothing_for_what_changed(run, store, pages, tmp_path):
     into = os.path.join(str(tmp_path), "canonical")
     for name in ("a point", "b/other", "b/copy\nof it"):
         tree(pages, {name: OUTSIDE})
-    said = run(["convert", store, "--into", into, "--json"])
+    said = run(["canon", store, "--into", into, "--json"])
     assert said.returncode == 1
     told = [(row["status"], row["name"][len(pages) + 1:]) for row in map(json.loads, said.stdout.splitlines())
             if row["canonical"] == CANON_HASH]
@@ -232,7 +239,7 @@ def test_convert_writes_nothing_for_what_changed(run, store, pages, tmp_path):
 def test_convert_writes_nothing_over(run, store, tmp_path):
     into = os.path.join(str(tmp_path), "canonical")
     tree(into, {"%s/%s.nap" % (CANON_HASH[:2], CANON_HASH): b"mine"})
-    said = run(["convert", store, "--into", into, "--csv"])
+    said = run(["canon", store, "--into", into, "--csv"])
     path = "%s/%s/%s.nap" % (into, CANON_HASH[:2], CANON_HASH)
     reason = "is there already with other bytes, and isn't written over"
     assert said.returncode == 1 and said.stderr.decode() == "naplps-pages: %s: %s\n" % (path, reason)
@@ -256,12 +263,12 @@ def test_convert_takes_nothing_for_a_page_but_its_bytes(run, store, tmp_path):
                       (lambda: os.mkfifo(path), reasons["kind"]), (lambda: os.mkdir(path), reasons["kind"]),
                       (lambda: os.symlink("/dev/zero", path), reasons["kind"])):
         make()
-        said = run(["convert", store, "--into", into])
+        said = run(["canon", store, "--into", into])
         assert said.returncode == 1 and said.stderr.decode() == "naplps-pages: %s: %s\n" % (path, why)
         assert said.stdout.decode().endswith(", 1 not made\n")
         (os.rmdir if os.path.isdir(path) else os.unlink)(path)
     os.symlink(right, path)
-    assert lines(run(["convert", store, "--into", into])) == ["0 written, 2 there"]
+    assert lines(run(["canon", store, "--into", into])) == ["0 written, 2 there"]
 
 
 def test_new_files_are_on_the_disk_before_they_have_their_names(tmp_path, monkeypatch):
@@ -282,14 +289,14 @@ def test_new_files_are_on_the_disk_before_they_have_their_names(tmp_path, monkey
 
 def test_convert_and_a_program_that_answers_otherwise(run, fake, store, tmp_path):
     into = os.path.join(str(tmp_path), "canonical")
-    said = run(["convert", store, "--into", into], program=fake(FAKE))
+    said = run(["canon", store, "--into", into], program=fake(FAKE))
     assert (said.stdout, said.returncode) == (b"0 written, 0 there, 2 not made\n", 1)
     assert said.stderr.count(b"its canonical bytes haven't the hash that the store has\n") == 2
     assert not os.path.exists(into)
 
 
 def test_status(run, naplps, store, pages):
-    told = lines(run(["status", store]))
+    told = lines(run(["files", store]))
     version = subprocess.run([naplps, "--version"], capture_output=True, text=True).stdout.strip()
     with open(naplps, "rb") as file:
         program_hash = hashlib.sha256(file.read()).hexdigest()
@@ -303,7 +310,7 @@ def test_status(run, naplps, store, pages):
         "distinct pages:  6", "canonical pages: 2",
         "words:           no text is kept, and nothing is found: `scan --words` keeps texts",
         "treatments:      none is tried: `scan --cures` tries them", "left:            nothing"]
-    it = json.loads(lines(run(["status", store, "--json"]))[0])
+    it = json.loads(of_old_word(run(["status", store, "--json"]))[0])
     assert (it["files"], it["pages"], it["canonical"], it["left"], it["at_work"]) == (
         {"accepted": 5, "refused": 4}, 6, 2, {}, False)
     assert it["folders"] == [{"name": pages, "reason": None}] and it["run"]["program_hash"] == program_hash
@@ -314,16 +321,16 @@ def test_status(run, naplps, store, pages):
 def test_status_of_what_is_left(run, store, pages, fake):
     tree(pages, {"hang": b"hang", "new": b"new"})
     run(["scan", os.path.join(pages, "b"), "--into", store, "--budget", "5"])
-    told = lines(run(["status", store]))
+    told = lines(run(["files", store]))
     assert told[-1] == "left:            6 answered on other terms"  # (those in b, and the copy of one)
     run(["scan", pages, "--into", store, "--seconds", "5"], program=fake(FAKE))
-    told = lines(run(["status", store]))
+    told = lines(run(["files", store]))
     assert told[-1] == "left:            1 no answer" and "                 1: no answer in 5 s" in told
 
 
 @pytest.mark.parametrize("words", [
     ["equal"], ["refused", "x", "y"], ["equal", "x", "--json", "--csv"], ["refused", "x", "--number", "0"],
-    ["convert", "x"], ["convert", "x", "--into", "y", "--null"], ["status", "x", "--null"], ["status"]])
+    ["canon", "x", "--into", "y", "--null"], ["status", "x", "--null"], ["files"]])
 def test_wrong_words(run, words):
     said = run(words)
     assert said.returncode == 2 and not said.stdout and said.stderr
@@ -332,7 +339,7 @@ def test_wrong_words(run, words):
 def test_a_closed_pipe_ends_it_silently(naplps, store, pages, tmp_path, run):
     more = tree(os.path.join(str(tmp_path), "more"), {"%0200d" % number: POINT for number in range(600)})
     run(["scan", more, "--into", store])
-    for command in ("equal", "equal --json", "convert --csv --into " + os.path.join(str(tmp_path), "to")):
+    for command in ("equal", "equal --json", "canon --csv --into " + os.path.join(str(tmp_path), "to")):
         line = '"$0" %s "$1" | head -n 1 > /dev/null; echo "${PIPESTATUS[0]}"' % command
         said = subprocess.run(["bash", "-c", line, COMMAND, store], capture_output=True,
                               env=dict(os.environ, NAPLPS=naplps))

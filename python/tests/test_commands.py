@@ -120,23 +120,23 @@ def test_a_sketch_is_put_into_a_file_that_isnt_there(run, tmp_path):
     page, svg = file(tmp_path, "page", POINT), os.path.join(str(tmp_path), "page.svg")
     wanted = run(["look", page]).stdout
     for _ in range(2):                                          # (what is there with the same bytes stays)
-        assert wanted.startswith(b"<svg ") and run(["look", page, "--svg", svg]).returncode == 0
+        assert wanted.startswith(b"<svg ") and run(["look", page, "-o", svg]).returncode == 0
         with open(svg, "rb") as made:
             assert made.read() == wanted
     assert sorted(os.listdir(str(tmp_path))) == ["page", "page.svg"]
-    said = run(["look", page, "--svg", page])
+    said = run(["look", page, "-o", page])
     assert (said.stderr.decode(), said.returncode) == (
         "naplps-pages: %s: is there already with other bytes, and isn't written over\n" % page, 3)
     with open(page, "rb") as still:
         assert still.read() == POINT
-    assert run(["look", page, "--svg", "/dev/null"]).returncode == 0 and not os.path.isfile("/dev/null")
-    said = run(["look", page, "--svg", os.path.join(str(tmp_path), "none", "page.svg")])
+    assert run(["look", page, "-o", "/dev/null"]).returncode == 0 and not os.path.isfile("/dev/null")
+    said = run(["look", page, "-o", os.path.join(str(tmp_path), "none", "page.svg")])
     assert said.returncode == 3 and said.stderr.endswith(b"none/page.svg: No such file or directory\n")
 
 
 @pytest.mark.parametrize("words", [
     [], ["nothing"], ["check"], ["check", "--jso", "x"], ["canon", "a", "b"], ["look", "a", "b"], ["explain", "a", "b"],
-    ["look", "a", "--svg", "f", "--into", "d"], ["check", "a", "--budget", "67108865"], ["check", "a", "--budget", "x"],
+    ["look", "a", "-o", "f", "--into", "d"], ["check", "a", "--budget", "67108865"], ["check", "a", "--budget", "x"],
     ["check", "a", "--seconds", "0"], ["check", "-", "-"], ["look", "a", "b", "--svg", "f"],
     ["check", "a", "--frob"]])
 def test_wrong_words(run, words):
@@ -147,10 +147,11 @@ def test_wrong_words(run, words):
 
 
 @pytest.mark.parametrize("words", [
-    ["check", ""], ["text", "a", ""], ["canon", "a", "--into", ""], ["look", "a", "--svg", ""],
+    ["check", ""], ["text", "a", ""], ["canon", "a", "--into", ""], ["look", "a", "-o", ""],
     ["scan", "", "--into", "s"], ["scan", "a", "--into", ""], ["scan", "a", "--into", "s", "--on", ""],
-    ["merge", "", "s"], ["merge", "s", ""], ["equal", ""], ["equal", "s", ""], ["status", ""],
-    ["convert", "s", "--into", ""], ["report", "s", "--into", ""], ["serve", ""]])
+    ["merge", "s", "--into", ""], ["merge", "", "--into", "s"], ["merge", "", "s"], ["equal", ""], ["equal", "s", ""],
+    ["files", ""],
+    ["canon", "s", "--into", ""], ["report", "s", "-o", ""], ["serve", ""]])
 def test_an_empty_name_is_refused(run, tmp_path, words):
     said = run(words, cwd=str(tmp_path))
     assert said.returncode == 2 and said.stdout == b"" and said.stderr.endswith(b": the name is empty\n")
@@ -356,10 +357,10 @@ def test_a_folder_in_which_nothing_is_put_is_not_left(run, tmp_path, command):
 
 
 @pytest.mark.parametrize("words, told", [
-    (["help"], "there is no command help; `naplps-pages --help` lists all"),
-    (["chek", "x"], "there is no command chek; did you mean check? `naplps-pages --help` lists all"),
-    (["e\x1b[1m"], "there is no command e\\x1b[1m; `naplps-pages --help` lists all"),
-    ([], "a command is needed; `naplps-pages --help` lists all")])
+    (["chek", "x"], "there is no command chek; did you mean check? `naplps-pages help` lists the commands"),
+    (["e\x1b[1m"], "there is no command e\\x1b[1m; `naplps-pages help` lists the commands"),
+    (["--json", "check"], "--json stands before the command; `naplps-pages help` lists the commands"),
+    ([], "a command is needed; `naplps-pages help` lists the commands")])
 def test_a_command_that_there_is_not(run, words, told):
     said = run(words)
     assert (said.stdout, said.returncode) == (b"", 2)

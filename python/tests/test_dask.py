@@ -11,7 +11,8 @@ import pytest
 
 from conftest import COMMAND, bare
 from naplps_pages.cli import main
-from naplps_pages.collection.cluster import ClusterFailed, address_of
+from naplps_pages.collection.cluster import address_of
+from naplps_pages.collection.pool import ClusterFailed
 from naplps_pages.collection.remote import alike, difference
 from naplps_pages.collection.tables import hashed
 from naplps_pages.packs.naming import inside
@@ -138,7 +139,7 @@ def test_a_scheduler_that_ends_amid(run, fake, tmp_path, store, cluster):
     go.touch()
     taken = count(store)
     assert is_sound(store) and 0 < taken < 7001
-    told = run(["status", store]).stdout.decode()
+    told = run(["files", store]).stdout.decode()
     assert ", was stopped: the same command goes on\n" in told
     other = store + ".other"
     assert run(["scan", top, "--into", store], program=program).returncode == 0

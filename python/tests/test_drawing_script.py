@@ -14,7 +14,8 @@ from entries import legal_list
 from gallery import pages
 from naplps.drawing import draw
 from naplps.entry_json import members_of
-from naplps.reading import NotALine, read_line
+from naplps.faults import NotALine
+from naplps.reading import read_line
 from samples import needs_node
 from test_canonical import vectors
 from timelines import timeline

@@ -19,7 +19,7 @@ from samples import OUTSIDE, POINT, POINT_AND_BELL, SPELLED
 from scans import made_up, tree, written
 from test_parts import scan_parts
 
-FORMS = ([], ["--json", "--copies"], ["--csv"], ["--null"])
+FORMS = ([], ["--json", "--with", "copies"], ["--csv"], ["--null"])
 
 
 def nothing(name, why):
@@ -39,9 +39,9 @@ def test_parts_of_a_scan(run, tmp_path):
         "%d/%03d" % (at % 7, at): kinds[at % len(kinds)] + b"\x0f" * (at // 60) for at in range(240)})
     stores = scan_parts(run, pages, tmp_path, 5)
     into = os.path.join(str(tmp_path), "all.db")
-    assert run(["merge", into, *stores]).returncode == 0
+    assert run(["merge", "--into", into, *stores]).returncode == 0
     same(into, stores)
-    for words in (*FORMS, ["--verify", "--copies"]):
+    for words in (*FORMS, ["--verify", "--with", "copies"]):
         assert run(["equal", into, *words]).stdout == run(["equal", *stores, *words]).stdout != b""
     for store in stores[1:3]:                                   # (as they are where a scan is stopped)
         connection = sqlite3.connect(store)
@@ -61,7 +61,7 @@ def test_made_up_stores(run, tmp_path):
     with sqlite3.connect(stores[0]) as connection:              # (files of the next store, of the same bytes)
         connection.execute("UPDATE files SET name = CAST('other ' || name AS BLOB) WHERE inode >= 1500")
     connection.close()
-    assert run(["merge", into, *stores]).returncode == 0
+    assert run(["merge", "--into", into, *stores]).returncode == 0
     same(into, stores)
 
 
@@ -73,7 +73,7 @@ def test_what_lacks_is_told(run, tmp_path):
         connection.execute("UPDATE runs SET ended = NULL")
     connection.close()
     into = str(tmp_path / "some.db")
-    assert run(["merge", into, *stores[1:], "--unfinished"]).returncode == 1
+    assert run(["merge", "--into", into, *stores[1:], "--unfinished"]).returncode == 1
     said = run(["equal", *stores[1:]])
     assert (said.stdout, said.returncode) == (run(["equal", into]).stdout, 1)
     assert said.stderr.decode() == (
@@ -143,7 +143,7 @@ def test_no_room_for_temporary_files(tmp_path, small_disk):
     stores = [str(tmp_path / ("%d.db" % at)) for at in range(2)]
     for at, store in enumerate(stores):
         made_up(store, at * 20_000, 20_000, "%d/2" % at)
-    said = subprocess.run([sys.executable, "-Bc", LITTLE, "equal", *stores, "--copies"], capture_output=True,
+    said = subprocess.run([sys.executable, "-Bc", LITTLE, "equal", *stores, "--with", "copies"], capture_output=True,
                           env=dict(os.environ, SQLITE_TMPDIR=small_disk))
     assert (said.stdout, said.returncode) == (b"", 3)
     assert said.stderr.decode() == (

@@ -19,7 +19,7 @@ from naplps_pages.collection.lock import Lock
 from naplps_pages.collection.picture_table import PICTURES
 from naplps_pages.collection.stopping import Stopping
 from naplps_pages.collection.store import open_to_write
-from naplps_pages.collection.worker import WorkerOptions
+from naplps_pages.collection.rows import WorkerOptions
 from samples import BOMB, OUTSIDE
 from scans import StopsSoon
 
@@ -152,13 +152,13 @@ def test_scan_pictures_keeps_them_for_each_later_scan(run, box, tmp_path):
     file(box, "new.nap", make(run, BASE.replace("HELLO", "NEW")))
     assert run(["scan", box, "--into", store]).returncode == 0 and len(kept(store)) == PAGES - 1
     assert rows(store, "SELECT value FROM meta WHERE key = 'pictures'") == [(1,)]
-    assert b"left:            nothing" in run(["status", store]).stdout
+    assert b"left:            nothing" in run(["files", store]).stdout
     connection = sqlite3.connect(store)
     connection.execute("DELETE FROM pictures WHERE rowid = 1")
     connection.execute("UPDATE pictures SET form = form + 1 WHERE rowid = 2")
     connection.commit()
     connection.close()
-    assert b"2 without the hash of their picture" in run(["status", store]).stdout
+    assert b"2 without the hash of their picture" in run(["files", store]).stdout
     alike(run, store)
     assert len(kept(store)) == PAGES - 1
 
@@ -186,7 +186,7 @@ def test_merge_joins_them(run, box, tmp_path):
     for number, part in enumerate(parts):
         assert run(["scan", box, "--into", part, "--part", f"{number}/2", "--pictures"]).returncode == 0
     merged = str(tmp_path / "all.db")
-    assert run(["merge", merged, *parts]).returncode == 0
+    assert run(["merge", "--into", merged, *parts]).returncode == 0
     assert kept(merged) == {**kept(parts[0]), **kept(parts[1])} and len(kept(merged)) == PAGES - 2
     assert rows(merged, "SELECT value FROM meta WHERE key = 'pictures'") == [(1,)]
     alike(run, merged)
@@ -218,7 +218,7 @@ def test_hashes_that_others_made(run, store, tmp_path):
         connection.close()
         said = run(["equal", "--by", "picture", other])
         assert said.returncode == 3 and b"isn't a store of naplps-pages" in said.stderr and why in said.stderr
-        assert run(["merge", merged, other]).returncode == 3 and not os.path.exists(merged)
+        assert run(["merge", "--into", merged, other]).returncode == 3 and not os.path.exists(merged)
 
 
 def test_one_that_is_stopped_goes_on(run, naplps, store, monkeypatch):

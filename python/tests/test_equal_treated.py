@@ -57,16 +57,16 @@ def spelled(group):
 
 
 def test_treated_copies_stand_beside_others(run, store, pages):
-    found = groups(run(["equal", store, "--treated"]), pages)
+    found = groups(run(["equal", store, "--with", "treated"]), pages)
     assert [head for head, _ in found] == ["4 spellings, 6 files, 10 entries", "2 spellings, 2 files, 2 entries"]
     assert spelled(found[0]) == [["a", "b/copy"], ["c spelled"], [
         "end again: treated by tail (around)", "end: treated by tail (around)"], ["parity: treated by parity (around)"]]
     assert spelled(found[1]) == [["hello"], ["hi end: treated by tail (around)"]]
-    assert groups(run(["equal", store, "--treated", "--verify"]), pages) == found
+    assert groups(run(["equal", store, "--with", "treated", "--verify"]), pages) == found
 
 
 def test_guesses_stand_by_themselves(run, store, pages):
-    treated, found = (groups(run(["equal", store, word]), pages) for word in ("--treated", "--guesses"))
+    treated, found = (groups(run(["equal", store, "--with", word]), pages) for word in ("treated", "guesses"))
     assert found[:2] == treated
     found[2:] = sorted(found[2:])  # (else by their hashes)
     assert [head for head, _ in found[2:]] == ["2 spellings, 2 files, 10 entries, by guess, the same as 6 other files",
@@ -75,29 +75,30 @@ def test_guesses_stand_by_themselves(run, store, pages):
                                  ["wide: treated by eight-bit (within, a guess)"]]
     assert spelled(found[3]) == [["cancel: treated by can (within, a guess)"],
                                  ["cancelled: treated by can (within, a guess)"]]
-    assert sorted(groups(run(["equal", store, "--guesses", "--verify"]), pages)) == sorted(found)
+    assert sorted(groups(run(["equal", store, "--with", "guesses", "--verify"]), pages)) == sorted(found)
 
 
 def test_one_guess_with_which_others_draw_the_same(run, store, pages):
     os.unlink(os.path.join(pages, "wide end"))
     assert run(["scan", pages, "--into", store, "--cures"]).returncode == 0
-    found = groups(run(["equal", store, "--guesses"]), pages)
+    found = groups(run(["equal", store, "--with", "guesses"]), pages)
     assert ("1 spelling, 1 file, 10 entries, by guess, the same as 6 other files", [
         (1, "wide: treated by eight-bit (within, a guess)")]) in found
-    assert groups(run(["equal", store, "--guesses", "--verify"]), pages) == found
+    assert groups(run(["equal", store, "--with", "guesses", "--verify"]), pages) == found
 
 
 def test_copies_of_a_treated_page_alone(run, tmp_path):
     pages = tree(os.path.join(str(tmp_path), "pages"), {"x": with_parity(POINT), "y": with_parity(POINT)})
     store = os.path.join(str(tmp_path), "pages.db")
     assert run(["scan", pages, "--into", store, "--cures"]).returncode == 0
-    assert groups(run(["equal", store, "--treated"]), pages) == []
-    assert groups(run(["equal", store, "--treated", "--copies"]), pages) == [("1 spelling, 2 files, 1 entry", [
+    assert groups(run(["equal", store, "--with", "treated"]), pages) == []
+    said = run(["equal", store, "--with", "treated", "--with", "copies"])
+    assert groups(said, pages) == [("1 spelling, 2 files, 1 entry", [
         (1, "x: treated by parity (around)"), (1, "y: treated by parity (around)")])]
 
 
 def test_for_programs(run, store, pages):
-    group, *_ = map(json.loads, run(["equal", store, "--treated", "--json"]).stdout.splitlines())
+    group, *_ = map(json.loads, run(["equal", store, "--with", "treated", "--json"]).stdout.splitlines())
     canon = run(["canon", pages + "/a"]).stdout
     assert group["canonical"] == hashlib.sha256(canon).hexdigest() and "others" not in group
     found = {os.path.basename(file["name"]): {key: value for key, value in each.items() if key != "files"}
@@ -105,25 +106,25 @@ def test_for_programs(run, store, pages):
     own = {name: hashlib.sha256(data).hexdigest() for name, data in FILES.items()}
     assert found["a"] == {"hash": own["a"]} and found["parity"] == {
         "hash": own["parity"], "treatments": "parity", "grade": "around", "copy": own["a"]}
-    rows = list(csv.DictReader(io.StringIO(run(["equal", store, "--guesses", "--csv"]).stdout.decode())))
+    rows = list(csv.DictReader(io.StringIO(run(["equal", store, "--with", "guesses", "--csv"]).stdout.decode())))
     wide, = (row for row in rows if row["name"] == pages + "/wide")
     assert [wide[name] for name in ("hash", "treatments", "grade", "others")] == [
         own["wide"], "eight-bit", "within", "6"]
-    names = run(["equal", store, "--treated", "--null"]).stdout.split(b"\0")
+    names = run(["equal", store, "--with", "treated", "--null"]).stdout.split(b"\0")
     assert os.fsencode(pages) + b"/parity" in names
 
 
 def test_what_is_not_known_is_told(run, store, pages, tmp_path):
     plain = os.path.join(str(tmp_path), "plain.db")
     assert run(["scan", pages, "--into", plain]).returncode == 0
-    said = run(["equal", plain, "--treated"])
+    said = run(["equal", plain, "--with", "treated"])
     assert said.stdout == run(["equal", plain]).stdout and said.stderr.decode() == (
         f"naplps-pages: {plain}: of 8 refused pages no treatments are known: a scan with --cures tries them\n")
     old = earlier(store, os.path.join(str(tmp_path), "old.db"))
-    said = run(["equal", old, "--treated"])
+    said = run(["equal", old, "--with", "treated"])
     assert said.stderr.decode().endswith("it isn't known what they draw: a scan with --cures finds out\n")
     assert b"treated by tail" not in said.stdout and b"treated by parity (around)" in said.stdout
-    said = run(["equal", store, plain, "--treated"])
+    said = run(["equal", store, plain, "--with", "treated"])
     assert said.returncode == 3 and b"treated copies are joined in one store" in said.stderr
 
 
@@ -132,7 +133,7 @@ def test_a_copy_that_is_another_now(run, store, pages):
     connection.execute("UPDATE cures SET copy = zeroblob(32) WHERE treatments = 'parity'")
     connection.commit()
     connection.close()
-    said = run(["equal", store, "--treated", "--verify"])
+    said = run(["equal", store, "--with", "treated", "--verify"])
     assert said.returncode == 1 and said.stderr.decode() == (
         f"naplps-pages: {pages}/parity: the treatments make another copy of it than when it was scanned\n")
 

@@ -18,7 +18,7 @@ from naplps_pages.collection.store import open_to_write
 from naplps_pages.collection.writer import Terms, Writer
 from naplps_pages.packs.member import PackLimits
 from naplps_pages.packs.naming import inside
-from naplps_pages.source import PACKS
+from naplps_pages.packs.reading import PACKS
 from packers import written
 from samples import POINT, SPELLED
 from scans import FAKE, rows, statuses, tree
@@ -126,7 +126,7 @@ def test_a_scan_of_all_of_them(run, tmp_path):
         assert rows(store, "SELECT count(*) FROM folders WHERE substr(path, -2) = x'212F'") == [(len(packs),)]
         assert rows(store, "SELECT count(*) FROM runs WHERE ended IS NULL") == [(0,)]
         assert statuses(store)["page.nap"] == ("accepted", None)
-    for words in (["status"], ["refused"], ["equal", "--copies", "--verify"]):
+    for words in (["files"], ["files", "--refused"], ["equal", "--with", "copies", "--verify"]):
         said = run([words[0], store, *words[1:]])
         assert said.returncode in (0, 1) and b"Traceback" not in said.stderr and b"the tool itself" not in said.stderr
 
@@ -186,13 +186,13 @@ def test_an_exception_that_nobody_expected_names_the_file(tmp_path, monkeypatch,
     assert said.err.endswith("): OverflowError: Python int too large to convert to SQLite INTEGER\n")
     monkeypatch.undo()
     monkeypatch.setenv("NAPLPS", naplps)
-    monkeypatch.setattr("naplps_pages.answering.dumps", lambda members: [][0])
+    monkeypatch.setattr("naplps_pages.json_lines.dumps", lambda members: [][0])
     assert main(["check", "--json", pages + "/a", pages + "/b"], COMMAND) == 3
     said = capfd.readouterr().err.splitlines()
     assert [line.split(": the tool")[0] for line in said] == ["naplps-pages: %s/%s" % (pages, name) for name in "ab"]
     monkeypatch.setattr("naplps_pages.collection.status.status", lambda *_: [][0])
     open_to_write(store).close()
-    assert main(["status", store], COMMAND) == 3
+    assert main(["files", store], COMMAND) == 3
     assert capfd.readouterr().err.startswith("naplps-pages: %s: the tool itself failed (" % store)
 
 

@@ -66,12 +66,12 @@ def test_each_file_has_its_name_as_it_is(told):
     (["--kind", "page"], {b"page", b"sub/copy", b"sub/spelled", b"p.tar!inner"}), (["--kind", "text"], {b"text"}),
     (["--kind", "blank"], {b"blank"}), (["--kind", "GIF"], {b"gif"}), (["--kind", "gif"], set()),
     (["--kind", "nothing"], set()), (["--kind", "\x1b[31m' OR 1=1 --"], set()),
-    (["--refused", "any"], REFUSED), (["--refused", "19"], {b"cut"}), (["--refused", "cut"], {b"cut"}),
-    (["--refused", "EighthBit"], {b"parity", b"gif"}), (["--refused", "CAN"], {b"can"}),
-    (["--refused", "0x18"], {b"can"}), (["--refused", "1B 22"], {b"sequence"}),
-    (["--refused", "1b2246"], {b"sequence"}),
-    (["--refused", "1B2247"], set()), (["--refused", "SDC"], set()),
-    (["--refused", "any", "--kind", "GIF"], {b"gif"}), (["--refused", "10", "--kind", "page"], set())])
+    (["--refused"], REFUSED), (["--reason", "19"], {b"cut"}), (["--reason", "cut"], {b"cut"}),
+    (["--reason", "EighthBit"], {b"parity", b"gif"}), (["--reason", "CAN"], {b"can"}),
+    (["--reason", "0x18"], {b"can"}), (["--reason", "1B 22"], {b"sequence"}),
+    (["--reason", "1b2246"], {b"sequence"}),
+    (["--reason", "1B2247"], set()), (["--reason", "SDC"], set()),
+    (["--refused", "--kind", "GIF"], {b"gif"}), (["--reason", "10", "--kind", "page"], set())])
 def test_some_of_the_files(told, words, wanted):
     assert set(names(told, *words)) == wanted
 
@@ -79,7 +79,7 @@ def test_some_of_the_files(told, words, wanted):
 @pytest.mark.parametrize("reason", ["\x1b[31m", "10\x1b[0m", "\x9b2J", "line\nend", "\u202e01", "x' OR 1=1 --", "",
                                     "0", "99", "\udcff", "1B" + "22" * 5000, "1B00"])
 def test_a_word_that_is_no_reason_is_told_without_harm(told, reason):
-    said = told("--refused", reason, status=2)
+    said = told("--reason", reason, status=2)
     assert said.returncode == 2 and said.stdout == b"" and is_plain(said.stderr)
 
 
@@ -89,9 +89,9 @@ def is_plain(text):
 
 
 def test_nothing_of_a_name_is_raw(told):
-    for words in ([], ["--csv"], ["--json"]):
+    for words in ([], ["--kind", "any"], ["--refused"], ["--csv"], ["--json"]):
         assert is_plain(told(*words).stdout), words
-    lines = told("--refused", "Outside").stdout.decode().splitlines()
+    lines = told("--reason", "Outside", "--kind", "any").stdout.decode().splitlines()
     assert sorted(line.partition("/pages/hostile/")[2] for line in lines if "/hostile/" in line) == sorted(
         shown + ": refused 10 Outside at 3" for shown in HOSTILE.values())
 
@@ -136,6 +136,6 @@ def test_facts(told):
 
 
 @pytest.mark.parametrize("words", [
-    ["--json", "--csv"], ["--null", "--json"], ["--kind"], ["--kind", ""], ["--refused"]])
+    ["--json", "--csv"], ["--null", "--json"], ["--kind"], ["--kind", ""], ["--reason"]])
 def test_wrong_words(told, words):
     assert told(*words, status=2).returncode == 2

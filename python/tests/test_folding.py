@@ -89,10 +89,10 @@ def test_a_report_tells_letters_in_a_row(run, tmp_path):
     os.mkdir(folder)
     file(folder, "page.nap", PAGE)
     assert run(["scan", folder, "--into", store]).returncode == 0
-    assert run(["report", store, "--into", html]).returncode == 0
+    assert run(["report", store, "-o", html]).returncode == 0
     block = held(html)[1][0]
     assert block["counts"] == [[11, 1, 4]] and block["entries"] == [16] and block["first"] == [0]
-    assert run(["report", store, "--full", "--replace", "--into", html]).returncode == 0
+    assert run(["report", store, "--full", "--replace", "-o", html]).returncode == 0
     assert held(html)[1][0]["counts"] == [[1] * 16]
     told = block["lines"][0].split("\n")
     assert told[0] == 'CHAR "CITY\u00a0\\"HALL\\"" x11 pen=4194304,4194304 ' + LOOK and told[1] == "BELL"

@@ -49,9 +49,10 @@ def hostile_folder(tmp_path):
 WORDS = [["check", "a.nap"], ["list", "a.nap"], ["canon", "a.nap"], ["explain", "c.nap"], ["look", "a.nap"],
          ["text", "a.nap"], ["cures", "c.nap"], ["check", "d.tar!e.nap"],
          ["scan", ".", "--into", "../x.db", "--cures"], ["scan", "a.nap", "--into", "../y.db"],
-         ["equal", "../x.db", "--verify"], ["equal", "../x.db", "--copies"], ["refused", "../x.db"],
-         ["convert", "../x.db", "--into", "../canonical"], ["status", "../x.db"], ["merge", "../m.db", "../x.db"],
-         ["report", "../x.db", "--into", "../x.html"]]
+         ["equal", "../x.db", "--verify"], ["equal", "../x.db", "--with", "copies"], ["files", "../x.db", "--refused"],
+         ["canon", "../x.db", "--into", "../canonical"], ["files", "../x.db"],
+         ["merge", "--into", "../m.db", "../x.db"],
+         ["report", "../x.db", "-o", "../x.html"]]
 
 
 def test_no_command_runs_code_of_the_current_folder(run, naplps, tmp_path):

@@ -49,7 +49,7 @@ def contents():
 def refused(run, words, *lines):
     """A merge that makes nothing, with what it tells."""
     before = contents()
-    said = run(["merge", *words])
+    said = run(["merge", "--into", *words])
     assert (told(said), said.stdout, said.returncode) == (list(lines), b"", 3)
     assert contents() == before
 
@@ -68,7 +68,7 @@ def test_stores_that_differ(run, fake, here):
             "all.db: isn't made: 2 pages with two answers under one budget and version")
     # (another budget, or another version, may answer differently: then what was asked last counts)
     scan(run, fake(FAKE.replace("b'bad'", "b'goo'").replace("9.9", "9.8")), "two", "newer.db")
-    said = run(["merge", "all.db", "newer.db", "one.db"])
+    said = run(["merge", "--into", "all.db", "newer.db", "one.db"])
     assert (said.returncode, said.stderr) == (0, b"")
     assert said.stdout in (b"8 files: 6 accepted (6 texts), 2 refused; from 2 stores\n",)
     assert statuses("all.db")["good"] == statuses("all.db")["copy"]
@@ -83,7 +83,7 @@ def test_answers_are_compared_with_all_of_their_version(run, here):
             "0.db: /0/page: accepted 5 entries, canonical {0}; 2.db: /2/page: accepted 7 entries, canonical {0}, "
             "of the same bytes".format(own.hex()), "all.db: isn't made: 1 page with two answers under one budget and "
             "version")
-    assert run(["merge", "all.db", "1.db", "0.db"]).returncode == 0
+    assert run(["merge", "--into", "all.db", "1.db", "0.db"]).returncode == 0
     assert rows("all.db", "SELECT name, entries FROM listing ORDER BY 1") == [("/0/page", 6), ("/1/page", 6)]
     assert rows("all.db", "SELECT id, began, files, asked FROM runs") == [(1, "0", 1, 0), (2, "1", 1, 1)]
 
@@ -93,7 +93,7 @@ def test_many_differences(run, fake, here):
     shutil.copytree("one", "two")
     scan(run, fake(FAKE), "one", "one.db")
     scan(run, fake(FAKE.replace("10 Outside", "12 Other")), "two", "two.db")
-    said = run(["merge", "all.db", "one.db", "two.db"])
+    said = run(["merge", "--into", "all.db", "one.db", "two.db"])
     assert said.returncode == 3 and len(told(said)) == 11
     assert all("refused 10 Outside at 0; two.db: " in line for line in told(said)[:10])
     assert told(said)[-1] == "all.db: isn't made: 30 pages with two answers under one budget and version"
@@ -108,7 +108,7 @@ def test_an_answer_counts_more_than_none(run, fake, here):
     said = run(["scan", "two", "--into", "two.db"], program=dies)
     assert said.returncode == 1 and statuses("two.db")["copy"][0] == "no answer"
     for name, words in (("a.db", ["one.db", "two.db"]), ("b.db", ["two.db", "one.db"])):
-        said = run(["merge", name, *words])
+        said = run(["merge", "--into", name, *words])
         assert (said.returncode, said.stdout) == (0, b"3 files: 3 accepted (3 texts), 0 refused; from 2 stores\n")
         assert statuses(name)["copy"] == statuses(name)["dies"] == ("accepted", None)
 
@@ -122,7 +122,7 @@ def test_unfinished_parts(run, fake, here):
     work = start(["scan", "pages", "--into", "0.db", "--part", "0/2", "--processes", "1"], slow)
     wait_until(lambda: count("0.db") > 0, work)
     scan(run, program, "pages", "1.db", "--part", "1/2")
-    said = run(["merge", "all.db", "0.db", "1.db"])
+    said = run(["merge", "--into", "all.db", "0.db", "1.db"])
     assert (told(said), said.returncode) == (["0.db: isn't finished: its scan is at work", "all.db: " + NOT_MADE], 3)
     workers = children(work.pid)
     for number, pids in ((signal.SIGSTOP, workers), (signal.SIGKILL, [work.pid]), (signal.SIGKILL, workers)):
@@ -133,21 +133,21 @@ def test_unfinished_parts(run, fake, here):
     stopped = "0.db: isn't finished: its scan was stopped, and the same command goes on"
     before = contents()
     assert "0.db-wal" in before
-    said = run(["merge", "all.db", "0.db", "1.db"])
+    said = run(["merge", "--into", "all.db", "0.db", "1.db"])
     assert (told(said), said.returncode) == ([stopped, "all.db: " + NOT_MADE], 3)
-    said = run(["merge", "all.db", "0.db", "1.db", "--unfinished"])
+    said = run(["merge", "--into", "all.db", "0.db", "1.db", "--unfinished"])
     assert (told(said), said.returncode) == ([stopped], 1)
     assert {name: before[name] for name in before if not name.endswith("-shm")} == {
         name: data for name, data in contents().items() if name in before and not name.endswith("-shm")}
     met = rows("all.db", "SELECT count(*) FROM files")[0][0]
     assert said.stdout == (
         b"%d files: %d accepted (%d texts), 0 refused; from 2 stores\n") % (met, met, met) and 200 < met < 400
-    state = run(["status", "all.db"]).stdout
+    state = run(["files", "all.db"]).stdout
     assert b", was stopped: the same command goes on\n" in state and state.endswith(b"what the scan hasn't reached\n")
     # (the whole continues from there, and so does the part)
     assert b"; %d known" % met in scan(run, program, "pages", "all.db").stdout
     scan(run, program, "pages", "0.db", "--part", "0/2")
-    assert run(["merge", "both.db", "0.db", "1.db"]).stdout == (
+    assert run(["merge", "--into", "both.db", "0.db", "1.db"]).stdout == (
         b"400 files: 400 accepted (400 texts), 0 refused; from 2 stores\n")
 
 
@@ -161,7 +161,7 @@ def test_a_folder_that_was_not_there(run, fake, here):
     refused(run, ["all.db", "0.db", "1.db"], lack, "all.db: " + NOT_MADE)
     os.rename("away", "pages")
     scan(run, fake(FAKE), "pages", "1.db", "--part", "1/2")
-    assert run(["merge", "all.db", "0.db", "1.db"]).stdout == (
+    assert run(["merge", "--into", "all.db", "0.db", "1.db"]).stdout == (
         b"10 files: 10 accepted (10 texts), 0 refused; from 2 stores\n")
 
 
@@ -171,9 +171,9 @@ def test_parts_that_lack(run, fake, here):
         scan(run, fake(FAKE), "pages", "%d.db" % number, "--part", "%d/9" % number)
     lack = "0.db: parts 1/9, 2/9, 4/9, 5/9, 6/9 and 2 more of %s/pages aren't among the stores" % here
     refused(run, ["all.db", "0.db", "3.db"], lack, "all.db: " + NOT_MADE)
-    said = run(["merge", "all.db", "0.db", "3.db", "--unfinished"])
+    said = run(["merge", "--into", "all.db", "0.db", "3.db", "--unfinished"])
     assert (told(said), said.returncode) == ([lack], 1)
-    assert b"left:            what the scan hasn't reached" in run(["status", "all.db"]).stdout
+    assert b"left:            what the scan hasn't reached" in run(["files", "all.db"]).stdout
 
 
 def test_stores_that_may_have_the_same_files(run, fake, here):
@@ -199,7 +199,7 @@ def test_stores_of_folders_that_stand_apart(run, fake, here):
     program = fake(FAKE)
     scan(run, program, "one", "1.db")
     scan(run, program, "one more", "2.db")
-    assert run(["merge", "all.db", "1.db", "2.db"]).stdout == (
+    assert run(["merge", "--into", "all.db", "1.db", "2.db"]).stdout == (
         b"4 files: 2 accepted (2 texts), 2 refused; from 2 stores\n")
     run(["scan", "one", "one more", "--into", "both.db"], program=program)
     assert every_table("all.db") == every_table("both.db")
@@ -247,7 +247,7 @@ def test_a_store_into_which_nothing_was_scanned(run, here):
                                  "DELETE FROM folders; DELETE FROM terms")
     connection.close()
     refused(run, ["all.db", "part.db"], "part.db: nothing was scanned into it", "all.db: " + NOT_MADE)
-    said = run(["merge", "all.db", "part.db", "--unfinished"])
+    said = run(["merge", "--into", "all.db", "part.db", "--unfinished"])
     assert (said.stdout, said.returncode) == (b"0 files: 0 accepted, 0 refused; from 1 store\n", 1)
     assert run(["equal", "part.db", "all.db"]).stdout == b""
 
@@ -284,7 +284,7 @@ def large(kept, here):
 @pytest.mark.parametrize("number", [signal.SIGKILL, signal.SIGTERM, signal.SIGINT])
 def test_a_merge_that_is_ended_amid(naplps, run, large, number):
     before = contents()
-    merge = start(["merge", "all.db", *large], naplps)
+    merge = start(["merge", "--into", "all.db", *large], naplps)
     wait_until(lambda: os.path.exists("all.db.new") and os.path.getsize("all.db.new") > 100_000, merge)
     merge.send_signal(number)
     assert merge.communicate() == (b"", b"") and merge.returncode == -number
@@ -292,7 +292,7 @@ def test_a_merge_that_is_ended_amid(naplps, run, large, number):
     assert {name: after[name] for name in before} == before and "all.db" not in after
     if number != signal.SIGKILL:
         assert after == before
-    said = run(["merge", "all.db", *large])
+    said = run(["merge", "--into", "all.db", *large])
     assert (said.stdout, said.returncode) == ((
         b"40000 files: 40000 accepted (40000 pages), 0 refused; from 2 stores\n"), 0)
     assert is_sound("all.db") and {*contents()} == {*before, "all.db"}
@@ -301,7 +301,7 @@ def test_a_merge_that_is_ended_amid(naplps, run, large, number):
 def test_a_full_disk(run, here, small_disk):
     some = parts(2, 5000)
     into = os.path.join(small_disk, "all.db")
-    said = run(["merge", into, *some])
+    said = run(["merge", "--into", into, *some])
     assert (told(said), said.returncode) == (["%s: database or disk is full" % into], 3)
     assert os.listdir(small_disk) == []
 
@@ -316,7 +316,7 @@ def test_parts_that_may_only_be_read(run, here):
     some = parts(2, 100)
     for name in some:
         os.chmod(name, 0o444)
-    assert run(["merge", "all.db", *some]).returncode == 0
+    assert run(["merge", "--into", "all.db", *some]).returncode == 0
     assert sorted(os.listdir(".")) == ["0.db", "1.db", "all.db"]
 
 
@@ -328,7 +328,7 @@ TELLING = ("from naplps_pages.__main__ import run; from naplps_pages.collection 
 def test_progress_on_a_terminal(naplps, large):
     if not shutil.which("script"):
         pytest.skip("there is no command script")
-    words = [sys.executable, "-c", TELLING, "merge", "all.db", *large]
+    words = [sys.executable, "-c", TELLING, "merge", "--into", "all.db", *large]
     said = subprocess.run(["script", "-qec", " ".join(map(shlex.quote, words)), "/dev/null"], capture_output=True,
                           env=dict(os.environ, NAPLPS=naplps, PYTHONPATH=PACKAGES))
     told_of = re.findall(rb"\r\x1b\[K([0-9]+) of 9 MiB, [0-9,]+ a second", said.stdout)
@@ -339,6 +339,6 @@ def test_progress_on_a_terminal(naplps, large):
 
 def test_more_stores_than_files_may_be_open(naplps, here):
     some = parts(60, 5)
-    said = subprocess.run(["sh", "-c", 'ulimit -S -n 40; exec "$@"', "sh", COMMAND, "merge", "all.db", *some],
+    said = subprocess.run(["sh", "-c", 'ulimit -S -n 40; exec "$@"', "sh", COMMAND, "merge", "--into", "all.db", *some],
                           capture_output=True, env=dict(os.environ, NAPLPS=naplps))
     assert (said.stdout, said.stderr) == (b"300 files: 300 accepted (300 pages), 0 refused; from 60 stores\n", b"")

@@ -22,7 +22,7 @@ from naplps_pages.collection.lock import Lock
 from naplps_pages.collection.near_table import NEAR_KEYS
 from naplps_pages.collection.stopping import Stopping
 from naplps_pages.collection.store import open_to_write
-from naplps_pages.collection.worker import WorkerOptions
+from naplps_pages.collection.rows import WorkerOptions
 from naplps_pages.near_keys import FORM, LEAST_ENTRIES
 from naplps_pages.nearness import NearPages, PageName, without_colours, without_places, without_words
 from naplps_pages.report.questions import Questions
@@ -228,13 +228,13 @@ def test_scan_near_keeps_them_for_each_later_scan(run, box, tmp_path):
     file(box, "new.nap", run(["make", "-"], BASE.replace("WET", "DRY").encode()).stdout)
     assert run(["scan", box, "--into", store]).returncode == 0 and len(keys(store)) == 8
     assert rows(store, "SELECT value FROM meta WHERE key = 'near'") == [(1,)]
-    assert b"not compared" not in run(["status", store]).stdout
+    assert b"not compared" not in run(["files", store]).stdout
     connection = sqlite3.connect(store)
     connection.execute("DELETE FROM near_keys WHERE rowid = 1")
     connection.execute("UPDATE near_keys SET form = form + 1 WHERE rowid = 2")
     connection.commit()
     connection.close()
-    assert b"2 not compared with others that are almost equal" in run(["status", store]).stdout
+    assert b"2 not compared with others that are almost equal" in run(["files", store]).stdout
     assert run(["near", store]).returncode == 0 and set(keys(store).values()) == {FORM} and len(keys(store)) == 8
 
 
@@ -273,7 +273,7 @@ def test_merge_joins_keys(run, box, tmp_path):
     for number, part in enumerate(parts):
         assert run(["scan", box, "--into", part, "--part", f"{number}/2", "--near"]).returncode == 0
     merged = str(tmp_path / "all.db")
-    assert run(["merge", merged, *parts]).returncode == 0
+    assert run(["merge", "--into", merged, *parts]).returncode == 0
     assert keys(merged) == {**keys(parts[0]), **keys(parts[1])} and len(keys(merged)) == 7
     assert rows(merged, "SELECT value FROM meta WHERE key = 'near'") == [(1,)]
     near(run, merged)
@@ -318,7 +318,7 @@ def test_keys_that_others_made(run, store, tmp_path):
         connection.close()
         said = run(["near", other])
         assert said.returncode == 3 and b"isn't a store of naplps-pages" in said.stderr and why in said.stderr
-        assert run(["merge", merged, other]).returncode == 3 and not os.path.exists(merged)
+        assert run(["merge", "--into", merged, other]).returncode == 3 and not os.path.exists(merged)
 
 
 def test_one_that_is_stopped_goes_on(run, naplps, tmp_path, monkeypatch):

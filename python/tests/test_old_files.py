@@ -12,6 +12,7 @@ from naplps.answers import Accepted
 from naplps.client import Client
 from naplps.treating.borders import pieces
 from naplps.treating.treatments import grade_of
+from naplps_pages.commands import OLD
 from old_files import LOOKS, STOPS, box
 from packers import pack
 from samples import POINT
@@ -190,7 +191,7 @@ def store(files, naplps, folder, tmp_path_factory):
 def asked(naplps, *words):
     """What a command says."""
     said = subprocess.run([COMMAND, *words], env=dict(os.environ, NAPLPS=naplps), check=True, capture_output=True)
-    assert said.stderr == b""
+    assert said.stderr.count(b"\n") == (words[0] in OLD)
     return said.stdout
 
 
@@ -233,7 +234,7 @@ def test_refused_counts_what_was_put_in(files, checked, naplps, store):
     counts = Counter(stop(each, checked[name]) for name, each in some.items())
     for (number, code), many in counts.items():
         if number in (2, 6) and code:
-            for question, by in (("refused", "--reason"), ("files", "--refused")):
+            for question, by in (("refused", "--reason"), ("files", "--reason")):
                 said = asked(naplps, question, store, "--null", by, code.split(" (")[0])
                 assert said.count(b"\0") == many
     assert {ANNOUNCER, DESIGNATION, SWITCH, *STOPS} < {code for _, code in counts}
@@ -265,8 +266,8 @@ def test_equal_joins_what_was_put_in(files, naplps, store):
             spellings.setdefault(page, {}).setdefault(each.data, []).append(each.name)
         elif each.page:
             guesses.setdefault(each.page, {}).setdefault(each.data, []).append(each.name)
-    groups = [json.loads(line) for line in asked(naplps, "equal", store, "--guesses", "--json").splitlines()]
-    treated = [json.loads(line) for line in asked(naplps, "equal", store, "--treated", "--json").splitlines()]
+    groups = [json.loads(line) for line in asked(naplps, "equal", store, "--with", "guesses", "--json").splitlines()]
+    treated = [json.loads(line) for line in asked(naplps, "equal", store, "--with", "treated", "--json").splitlines()]
     assert [group for group in groups if "others" not in group] == treated
     assert members(treated) == wanted(some for some in spellings.values() if len(some) > 1) and len(treated) > 100
     assert members(group for group in groups if "others" in group) == wanted(
@@ -311,7 +312,7 @@ def as_they_are(files):
 
 def test_the_report_counts_what_was_put_in(files, checked, naplps, store, tmp_path):
     path = str(tmp_path / "report.html")
-    asked(naplps, "report", store, "--into", path, "--sketches", "40", "--seconds", "600")
+    asked(naplps, "report", store, "-o", path, "--sketches", "40", "--seconds", "600")
     some = kept(files)
     text = read(path).decode("utf-8")
     counts = {name: int(number.replace(",", "")) for name, number in re.findall(r"<dt>([^<]*)</dt><dd>([\d,]*)", text)}

@@ -16,8 +16,8 @@ HOST = "127.0.0.1"
 TEXTS = ("", ":", ".", "..", "/", "@", "@/evil", ":@", "-", "--help", "\x1b]0;x\x07", "é", "\udcff", "x" * 5000, "1",
          "0", "() { :; }", "$(touch @/ran)", "`touch @/ran`", "noexec", "*", "~", "C", "en_US.UTF-8")
 WORDS = (["check", "a.nap"], ["list", "--json", "a.nap"], ["canon", "a.nap"], ["explain", "c.nap"], ["look", "a.nap"],
-         ["text", "a.nap"], ["census", "c.nap"], ["cures", "c.nap"], ["--version"], ["status", "x.db"],
-         ["files", "x.db"], ["scan", ".", "--into", "x.db"], ["report", "x.db", "--into", "r.html"])
+         ["text", "a.nap"], ["census", "c.nap"], ["cures", "c.nap"], ["--version"], ["files", "x.db", "--refused"],
+         ["files", "x.db"], ["scan", ".", "--into", "x.db"], ["report", "x.db", "-o", "r.html"])
 
 
 def home_of(tmp_path):

@@ -68,7 +68,7 @@ def answers(store, front):
 
 def groups(run, store, front):
     """The groups of equal pages, by names without what stands before them."""
-    found = [json.loads(line) for line in run(["equal", store, "--copies", "--json"]).stdout.splitlines()]
+    found = [json.loads(line) for line in run(["equal", store, "--with", "copies", "--json"]).stdout.splitlines()]
     return [(each["canonical"], [(one["hash"], [name["name"][len(front):] for name in one["files"]])
                                  for one in each["spellings"]]) for each in found]
 
@@ -103,7 +103,7 @@ def test_names_of_all_kinds(run, tmp_path, store, at, form):
     assert scan(run, path, "--into", store).returncode == 0
     assert {name: each.hash for name, each in answers(store, path + "!").items()} == {
         os.fsencode(name): hashlib.sha256(data).hexdigest() for name, data in files.items()}
-    for name in run(["equal", store, "--copies", "--null"]).stdout.split(b"\0"):
+    for name in run(["equal", store, "--with", "copies", "--null"]).stdout.split(b"\0"):
         assert not name or run(["check", os.fsdecode(name)]).returncode == 0
 
 
@@ -296,10 +296,10 @@ def test_each_command_reads_members_again(run, naplps, at, store, ending):
     said = run(["equal", store, "--verify"])
     assert (said.stderr, said.returncode) == (b"", 0) and "  1: %s!" % path in said.stdout.decode()
     into = os.path.join(os.path.dirname(at), "canonical")
-    said = run(["convert", store, "--into", into])
+    said = run(["canon", store, "--into", into])
     assert (said.stderr, said.returncode) == (b"", 0) and b" written, 0 there\n" in said.stdout
     html = os.path.join(os.path.dirname(at), "report.html")
-    said = run(["report", store, "--into", html])
+    said = run(["report", store, "-o", html])
     assert (said.stderr, said.returncode) == (b"", 0)
     plain = tree(os.path.join(os.path.dirname(at), "plain"), FILES)
     for command in ("check", "text", "cures", "list", "look", "explain", "canon"):
@@ -315,7 +315,7 @@ def test_a_report_of_packs(run, naplps, at, store):
     pack(os.path.join(at, "sub.tar"), FILES)
     scan(run, at, "--into", store)
     html = store + ".html"
-    run(["report", store, "--into", html])
+    run(["report", store, "-o", html])
     found, _ = held(html)
     assert "sub.tar!/" in found["folders"] and "sub/bad" in found["columns"]["name"]
     assert len(found["columns"]["name"]) == 7 and all(each >= 0 for each in found["columns"]["sketch"])
@@ -341,13 +341,13 @@ def test_a_pack_that_is_not_as_it_was(run, at, store, ending):
     scan(run, at, "--into", store)
     moved = {"front": b"another", "a": POINT, "b": b"\x18", "sub/bad": OUTSIDE}
     pack(path, moved)                                           # (one is elsewhere now, one is another, one is gone)
-    said = run(["equal", store, "--verify", "--copies"])
+    said = run(["equal", store, "--verify", "--with", "copies"])
     told = said.stderr.decode()
     assert said.returncode == 1 and "%s!a:" % path not in told
     assert "%s!b: it isn't as it was when it was scanned\n" % path in told
     assert "%s!c: the pack has no such member\n" % path in told
     shutil.move(path, path + ".away")
-    said = run(["convert", store, "--into", os.path.join(os.path.dirname(at), "canonical")])
+    said = run(["canon", store, "--into", os.path.join(os.path.dirname(at), "canonical")])
     assert "%s!a: No such file or directory\n" % path in said.stderr.decode() and said.returncode == 1
 
 
@@ -359,7 +359,7 @@ def test_names_that_are_longer_than_those_of_files(run, at, store, length):
     for each in (name, "d/" + "e" * (length - 2)):
         said = run(["check", "%s!%s" % (path, each)])
         assert (said.returncode, said.stderr) == (0, b"") and said.stdout.startswith(b"accepted 1 entries")
-    assert run(["equal", store, "--copies", "--verify"]).returncode == 0
+    assert run(["equal", store, "--with", "copies", "--verify"]).returncode == 0
 
 
 def test_a_store_of_an_earlier_version(run, at, store):
@@ -387,11 +387,11 @@ def test_parts_have_packs_as_a_whole(run, at, store):
             sum(1 for name in some if "/%d.tar!" % each in name) for each in range(6)])
     assert len(found) == 31
     parts = [store + number for number in "012"]
-    assert run(["merge", store, *parts]).returncode == 0
+    assert run(["merge", "--into", store, *parts]).returncode == 0
     assert scan(run, at, "--into", store + ".whole").returncode == 0
     assert table(store) == table(store + ".whole")
     pack(os.path.join(at, "0.tar"), {"moved": POINT, "0": b"\x0f0 0"})
-    said = run(["equal", *parts, "--copies", "--verify"])
+    said = run(["equal", *parts, "--with", "copies", "--verify"])
     assert (said.stdout, said.returncode) == (b"", 0)
 
 

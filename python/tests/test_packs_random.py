@@ -168,7 +168,7 @@ def test_random_packs(tmp_path, naplps):
         found = rows(store, FOUND)
         assert sum(1 for _, name, _, _ in found if not name) == PACKS, seed
         read_again(chance, folder, naplps, seed, found, counts)
-        said = forked(["equal", "pages.db", "--copies", "--verify", *PATIENT], folder, naplps)
+        said = forked(["equal", "pages.db", "--with", "copies", "--verify", *PATIENT], folder, naplps)
         require_told(said, "equal", seed)
         assert said.status == 0, (seed, said)
         counts["equal", said.status] += 1

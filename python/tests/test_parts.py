@@ -50,13 +50,13 @@ def test_eight_parts_merged_are_one_scan(run, pages, tmp_path):
     stores = scan_parts(run, pages, tmp_path, 8, "--cures")
     before = [open(store, "rb").read() for store in stores]
     into, one = os.path.join(str(tmp_path), "all.db"), os.path.join(str(tmp_path), "one.db")
-    said = run(["merge", into, *reversed(stores)])
+    said = run(["merge", "--into", into, *reversed(stores)])
     assert (said.returncode, said.stderr) == (0, b"")
     whole = run(["scan", pages, "--into", one, "--cures"])
     assert said.stdout == whole.stdout.split(b"; ")[0] + b"; from 8 stores\n"
     assert every_table(into) == every_table(one)
     assert [open(store, "rb").read() for store in stores] == before
-    for words in (["equal"], ["refused"], ["equal", "--copies", "--json"], ["status", "--csv"]):
+    for words in (["equal"], ["files", "--refused"], ["equal", "--with", "copies", "--json"], ["status", "--csv"]):
         told = [run([words[0], store, *words[1:]]).stdout.splitlines() for store in (into, one)]
         assert told[0][4:] == told[1][4:]
     # (it is a store like others, which continues)
@@ -86,7 +86,7 @@ def test_a_part_goes_on_as_itself_alone(run, fake, pages, tmp_path):
     assert table(part) == before and not os.path.exists(part + ".lock")
     said = run(["scan", pages, "--into", part, "--part", "00/3"], program=program)
     assert said.returncode == 0 and b"; %d known, 0 pages asked about\n" % len(before) in said.stdout
-    assert b"part:            0/3\n" in run(["status", part]).stdout
+    assert b"part:            0/3\n" in run(["files", part]).stdout
     assert json.loads(run(["status", part, "--json"]).stdout)["part"] == "0/3"
     assert json.loads(run(["status", whole, "--json"]).stdout)["part"] is None
 
@@ -105,7 +105,7 @@ def test_only_files_of_the_part_are_gone(run, fake, pages, tmp_path):
         assert gone and said.stdout.decode().endswith("; %d gone\n" % gone)
         assert names(store, pages) == before[at] - lost
     into = os.path.join(str(tmp_path), "all.db")
-    said = run(["merge", into, *stores])
+    said = run(["merge", "--into", into, *stores])
     assert said.stdout == b"249 files: 249 accepted (149 pages, 100 texts), 0 refused; from 3 stores; 53 gone\n"
     assert rows(into, "SELECT count(*) FROM files WHERE state = 6") == [(len(lost),)] == [(53,)]
 

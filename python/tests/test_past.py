@@ -9,7 +9,7 @@ from hypothesis import strategies as st
 from conftest import file
 from naplps import drawing
 from naplps.client import Client
-from naplps_pages import cli
+from naplps_pages import commands
 from naplps_pages.guessing import MOST_CODES, Guesser
 from naplps_pages.listing import listed
 from naplps_pages.source import Page
@@ -87,10 +87,11 @@ def test_without_the_option_nothing_is_guessed(run):
     assert run(["list", "-"], data).stdout == b"" and run(["canon", "-"], data).stdout == b""
 
 
-@pytest.mark.parametrize("command", sorted({*cli.COMMANDS} - {"look"}))
+@pytest.mark.parametrize("command", sorted({*commands.NAMES} - {"look", "help"}))
 def test_no_other_command_guesses(run, command):
-    words = ["--into", "x"] if command in ("play", "split", "carve", "scan", "convert", "report") else []
-    said = run([command, "a", *(["b"] if command in ("find", "merge", "diff") else []), *words, "--past"])
+    words = ["--into", "x"] if command in ("box", "split", "carve", "scan", "canon", "convert", "merge") else []
+    words += ["-o", "x"] if command in ("play", "report") else []
+    said = run([command, "a", *(["b"] if command in ("find", "diff") else []), *words, "--past"])
     assert said.returncode == 2 and b"unrecognized arguments: --past\n" in said.stderr and said.stdout == b""
 
 
@@ -100,7 +101,7 @@ def test_a_guess_changes_no_answer_of_a_store(run, tmp_path):
     run(["look", page, "--past", "--into", os.path.join(str(tmp_path), "to")])
     assert run(["scan", page, os.path.join(str(tmp_path), "other"), "--into", store]).returncode == 0
     assert run(["equal", store]).stdout == b""
-    assert b"page: refused 6 LeftOut CAN at 5, capture of 2 pages\n" in run(["files", store]).stdout
+    assert b"page: refused 6 LeftOut CAN at 5, capture of 2 pages\n" in run(["files", store, "--kind", "any"]).stdout
 
 
 def test_an_accepted_page_has_no_guess(run):

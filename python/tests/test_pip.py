@@ -68,7 +68,7 @@ def test_scans_and_reports(installed, naplps, tmp_path):
     store, html = str(tmp_path / "pages.db"), str(tmp_path / "report.html")
     said = run(installed, "naplps-pages", "scan", str(tmp_path / "pages"), "--into", store, NAPLPS=naplps)
     assert said.stdout == b"1 file: 1 accepted (1 page), 0 refused; 0 known, 1 page asked about\n"
-    said = run(installed, "naplps-pages", "report", store, "--into", html, NAPLPS=naplps)
+    said = run(installed, "naplps-pages", "report", store, "-o", html, NAPLPS=naplps)
     assert said.returncode == 0 and os.path.getsize(html) > 10_000
 
 

@@ -90,14 +90,15 @@ def store(run, tmp_path):
     ("SDC", ["SDC", "SDC again"]), ("sdc", ["SDC", "SDC again"]), ("1A", ["SDC", "SDC again"]), ("0x18", ["CAN"]),
     ("1B 5F", ["UNPROTECT"]), ("3a", ["INCREMENTAL-LINE"]), ("EighthBit", ["eight"]), ("1", ["eight"]),
     ("6", sorted([*LEFT_OUT, "SDC again"])), ("leftout", sorted([*LEFT_OUT, "SDC again"])), ("18", []), ("Cut", [])])
-@pytest.mark.parametrize("question", [["refused", "--reason"], ["files", "--refused"]])
+@pytest.mark.parametrize("question", [["refused", "--reason"], ["files", "--refused"], ["files", "--reason"]])
 def test_refused_by_a_reason(run, store, question, word, names):
     said = run([question[0], store, "--null", question[1], word])
     assert sorted(os.path.basename(name.decode()) for name in said.stdout.split(b"\0")[:-1]) == names
 
 
 def test_refused_counts_by_code(run, store):
-    heads = [line for line in run(["refused", store]).stdout.decode().splitlines() if not line.startswith(" ")]
+    told = run(["files", store, "--refused"]).stdout.decode()
+    heads = [line for line in told.splitlines() if not line.startswith(" ")]
     assert heads[0] == "6 LeftOut SDC: 2 pages, 2 files"
     assert sorted(heads[1:]) == sorted(["1 EighthBit: 1 page, 1 file"] + [
         "6 LeftOut %s: 1 page, 1 file" % name for name in LEFT_OUT if name != "SDC"])
@@ -105,7 +106,7 @@ def test_refused_counts_by_code(run, store):
 
 @pytest.mark.parametrize("word", ["", "XYZ", "99", "0x1", "1C", "-1", "SDC CAN"])
 def test_a_reason_that_there_isnt(run, word):
-    said = run(["refused", "s", "--reason=" + word])
+    said = run(["files", "s", "--reason=" + word])
     assert said.returncode == 2 and b"a refusal or a code, not %r: 1 EighthBit, 2 " % word in said.stderr
     assert said.stderr.endswith(b"the codes of LeftOut are 18 CAN, 1A SDC, 1F NSR, 1B42 DEFT, 1B51 EDC1, 1B52 EDC2, "
                                 b"1B53 EDC3, 1B54 EDC4, 1B5F UNPROTECT, 39 INCREMENTAL-POINT, 3A INCREMENTAL-LINE, "
@@ -114,7 +115,7 @@ def test_a_reason_that_there_isnt(run, word):
 
 def test_the_report_has_the_text_of_the_code(run, store, tmp_path):
     made = os.path.join(str(tmp_path), "report.html")
-    assert run(["report", store, "--into", made]).returncode == 0
+    assert run(["report", store, "-o", made]).returncode == 0
     with open(made, encoding="utf-8") as report:
         html = report.read()
     assert "CP/M and MS-DOS end a file with it" in html and "The profile leaves" not in html

@@ -34,7 +34,7 @@ def made(run, tmp_path):
         top = tree(os.path.join(str(tmp_path), "archive"), files)
         store, html = os.path.join(str(tmp_path), "pages.db"), os.path.join(str(tmp_path), "report.html")
         assert run(["scan", top, "--into", store], program=program).returncode == 0
-        return html, run(["report", store, "--into", html, *more], program=program)
+        return html, run(["report", store, "-o", html, *more], program=program)
     return makes
 
 
@@ -129,7 +129,7 @@ def test_the_same_bytes_whatever_number_of_processes(run, tmp_path):
     made = []
     for number in ("1", "3"):
         html = os.path.join(str(tmp_path), number)
-        assert run(["report", store, "--into", html, "--processes", number]).returncode == 0
+        assert run(["report", store, "-o", html, "--processes", number]).returncode == 0
         with open(html, "rb") as page:
             made.append(page.read())
     assert made[0] == made[1]
@@ -158,7 +158,7 @@ def test_a_long_list_is_held_in_part(made):
 
 
 @pytest.mark.parametrize("more, sketches", [
-    ([], 5), (["--sketches", "2"], 2), (["--sketches", "0"], 0), (["--all"], 5)])
+    ([], 5), (["--sketches", "2"], 2), (["--sketches", "0"], 0), (["--sketches", "all"], 5)])
 def test_how_many_sketches(made, more, sketches):
     html, said = made({"a": POINT, "b": b"", "c": POINT + b"\x0a" + POINT, "d": OUTSIDE, "e": b"\x1b"}, *more)
     assert b"%d of 5 sketches" % sketches in said.stdout and said.returncode == 0
@@ -166,9 +166,9 @@ def test_how_many_sketches(made, more, sketches):
 
 
 def test_how_many_sketches_where_nothing_or_all_is_said(made, naplps, tmp_path):
-    usual, all_of_them = (cli.parser("report").parse_args(["report", "s.db", "--into", "html", *some])
-                          for some in ([], ["--all"]))
-    assert (usual.sketches, usual.all, all_of_them.all) == (10_000, False, True)
+    usual, all_of_them = (cli.parser("report").parse_args(["s.db", "-o", "html", *some])
+                          for some in ([], ["--sketches", "all"]))
+    assert (usual.sketches, all_of_them.sketches) == (10_000, None)
     made({"a": POINT, "b": OUTSIDE, "c": b""})
     store, html = os.path.join(str(tmp_path), "pages.db"), os.path.join(str(tmp_path), "again.html")
     options = making.ReportOptions(store, html, naplps, 2, False, 1, 20.0)
@@ -218,7 +218,7 @@ def test_a_page_that_changed_is_told_and_has_no_sketch(run, made, tmp_path):
     made({"a.nap": POINT, "b.nap": OUTSIDE})
     name = file(os.path.join(str(tmp_path), "archive"), "a.nap", b"")
     html = os.path.join(str(tmp_path), "second.html")
-    said = run(["report", os.path.join(str(tmp_path), "pages.db"), "--into", html])
+    said = run(["report", os.path.join(str(tmp_path), "pages.db"), "-o", html])
     assert said.returncode == 1
     assert said.stderr.decode() == "naplps-pages: %s: no sketch: it isn't as it was when it was scanned\n" % name
     assert [block["why"] for block in held(html)[1]] == [["it isn't as it was when it was scanned", ""]]
@@ -248,7 +248,7 @@ def test_a_file_that_cannot_be_made_is_told_at_once(made, run, tmp_path, name, r
     made({"a": POINT})
     file(str(tmp_path), "there", b"something")
     html = os.path.join(str(tmp_path), name)
-    said = run(["report", os.path.join(str(tmp_path), "pages.db"), "--into", html])
+    said = run(["report", os.path.join(str(tmp_path), "pages.db"), "-o", html])
     assert (said.returncode, said.stderr.decode()) == (3, "naplps-pages: %s: %s\n" % (html, reason))
 
 
@@ -259,7 +259,7 @@ def test_a_report_is_replaced_where_that_is_asked(made, run, tmp_path):
         before = page.read()
     tree(os.path.join(str(tmp_path), "archive"), {"b": OUTSIDE})
     run(["scan", os.path.join(str(tmp_path), "archive"), "--into", store])
-    said = run(["report", store, "--into", html, "--replace"])
+    said = run(["report", store, "-o", html, "--replace"])
     assert said.returncode == 0 and len(held(html)[0]["columns"]["name"]) == 2
     with open(html, "rb") as page:
         assert page.read() != before
@@ -272,7 +272,7 @@ def test_what_is_no_report_is_not_replaced(made, run, tmp_path, name):
     file(str(tmp_path), "empty", b"")
     os.symlink("nothing", os.path.join(str(tmp_path), "link"))
     path = os.path.join(str(tmp_path), name)
-    said = run(["report", os.path.join(str(tmp_path), "pages.db"), "--into", path, "--replace"])
+    said = run(["report", os.path.join(str(tmp_path), "pages.db"), "-o", path, "--replace"])
     assert said.returncode == 3 and said.stderr.decode().startswith("naplps-pages: %s: " % path)
     assert os.path.islink(path) or b"<html" not in open(path, "rb").read()
 
@@ -307,7 +307,7 @@ def test_folders_to_choose():
     assert len(choices._folders(("%04d" % at, 1) for at in range(1000))) == 500
 
 
-@pytest.mark.parametrize("command", [["report", "--into", "x.html"], ["serve"]])
+@pytest.mark.parametrize("command", [["report", "-o", "x.html"], ["serve"]])
 def test_what_is_no_store(run, tmp_path, command):
     words = [command[0], "none.db", *command[1:]]
     said = run(words, cwd=str(tmp_path))
@@ -317,9 +317,9 @@ def test_what_is_no_store(run, tmp_path, command):
     assert said.returncode == 3 and said.stderr.count(b"\n") == 1
 
 
-@pytest.mark.parametrize("words", [["report", "x.db"], ["report", "x.db", "--into", "y", "--sketches", "-1"],
-                                   ["report", "x.db", "--into", "y", "--sketches", "1", "--all"],
-                                   ["report", "x.db", "--into", "y", "--sketches", "50001"], ["serve"],
+@pytest.mark.parametrize("words", [["report", "x.db"], ["report", "x.db", "-o", "y", "--sketches", "-1"],
+                                   ["report", "x.db", "-o", "y", "--sketches", "few"],
+                                   ["report", "x.db", "-o", "y", "--sketches", "50001"], ["serve"],
                                    ["serve", "x.db", "--port", "65536"], ["serve", "x.db", "--into", "y"]])
 def test_wrong_words(run, words):
     said = run(words)

@@ -52,7 +52,7 @@ def address(request, archive, naplps):
     html = store + ".html"
     if request.param == "file":
         env = dict(os.environ, NAPLPS=naplps)
-        subprocess.run([COMMAND, "report", store, "--into", html], check=True, env=env, capture_output=True)
+        subprocess.run([COMMAND, "report", store, "-o", html], check=True, env=env, capture_output=True)
         yield "file://" + html
         return
     with start(["serve", store], naplps) as server:

@@ -46,7 +46,7 @@ def made(naplps, folder, *some):
 
 def report(naplps, store, name, *some):
     """The address of a report of the store."""
-    made(naplps, os.path.dirname(store), "report", "pages.db", "--into", name, "--replace", *some)
+    made(naplps, os.path.dirname(store), "report", "pages.db", "-o", name, "--replace", *some)
     return "file://" + os.path.join(os.path.dirname(store), name)
 
 
@@ -173,7 +173,7 @@ def test_a_page_without_a_sketch_says_how_to_see_it(browser, naplps, store):
     address = report(naplps, store, "none.html", "--sketches", "0")
     browser.open(address + page_of("a page.nap"))
     browser.until(OPEN)
-    said = ("This report has no sketch of it. To see it: naplps-pages look 'a page.nap' --svg page.svg or "
+    said = ("This report has no sketch of it. To see it: naplps-pages look 'a page.nap' -o page.svg or "
             "naplps-pages serve STORE")
     assert said in browser.run(SHOWN)
 
@@ -183,7 +183,7 @@ def test_a_page_that_is_not_played_says_how_to_play_it(browser, naplps, store):
     browser.open(address + page_of("two.nap"))
     browser.until(OPEN)
     browser.run("document.getElementById('as-played').click()")
-    said = ("This report can play 7 pages, and not this one. To play it: naplps-pages play two.nap --into page.html or "
+    said = ("This report can play 7 pages, and not this one. To play it: naplps-pages play two.nap -o page.html or "
             "naplps-pages serve STORE")
     browser.until("%s.includes(%r)" % (SHOWN, said))
 

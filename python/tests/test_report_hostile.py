@@ -46,7 +46,7 @@ def address(request, naplps, tmp_path_factory, pages):
     folder = str(tmp_path_factory.mktemp("names"))
     top = tree(os.path.join(folder, "pages"), {"fine.nap": words("FINE")})
     pack(os.path.join(top, "p.tar"), pages)
-    for some in (["scan", "pages", "--into", "p.db"], ["report", "p.db", "--into", "p.html"]):
+    for some in (["scan", "pages", "--into", "p.db"], ["report", "p.db", "-o", "p.html"]):
         subprocess.run([COMMAND, *some], check=True, env=dict(os.environ, NAPLPS=naplps), capture_output=True,
                        cwd=folder)
     if request.param == "file":

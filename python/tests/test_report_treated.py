@@ -46,7 +46,7 @@ def caption(sketch):
 def test_the_treated_copy_is_drawn_and_marked(run, store, tmp_path, as_before):
     path = str(tmp_path / "report.html")
     it = earlier(store, store + ".old") if as_before else store
-    assert run(["report", it, "--into", path]).returncode == 0
+    assert run(["report", it, "-o", path]).returncode == 0
     found = drawings(path)
     told, plain = caption(found["as it is"]["sketch"])
     assert told == ""
@@ -63,7 +63,7 @@ def test_the_treated_copy_is_drawn_and_marked(run, store, tmp_path, as_before):
 
 def test_the_chart_says_what_is_readable_by_what(run, store, tmp_path):
     path = str(tmp_path / "report.html")
-    assert run(["report", store, "--into", path]).returncode == 0
+    assert run(["report", store, "-o", path]).returncode == 0
     with open(path, encoding="utf-8") as file:
         means = dict(re.findall(r'data-answer="([^"]*)".*?class="means">([^<]*)<', file.read()))
     assert means["1 EighthBit"].endswith(" Readable when treated: 1 by parity (around).")
@@ -93,7 +93,7 @@ def test_a_copy_that_is_another_now_is_not_drawn(run, store, tmp_path):
     connection.commit()
     connection.close()
     path = str(tmp_path / "report.html")
-    said = run(["report", store, "--into", path])
+    said = run(["report", store, "-o", path])
     assert said.returncode == 1 and said.stderr.decode() == (
         f"naplps-pages: {os.path.join(str(tmp_path), 'pages', 'parity')}: no sketch: the treatments make another copy "
         "than in the scan\n")

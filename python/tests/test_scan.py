@@ -118,7 +118,7 @@ def test_a_disk_that_isnt_mounted(run, pages, store, how):
     reason = {"missing": "No such file or directory", "a file": "Not a directory", "empty":
               "it is empty, and had files before: is it mounted? Nothing in it is marked as gone"}[how]
     assert said.stderr.decode() == "naplps-pages: %s: %s\n" % (pages, reason)
-    assert reason in run(["status", store]).stdout.decode()
+    assert reason in run(["files", store]).stdout.decode()
 
 
 @pytest.mark.parametrize("names", [["typo"], ["typo", "no/where"], ["loose"], ["fifo"], ["/dev/null"]])
@@ -169,7 +169,7 @@ def test_a_file_by_itself(run, pages, store):
     os.unlink(name)
     tree(pages, {"one.nap": POINT, "a": POINT})
     assert run(["scan", name, "--into", store]).returncode == 0
-    for words in (["status", store], ["equal", store], ["report", store, "--into", store + ".html"]):
+    for words in (["files", store], ["equal", store], ["report", store, "-o", store + ".html"]):
         assert run(words).returncode == 0
 
 
@@ -245,7 +245,7 @@ def test_treatments(run, tmp_path, store):
     told = [json.loads(line) for line in run(["refused", store, "--json"]).stdout.splitlines()]
     assert {os.path.basename(each["name"]): (each["tried"], each["treatments"]) for each in told} == {
         "parity": (True, ["parity"]), "tail": (True, ["tail"]), "none": (True, None)}
-    text = run(["refused", store]).stdout.decode()
+    text = run(["files", store, "--refused"]).stdout.decode()
     assert "/parity at 0: readable by parity (around)\n" in text
     assert "/none at 3: no treatment makes it readable\n" in text
     copy = hashlib.sha256(POINT).digest()

@@ -15,7 +15,8 @@ from naplps_pages.collection.lock import Lock, is_held
 from naplps_pages.collection.pool import NoWorkers, Pool
 from naplps_pages.collection.rows import FolderFiles
 from naplps_pages.collection.store import keep_log
-from naplps_pages.collection.worker import Worker, WorkerOptions
+from naplps_pages.collection.rows import WorkerOptions
+from naplps_pages.collection.worker import Worker
 from samples import OUTSIDE, POINT
 from scans import (
     FAKE, NO_STORE, children, count, is_sound, rows, slow, start, statuses, table, tree, wait_until)
@@ -59,7 +60,7 @@ def test_a_page_that_ends_its_worker(run, fake, tmp_path, store):
     reason = "the worker that looked at it ended by SIGKILL"
     assert said.stderr.decode() == "naplps-pages: %s/01/150 kills: %s\n" % (pages, reason)
     assert said.returncode == 1 and statuses(store)["150 kills"] == ("unreadable", reason)
-    assert reason in run(["status", store]).stdout.decode()
+    assert reason in run(["files", store]).stdout.decode()
 
 
 @pytest.mark.parametrize("lines, reason, seconds", [
@@ -215,7 +216,7 @@ def test_two_scans_at_once(naplps, run, fake, tmp_path, store):
     said = run(["scan", pages, "--into", store], program=naplps)
     assert said.returncode == 3 and said.stdout == b""
     assert said.stderr.decode() == "naplps-pages: %s: another scan is at work on it: process %d\n" % (store, first.pid)
-    told = run(["status", store]).stdout.decode()
+    told = run(["files", store]).stdout.decode()
     assert ", is at work\n" in told
     assert run(["equal", store]).returncode == 0                # (it can be read meanwhile)
     first.send_signal(signal.SIGINT)
@@ -237,7 +238,7 @@ def test_a_signal_stops_it_in_order(run, fake, tmp_path, store, number):
     assert not any(os.path.exists("/proc/%d" % each) for each in workers)
     taken = count(store)
     assert 0 < taken < 400 and is_sound(store) and os.listdir(os.path.dirname(store)).count("pages.db.lock") == 0
-    told = run(["status", store]).stdout.decode()
+    told = run(["files", store]).stdout.decode()
     assert ", was stopped: the same command goes on\n" in told
     assert told.endswith("left:            what the scan hasn't reached\n")
     assert run(["equal", store]).stderr == b""
@@ -263,8 +264,9 @@ def test_a_file_that_is_no_store(run, tmp_path, store, make):
             "the table of the recipe": "CREATE TABLE pages (page TEXT PRIMARY KEY, hash TEXT, entries INTEGER);"}[make])
         connection.close()
     before = os.path.isfile(store) and open(store, "rb").read()
-    for words in (["scan", str(tmp_path), "--into", store], ["equal", store], ["refused", store], ["status", store],
-                  ["convert", store, "--into", os.path.join(str(tmp_path), "to")]):
+    for words in (["scan", str(tmp_path), "--into", store], ["equal", store], ["files", store, "--refused"],
+                  ["files", store],
+                  ["canon", store, "--into", os.path.join(str(tmp_path), "to")]):
         said = run(words)
         assert (said.stdout, said.returncode) == (b"", 3)
         assert said.stderr.decode() == "naplps-pages: %s: %s\n" % (store, reason)
@@ -272,7 +274,8 @@ def test_a_file_that_is_no_store(run, tmp_path, store, make):
 
 
 def test_a_store_that_isnt_there(run, tmp_path, store):
-    for words in (["equal", store], ["refused", store], ["status", store], ["convert", store, "--into", str(tmp_path)]):
+    for words in (["equal", store], ["files", store, "--refused"], ["files", store],
+                  ["canon", store, "--into", str(tmp_path)]):
         said = run(words)
         assert (said.stdout, said.returncode) == (b"", 3)
         assert said.stderr.decode() == "naplps-pages: %s: No such file or directory\n" % store

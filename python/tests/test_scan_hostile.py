@@ -15,7 +15,8 @@ from naplps_pages.collection.pack_state import MOST_BROKEN
 from naplps_pages.collection.rows import FolderFiles
 from naplps_pages.collection.store import open_to_read
 from naplps_pages.collection.walk import hidden, walk
-from naplps_pages.collection.worker import Worker, WorkerOptions
+from naplps_pages.collection.rows import WorkerOptions
+from naplps_pages.collection.worker import Worker
 from packers import entry, pack, written, zip_of
 from samples import OUTSIDE, POINT, SPELLED
 from scans import FAKE, made_up, rows, slow, tree, wait_until
@@ -94,9 +95,9 @@ def test_a_mount_is_known_elsewhere_by_more_than_its_number(tmp_path):
 
 
 @pytest.mark.parametrize("command", [
-    ["equal", "pages.db", "--copies", "--verify"], ["convert", "pages.db", "--into", "made"],
+    ["equal", "pages.db", "--with", "copies", "--verify"], ["canon", "pages.db", "--into", "made"],
     ["look", "pages.db", "--into", "made"], ["cures", "pages.db", "--into", "made"], ["census", "pages.db"],
-    ["report", "pages.db", "--into", "made.html"]])
+    ["report", "pages.db", "-o", "made.html"]])
 def test_a_page_that_became_long_is_changed_and_not_read(naplps, tmp_path, command):
     folder = str(tmp_path)
     tree(os.path.join(folder, "pages"), {"a": POINT, "b": SPELLED, "c": OUTSIDE, "d": b"\x0f" * 100})
@@ -106,7 +107,7 @@ def test_a_page_that_became_long_is_changed_and_not_read(naplps, tmp_path, comma
     said = forked(command, folder, naplps, 300)
     require_told(said, command)
     assert said.status in (0, 1, 3)
-    if command[0] in ("convert", "look", "census"):
+    if command[0] in ("canon", "look", "census"):
         assert b"it isn't as it was when it was scanned" in said.err
 
 
@@ -127,7 +128,7 @@ def test_of_the_broken_members_of_a_pack_the_first_are_named(run, tmp_path, stor
     for _ in range(2):
         said = run(["scan", folder, "--into", store])
         assert sorted(said.stderr.decode().splitlines()) == sorted(wanted) and said.returncode == 1
-    assert run(["files", store]).stdout.count(b": it is encrypted") == 500 + MOST_BROKEN
+    assert run(["files", store, "--kind", "any"]).stdout.count(b": it is encrypted") == 500 + MOST_BROKEN
 
 
 def held(store):
@@ -168,10 +169,10 @@ def test_a_scan_that_ends_while_the_store_is_read_says_so(naplps, fake, tmp_path
         b"naplps-pages: pages.db: is being read, so its last rows are in pages.db-wal: a copy of the store needs both "
         b"files, until a command on it moves them\n")
     assert os.path.getsize(store + "-wal") > 0
-    said = forked(["status", "pages.db"], scan.folder, naplps)
+    said = forked(["files", "pages.db"], scan.folder, naplps)
     assert b"\nlog:             " in said.out and b"files:           300\n" in said.out
     reader.close()
-    said = forked(["status", "pages.db"], scan.folder, naplps)
+    said = forked(["files", "pages.db"], scan.folder, naplps)
     assert b"\nlog:" not in said.out and not os.path.exists(store + "-wal")
     assert rows(copy_of(store), "SELECT count(*) FROM files") == [(300,)]
 
@@ -200,7 +201,7 @@ def test_only_its_owner_reads_a_store_with_texts(naplps, tmp_path, store):
     try:
         modes = []
         for command in (["scan", "pages", "--into", "pages.db"], ["scan", "pages", "--into", "pages.db", "--words"],
-                        ["merge", "merged.db", "pages.db"]):
+                        ["merge", "--into", "merged.db", "pages.db"]):
             assert forked(command, folder, naplps).status == 0
             made = os.path.join(folder, "merged.db") if command[0] == "merge" else store
             modes.append(stat.S_IMODE(os.stat(made).st_mode))

@@ -21,7 +21,8 @@ FILES = {"a/point.nap": POINT, "b/point.nap": SPELLED, "text": b"hello\r\n", "se
          "parity": with_parity(POINT), "cancel": b"\x0f" + POINT + b"\x0fA\x18B",
          "capture": POINT + b"\x18" + POINT, "twice": POINT + b"\x0c" + POINT,
          "pic.gif": b"GIF89a\x01\x02\x81", "gif.zip ": b"PK\x03\x04\x99"}
-STOPPED = (["equal"], ["equal", "--copies"], ["refused"], ["refused", "--json"], ["census"], ["status", "--csv"])
+STOPPED = (["equal"], ["equal", "--with", "copies"], ["files", "--refused"], ["refused", "--json"], ["census"],
+           ["status", "--csv"])
 WORDS = "SELECT type, name, sql FROM sqlite_master WHERE sql IS NOT NULL ORDER BY 1, 2"
 
 
@@ -76,7 +77,7 @@ def test_a_capture_has_the_number_of_its_pages(store, run):
     said = run(["files", store, "--kind", "capture", "--json"])
     (row,) = map(json.loads, said.stdout.splitlines())
     assert row["name"].endswith("/capture") and (row["kind"], row["pages"], row["treatments"]) == ("capture", 2, None)
-    assert b"1: capture, of 2 pages" in run(["status", store]).stdout
+    assert b"1: capture, of 2 pages" in run(["files", store]).stdout
     it = json.loads(run(["status", store, "--json"]).stdout)
     assert it["captures"] == {"files": 1, "pages": 2}
     assert json.loads(run(["check", "--json", row["name"]]).stdout)["pages"] == 2
@@ -124,7 +125,7 @@ def test_one_that_was_stopped_is_read_too(old, store, run):
             connection.execute("DROP INDEX " + name)
         connection.close()
     assert [run([*words[:1], old, *words[1:]]).stdout for words in STOPPED] == wanted
-    assert run(["equal", store, "--treated"]).returncode == 0
+    assert run(["equal", store, "--with", "treated"]).returncode == 0
 
 
 def test_a_scan_renews_it(old, store, run, pages):
@@ -133,7 +134,7 @@ def test_a_scan_renews_it(old, store, run, pages):
     assert rows(old, WORDS) == rows(store, WORDS) and rows(old, "SELECT value FROM meta WHERE key = 'schema'") == [
         (str(schemas.SCHEMA),)]
     assert listed(old, "kind", "pages")["capture"] == [None, None]
-    assert b"13 of unknown kind" in run(["status", old]).stdout
+    assert b"13 of unknown kind" in run(["files", old]).stdout
     said = run(["scan", pages, "--into", old, "--cures"])
     assert b"; 1 known, 13 pages asked about" in said.stdout
     assert listed(old, "*") == listed(store, "*")
@@ -146,11 +147,11 @@ def test_copies_that_may_lack_a_page_are_unknown_until_they_are_made_anew(store,
     connection.commit()
     connection.close()
     old = earlier(store, os.path.join(str(tmp_path), "old.db"))
-    said = run(["equal", old, "--treated"])
+    said = run(["equal", old, "--with", "treated"])
     assert b"parity" not in said.stdout and b"of treated copies of 1 refused page it isn't known" in said.stderr
-    assert b"parity: treated by tail+header" in run(["equal", store, "--treated"]).stdout
+    assert b"parity: treated by tail+header" in run(["equal", store, "--with", "treated"]).stdout
     assert run(["scan", pages, "--into", old]).returncode == 0
-    assert b"parity: treated by parity (around)" in run(["equal", old, "--treated"]).stdout
+    assert b"parity: treated by parity (around)" in run(["equal", old, "--with", "treated"]).stdout
 
 
 @pytest.mark.parametrize("words", [["--cures"], ["--words"], ["--cures", "--words"]])
@@ -163,12 +164,12 @@ def test_a_scan_keeps_to_the_options_of_those_before(run, tmp_path, pages, words
         counts = [rows(path, f"SELECT count(*) FROM {table}") for path in (store, whole)]
         assert counts[0] == counts[1]
         assert (counts[0] != [(0,)]) == ({"cures": "--cures", "texts": "--words"}[table] in words)
-    assert run(["merge", merged, store]).returncode == 0
+    assert run(["merge", "--into", merged, store]).returncode == 0
     keys = "SELECT key FROM meta WHERE key IN ('cures', 'words') ORDER BY 1"
     renewed = earlier_and_renewed(store, tmp_path, run, pages)
     assert rows(store, keys) == rows(merged, keys) == rows(renewed, keys) == [
         (word[2:],) for word in words]
-    assert b"left:            nothing" in run(["status", store]).stdout
+    assert b"left:            nothing" in run(["files", store]).stdout
 
 
 def earlier_and_renewed(store, tmp_path, run, pages):
@@ -182,8 +183,8 @@ def test_pages_without_a_text_are_told(run, tmp_path, pages):
     parts = [os.path.join(str(tmp_path), name) for name in ("one.db", "other.db", "all.db")]
     assert run(["scan", os.path.join(pages, "a"), "--into", parts[0]]).returncode == 0
     assert run(["scan", os.path.join(pages, "text"), "--into", parts[1], "--words"]).returncode == 0
-    assert run(["merge", parts[2], *parts[:2]]).returncode == 0
-    assert b"1 without their text" in run(["status", parts[2]]).stdout
+    assert run(["merge", "--into", parts[2], *parts[:2]]).returncode == 0
+    assert b"1 without their text" in run(["files", parts[2]]).stdout
     said = run(["find", "hello", parts[2]])
     assert said.stdout.endswith(b"text: hello\n") and said.returncode == 0 and (
         b"1 page has no text kept, and can't be found: a scan with --words keeps it" in said.stderr)
@@ -194,7 +195,7 @@ def test_a_merge_takes_both_schemas(old, store, run, tmp_path, pages):
     second, merged = (os.path.join(str(tmp_path), name) for name in ("more.db", "all.db"))
     assert run(["scan", more, "--into", second, "--cures"]).returncode == 0
     for order in ((old, second), (second, old)):
-        assert run(["merge", merged, *order]).returncode == 0
+        assert run(["merge", "--into", merged, *order]).returncode == 0
         kinds = dict(rows(merged, "SELECT name, kind FROM listing"))
         assert kinds[more + "/text"] == kinds[pages + "/text"] == "text" and kinds[pages + "/capture"] is None
         grades = dict(rows(merged, "SELECT name, grade FROM listing"))
@@ -220,7 +221,7 @@ def test_the_index_of_words(store, tmp_path, run):
     for opened in (open_to_read, open_unchanged, open_to_write):
         opened(store).close()
     merged = os.path.join(str(tmp_path), "all.db")
-    assert run(["merge", merged, store]).returncode == 0
+    assert run(["merge", "--into", merged, store]).returncode == 0
     assert rows(merged, "SELECT t.text, t.source, t.first FROM words w JOIN texts t ON t.page = w.rowid "
                         "WHERE words MATCH 'good'") == [("good day", tables.WHOLE, "good")]
 

@@ -33,7 +33,7 @@ def test_a_sheet_has_all_pages(run, tmp_path):
     names = [file(tmp_path, name, data) for name, data in (
         ("one", GLYPH), ("two", GLYPH), ("<b>&\n.nap", POINT), ("bad", OUTSIDE))]
     path = os.path.join(str(tmp_path), "sheet.svg")
-    said = run(["look", *map(os.path.basename, names), "none", "--sheet", "sheet.svg"], cwd=str(tmp_path))
+    said = run(["look", *map(os.path.basename, names), "none", "-o", "sheet.svg"], cwd=str(tmp_path))
     found = tiles(read(path))
     assert [told for told, _ in found] == [
         ["one", "accepted 4 entries"], ["two", "accepted 4 entries"], ["<b>&\\n.nap", "accepted 1 entries"],
@@ -117,7 +117,7 @@ def test_png(run, tmp_path):
     with open(os.path.join(folder, "page.png"), "rb") as made:
         assert made.read() == said.stdout
     path = os.path.join(str(tmp_path), "sheet.png")
-    assert run(["look", page, page, "--png", "--sheet", path]).returncode == 0
+    assert run(["look", page, page, "--png", "-o", path]).returncode == 0
     with open(path, "rb") as made:
         size_of(made.read())
 

@@ -16,7 +16,8 @@ from naplps.drawing.colours import FIRST
 from naplps.drawing.measure import WIDTH, on_page
 from naplps.drawing.walk import MOST_DRAWN
 from naplps.entry import ONE
-from naplps.reading import NotALine, read_line
+from naplps.faults import NotALine
+from naplps.reading import read_line
 from strategies import POINTS, pages
 
 SVG = "{http://www.w3.org/2000/svg}"

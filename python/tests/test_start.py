@@ -14,9 +14,11 @@ from samples import POINT
 # KiB of address space: from what Python itself needs to what a scan does.
 LITTLE = (16_000, 18_000, 20_000, 22_000, 24_000, 26_000, 28_000, 30_000, 36_000, 44_000)
 COMMANDS = (["--version"], ["--help"], ["check", "@"], ["list", "--json", "@"], ["look", "@"], ["text", "@"],
-            ["play", "@", "--into", "out"], ["census", "@"], ["cures", "@"], ["explain", "@"],
-            ["scan", ".", "--into", "../x.db"], ["files", "no.db"], ["find", "word", "no.db"], ["status", "no.db"],
-            ["merge", "m.db", "no.db"], ["report", "no.db", "--into", "r.html"], ["serve", "no.db", "--port", "0"])
+            ["play", "@", "-o", "out"], ["census", "@"], ["cures", "@"], ["explain", "@"],
+            ["scan", ".", "--into", "../x.db"], ["files", "no.db"], ["find", "word", "no.db"],
+            ["files", "no.db", "--refused"],
+            ["merge", "--into", "m.db", "no.db"], ["report", "no.db", "-o", "r.html"],
+            ["serve", "no.db", "--port", "0"])
 
 
 @pytest.mark.parametrize("words", COMMANDS, ids=lambda words: words[0])

@@ -106,7 +106,7 @@ def test_what_is_the_tools_own_is_compared_word_for_word(made, what):
 @pytest.mark.parametrize("table", ["files", "cures", "roots"])
 def test_a_table_that_is_not_there(made, table):
     made.change("DROP TABLE " + table)
-    said = made.run(["status"])
+    said = made.run(["files"])
     assert said.status == 3 and said.err.decode() == (
         "naplps-pages: bad.db: isn't a store of naplps-pages: it has no table %s\n" % table)
 
@@ -154,7 +154,7 @@ def test_what_would_act_on_the_stores_own_tables_is_refused(made, what):
         made.change(ACTING[what])
     except sqlite3.OperationalError as error:
         pytest.skip(str(error))
-    commands = COMMANDS if what == "index evil" else (["status"], ["scan"], ["merge"], ["equal", "OTHER"])
+    commands = COMMANDS if what == "index evil" else (["files"], ["scan"], ["merge"], ["equal", "OTHER"])
     with open(made.bad, "rb") as file:
         before = file.read()
     for command in commands:
@@ -167,7 +167,7 @@ def test_what_would_act_on_the_stores_own_tables_is_refused(made, what):
 @pytest.mark.parametrize("words", LYING, ids=range(5))
 def test_a_row_of_a_schema_that_lies_is_refused(made, words):
     made.change(words)
-    for command in (["status"], ["scan"], ["merge"]):
+    for command in (["files"], ["scan"], ["merge"]):
         said = made.run(command)
         assert said.status == 3 and said.err.startswith(b"naplps-pages: bad.db: "), (command, said)
 
@@ -176,7 +176,7 @@ def test_a_row_of_a_schema_that_lies_is_refused(made, words):
 def test_an_index_of_what_keeps_the_words_is_refused(indexed, shadow):
     column = {"words_data": "block", "words_idx": "term", "words_docsize": "sz", "words_config": "v", "texts": "text"}
     indexed.change("CREATE INDEX evil ON %s((length(%s)))" % (shadow, column[shadow]))
-    for command in (["status"], ["scan", "--words"], ["merge"]):
+    for command in (["files"], ["scan", "--words"], ["merge"]):
         said = forked(words_of(command, "bad.db", "", indexed.pages), indexed.folder, indexed.naplps, 60)
         assert said.status == 3 and said.err.decode() == FOREIGN % ("index", "evil"), (command, said)
 
@@ -194,41 +194,42 @@ WRONG = [
     ("UPDATE pages SET canon = 'text' WHERE canon IS NOT NULL", ["equal"], "a text in place of a hash"),
     ("UPDATE pages SET canon = x'00' WHERE canon IS NOT NULL", ["equal"], "1 bytes in place of a hash"),
     ("UPDATE pages SET canon = 5 WHERE canon IS NOT NULL", ["equal", "OTHER"], "the number 5 in place of a hash"),
-    ("UPDATE pages SET own = 'x' || id", ["convert", "--into", "canonical"], "a text in place of a hash"),
+    ("UPDATE pages SET own = 'x' || id", ["canon", "--into", "canonical"], "a text in place of a hash"),
     ("UPDATE files SET name = CAST(name AS TEXT)", ["equal"], "a text in place of a name"),
     ("UPDATE files SET name = CAST(name || x'00' AS BLOB)", ["equal", "--verify"], "bytes in place of a name"),
-    ("UPDATE folders SET path = CAST(path AS TEXT)", ["refused"], "a text in place of a path"),
-    ("UPDATE folders SET path = CAST('..' || path AS BLOB)", ["convert", "--into", "canonical"], "in place of a path"),
-    ("UPDATE files SET state = 99", ["status"], "the number 99 in place of the state of a file"),
-    ("UPDATE files SET state = -7", ["status"], "the number -7 in place of the state of a file"),
-    ("UPDATE files SET state = 'x'", ["status"], "a text in place of the state of a file"),
-    ("UPDATE pages SET state = 77", ["status"], "the number 77 in place of the state of a page"),
-    ("UPDATE pages SET number = 'x' WHERE number IS NOT NULL", ["refused"], "text in place of the number of a refusal"),
-    ("UPDATE pages SET number = 9223372036854775807 WHERE number IS NOT NULL", ["refused"], "of a refusal"),
+    ("UPDATE folders SET path = CAST(path AS TEXT)", ["files", "--refused"], "a text in place of a path"),
+    ("UPDATE folders SET path = CAST('..' || path AS BLOB)", ["canon", "--into", "canonical"], "in place of a path"),
+    ("UPDATE files SET state = 99", ["files"], "the number 99 in place of the state of a file"),
+    ("UPDATE files SET state = -7", ["files"], "the number -7 in place of the state of a file"),
+    ("UPDATE files SET state = 'x'", ["files"], "a text in place of the state of a file"),
+    ("UPDATE pages SET state = 77", ["files"], "the number 77 in place of the state of a page"),
+    ("UPDATE pages SET number = 'x' WHERE number IS NOT NULL", ["files", "--refused"],
+     "text in place of the number of a refusal"),
+    ("UPDATE pages SET number = 9223372036854775807 WHERE number IS NOT NULL", ["files", "--refused"], "of a refusal"),
     ("UPDATE pages SET entries = NULL", ["equal"], "nothing in place of a number from 0"),
     ("UPDATE pages SET entries = 'lots'", ["equal"], "a text in place of a number from 0"),
     ("UPDATE pages SET entries = -1", ["equal", "OTHER"], "the number -1 in place of a number from 0"),
     ("UPDATE pages SET entries = 1.5", ["equal"], "the number 1.5 in place of a number from 0"),
-    ("UPDATE pages SET place = NULL", ["refused"], "nothing in place of a number from 0"),
-    ("UPDATE files SET state = 1, why = zeroblob(10)", ["status"], "10 bytes in place of a text"),
-    ("UPDATE files SET state = 1, why = printf('%.65537c', 'x')", ["status"],
+    ("UPDATE pages SET place = NULL", ["files", "--refused"], "nothing in place of a number from 0"),
+    ("UPDATE files SET state = 1, why = zeroblob(10)", ["files"], "10 bytes in place of a text"),
+    ("UPDATE files SET state = 1, why = printf('%.65537c', 'x')", ["files"],
      "a text of 65537 characters in place of a text"),
-    ("UPDATE folders SET path = CAST(path || printf('/%.131072c', 'x') AS BLOB)", ["refused"],
+    ("UPDATE folders SET path = CAST(path || printf('/%.131072c', 'x') AS BLOB)", ["files", "--refused"],
      "bytes in place of a path"),
     ("UPDATE files SET name = CAST(printf('%.131073c', 'x') AS BLOB) WHERE name = CAST('a.nap' AS BLOB)", ["equal"],
      "131073 bytes in place of a name"),
     ("UPDATE pages SET left_out = printf('%.65537c', 'x') WHERE number IS NOT NULL", ["merge"],
      "a row of its table pages isn't one of a scan"),
-    ("UPDATE terms SET budget = 'x'", ["status"], "a text in place of a number from 0"),
-    ("UPDATE terms SET budget = -1", ["convert", "--into", "canonical"], "the number -1 in place of a number from 0"),
-    ("UPDATE runs SET program = 'x'", ["status"], "a text in place of a name"),
-    ("UPDATE roots SET path = 'x'", ["status"], "a text in place of a path"),
+    ("UPDATE terms SET budget = 'x'", ["files"], "a text in place of a number from 0"),
+    ("UPDATE terms SET budget = -1", ["canon", "--into", "canonical"], "the number -1 in place of a number from 0"),
+    ("UPDATE runs SET program = 'x'", ["files"], "a text in place of a name"),
+    ("UPDATE roots SET path = 'x'", ["files"], "a text in place of a path"),
     ("UPDATE roots SET path = 'x'", ["equal", "OTHER"], "a text in place of a path"),
-    ("UPDATE faults SET name = x'00'", ["refused"], "1 bytes in place of a text"),
-    ("INSERT INTO meta VALUES('part', '9/3')", ["status"], "it holds no part that there is"),
+    ("UPDATE faults SET name = x'00'", ["files", "--refused"], "1 bytes in place of a text"),
+    ("INSERT INTO meta VALUES('part', '9/3')", ["files"], "it holds no part that there is"),
     ("INSERT INTO meta VALUES('part', x'00')", ["equal", "OTHER"], "it holds no part that there is"),
     ("UPDATE files SET size = 'x', inode = 'y'", ["scan"], "a text in place of a number from 0"),
-    ("UPDATE files SET inode = 'y'", ["report", "--into", "report.html"], "a text in place of a number from 0"),
+    ("UPDATE files SET inode = 'y'", ["report", "-o", "report.html"], "a text in place of a number from 0"),
     ("UPDATE pages SET own = 'x' || id", ["merge"], "a row of its table pages isn't one of a scan"),
     ("UPDATE runs SET terms = 77", ["merge"], "a row of its table runs isn't one of a scan"),
     ("UPDATE roots SET run = 77", ["merge"], "a row of its table roots isn't one of a scan"),
@@ -315,7 +316,7 @@ def test_no_journal_beside_a_store_deletes_another_file(tmp_path, naplps):
     for opened in (open_to_read, open_unchanged, open_to_write):
         with pytest.raises(StoreFailed, match="its journal, -journal, isn't that of a store: it names another file"):
             opened(path)
-    for command in (["status"], ["equal"], ["merge"], ["scan"]):
+    for command in (["files"], ["equal"], ["merge"], ["scan"]):
         said = forked(words_of(command, "left.db", "", str(tmp_path)), str(tmp_path), naplps)
         assert said.status == 3 and said.err.endswith(b": it names another file\n")
     with open(victim, encoding="ascii") as file:

@@ -12,11 +12,11 @@ def lines(*rows):
     return lines_of(read(row + " " + HAND for row in rows))
 
 
-def test_lines_end_where_the_text_goes_on_elsewhere(run, tmp_path):
-    page = StreamWriter().domain().at(0.1, 0.5, "ONE").at(0.5, 0.5, "TWO").at(0.1, 0.4, "THREE")
-    page.raw(0x0D, 0x0A).text("FOUR")
+def test_lines_are_those_of_the_screen_from_top_to_bottom(run, tmp_path):
+    page = StreamWriter().domain().at(0.1, 0.4, "THREE").raw(0x0D, 0x0A).text("FOUR")
+    page.at(0.5, 0.5, "TWO").at(0.1, 0.5, "ONE")
     said = run(["text", file(tmp_path, "page", page.made())])
-    assert said.stdout.decode() == "ONE TWO\nTHREE\nFOUR\n"
+    assert said.stdout.decode() == "ONE  TWO\nTHREE\nFOUR\n"
 
 
 def test_what_isnt_a_letter_is_left_out_or_named():

@@ -13,7 +13,8 @@ from naplps.drawing.measure import HEIGHT, WIDTH
 from naplps.drawing.paper import Paper
 from naplps.drawing.walk import MOST_DRAWN, Walk
 from naplps.entry import ONE
-from naplps.reading import Entries, NotALine, read_line
+from naplps.faults import NotALine
+from naplps.reading import Entries, read_line
 from test_sketch import elements, harmless, numbers
 
 # The cell of normal text, as parts of the side of the unit screen.

@@ -73,7 +73,7 @@ def test_a_path_that_is_too_long_for_the_system(run, tmp_path):
         assert b"; 3 known, 0 pages" in run(["scan", top, "--into", store]).stdout
         assert (path,) in rows(store, "SELECT path FROM folders")
         assert run(["equal", store, "--verify"]).stdout == run(["equal", store]).stdout
-        said = run(["convert", store, "--into", os.path.join(str(tmp_path), "to")])
+        said = run(["canon", store, "--into", os.path.join(str(tmp_path), "to")])
         assert (said.stdout, said.stderr) == (b"1 written, 0 there\n", b"")
     finally:
         fill_in(path)

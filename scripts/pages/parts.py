@@ -29,9 +29,9 @@ PARTS: Dict[str, Part] = {
          "store_files", "files", "near", "equal_pictures"),
     ),
     "commands": Part(
-        "the program is asked, and the commands answer: statuses, messages, JSON, hostile names, programs that fail, "
-        "documents",
-        ("client", "commands", "documents"),
+        "the program is asked, and the commands answer: words, statuses, messages, JSON, hostile names, programs that "
+        "fail, documents",
+        ("client", "commands", "documents", "words"),
     ),
     "dask": Part(
         "scans on workers of Dask's distributed: the same tables, and workers and schedulers that end",

@@ -4,7 +4,8 @@ It prints 200 lines of 256 inks, the lowest row first, and then a line for each 
 """
 import sys
 
-from ..reading import NotALine, read_line
+from ..faults import NotALine
+from ..reading import read_line
 from . import raster
 from .inks import DIRECT, MARK
 from .measure import ACROSS

@@ -8,9 +8,9 @@ import re
 from itertools import islice
 from typing import Iterator, List, NamedTuple
 
-from . import eight_bit
+from . import LEADING_ON, eight_bit
 from .changes import EIGHTH, ODD, PLAIN, NotSure, edited
-from .page_codes import CLEARED, CLEARING, DRAWING, LEADING, LEADING_ON, TEXT, UNREAD, codes
+from .page_codes import CLEARED, CLEARING, DRAWING, LEADING, TEXT, UNREAD, codes
 
 # The beginning of a macro's definition with its name, and what ends its body; nothing between them is a code.
 DEFINITION = rb"(?P<definition>\x1b[\x40\x41][^\x1b])"

@@ -5,8 +5,6 @@ Bytes are read from the beginning of a page on, in seven bits. What can't be rea
 import re
 from typing import Iterator, List, NamedTuple, Optional
 
-# SO, SS2, ESC and SS3. Without them a page can only type primary characters, move, clear and ring.
-LEADING_ON = (b"\x0e", b"\x19", b"\x1b", b"\x1d")
 SHAPE, MOSAIC, GLYPH, DEFINED, TEXT = "shape", "mosaic", "DRCS", "definition", "text"
 CLEARING, LEADING, SEPARATING, UNREAD, OTHER = "clear", "leading", "separator", "unread", "other"
 PRIMARY, PDI, SUPPLEMENTARY, MOSAICS, MACROS, GLYPHS = 0x42, 0x57, 0x7C, 0x7D, 0x7A, 0x7B

@@ -3,9 +3,9 @@ from dataclasses import dataclass, field
 from typing import Callable, Dict, Iterable, List, Optional, Set, Tuple
 
 from ..answers import Accepted, Answer, Refusal
+from . import LEADING_ON
 from .borders import content, text_length
 from .changes import AROUND, Change, Treated, digest
-from .page_codes import LEADING_ON
 from .treatments import TREATMENTS, treated, untreated
 
 # The number of treatments that are tried together, and of questions to the program in each of the two rounds.

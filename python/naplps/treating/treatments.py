@@ -3,12 +3,11 @@ import re
 from itertools import islice
 from typing import Callable, Dict, Iterator, List, NamedTuple, Optional, Tuple
 
-from . import eight_bit, sauce
+from . import LEADING_ON, eight_bit, sauce
 from .borders import (
     BEGINS, CLEAR, END_OF_BODY, content, draws, is_read, is_uniform, outside, pieces, text_length, tokens,
 )
 from .changes import AROUND, EIGHTH, ODD, PLAIN, WITHIN, Change, Edit, NotSure, Treated
-from .page_codes import LEADING_ON
 
 # How many bytes after a refusal may belong to a header, and how many starts of a page are tried among them.
 MOST_HEADER = 4096

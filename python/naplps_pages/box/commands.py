@@ -21,15 +21,13 @@ from ..collection.folders import absolute
 from ..collection.kept_options import refused_by
 from ..collection.page_reader import Otherwise, read
 from ..collection.pool import processors
-from ..collection.rows import AskAgain, File
+from ..collection.rows import AskAgain, File, WorkerOptions
 from ..collection.scan import ScanOptions, ScanRun, missing, scanned
 from ..collection.search import apart
 from ..collection.session import Names
 from ..collection.status import status
 from ..collection.store import StoreFailed, open_to_read
-from ..collection.worker import WorkerOptions
-from ..console import COMPLETE, FAILED, SOME_LACK, Output, tell
-from ..new_files import NotWritten
+from ..console import COMPLETE, FAILED, SOME_LACK, NotWritten, Output, tell
 from ..report import making
 from ..report.limits import USUAL_SKETCHES
 from ..report.sketch_workers import OBJECTS

@@ -14,7 +14,8 @@ from naplps.version import VERSION
 from .. import TOOL
 from ..collection.folders import reason
 from ..collection.lock import Busy, Lock
-from ..new_files import NotWritten, make_folder, put_inside
+from ..console import NotWritten
+from ..new_files import make_folder, put_inside
 
 # What stands in it: the marker; the store and what is kept beside it; what people look at; and the folders of pages.
 MARKER, STORE, KEPT = "box.json", "box.db", "pages.db"

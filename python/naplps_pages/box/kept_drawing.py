@@ -4,7 +4,8 @@ from typing import Callable, List, Optional
 from naplps.answers import Accepted, Answer, Refusal, read_line
 from naplps.client import Client
 from naplps.limits import MOST_LISTED
-from naplps.reading import NotALine, placed
+from naplps.faults import NotALine
+from naplps.reading import placed
 
 from ..collection.tables import hashed
 from ..listing import Listed, Row

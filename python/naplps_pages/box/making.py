@@ -13,7 +13,7 @@ from ..collection import every_file, tables
 from ..collection.every_file import FileFacts
 from ..collection.printing import Printer
 from ..collection.session import Names
-from ..new_files import NotWritten
+from ..console import NotWritten
 from ..packs.naming import pack_of
 from ..page_finder import LEAST_ENTRIES, CarvedPage
 from .kept_pages import KeptPage, KeptPart

@@ -11,8 +11,9 @@ from typing import Callable, Dict, List, Optional, Set, Tuple
 from naplps.names import Members
 
 from ..collection.folders import reason
+from ..console import NotWritten
 from ..curing import tells_the_same
-from ..new_files import NotWritten, make_folders, put_inside, replace
+from ..new_files import make_folders, put_inside, replace
 from .folder import BoxFolder
 
 # The number of files that are put together, and of their bytes.

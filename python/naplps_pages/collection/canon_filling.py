@@ -11,10 +11,10 @@ from .canon_table import CanonTable
 from .folders import reason
 from .lock import Busy, Lock
 from .pool import NoWorkers
+from .rows import WorkerOptions
 from .schemas import SCHEMA
 from .stopping import Stopping
 from .store import StoreFailed, fold, keep_log, keep_private, open_to_read, open_to_write, schema_of
-from .worker import WorkerOptions
 
 NOT_KEPT = "what is found out for this isn't kept, as the store can't be written now: %s"
 EARLIER = "it is one of a schema before, and the next scan makes it one of now"

@@ -13,10 +13,9 @@ from .folders import join
 from .kinds import checked
 from .pool import Pool
 from .progress import Progress
-from .rows import Chunk, File, FolderFiles, Values
+from .rows import Chunk, File, FolderFiles, Values, WorkerOptions
 from .stopping import Stopping
 from .tables import READ
-from .worker import WorkerOptions
 
 # A worker that is silent for so long, beside the time of two answers, hangs.
 PATIENCE = 60.0

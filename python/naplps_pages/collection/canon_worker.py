@@ -4,18 +4,17 @@ from typing import Any, Callable, Iterator, List, NamedTuple, Optional, Sequence
 
 from naplps.answers import Accepted, Answer, Nonsense, Unanswered
 from naplps.client import Client
-from naplps.reading import NotALine
+from naplps.faults import NotALine
+from naplps.limits import MODEST
 from naplps.treating.search import find
 
-from ..listing import MODEST
 from ..source import Page
 from . import tables
 from .kinds import one
 from .page_reader import Otherwise, read
 from .places import Place
-from .rows import Answered, Chunk, File, Piece, Values
+from .rows import Answered, Chunk, File, Piece, Values, WorkerOptions
 from .store import reader
-from .worker import WorkerOptions
 from .worker_process import PieceMaker, serve
 
 # The number of pages that are asked about together, and of their entries.

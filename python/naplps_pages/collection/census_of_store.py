@@ -3,17 +3,22 @@
 How many pages are refused for each code is exact. What follows is read again from a file of each refused page.
 """
 import sqlite3
+import sys
 from collections import Counter
 from typing import Iterator, Tuple
 
 from naplps.answers import Refusal
+from naplps.names import shown
 
+from .. import census as printing
 from ..census import EIGHTH_BIT, Census, Row, stops
+from ..console import SOME_LACK
+from ..page_session import Session
 from .kinds import checked
 from .page_reader import Otherwise, read
 from .places import Place
 from .progress import Progress
-from .store import kept
+from .store import kept, open_to_read
 
 # The greatest number of refused pages that are read on.
 MOST_READ = 100_000
@@ -32,6 +37,19 @@ PAGES = f"""SELECT p.own, p.number, coalesce(n.name, ''), p.left_out, p.place, {
     ON n.number = p.number WHERE p.number IS NOT NULL AND coalesce(p.looks_like, '') = '' GROUP BY p.id
     ORDER BY d.path, f.name LIMIT {MOST_READ}"""
 PAGE = "own number fault left_out? at:count stop path name inode?"
+
+
+def census(session: Session) -> int:
+    """Prints the census of the store that a session names; the status."""
+    connection = open_to_read(session.names[0])
+    found = exact(connection)
+    progress = Progress(sys.stderr, lambda: min(found.refused, MOST_READ), what="refused pages")
+    for path, why in read_on(connection, found, progress):
+        progress.tell(f"{shown(path)}: {why}")
+        session.fail(SOME_LACK)
+    progress.clear()
+    printing.show(session, found)
+    return session.status
 
 
 def exact(connection: sqlite3.Connection) -> Census:

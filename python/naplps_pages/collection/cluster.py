@@ -21,12 +21,11 @@ from . import cluster_watch
 from .cluster_check import answers
 from .cluster_watch import Watch
 from .folders import reason
-from .pool import count, ending, halves, next_of
+from .pool import ClusterFailed, count, ending, halves, next_of
 from .remote import Alike, Done, Given
-from .rows import Chunk, File, Piece
+from .rows import Chunk, File, Piece, WorkerOptions
 from .tables import UNREADABLE
 from .unread import UnreadFiles, is_here
-from .worker import WorkerOptions
 
 WORDS = interpreter("naplps_pages.collection.remote")
 # The number of chunks that are out at a time, and of files and bytes of names of a chunk.
@@ -37,10 +36,6 @@ TURN, CONNECT, JOIN, FETCH, END = 0.25, 10, 30, 5, 3
 # After so long without a result it is looked whether there are workers.
 SILENCE = 20.0
 NOT_INSTALLED = "Dask's distributed isn't there for %s (Debian: apt-get install python3-distributed)"
-
-
-class ClusterFailed(Exception):
-    """The cluster can't be used, with the reason."""
 
 
 class ClusterLost(ClusterFailed):

@@ -10,11 +10,12 @@ from naplps.client import Client
 from naplps.names import Members, shown
 
 from ..new_files import made_folder, make_folders, put_inside
+from .equal_over import most_budget
 from .folders import reason
 from .page_reader import Otherwise, read
 from .places import Place
-from .printing import NAME, Printer, named, shown_as
-from .store import kept
+from .printing import NAME, ErrorReporter, Printer, named, shown_as
+from .store import kept, open_to_read
 from .tables import hashed
 from .verify import OTHER_HASH
 
@@ -93,6 +94,23 @@ class Conversion:
         if number(NOT_MADE):
             line += f", {self.counts[NOT_MADE]} not made"
         return line
+
+
+def convert(program: Client, store: str, into: str, form: str) -> int:
+    """Puts the canonical pages of a store into a folder, and prints what came of it; the status."""
+    connection = open_to_read(store)
+    program.budget = most_budget([store])  # (a budget only refuses)
+    printer = Printer(form, COLUMNS)
+    telling = ErrorReporter(printer)
+    conversion = Conversion(program, into)
+    for row in conversion.rows(connection):
+        if row.reason:
+            telling(row.path if row.status == NOT_MADE else row.place.path, row.reason)
+        show(printer, row)
+    if form == "text":
+        printer.line(conversion.line())
+    printer.flush()
+    return telling.status
 
 
 def show(printer: Printer, row: ConvertedRow) -> None:

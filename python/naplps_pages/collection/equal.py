@@ -45,7 +45,7 @@ class Spelling(NamedTuple):
 
 
 class Group(NamedTuple):
-    """Pages of one canonical stream, by its hash; of guesses also how many other files draw the same."""
+    """Pages of one canonical stream, by its hash; of treated copies also how many other files draw the same."""
 
     canon: bytes
     form: str
@@ -53,6 +53,8 @@ class Group(NamedTuple):
     length: int
     spellings: List[Spelling]
     others: int = 0
+    # (whether treated copies alone are in it, since they stand in groups of their own)
+    is_apart: bool = False
 
     @property
     def is_guess(self) -> bool:
@@ -116,10 +118,11 @@ def _members(group: Group) -> Iterator[Tuple[int, Spelling, Place]]:
 
 
 def _guessed(group: Group) -> str:
-    """What is told of a group of guesses."""
-    if not group.is_guess:
+    """What is told of a group of treated copies."""
+    if not (group.is_guess or group.is_apart):
         return ""
-    return ", by guess" + (f", the same as {numbered(group.others, 'other file')}" if group.others else "")
+    told = "readable copies" if group.is_apart else "by guess"
+    return f", {told}" + (f", the same as {numbered(group.others, 'other file')}" if group.others else "")
 
 
 def _treated(by: Optional[TreatedBy]) -> Members:

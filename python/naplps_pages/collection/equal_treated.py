@@ -1,7 +1,8 @@
 """Groups of pages that draw the same, treated copies among them.
 
-A copy that was treated around its page stands beside pages that are read as they are. One that was treated within is a
-guess: it stands in groups of guesses alone, of which it is told how many other files draw the same.
+By themselves all copies stand in groups of their own. Where they are wanted among others, a copy that was treated
+around its page stands beside pages that are read as they are. One that was treated within is a guess: it stands in
+groups of guesses alone, of which it is told how many other files draw the same.
 """
 import sqlite3
 from typing import Iterator, Tuple
@@ -24,9 +25,10 @@ OF_COPIES = """ UNION SELECT c.canon FROM {0} c
 JOINED = "CREATE TEMP TABLE joined AS SELECT c.* FROM several s CROSS JOIN {0} c ON c.canon = s.canon"
 OTHERS = """INSERT INTO joined SELECT p.canon, t.form, p.id, p.entries, p.canon_size, NULL, NULL, NULL FROM several s
     CROSS JOIN pages p ON p.canon = s.canon CROSS JOIN terms t ON t.id = p.terms"""
-# How many other files draw the same as guesses.
-ALIKE = """(SELECT count(*) FROM pages p CROSS JOIN terms t ON t.id = p.terms CROSS JOIN present f ON f.page = p.id
-    WHERE p.canon = j.canon AND t.form = j.form) + (SELECT count(*) FROM around c
+# How many files are read as they are, and draw the same; and how many other files draw the same as guesses.
+ALIKE_PAGES = """(SELECT count(*) FROM pages p CROSS JOIN terms t ON t.id = p.terms CROSS JOIN present f
+    ON f.page = p.id WHERE p.canon = j.canon AND t.form = j.form)"""
+ALIKE = ALIKE_PAGES + """ + (SELECT count(*) FROM around c
     CROSS JOIN present f ON f.page = c.page WHERE c.canon = j.canon AND c.form = j.form)"""
 GROUPS = """CREATE TEMP TABLE found AS SELECT j.canon AS canon, j.form AS form, count(DISTINCT j.page) AS spellings,
     count(*) AS files, {} AS others FROM joined j CROSS JOIN present f ON f.page = j.page
@@ -37,7 +39,7 @@ MEMBERS = """SELECT g.canon, g.form, j.entries, j.canon_size, p.own, d.path, f.n
     ORDER BY g.spellings DESC, g.files DESC, g.canon, g.form, j.grade IS NOT NULL, p.own, d.path, f.name"""
 LEAST = ("count(DISTINCT j.page) > 1", "count(*) > 1")
 MEMBER = "canon form entries canon_size own path name inode? treatments? grade? copy? others:count"
-TABLES = ("around", "within", "several", "joined", "found", "kept")
+TABLES = ("around", "within", "readable", "several", "joined", "found", "kept")
 UNTRIED = """SELECT (SELECT count(*) FROM pages p WHERE p.state = 1 AND NOT EXISTS(SELECT 1 FROM cures c
     WHERE c.page = p.id AND c.terms = p.terms)),
     (SELECT count(*) FROM cures WHERE treatments IS NOT NULL AND grade IS NULL)"""
@@ -57,6 +59,16 @@ def guesses(connection: sqlite3.Connection, copies: bool) -> Iterator[Group]:
     _begin(connection)
     _join(connection, "within", AMONG_THEM + WITH_PAGES + WITH_AROUND + (OF_COPIES if copies else ""))
     return _grouped(connection, ALIKE, f"{LEAST[copies]} OR others > 0")
+
+
+def apart(connection: sqlite3.Connection, copies: bool) -> Iterator[Group]:
+    """The groups of treated copies alone, and of such a copy with which untreated pages draw the same."""
+    _begin(connection)
+    connection.execute("CREATE TEMP TABLE readable AS SELECT * FROM around UNION ALL SELECT * FROM within")
+    connection.execute("CREATE INDEX temp.readable_by_canon ON readable(canon, page)")
+    _join(connection, "readable", AMONG_THEM + WITH_PAGES + (OF_COPIES if copies else ""))
+    for group in _grouped(connection, ALIKE_PAGES, f"{LEAST[copies]} OR others > 0"):
+        yield group._replace(is_apart=True)
 
 
 def untried(connection: sqlite3.Connection) -> Tuple[int, int]:

@@ -6,8 +6,7 @@ from typing import List, Optional, Sequence
 
 from naplps.names import shown
 
-from ..console import Output, tell
-from ..new_files import NotWritten
+from ..console import NotWritten, Output, tell
 from .beside import INDEX, JOURNAL, LOG, MADE, place, require_own
 from .counts import Counts
 from .differing import differing

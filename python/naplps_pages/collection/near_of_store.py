@@ -7,7 +7,7 @@ from ..near_pages import NOT_WHOLE, show
 from .canon_filling import CanonFilling
 from .near_groups import NearGroups
 from .near_table import NEAR_KEYS
-from .worker import WorkerOptions
+from .rows import WorkerOptions
 
 
 def near(store: str, how: WorkerOptions, processes: int, as_objects: bool) -> int:

@@ -5,8 +5,8 @@ from typing import IO, Optional
 from naplps.limits import MOST_PAGE
 
 from ..packs.naming import pack_of
-from ..packs.reading import NoMember
-from ..source import PACKS, Page
+from ..packs.reading import PACKS, NoMember
+from ..source import Page
 from .file_reader import look
 from .folders import opened, reason
 from .places import Place

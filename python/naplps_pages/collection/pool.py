@@ -10,10 +10,8 @@ from typing import Deque, Iterator, List, Optional, Sequence, Set, Tuple
 
 from .. import interpreter
 from ..packs.naming import pack_of
-from .rows import Chunk, File, Piece, received
+from .rows import ALIVE, DONE, FAILED, MOST_AHEAD, Chunk, File, Piece, received
 from .tables import UNREADABLE
-from .worker import MOST_AHEAD
-from .worker_process import ALIVE, DONE, FAILED
 
 MAIN = "naplps_pages.collection.worker_process"
 # The number of chunks of a worker at a time, so that it needn't wait for the next. They fit into its socket's buffer,
@@ -29,6 +27,10 @@ MOST_PROCESSES = 512
 
 class NoWorkers(Exception):
     """Workers can't be started."""
+
+
+class ClusterFailed(Exception):
+    """A cluster can't be used, with the reason."""
 
 
 def processors() -> int:

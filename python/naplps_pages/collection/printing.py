@@ -5,7 +5,7 @@ from typing import IO, List, Optional, Sequence
 
 from naplps.names import Members, as_json, printable, shown
 
-from ..console import Output
+from ..console import COMPLETE, SOME_LACK, Output, tell
 from .places import Place
 
 FORMS = ("text", "json", "csv", "null")
@@ -52,6 +52,19 @@ class Printer:
     def flush(self) -> None:
         """Sends on what was printed."""
         self.output.flush()
+
+
+class ErrorReporter:
+    """Tells what is wrong with files, and keeps the status."""
+
+    def __init__(self, printer: Printer) -> None:
+        self.printer, self.status = printer, COMPLETE
+
+    def __call__(self, name: str, why: str) -> None:
+        """Tells what is wrong with a file."""
+        self.printer.flush()
+        tell(f"{shown(name)}: {why}")
+        self.status = SOME_LACK
 
 
 def _field(value: object) -> str:

@@ -7,8 +7,8 @@ from typing import Iterator, List, NamedTuple, Optional, Tuple
 
 from ..interpreter import FOLDER
 from .folders import reason
-from .rows import Chunk, Piece
-from .worker import Worker, WorkerOptions
+from .rows import Chunk, Piece, WorkerOptions
+from .worker import Worker
 from .worker_process import limit_memory
 
 # The module and the tool, which stand in one folder.

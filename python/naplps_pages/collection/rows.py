@@ -3,6 +3,9 @@ from typing import Iterable, List, NamedTuple, Optional, Tuple, Union
 
 from .folders import FolderIdentity
 
+# The number of requests that a worker writes ahead; and what it sends beside pieces.
+MOST_AHEAD = 64
+DONE, ALIVE, FAILED = "done", "alive", "failed"
 # What a table has of a canonical stream, beside its hash and the form.
 Values = Tuple[Union[bytes, str, None], ...]
 
@@ -122,3 +125,13 @@ def _answered(values: Iterable[object]) -> Answered:
     if cured is None and said is None:
         return row
     return row._replace(cured=cured and Cured._make(cured), said=said and PageText._make(said))
+
+
+class WorkerOptions(NamedTuple):
+    """How pages are asked about."""
+
+    program: str
+    budget: int
+    seconds: float
+    most: int
+    wanted: AskAgain = AskAgain()

@@ -8,7 +8,7 @@ import sys
 from collections import Counter
 from dataclasses import dataclass, replace
 from typing import Counter as Counts
-from typing import Dict, FrozenSet, Iterator, List, Optional, Protocol, Sequence, Tuple, Union
+from typing import TYPE_CHECKING, Dict, FrozenSet, Iterator, List, Optional, Protocol, Sequence, Tuple, Union
 
 from naplps.answers import Unanswered
 from naplps.client import Client
@@ -17,30 +17,29 @@ from naplps.names import shown
 from naplps.program import version
 
 from ..console import COMPLETE, FAILED, SOME_LACK, Output, tell
-from ..packs.reading import NO_FILE, SEVERAL
+from ..packs.member import NO_FILE, SEVERAL
 from ..unexpected import Unexpected
 from . import tables, word_index
 from .beside import LOG
-from .canon_pass import CanonPass
 from .canon_tables import CANON_TABLES
-from .cluster import MOST_FILES, MOST_NAMES, Cluster, ClusterFailed
 from .counts import counted
 from .folders import absolute, is_gone, join, reason
 from .kept_options import KEEPS_TO, keep
 from .lock import Busy, Lock
 from .part import Part, keep_part
 from .pack_state import MOST_BROKEN, broken
-from .pool import MAIN, NoWorkers, Pool
+from .pool import MAIN, ClusterFailed, NoWorkers, Pool
 from .progress import Counting, Progress
-from .remote import alike
-from .rows import Answered, Chunk, File, FolderFiles, Piece
+from .rows import Answered, Chunk, File, FolderFiles, Piece, WorkerOptions
 from .schemas import INDICES
 from .search import Scope, Search, apart
 from .stopping import Stopping
 from .store import StoreFailed, fold, keep_log, keep_private, open_to_write
 from .walk import hidden
-from .worker import WorkerOptions
 from .writer import Terms, Writer
+
+if TYPE_CHECKING:
+    from .cluster import Cluster
 
 # A worker that is silent for so long, beside the time of two answers, hangs.
 PATIENCE = 60.0
@@ -125,7 +124,7 @@ def scanned(options: ScanOptions) -> "Union[ScanRun, int]":
     except (OSError, ValueError) as error:
         tell("%s: %s" % (shown(options.how.program), reason(error) if isinstance(error, OSError) else error))
         return FAILED
-    cluster: Optional[Cluster] = None
+    cluster: "Optional[Cluster]" = None
     try:
         roots = apart(map(absolute, options.folders))
         lacking = missing(roots)
@@ -134,6 +133,8 @@ def scanned(options: ScanOptions) -> "Union[ScanRun, int]":
                 tell(f"{shown(os.fsdecode(root))}: {why}")
             return SOME_LACK  # (a store of nothing is of no use)
         if options.on is not None:
+            from .cluster import Cluster  # (what few scans need, the others don't wait for)
+            from .remote import alike
             cluster = Cluster(options.on, options.how, alike(terms.program_hash, roots))
         with Stopping() as stopping, Lock(options.store):
             run = _scan_or_stop(options, terms, stopping, roots, cluster)
@@ -169,7 +170,7 @@ def _not_there(root: bytes) -> Optional[str]:
 
 
 def _scan_or_stop(options: ScanOptions, terms: Terms, stopping: Stopping, roots: List[bytes],
-                  cluster: Optional[Cluster]) -> Optional["ScanRun"]:
+                  cluster: "Optional[Cluster]") -> Optional["ScanRun"]:
     """One scan; nothing where a signal ended what SQLite was at."""
     try:
         return _scan(options, terms, stopping, roots, cluster)
@@ -181,7 +182,7 @@ def _scan_or_stop(options: ScanOptions, terms: Terms, stopping: Stopping, roots:
 
 
 def _scan(options: ScanOptions, terms: Terms, stopping: Stopping, roots: List[bytes],
-          cluster: Optional[Cluster]) -> "ScanRun":
+          cluster: "Optional[Cluster]") -> "ScanRun":
     connection = open_to_write(options.store)
     try:
         keep_part(connection, options.store, options.part, roots)
@@ -238,6 +239,7 @@ class ScanRun:
         self.options, self.writer, self.progress, self.stopping = options, writer, progress, stopping
         scope = Scope(options.how.wanted, hidden(options.store), min(options.how.most, MOST_PAGE), options.part)
         if options.on is not None:
+            from .cluster import MOST_FILES, MOST_NAMES
             scope = scope._replace(files=MOST_FILES, names=MOST_NAMES)
         self.search = Search(writer, scope, self._complain)
         self.found = 0
@@ -245,7 +247,7 @@ class ScanRun:
         self.status = COMPLETE
         self.line = ""
 
-    def scan(self, roots: List[bytes], cluster: Optional[Cluster]) -> None:
+    def scan(self, roots: List[bytes], cluster: "Optional[Cluster]") -> None:
         """Scans, on processes of this machine if there is no cluster."""
         beside = self.options.beside
         self._work(cluster or self._pool(beside.first if beside else ()), self.search.chunks(roots))
@@ -267,7 +269,7 @@ class ScanRun:
         module = self.options.beside.module if self.options.beside else MAIN
         return Pool(self.options.processes, first, PATIENCE + 2 * self.options.how.seconds, module)
 
-    def _work(self, workers: Union[Pool, Cluster], chunks: Iterator[Chunk]) -> None:
+    def _work(self, workers: "Union[Pool, Cluster]", chunks: Iterator[Chunk]) -> None:
         """Takes what workers find in the files of these chunks, until it is to stop."""
         try:
             for piece in workers.run(chunks):
@@ -299,6 +301,7 @@ class ScanRun:
         options, connection = self.options, self.writer.connection
         for table in CANON_TABLES if self.line else ():
             if getattr(options.how.wanted, table.option) and self.stopping.number is None:
+                from .canon_pass import CanonPass
                 table.make(connection)
                 values = CanonPass(table, connection, options.store, options.how, options.processes)
                 self.status = max(self.status, values.run(self.stopping))

@@ -4,8 +4,8 @@ import sqlite3
 import stat
 from typing import Callable, Iterable, Iterator, List, NamedTuple, Optional, Tuple
 
+from ..packs.member import NO_FILE
 from ..packs.naming import inside, is_pack, pack_of
-from ..packs.reading import NO_FILE
 from .file_reader import Marks, marks
 from .folders import FolderIdentity, identity_of, is_within, join, opened, reason
 from .kinds import checked

@@ -1,24 +1,34 @@
 """The commands look, cures and split on the files of a store: what they do for single pages."""
 import os
 import sqlite3
+from argparse import Namespace
 from dataclasses import dataclass, field
-from typing import Callable, Iterator, List, NamedTuple, Optional, Sequence
+from typing import TYPE_CHECKING, Callable, Iterator, List, NamedTuple, Optional, Sequence, Type
 
+from naplps.client import Client
 from naplps.names import shown
 
-from ..new_files import NotWritten, make_folders
+from ..console import NotWritten
+from ..new_files import make_folders
 from ..packs.naming import pack_of
 from ..page_session import Session
 from ..sheet import MOST_PAGES
 from ..source import Page, Unread
+from .equal_over import most_budget
 from .folders import is_within
 from .kinds import checked
 from .page_reader import Otherwise, read
 from .places import Place
 from .printing import numbered
-from .store import kept
+from .store import kept, open_to_read
+from .store_run import run
 from .tables import CAPTURE, REFUSED
 
+if TYPE_CHECKING:
+    from ..earlier import Earlier
+
+# The options that a session of the files of a store has.
+OPTIONS = ("json", "into", "past", "png", "sheet", "dots", "animate", "scale", "speed")
 ROOTS = "SELECT path, max(run) FROM roots GROUP BY path ORDER BY path"
 # The files with an answer, in the order of their names.
 FILES = """SELECT p.own, d.path, f.name, f.at, p.place, p.entries, p.looks_like, c.treatments, c.copy FROM present f
@@ -163,3 +173,15 @@ class StoreSession(Session):
         path = self.stored.of(self.current.place) + ending
         make_folders(self.into, path)
         return os.path.join(self.into, path)
+
+
+def on_files(given: Namespace, client: Client, after: "Optional[Earlier]", work: Callable[[Session], int],
+             which: str, kind: Type[StoreSession] = StoreSession) -> int:
+    """Runs a command on those files of a store whose pages have such an answer; the status."""
+    def on_store() -> int:
+        connection = open_to_read(given.pages[0])
+        client.budget = most_budget(given.pages)
+        options = {name: getattr(given, name) for name in OPTIONS if name in given}
+        return work(kind(client, given.pages, **options, after=after, files=files(connection, which),
+                         stored=Names(connection)))
+    return run(given.pages[0], on_store)

@@ -4,9 +4,7 @@ from typing import Iterable, List, Tuple
 
 from naplps.answers import Answer, Unanswered
 from naplps.limits import MOST_LISTED
-from naplps.screen_text import lines_of
 
-from ..page_words import MOST_TEXT, first_words
 from . import word_index
 from .rows import PageText
 
@@ -18,6 +16,8 @@ TEXT = """INSERT OR REPLACE INTO texts(page, terms, source, text, first, why) VA
 
 def said(source: int, answer: Answer) -> PageText:
     """The text that an answer to `list` or `places` has."""
+    from naplps.screen_text import lines_of  # (who writes rows alone doesn't wait for it)
+    from ..page_words import MOST_TEXT, first_words
     if isinstance(answer, Unanswered):
         return PageText(source, why=answer.reason)
     if answer.body.count(b"\n") > MOST_LISTED:

@@ -5,13 +5,12 @@ from typing import Callable, Dict, Iterable, Iterator, List, NamedTuple, Optiona
 
 from naplps.answers import Accepted, Answer, HashedAnswer, Refusal, Unanswered
 from naplps.client import Client
-from naplps.limits import MOST_LISTED, MOST_PAGE, Limits
+from naplps.limits import MODEST, MOST_LISTED, MOST_PAGE, Limits
 from naplps.treating.borders import clears_again, pages_in
 from naplps.treating.search import Cure, TreatmentSearch
 
 from .. import file_kinds
 from ..census import stop_of
-from ..listing import MODEST
 from ..notes import is_note
 from ..packs.member import PackLimits
 from ..packs.naming import pack_of
@@ -20,11 +19,11 @@ from . import tables, texts
 from .file_reader import OTHER, Seen, change, look
 from .folders import Replaced, is_gone, opened_again, reason
 from .pack_reader import REPLACED, PackScan
-from .rows import Answered, AskAgain, Chunk, Cured, File, FolderFiles, PageText, Piece
+from .rows import MOST_AHEAD, Answered, Chunk, Cured, File, FolderFiles, PageText, Piece, WorkerOptions
 from .tables import CHANGED, UNREADABLE, VANISHED
 
-# The number of requests that are written ahead, and of their bytes.
-MOST_AHEAD, MOST_BYTES = 64, 1 << 20
+# The number of bytes of requests that are written ahead.
+MOST_BYTES = 1 << 20
 # The number of latest answers that are remembered.
 MOST_REMEMBERED = 4096
 TOO_LONG_TO_CURE = "it is too long for treatments"
@@ -34,16 +33,6 @@ NUMBERS = {name: number for number, name in enumerate(tables.KINDS)}
 SHIFT_OUT, ESCAPE = 0x0E, 0x1B
 # Tells which of these hashes need no question.
 Knows = Callable[[List[bytes]], Set[bytes]]
-
-
-class WorkerOptions(NamedTuple):
-    """How pages are asked about."""
-
-    program: str
-    budget: int
-    seconds: float
-    most: int
-    wanted: AskAgain = AskAgain()
 
 
 class Described(NamedTuple):

@@ -8,15 +8,13 @@ from types import FrameType
 from typing import Any, Callable, Iterator, Optional, Protocol, Sequence
 
 from .known_hashes import KnownHashes
-from .rows import Chunk, Piece, plain
+from .rows import ALIVE, DONE, FAILED, Chunk, Piece, plain
 from .worker import Worker
 
 # A worker that needs more memory than this is at fault.
 MOST_MEMORY = 1 << 30
 # It shows that it is at work so often, in seconds, while it has nothing to send.
 BEAT = 1.0
-# What it sends beside pieces.
-DONE, ALIVE, FAILED = "done", "alive", "failed"
 
 
 class PieceMaker(Protocol):

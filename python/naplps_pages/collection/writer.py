@@ -7,8 +7,8 @@ from typing import Dict, Iterable, Iterator, List, NamedTuple, Optional, Set, Tu
 from naplps.version import VERSION
 
 from .. import TOOL
+from ..packs.member import SEVERAL
 from ..packs.naming import pack_of
-from ..packs.reading import SEVERAL
 from . import texts, word_index
 from .folders import is_within, join
 from .rows import Answered, File, Piece

@@ -7,6 +7,8 @@ from .naming import is_pack
 NESTED = "a pack in a pack isn't opened"
 CUT = "the pack is cut or damaged amid it"
 OUTSIDE = "it begins outside of the pack"
+SEVERAL = "the pack has several members of this name"
+NO_FILE = "it is no regular file"
 
 
 class Damage(Exception):

@@ -5,9 +5,11 @@ from collections import OrderedDict
 from dataclasses import dataclass
 from typing import IO, Dict, Optional, Tuple, Union
 
+from naplps.limits import MOST_PAGE
+
 from ..collection.folders import FolderIdentity, opened, opened_again, reason
 from ..collection.tables import READ
-from .member import Damage, Member, PackLimits
+from .member import NO_FILE, SEVERAL, Damage, Member, PackLimits
 from .naming import ZIP
 from .tars import Tar
 from .zips import Zip
@@ -18,8 +20,6 @@ BUFFER = 1 << 16
 # The number of packs that are held open.
 MOST_OPEN = 4
 NO_MEMBER = "the pack has no such member"
-SEVERAL = "the pack has several members of this name"
-NO_FILE = "it is no regular file"
 
 
 def open_file(path: bytes, identity: Optional[FolderIdentity] = None, elsewhere: bool = False) -> IO[bytes]:
@@ -128,3 +128,7 @@ class Packs:
 
 def _marks(status: os.stat_result) -> Tuple[int, ...]:
     return status.st_dev, status.st_ino, status.st_size, status.st_mtime_ns, status.st_ctime_ns
+
+
+# Those of which pages are read.
+PACKS = Packs(MOST_PAGE)

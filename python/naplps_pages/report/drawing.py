@@ -5,7 +5,7 @@ from typing import Dict, List, NamedTuple, Optional
 from naplps.answers import Accepted, Refusal, Unanswered, read_line
 from naplps.client import Client
 from naplps.limits import MOST_LISTED
-from naplps.reading import NotALine
+from naplps.faults import NotALine
 from naplps.screen_text import lines_of
 from naplps.treating.search import find
 from naplps.treating.treatments import graded

@@ -8,7 +8,8 @@ from typing import List, NamedTuple, Tuple
 
 from ..collection import tables
 from ..collection.progress import Progress
-from ..new_files import NotWritten, put, replace
+from ..console import NotWritten
+from ..new_files import put, replace
 from . import groups, sketch_choice
 from .block_queue import BlockQueue, Room
 from .blocks import Block, DrawnBlock

@@ -9,9 +9,9 @@ from types import FrameType
 from typing import Callable, NamedTuple, Optional, Union
 
 from naplps.client import Client
+from naplps.limits import MODEST
 
 from .. import interpreter
-from ..listing import MODEST
 from .blocks import Block, draw_block
 from .drawing import Drawing, DrawingLimits, WantedDrawing, draw
 
