@@ -137,8 +137,8 @@ class Suite:
 OF_SOURCES = (
     "scripts/prove/test-wrong-bodies", "scripts/prove/test-citations", "scripts/prove/test-repeated-clauses",
     "scripts/prove/test-headline", "scripts/prove/test-plain-words", "scripts/prove/test-promises",
-    "scripts/test/test-counts", "scripts/test/test-stands-alone", "scripts/test/test-launcher",
-    "scripts/shared/test-scripts",
+    "scripts/test/test-counts", "scripts/test/test-stands-alone", "scripts/test/test-public-names",
+    "scripts/test/test-launcher", "scripts/shared/test-scripts",
 )
 NO_PARTS = ("scripts/packages/test-kept", "scripts/vectors/test-rows")
 # The words of those of which a part alone is a part.

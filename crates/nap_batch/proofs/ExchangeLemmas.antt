@@ -1,4 +1,4 @@
-use Rattle.std.proofs.Common.{ℕ, ◌+◌, ◌≡◌, List, [], ◌++◌, Result, Ok, Err, take, drop, refl, sym, subst, ◌∙◌, inr}
+use Rattle.std.proofs.Common.{ℕ, ◌+◌, ◌≡◌, List, [], ◌++◌, Result, Ok, Err, take, drop, refl, sym, subst, ◌∙◌, inr, append-nil}
 use Rattle.std.specs.Io.KnownBytes.{Consumes}
 use Rattle.std.proofs.KnownBytes.{Appends-nil}
 use Rattle.std.proofs.lemmas.List.{take-append-drop}
@@ -8,6 +8,7 @@ use Rattle.nap_list.specs.Reading.{reading}
 use Rattle.nap_batch.specs.declared.request.RequestLine.{RequestLine}
 use Rattle.nap_batch.specs.declared.service.Ended.{Ended}
 use Rattle.nap_batch.specs.declared.service.Ended.TheVariants as ended
+use Rattle.nap_batch.specs.Buffering.{Buffered, KeepsWithin}
 use Rattle.nap_batch.specs.Requests.{IsRequest, IsWhole}
 use Rattle.nap_batch.specs.Sessions.{Exchange, IsAnswered, IsExchange, IsExchanged, Pipes, Sends, StopsIn, no_memory, pipes, reading_of}
 use Rattle.nap_batch.specs.Waiting.{IsAsked, StopsBy}
@@ -17,21 +18,22 @@ use Rattle.nap_batch.proofs.SessionLemmas.{stops_alike}
 -- A request and its answer, or why there is none.
 
 -- A request was read, after buffered bytes, and answered.
-module _ {I O : Type 0} (i : inlet.Ghosts I) (o : outlet.Ghosts O) (written : ℕ) (old new bytes : List ℕ) (input rest : I) (output done : O) where
+module _ {I O : Type 0} (i : inlet.Ghosts I) (o : outlet.Ghosts O) (written : ℕ) (old new : Buffered) (bytes : List ℕ) (input rest : I) (output done : O) where
   abbrev before : Pipes
   before = pipes i o input output
 
   abbrev after : Pipes
   after = pipes i o rest done
 
-  pub answered : Consumes (i.left input) (i.left rest) bytes → i.failed rest ≡ i.failed input → (x : Exchange) → IsExchange x → old ++ bytes ≡ x.asked ++ new →
-      (result : Result ℕ Ended) → Sends o written x.answered output done result → IsExchanged written old new before after result
-  answered read works x is parts (Ok n) (sent, count, output_works, flushed, once) = record {
+  pub answered : Consumes (i.left input) (i.left rest) bytes → i.failed rest ≡ i.failed input → (x : Exchange) → IsExchange x → old.bytes ++ bytes ≡ x.asked ++ new.bytes →
+      KeepsWithin (old.bytes ++ bytes) old.memory new.memory → (result : Result ℕ Ended) → Sends o written x.answered output done result → IsExchanged written old new before after result
+  answered read works x is parts within (Ok n) (sent, count, output_works, flushed, once) = record {
     exchange = x;
     is_exchange = is;
     bytes = bytes;
     read = read;
     parts = parts;
+    keeps = within [] x.asked new.bytes x.question x.budget x.page is.request (append-nil (old.bytes ++ bytes) ∙ parts);
     sent = sent;
     count = count;
     input_works = works;
@@ -39,16 +41,16 @@ module _ {I O : Type 0} (i : inlet.Ghosts I) (o : outlet.Ghosts O) (written : �
     flushed = flushed;
     once = once;
   }
-  answered read works x is parts (Err (ended.Write n)) (part, sent, front, count, failed, flushes) = record {
+  answered read works x is parts within (Err (ended.Write n)) (part, sent, front, count, failed, flushes) = record {
     bytes = bytes;
     part = part;
     read = read;
     sent = sent;
-    stops = (x, new, is, parts, front, count, failed, works, flushes);
+    stops = (x, new.bytes, is, parts, front, count, failed, works, flushes);
     flushed = λ _ good. cc;
     none_more = λ good. cc;
   }
-  answered read works x is parts (Err _) h = absurd h
+  answered read works x is parts within (Err _) h = absurd h
 
 -- no request was read
 pub stops_in : (written : ℕ) (rest : List ℕ) (before after : Pipes) (end : Ended) → StopsBy (reading_of before after) rest end → after.output_failed ≡ before.output_failed →
@@ -57,16 +59,16 @@ stops_in written rest _ _ (ended.Write n) h works = absurd h
 stops_in written rest _ _ _ h works = (refl, h, works)
 
 -- No request was read.
-module _ {I O : Type 0} (i : inlet.Ghosts I) (o : outlet.Ghosts O) (written : ℕ) (old new bytes : List ℕ) (input rest : I) (output : O) where
-  pub unasked : Consumes (i.left input) (i.left rest) bytes → (end : Ended) → StopsBy (reading i input rest) (old ++ bytes) end →
+module _ {I O : Type 0} (i : inlet.Ghosts I) (o : outlet.Ghosts O) (written : ℕ) (old new : Buffered) (bytes : List ℕ) (input rest : I) (output : O) where
+  pub unasked : Consumes (i.left input) (i.left rest) bytes → (end : Ended) → StopsBy (reading i input rest) (old.bytes ++ bytes) end →
       IsExchanged written old new (pipes i o input output) (pipes i o rest output) (Err end)
   unasked read end stops = record {
     bytes = bytes;
     part = [];
     read = read;
     sent = Appends-nil (o.taken output);
-    stops = stops_in written (old ++ bytes) (pipes i o input output) (pipes i o rest output) end
-        (stops_alike (reading i input rest) (reading_of (pipes i o input output) (pipes i o rest output)) (old ++ bytes) end refl refl refl stops) refl;
+    stops = stops_in written (old.bytes ++ bytes) (pipes i o input output) (pipes i o rest output) end
+        (stops_alike (reading i input rest) (reading_of (pipes i o input output) (pipes i o rest output)) (old.bytes ++ bytes) end refl refl refl stops) refl;
     flushed = λ was _. was;
     none_more = λ _. refl;
   }

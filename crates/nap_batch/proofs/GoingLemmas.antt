@@ -6,6 +6,7 @@ use Rattle.std.proofs.lemmas.List.Elements.{All-nil}
 use Rattle.nap_list.specs.Flushing.{flush_count}
 use Rattle.nap_batch.specs.declared.service.Ended.{Ended}
 use Rattle.nap_batch.specs.declared.service.Ended.TheVariants as ended
+use Rattle.nap_batch.specs.Buffering.{Buffered}
 use Rattle.nap_batch.specs.Limits.{requests_limit}
 use Rattle.nap_batch.specs.Sessions.{Answers, Exchange, FlushedTimes, IsExchange, Pipes, Session, Stops, StopsIn, flushed_once, flushes_of}
 use Rattle.nap_batch.proofs.SessionLemmas.{answered_more, count_more, each_more, ends_after, read_on}
@@ -67,7 +68,7 @@ starts p = record {
 }
 
 -- one more request was answered
-pub one_more_answered : (before mid after : Pipes) (buffered new : List ℕ) (written m n : ℕ) → Going before mid buffered written n → Answers written buffered new mid after m → Going before after new m (n + 1)
+pub one_more_answered : (before mid after : Pipes) (buffered new : Buffered) (written m n : ℕ) → Going before mid buffered.bytes written n → Answers written buffered new mid after m → Going before after new.bytes m (n + 1)
 one_more_answered before mid after buffered new written m n h k =
     let x = k.exchange in
     let out = flat_map (λ (y : Exchange). y.answered) h.xs in
@@ -75,7 +76,7 @@ one_more_answered before mid after buffered new written m n h k =
     record {
       xs = h.xs ++ x ∷ [];
       each = each_more h.xs x h.each k.is_exchange;
-      read = subst (Consumes before.left after.left) (read_on h.xs x buffered new k.bytes k.parts) (Consumes-trans before.left mid.left after.left (asked ++ buffered) k.bytes h.read k.read);
+      read = subst (Consumes before.left after.left) (read_on h.xs x buffered.bytes new.bytes k.bytes k.parts) (Consumes-trans before.left mid.left after.left (asked ++ buffered.bytes) k.bytes h.read k.read);
       sent = subst (Appends before.taken after.taken) (answered_more h.xs x) (Appends-trans before.taken mid.taken after.taken out x.answered h.sent k.sent);
       count = subst (λ (text : List ℕ). m ≡ min (length text) (2 ^ 64 - 1)) (answered_more h.xs x) (count_more out x.answered written m h.count k.count);
       requests = length-append h.xs (x ∷ []) ∙ ap (λ (i : ℕ). i + 1) h.requests;
@@ -125,7 +126,7 @@ ends_unbegun p = record {
   part = [];
   read = Consumes-nil p.left;
   sent = Appends-nil p.taken;
-  ends = (refl, (record { none = All-nil (λ b. b ≢ 10); few = omega arith }, refl), refl);
+  ends = (refl, refl, refl, refl);
   flushed = λ some works. absurd (some refl);
   each_flushed = λ _. no_times p.flushes;
 }

@@ -5,9 +5,11 @@ mod LineLemmas
 pub mod WriteLemmas
 mod AnswerLemmas
 mod SessionLemmas
+mod MemoryLemmas
 mod WaitLemmas
 mod SendLemmas
 mod ExchangeLemmas
 mod GoingLemmas
 mod ReportLemmas
 mod LawLemmas
+mod PlacingLemmas

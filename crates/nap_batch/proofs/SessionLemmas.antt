@@ -19,8 +19,7 @@ stops_alike a b rest ended.Request left failed before (inl never, none) = (inl n
 stops_alike a b rest ended.Request left failed before (inr end, none) = (inr (end.0, end.1, rw left end.2), failed ∙ none ∙ sym before)
 stops_alike a b rest ended.Read left failed before (none, inl bad) = (none, inl (failed ∙ bad))
 stops_alike a b rest ended.Read left failed before (none, inr often) = (none, inr (often.0, failed ∙ often.1 ∙ sym before))
-stops_alike a b rest ended.Memory left failed before h = (h.0, failed ∙ h.1 ∙ sym before)
-stops_alike a b rest (ended.Write n) left failed before h = absurd h
+stops_alike a b rest _ left failed before h = absurd h
 
 -- the input ended before these bytes
 pub ends_there : (seen : Reading) (rest : List ℕ) → IsBegun rest → IsAtEnd seen.left → NoneFailed seen → StopsBy seen rest (end_of rest)
@@ -60,5 +59,6 @@ ends_after before mid after xs rest part written (ended.Write n) input output co
     (x, following, is, parts, prefix, count_more (flat_map (λ x. x.answered) xs) part written n count number, failed, works ∙ input)
 ends_after before mid after xs rest part written ended.Request input output count (none, stops, works) =
     (none, inl (stops_alike (reading_of mid after) (reading_of before after) rest ended.Request refl refl (sym input) stops), works ∙ output)
+ends_after before mid after xs rest part written ended.Memory input output count h = absurd h.1
 ends_after before mid after xs rest part written end input output count h =
     (h.0, stops_alike (reading_of mid after) (reading_of before after) rest end refl refl (sym input) h.1, h.2 ∙ output)

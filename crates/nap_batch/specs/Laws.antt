@@ -1,8 +1,8 @@
-use Rattle.std.specs.Prelude.{ℕ, ◌≡◌, ◌≢◌, ◌⊎◌, List, [], ◌∷◌, ◌++◌, length}
+use Rattle.std.specs.Prelude.{ℕ, ◌≡◌, ◌≢◌, ◌⊎◌, ◌<◌, ◌≤◌, List, [], ◌∷◌, ◌++◌, All, length, take, drop}
 use Rattle.nap_list.specs.declared.entry.Entry.{Entry}
 use Rattle.nap_reader.specs.declared.fault.Fault.TheVariants as fault
 use Rattle.nap_reader.specs.declared.fault.Refusal.{Refusal}
-use Rattle.nap_reader.specs.Stream.{means}
+use Rattle.nap_reader.specs.Stream.{begun, means}
 use Rattle.nap_command.specs.declared.answer.Verdict.{Verdict}
 use Rattle.nap_command.specs.declared.answer.Verdict.TheVariants as verdict
 use Rattle.nap_command.specs.declared.command.Action.{Action}
@@ -58,7 +58,27 @@ lines_placed [] entries = []
 lines_placed (n ∷ ns) [] = []
 lines_placed (n ∷ ns) (e ∷ es) = line_at n e ++ lines_placed ns es
 
--- The places without their numbers are the lines that `list` prints.
-abbrev pub PlacesAreLines : Type 0
-PlacesAreLines = (budget : ℕ) (p : List ℕ) →
-    (at : List ℕ) × (length at ≡ length (means budget p).entries) × (places budget p ≡ lines_placed at (means budget p).entries)
+-- each number is at least those before it
+abbrev pub NeverFalls : List ℕ → Type 0
+NeverFalls [] = Unit {0}
+NeverFalls (n ∷ ns) = All (λ m. n ≤ m) ns × NeverFalls ns
+
+-- The number n parts places as the first n bytes part the entries: those that they give have places before n, and the
+-- others have not.
+pub record PartsAt (budget : ℕ) (p at : List ℕ) (n : ℕ) : Type 0 where
+  pub before : All (λ a. a < n) (take (length (begun budget (take n p)).entries) at)
+  pub after : All (λ a. n ≤ a) (drop (length (begun budget (take n p)).entries) at)
+
+-- The places of the entries of a page.
+pub record ArePlaces (budget : ℕ) (p at : List ℕ) : Type 0 where
+  -- one for each entry
+  pub each : length at ≡ length (means budget p).entries
+  -- The places without their numbers are the lines that `list` prints.
+  pub lines_are : places budget p ≡ lines_placed at (means budget p).entries
+  pub rise : NeverFalls at
+  pub inside : All (λ a. a ≤ length p) at
+  -- Each entry came with the byte at its place, or at the end.
+  pub exact : (n : ℕ) → n ≤ length p → PartsAt budget p at n
+
+abbrev pub PlacesAreExact : Type 0
+PlacesAreExact = (budget : ℕ) (p : List ℕ) → (at : List ℕ) × ArePlaces budget p at

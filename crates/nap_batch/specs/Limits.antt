@@ -17,3 +17,7 @@ page_limit = 16777216
 -- the greatest number of requests of one run
 abbrev pub requests_limit : ℕ
 requests_limit = 4398046511104
+
+-- the greatest number of bytes of one read
+abbrev pub read_limit : ℕ
+read_limit = 65536

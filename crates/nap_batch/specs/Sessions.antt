@@ -1,4 +1,4 @@
-use Rattle.std.specs.Prelude.{ℕ, ◌≡◌, ◌≢◌, ◌⊎◌, ◌+◌, ◌-◌, ◌^◌, Bool, true, false, List, [], ◌∷◌, ◌++◌, Option, Result, Ok, Err, All, codes, flat_map, length, min, take}
+use Rattle.std.specs.Prelude.{ℕ, ◌≡◌, ◌≢◌, ◌⊎◌, ◌≤◌, ◌+◌, ◌-◌, ◌^◌, Bool, true, false, List, [], ◌∷◌, ◌++◌, Option, Result, Ok, Err, All, codes, flat_map, length, max, min, take}
 use Rattle.std.specs.Io.KnownBytes.{Appends, Consumes}
 use Rattle.nap_list.specs.declared.device.inlet.Inlet as inlet
 use Rattle.nap_list.specs.declared.device.outlet.Outlet as outlet
@@ -11,7 +11,8 @@ use Rattle.nap_batch.specs.declared.request.Question.{Question}
 use Rattle.nap_batch.specs.declared.service.Ended.{Ended}
 use Rattle.nap_batch.specs.declared.service.Ended.TheVariants as ended
 use Rattle.nap_batch.specs.Answers.{IsAnswer, answer_text}
-use Rattle.nap_batch.specs.Limits.{requests_limit}
+use Rattle.nap_batch.specs.Buffering.{Buffered}
+use Rattle.nap_batch.specs.Limits.{read_limit, requests_limit}
 use Rattle.nap_batch.specs.Requests.{IsRequest}
 use Rattle.nap_batch.specs.Waiting.{StopsBy}
 
@@ -111,7 +112,8 @@ abbrev pub reading_of : Pipes → Pipes → Reading
 reading_of before after = record { left = after.left; failed_before = before.input_failed; failed = after.input_failed; reads = after.reads - before.reads }
 
 -- How a run ends, with these bytes after the last answered request, and these after its answer: reading ended, there
--- were as many requests as allowed, or a write failed during an answer.
+-- were as many requests as allowed, a write failed during an answer, or there was no memory before anything was read or
+-- written.
 abbrev pub EndsBy : Pipes → Pipes → List Exchange → List ℕ → List ℕ → Ended → Type 0
 EndsBy before after xs rest part (ended.Write n) =
     (x : Exchange) × (following : List ℕ) × IsExchange x × (rest ≡ x.asked ++ following) × (take (length part) x.answered ≡ part)
@@ -119,6 +121,7 @@ EndsBy before after xs rest part (ended.Write n) =
 EndsBy before after xs rest part ended.Request =
     (part ≡ []) × (StopsBy (reading_of before after) rest ended.Request ⊎ ((length xs ≡ requests_limit) × (after.input_failed ≡ before.input_failed)))
     × (after.output_failed ≡ before.output_failed)
+EndsBy before after xs rest part ended.Memory = (xs ≡ []) × (rest ≡ []) × (part ≡ []) × (after ≡ before)
 EndsBy before after xs rest part end = (part ≡ []) × StopsBy (reading_of before after) rest end × (after.output_failed ≡ before.output_failed)
 
 -- an output was flushed n times more, saturating at 2^64 - 1
@@ -143,13 +146,15 @@ pub record Session (before after : Pipes) (end : Ended) : Type 0 where
   pub flushed : exchanges ≢ [] → after.output_failed ≡ false → after.sent ≡ true
   pub each_flushed : before.output_failed ≡ false → FlushedTimes (flushes_of end after.write_failed (length exchanges)) before.flushes after.flushes
 
--- One request was answered: the buffer held old before and holds new now, and the output took n bytes in all.
-pub record Answers (written : ℕ) (old new : List ℕ) (before after : Pipes) (n : ℕ) : Type 0 where
+-- One request was answered: the buffer was old before and is new now, and the output took n bytes in all. The buffer has
+-- memory for the request and one read, and for more only if it had it before.
+pub record Answers (written : ℕ) (old new : Buffered) (before after : Pipes) (n : ℕ) : Type 0 where
   pub exchange : Exchange
   pub is_exchange : IsExchange exchange
   pub bytes : List ℕ
   pub read : Consumes before.left after.left bytes
-  pub parts : old ++ bytes ≡ exchange.asked ++ new
+  pub parts : old.bytes ++ bytes ≡ exchange.asked ++ new.bytes
+  pub keeps : new.memory ≤ max old.memory (length exchange.asked + read_limit)
   pub sent : Appends before.taken after.taken exchange.answered
   pub count : n ≡ count_on written (length exchange.answered)
   pub input_works : after.input_failed ≡ before.input_failed
@@ -175,9 +180,9 @@ pub record Stops (written : ℕ) (old : List ℕ) (before after : Pipes) (end : 
   pub flushed : before.sent ≡ true → after.output_failed ≡ false → after.sent ≡ true
   pub none_more : after.output_failed ≡ false → after.flushes ≡ before.flushes
 
-abbrev pub IsExchanged : ℕ → List ℕ → List ℕ → Pipes → Pipes → Result ℕ Ended → Type 0
+abbrev pub IsExchanged : ℕ → Buffered → Buffered → Pipes → Pipes → Result ℕ Ended → Type 0
 IsExchanged written old new before after (Ok n) = Answers written old new before after n
-IsExchanged written old new before after (Err end) = Stops written old before after end
+IsExchanged written old new before after (Err end) = Stops written old.bytes before after end
 
 -- what standard error reports of how a run ended
 abbrev pub ended_text : Ended → List ℕ

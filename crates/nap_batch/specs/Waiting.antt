@@ -1,4 +1,4 @@
-use Rattle.std.specs.Prelude.{ℕ, ◌≡◌, ◌≢◌, ◌⊎◌, ◌<◌, ◌≤◌, true, List, [], ◌∷◌, ◌++◌, Result, Ok, Err, length}
+use Rattle.std.specs.Prelude.{ℕ, ◌≡◌, ◌≢◌, ◌⊎◌, ◌+◌, ◌<◌, ◌≤◌, true, List, [], ◌∷◌, ◌++◌, Result, Ok, Err, length}
 use Rattle.std.specs.Io.KnownBytes.{Consumes, IsAtEnd, Keeps}
 use Rattle.nap_list.specs.declared.device.inlet.Inlet as inlet
 use Rattle.nap_list.specs.declared.device.DeviceFault.{DeviceFault}
@@ -13,7 +13,9 @@ use Rattle.nap_batch.specs.declared.waiting.FoundRequest.{FoundRequest}
 use Rattle.nap_batch.specs.declared.waiting.FoundRequest.TheVariants as found
 use Rattle.nap_batch.specs.declared.waiting.ReadStep.{ReadStep}
 use Rattle.nap_batch.specs.declared.waiting.ReadStep.TheVariants as step
-use Rattle.nap_batch.specs.Requests.{IsBegun, IsOpen, IsRequest, IsWhole, NeverStarts}
+use Rattle.nap_batch.specs.Buffering.{Buffered, KeepsWithin}
+use Rattle.nap_batch.specs.Limits.{read_limit}
+use Rattle.nap_batch.specs.Requests.{IsBegun, IsRequest, IsWhole, NeverStarts}
 
 -- Reading of the bytes of requests.
 
@@ -52,28 +54,34 @@ end_of [] = ended.Done
 end_of (b ∷ bytes) = ended.Request
 
 -- How reading ends, with these bytes after the last request: the input ended between two requests, the bytes are no
--- request or an incomplete one at the end, the input was cut off, or memory ran out for a line.
+-- request or an incomplete one at the end, or the input was cut off. Memory never runs out for a line.
 abbrev pub StopsBy : Reading → List ℕ → Ended → Type 0
 StopsBy seen rest ended.Done = (rest ≡ []) × IsAtEnd seen.left × NoneFailed seen
 StopsBy seen rest ended.Request = (NeverStarts rest ⊎ ((rest ≢ []) × IsBegun rest × IsAtEnd seen.left)) × NoneFailed seen
 StopsBy seen rest ended.Read = IsBegun rest × ((seen.failed ≡ true) ⊎ ((reads_limit ≤ length rest) × NoneFailed seen))
-StopsBy seen rest ended.Memory = IsOpen rest × NoneFailed seen
-StopsBy seen rest (ended.Write n) = ⊥
+StopsBy seen rest _ = ⊥
 
 -- the bytes are a request
 abbrev pub IsAsked : List ℕ → Type 0
 IsAsked bytes = (q : Question) × (budget : ℕ) × (page : List ℕ) × IsRequest bytes q budget page
 
--- one read appended bytes, or read all of a request, which was dropped, or was the end
-abbrev pub Steps : Reading → List ℕ → List ℕ → List ℕ → Result ReadStep Ended → Type 0
-Steps seen old new bytes (Ok step.Longer) = (new ≡ old ++ bytes) × (0 < length bytes) × NoneFailed seen
-Steps seen old new bytes (Ok step.Dropped) = (new ≡ []) × IsAsked (old ++ bytes) × NoneFailed seen
-Steps seen old new bytes (Err end) = StopsBy seen (old ++ bytes) end
+-- these bytes are a request that was dropped, for which the buffer had too little memory
+pub record IsDropped (new : Buffered) (all : List ℕ) : Type 0 where
+  pub empty : new.bytes ≡ []
+  pub asked : IsAsked all
+  pub lacked : new.memory < length all + read_limit
 
-pub record IsStep {I : Type 0} (i : inlet.Ghosts I) (old new : List ℕ) (before after : I) (result : Result ReadStep Ended) : Type 0 where
+-- one read appended bytes, or read all of a request, which was dropped, or was the end
+abbrev pub Steps : Reading → Buffered → Buffered → List ℕ → Result ReadStep Ended → Type 0
+Steps seen old new bytes (Ok step.Longer) = (new.bytes ≡ old.bytes ++ bytes) × (0 < length bytes) × NoneFailed seen
+Steps seen old new bytes (Ok step.Dropped) = IsDropped new (old.bytes ++ bytes) × NoneFailed seen
+Steps seen old new bytes (Err end) = StopsBy seen (old.bytes ++ bytes) end
+
+pub record IsStep {I : Type 0} (i : inlet.Ghosts I) (old new : Buffered) (before after : I) (result : Result ReadStep Ended) : Type 0 where
   pub bytes : List ℕ
   pub read : Consumes (i.left before) (i.left after) bytes
   pub steps : Steps (reading i before after) old new bytes result
+  pub keeps : KeepsWithin (old.bytes ++ bytes) old.memory new.memory
 
 -- what the bytes begin with after the last allowed read
 abbrev pub IsLast : List ℕ → Result FoundRequest Ended → Type 0
@@ -84,12 +92,13 @@ IsLast bytes (Err ended.Read) = IsBegun bytes
 IsLast bytes (Err _) = ⊥
 
 -- of all bytes read, these are in the buffer: they begin with a complete request, or the request was dropped
-abbrev pub Finds : Reading → List ℕ → List ℕ → Result FoundRequest Ended → Type 0
-Finds seen all buffered (Ok (found.Whole line start)) = (buffered ≡ all) × IsWhole all line start × NoneFailed seen
-Finds seen all buffered (Ok found.Dropped) = (buffered ≡ []) × IsAsked all × NoneFailed seen
+abbrev pub Finds : Reading → List ℕ → Buffered → Result FoundRequest Ended → Type 0
+Finds seen all buffered (Ok (found.Whole line start)) = (buffered.bytes ≡ all) × IsWhole all line start × NoneFailed seen
+Finds seen all buffered (Ok found.Dropped) = IsDropped buffered all × NoneFailed seen
 Finds seen all buffered (Err end) = StopsBy seen all end
 
-pub record IsFound {I : Type 0} (i : inlet.Ghosts I) (old new : List ℕ) (before after : I) (result : Result FoundRequest Ended) : Type 0 where
+pub record IsFound {I : Type 0} (i : inlet.Ghosts I) (old new : Buffered) (before after : I) (result : Result FoundRequest Ended) : Type 0 where
   pub bytes : List ℕ
   pub read : Consumes (i.left before) (i.left after) bytes
-  pub finds : Finds (reading i before after) (old ++ bytes) new result
+  pub finds : Finds (reading i before after) (old.bytes ++ bytes) new result
+  pub keeps : KeepsWithin (old.bytes ++ bytes) old.memory new.memory

@@ -1,10 +1,11 @@
 //! Laws about requests and answers. Each is the contract of a function that does nothing.
 ghost use Rattle.std.specs.Prelude.{◌≡◌};
+ghost use Rattle.nap_batch.specs.declared.input_buffer.TheConstants.{READ_SIZE};
 ghost use Rattle.nap_batch.specs.declared.request_front.TheConstants.{LINE_LIMIT};
 ghost use Rattle.nap_batch.specs.declared.request.TheConstants.{DIGITS, PAGE_LIMIT};
 ghost use Rattle.nap_batch.specs.declared.service.TheConstants.{REQUESTS};
-ghost use Rattle.nap_batch.specs.Limits.{digits_limit, line_limit, page_limit, requests_limit};
-ghost use Rattle.nap_batch.specs.Laws.{AnswersAreThoseOfCommands, BegunRequestsAreNone, PlacesAreLines, RequestsAreCutOneWay};
+ghost use Rattle.nap_batch.specs.Limits.{digits_limit, line_limit, page_limit, read_limit, requests_limit};
+ghost use Rattle.nap_batch.specs.Laws.{AnswersAreThoseOfCommands, BegunRequestsAreNone, PlacesAreExact, RequestsAreCutOneWay};
 
 /// Bytes begin with at most one complete request.
 pub fn requests_are_cut_one_way()
@@ -21,15 +22,18 @@ pub fn answers_are_those_of_commands()
     ensures { AnswersAreThoseOfCommands }
 {}
 
-/// The places are the lines of all entries, each after a number and a space.
-pub fn places_are_lines()
-    ensures { PlacesAreLines }
+/// The places are the lines of all entries, each after a number and a space: that of the byte with which the entry came,
+/// or the page's length. They never fall.
+pub fn places_are_exact()
+    ensures { PlacesAreExact }
 {}
 
-/// The constants have the values of the profile: 8 digits, 16,777,216 bytes of a page, and 2^42 requests.
+/// The constants have the values of the profile: 8 digits, 16,777,216 bytes of a page, 65,536 of a read, and 2^42
+/// requests.
 pub fn limits()
     ensures digits { DIGITS ≡ digits_limit }
     ensures line { LINE_LIMIT ≡ line_limit }
     ensures page { PAGE_LIMIT ≡ page_limit }
+    ensures read { READ_SIZE ≡ read_limit }
     ensures requests { REQUESTS ≡ requests_limit }
 {}

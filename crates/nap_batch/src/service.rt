@@ -7,7 +7,7 @@ ghost use Rattle.nap_batch.specs.Sessions.{IsAnswered, IsExchanged, IsHeadSent, 
 
 use crate::answer::answer_page;
 use crate::body::Body;
-use crate::input_buffer::{InputBuffer, READ_SIZE};
+use crate::input_buffer::{InputBuffer, LEAST_MEMORY, READ_SIZE};
 use crate::request::RequestLine;
 use crate::waiting::{FoundRequest, wait};
 use nap_command::{Failure, report, write_whole};
@@ -28,7 +28,7 @@ pub enum Ended {
     Read,
     /// A write failed. The number of bytes that the output had taken, saturating at the greatest `u64`.
     Write(u64),
-    /// Memory ran out for the line of a request.
+    /// Memory ran out before anything was read or written.
     Memory,
 }
 
@@ -116,9 +116,9 @@ fn answer_front<O: Outlet>(
     output: &mut O,
     written: u64,
 ) -> Result<u64, Ended>
-    requires { IsWhole buffer.old line start }
-    ensures buffered { buffer.new ≡ drop (start + line.size) buffer.old }
-    ensures answers { let page = take line.size (drop start buffer.old) in
+    requires { IsWhole buffer.old.bytes line start }
+    ensures buffered { buffer.new ≡ record { bytes = drop (start + line.size) buffer.old.bytes; memory = buffer.old.memory } }
+    ensures answers { let page = take line.size (drop start buffer.old.bytes) in
         Replies O.Outlet written line.question line.budget page output.old output.new result }
 {
     let end = start + line.size as usize;
@@ -154,9 +154,10 @@ fn exchange<I: Inlet, O: Outlet>(
 pub fn serve<I: Inlet, O: Outlet>(alloc: Global, input: &mut I, output: &mut O) -> Ended
     ensures { let seen = pipes I.Inlet O.Outlet in Session (seen input.old output.old) (seen input.new output.new) result }
 {
-    let Ok(mut buffer) = InputBuffer::new(alloc) else {
+    let Ok(memory) = Vec::with_capacity(alloc, LEAST_MEMORY) else {
         return Ended::Memory;
     };
+    let mut buffer = InputBuffer::over(memory);
     let mut scratch = [0; READ_SIZE];
     let mut written = 0;
     for _ in 0..REQUESTS {

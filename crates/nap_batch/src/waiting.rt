@@ -32,7 +32,7 @@ pub(crate) enum ReadStep {
 
 /// Returns how the input ends after these bytes.
 fn end_of(buffer: &InputBuffer) -> Ended
-    ensures { result ≡ end_of buffer.now }
+    ensures { result ≡ end_of buffer.now.bytes }
 {
     if buffer.bytes().is_empty() {
         Ended::Done
@@ -50,8 +50,8 @@ fn read_more<I: Inlet>(
     missing: usize,
     most: u64,
 ) -> Result<ReadStep, Ended>
-    requires more { IsMore buffer.old missing }
-    requires most { reads_limit ≤ most + length buffer.old }
+    requires more { IsMore buffer.old.bytes missing }
+    requires most { reads_limit ≤ most + length buffer.old.bytes }
     requires space { length scratch.old ≡ READ_SIZE }
     ensures space { length scratch.new ≡ READ_SIZE }
     ensures steps { IsStep I.Inlet buffer.old buffer.new input.old input.new result }
@@ -60,10 +60,8 @@ fn read_more<I: Inlet>(
         Ok(0) => Err(end_of(buffer)),
         Ok(_) => Ok(ReadStep::Longer),
         Err(Stop::Read) => Err(Ended::Read),
+        // The line of a request fits into the memory of a new buffer, with a read after it.
         Err(Stop::Memory) => {
-            if missing == 0 {
-                return Err(Ended::Memory);
-            }
             buffer.clear();
             skip(input, scratch, missing, most)?;
             Ok(ReadStep::Dropped)

@@ -1,6 +1,7 @@
 mod AnswerLemmas
 mod CheckLemmas
 mod KeptLemmas
+mod LawLemmas
 mod LooseLemmas
 mod MadeLemmas
 mod TextLemmas

@@ -13,7 +13,7 @@ use Rattle.nap_c.specs.Answers.{IsCounted, accepted_answer}
 
 -- a sink that has counted nothing
 abbrev pub uncounted : CountSink
-uncounted = record { count = 0; state = start }
+uncounted = record { count = 0; state = record { state = start } }
 
 -- the number of bytes so far
 abbrev pub fed : Check → ℕ

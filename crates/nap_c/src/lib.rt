@@ -5,6 +5,7 @@ mod answer;
 mod call;
 mod check;
 mod checking;
+pub mod laws;
 mod made;
 mod name;
 mod pieces;

@@ -1,3 +1,4 @@
 pub mod CommandLineLemmas
 pub mod ExplainLemmas
 pub mod OptionLemmas
+pub mod PlainLemmas

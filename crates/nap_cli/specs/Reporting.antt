@@ -30,7 +30,8 @@ begun i start taken = record {
 }
 
 -- The program ran over a writer that is buffered, which has taken the bytes of `sent`, if it tells them: the output of
--- the program took these and the rest. What standard error took is told with their number.
+-- the program took these and the rest. Standard error took a report, which for a write fault has the number of those that
+-- the writer took.
 pub record AnswersBuffered {I : Type 0} (i : inlet.Ghosts I) (words : List (List ℕ)) (start end : I) (before : Devices) (sent : Option (List ℕ)) (count : ℕ)
     (reported reported_after : Option (List ℕ)) (errors_failed : Bool) (status : ℕ) : Type 0 where
   pub after : Devices

@@ -1,12 +1,13 @@
 //! Text that a terminal shows and doesn't act on.
-ghost use Rattle.std.specs.Prelude.{◌≡◌, ◌<◌, true, IfOk};
-ghost use Rattle.nap_cli.specs.Plain.{is_plain, IsPlain};
+ghost use Rattle.std.specs.Prelude.{◌≡◌, ◌++◌, ◌<◌, true, IfOk};
+ghost use Rattle.std.specs.Char.{digit_char};
+ghost use Rattle.nap_cli.specs.Plain.{escape, is_plain, is_printable, shown_text, IsPlain};
 
 use std::alloc::{AllocError, Global};
 
 /// Whether a byte is a printable character of ASCII.
 pub fn is_printable(byte: u8) -> bool
-    ensures { result ≡ true → is_plain byte ≡ true }
+    ensures { result ≡ is_printable byte }
 {
     matches!(byte, b' '..=b'~')
 }
@@ -14,7 +15,8 @@ pub fn is_printable(byte: u8) -> bool
 /// Returns the hexadecimal digit of a number.
 fn digit(number: u8) -> u8
     requires { number < 16 }
-    ensures { is_plain result ≡ true }
+    ensures value { result ≡ digit_char number }
+    ensures plain { is_plain result ≡ true }
 {
     if number < 10 {
         b'0' + number
@@ -25,8 +27,8 @@ fn digit(number: u8) -> u8
 
 /// Appends the escape of a byte.
 fn push_escape(plain: &mut Vec<u8>, byte: u8) -> Result<(), AllocError>
-    requires { IsPlain plain.old.items }
-    ensures { IfOk result (λ done. IsPlain plain.new.items) }
+    ensures value { IfOk result (λ done. plain.new.items ≡ plain.old.items ++ escape byte) }
+    ensures plain { IsPlain plain.old.items → IfOk result (λ done. IsPlain plain.new.items) }
 {
     plain.extend_from_slice(&[b'\\', b'x', digit(byte / 16), digit(byte % 16)])
 }
@@ -34,7 +36,8 @@ fn push_escape(plain: &mut Vec<u8>, byte: u8) -> Result<(), AllocError>
 /// Returns a text in which each byte but those of printable characters of ASCII is an escape, as `\x1b`. Its line ends
 /// stay if they end `lines`.
 pub fn escaped(alloc: Global, text: &[u8], lines: bool) -> Result<Vec<u8>, AllocError>
-    ensures { IfOk result (λ plain. IsPlain plain.items) }
+    ensures shown { IfOk result (λ plain. plain.items ≡ shown_text lines text.now) }
+    ensures plain { IfOk result (λ plain. IsPlain plain.items) }
 {
     let mut plain = Vec::with_capacity(alloc, text.len())?;
     for &byte in text {

@@ -1,6 +1,6 @@
 //! Reports of a wrong command line.
-ghost use Rattle.std.specs.Prelude.{IfOk};
-ghost use Rattle.nap_cli.specs.Plain.{IsPlain};
+ghost use Rattle.std.specs.Prelude.{◌≡◌, IfOk, map, string_bytes};
+ghost use Rattle.nap_cli.specs.Plain.{shown_words, IsPlain};
 
 use crate::plain::{escaped, is_printable};
 use crate::words::parse;
@@ -54,13 +54,15 @@ fn with_range(alloc: Global, said: &str) -> Result<String, AllocError> {
 }
 
 /// Returns these words with escapes for all but printable characters of ASCII.
-fn escaped_words(alloc: Global, words: &[String]) -> Result<Vec<String>, AllocError> {
+fn escaped_words(alloc: Global, words: &[String]) -> Result<Vec<String>, AllocError>
+    ensures { IfOk result (λ shown. map string_bytes shown.items ≡ shown_words (map string_bytes words.now)) }
+{
     let mut shown = Vec::with_capacity(alloc, words.len())?;
     for word in words {
-        let mut text = String::new(alloc);
-        for byte in escaped(alloc, word.as_bytes(), false)? {
-            text.push(char::from(byte))?;
-        }
+        let Ok(text) = String::from_utf8(escaped(alloc, word.as_bytes(), false)?) else {
+            // All of it is ASCII.
+            unreachable!()
+        };
         shown.push(text)?;
     }
     Ok(shown)

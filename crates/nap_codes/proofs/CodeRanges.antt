@@ -6,7 +6,7 @@ use Rattle.nap_codes.specs.declared.code_set.CodeSet.{CodeSet}
 use Rattle.nap_codes.specs.declared.code_set.CodeSet.TheVariants as code_sets
 use Rattle.nap_codes.specs.declared.code_set.CodeSets.{CodeSets}
 use Rattle.nap_codes.specs.declared.control.Row.{Row}
-use Rattle.nap_codes.specs.declared.control.Row.TheVariants.{Complete}
+use Rattle.nap_codes.specs.declared.control.Row.TheVariants.{Whole}
 use Rattle.nap_codes.specs.CodeSets.{set_at}
 use Rattle.nap_codes.specs.Tables.{row_of, number_rows, control0_rows, control1_rows}
 use Rattle.nap_codes.specs.Front.{complete, non_pdi_code, front}
@@ -31,16 +31,16 @@ IsPlain code = IsInRange code × (is_pdi code ≡ false)
 
 -- The codes of the tables of controls have no parameters.
 abbrev PlainRow : ℕ → Row → Type 0
-PlainRow byte (Complete code) = IsPlain code
+PlainRow byte (Whole code) = IsPlain code
 PlainRow byte _ = Unit {0}
 
-control0_is_plain : (byte : ℕ) (code : Code) → row_of control0_rows byte ≡ Some (Complete code) → IsPlain code
+control0_is_plain : (byte : ℕ) (code : Code) → row_of control0_rows byte ≡ Some (Whole code) → IsPlain code
 unfolding control0_rows
-control0_is_plain byte code e = row_found PlainRow control0_rows byte (Complete code) (assumption) e
+control0_is_plain byte code e = row_found PlainRow control0_rows byte (Whole code) (assumption) e
 
-control1_is_plain : (byte : ℕ) (code : Code) → row_of control1_rows byte ≡ Some (Complete code) → IsPlain code
+control1_is_plain : (byte : ℕ) (code : Code) → row_of control1_rows byte ≡ Some (Whole code) → IsPlain code
 unfolding control1_rows
-control1_is_plain byte code e = row_found PlainRow control1_rows byte (Complete code) (assumption) e
+control1_is_plain byte code e = row_found PlainRow control1_rows byte (Whole code) (assumption) e
 
 number_below : (intermediate number : ℕ) → row_of number_rows intermediate ≡ Some number → number < 4
 unfolding number_rows

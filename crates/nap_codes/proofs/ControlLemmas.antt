@@ -5,7 +5,7 @@ use Rattle.nap_codes.specs.declared.code.Code.TheVariants as codes
 use Rattle.nap_codes.specs.declared.code.Step.TheVariants as steps
 use Rattle.nap_codes.specs.declared.code_set.CodeSets.{CodeSets}
 use Rattle.nap_codes.specs.declared.control.Row.{Row}
-use Rattle.nap_codes.specs.declared.control.Row.TheVariants.{Complete}
+use Rattle.nap_codes.specs.declared.control.Row.TheVariants.{Whole}
 use Rattle.nap_codes.specs.declared.control.TextStep.{TextStep}
 use Rattle.nap_codes.specs.CodeSets.{after_control0}
 use Rattle.nap_codes.specs.Front.{complete, control0_front, front}
@@ -17,33 +17,33 @@ use Rattle.nap_codes.proofs.TableLemmas.{control0_below, effector_known, shift_o
 -- Controls of the C0 set that are complete codes.
 
 -- the code of a byte that shifts is a locking shift
-pub is_shift : {byte known : ℕ} {code : Code} → row_of control0_rows known ≡ Some (Complete codes.Shifted) → byte ≡ known →
-    row_of control0_rows byte ≡ Some (Complete code) → code ≡ codes.Shifted
+pub is_shift : {byte known : ℕ} {code : Code} → row_of control0_rows known ≡ Some (Whole codes.Shifted) → byte ≡ known →
+    row_of control0_rows byte ≡ Some (Whole code) → code ≡ codes.Shifted
 is_shift shifts is row = cc
 
 -- A control that is no shift doesn't change the code sets.
-pub no_shift_after : (sets : CodeSets) (byte : ℕ) (code : Code) → row_of control0_rows byte ≡ Some (Complete code) → code ≢ codes.Shifted →
+pub no_shift_after : (sets : CodeSets) (byte : ℕ) (code : Code) → row_of control0_rows byte ≡ Some (Whole code) → code ≢ codes.Shifted →
     after_control0 sets byte ≡ sets
 unfolding after_control0
 no_shift_after sets byte code row differs =
     rw (ne_eqb byte 0x0E (λ is. differs (is_shift shift_out_row is row)), ne_eqb byte 0x0F (λ is. differs (is_shift shift_in_row is row))) refl
 
 -- a format effector is at the front, and doesn't change the code sets
-pub format_effector_alone : (sets : CodeSets) (byte : ℕ) (step : TextStep) → row_of control0_rows byte ≡ Some (Complete (codes.Step step)) →
+pub format_effector_alone : (sets : CodeSets) (byte : ℕ) (step : TextStep) → row_of control0_rows byte ≡ Some (Whole (codes.Step step)) →
     front sets (byte ∷ []) ≡ complete (codes.Step step) 1 sets
 unfolding front control0_front
 format_effector_alone sets byte step row = rw (row, no_shift_after sets byte (codes.Step step) row (λ is. cc)) refl
 
 -- the row of a format effector
-effector_row : (row : Option Row) (step : TextStep) → text_step_of_row row ≡ Some step → row ≡ Some (Complete (codes.Step step))
-effector_row (Some (Complete (codes.Step move))) step is = let same : move ≡ step = cc in rw same refl
+effector_row : (row : Option Row) (step : TextStep) → text_step_of_row row ≡ Some step → row ≡ Some (Whole (codes.Step step))
+effector_row (Some (Whole (codes.Step move))) step is = let same : move ≡ step = cc in rw same refl
 effector_row None step is = let bad : ⊥ = cc in absurd bad
 effector_row _ step is = let bad : ⊥ = cc in absurd bad
 
 pub format_effector_front : FormatEffectorFront
 format_effector_front byte step is =
     let row = effector_row (row_of control0_rows byte) step is in
-    (control0_below byte (Complete (codes.Step step)) row, λ sets. format_effector_alone sets byte step row)
+    (control0_below byte (Whole (codes.Step step)) row, λ sets. format_effector_alone sets byte step row)
 
 pub format_effector_known : FormatEffectorKnown
 format_effector_known byte step is = effector_known byte step (effector_row (row_of control0_rows byte) step is)

@@ -14,7 +14,7 @@ use Rattle.nap_codes.specs.declared.control.Argument.{Argument}
 use Rattle.nap_codes.specs.declared.control.Argument.TheVariants as arguments
 use Rattle.nap_codes.specs.declared.control.Mask.{Mask}
 use Rattle.nap_codes.specs.declared.control.Row.{Row}
-use Rattle.nap_codes.specs.declared.control.Row.TheVariants.{Complete, More, Out}
+use Rattle.nap_codes.specs.declared.control.Row.TheVariants.{Whole, More, Out}
 use Rattle.nap_codes.specs.declared.control.TextStep.TheVariants.{Aps}
 use Rattle.nap_codes.specs.declared.opcode.Left.{Left}
 use Rattle.nap_codes.specs.declared.opcode.Opcode.{Opcode}
@@ -211,7 +211,7 @@ sequence-Answers sets byte bytes =
 control1-Answers : (sets : CodeSets) (byte : ℕ) (bytes : List ℕ) (found : Option Row) → row_of control1_rows byte ≡ found →
     Answers sets (0x1B ∷ []) (byte ∷ bytes) (control1_front sets byte bytes found)
 unfolding control1_front
-control1-Answers sets byte bytes (Some (Complete code)) e = complete_at (spelling.control1 e)
+control1-Answers sets byte bytes (Some (Whole code)) e = complete_at (spelling.control1 e)
 control1-Answers sets byte bytes (Some (Out name)) e = refused_at (spelling.left_out_control1 e)
 control1-Answers sets byte bytes (Some More) e =
     one_byte_later-Answers sets (0x1B ∷ []) byte bytes _
@@ -255,7 +255,7 @@ gl_found sets byte bytes None range e =
     pdi_found sets byte bytes (row_of opcode_rows byte) (no_plain_code (set_at sets sets.gl) byte e) range refl
 
 -- agreement at a control of the C0 set without further bytes
-control0_complete : (sets : CodeSets) (byte : ℕ) (code : Code) → row_of control0_rows byte ≡ Some (Complete code) →
+control0_complete : (sets : CodeSets) (byte : ℕ) (code : Code) → row_of control0_rows byte ≡ Some (Whole code) →
     Spells sets (byte ∷ []) code (after_control0 sets byte)
 unfolding after_control0
 control0_complete sets byte code row = at (eqb byte 0x0E) (eqb byte 0x0F) refl refl
@@ -266,7 +266,7 @@ control0_complete sets byte code row = at (eqb byte 0x0E) (eqb byte 0x0F) refl r
     at false true e f = let is = eqb-true byte 0x0F f in rw (is, is_shift shift_in_row is row) spelling.shift_in
     at false false e f =
         spelling.control0 row (λ is.
-        let shifts = shifts_alone byte (row ∙ ap (λ c. Some (Complete c)) is) in
+        let shifts = shifts_alone byte (row ∙ ap (λ c. Some (Whole c)) is) in
         cc)
 
 eighth_bit : (byte : ℕ) → 0x20 ≤ byte → is_graphic byte ≡ false → leb 0x80 byte ≡ true
@@ -275,14 +275,14 @@ eighth_bit byte least e = grind (arith, nat_tests)
 control0-Answers : (sets : CodeSets) (byte : ℕ) (bytes : List ℕ) (found : Option Row) → row_of control0_rows byte ≡ found →
     Answers sets [] (byte ∷ bytes) (control0_front sets byte bytes found)
 unfolding control0_front bad_byte_fault
-control0-Answers sets byte bytes (Some (Complete code)) e = complete_at (control0_complete sets byte code e)
+control0-Answers sets byte bytes (Some (Whole code)) e = complete_at (control0_complete sets byte code e)
 control0-Answers sets byte bytes (Some (Out name)) e = refused_at (spelling.left_out_control0 e)
 control0-Answers sets byte bytes (Some More) e = one_byte_later-Answers sets [] byte bytes _ (more-Answers sets byte bytes (long_control byte e))
 control0-Answers sets byte bytes None e =
     Answers-cond (is_graphic byte) (λ g. gl_found sets byte bytes _ (graphic_range byte g) refl)
     (λ g. stray_at (rw (eighth_bit byte (control0_missing byte e) g) refl))
 
-bell_row : row_of control0_rows 0x07 ≡ Some (Complete codes.Bell)
+bell_row : row_of control0_rows 0x07 ≡ Some (Whole codes.Bell)
 unfolding row_of control0_rows
 bell_row = refl
 

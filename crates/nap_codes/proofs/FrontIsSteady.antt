@@ -6,7 +6,7 @@ use Rattle.nap_codes.specs.declared.code_set.CodeSet.{CodeSet}
 use Rattle.nap_codes.specs.declared.code_set.CodeSets.{CodeSets}
 use Rattle.nap_codes.specs.declared.control.Argument.{Argument}
 use Rattle.nap_codes.specs.declared.control.Row.{Row}
-use Rattle.nap_codes.specs.declared.control.Row.TheVariants.{Complete, More, Out}
+use Rattle.nap_codes.specs.declared.control.Row.TheVariants.{Whole, More, Out}
 use Rattle.nap_codes.specs.declared.opcode.Left.{Left}
 use Rattle.nap_codes.specs.declared.opcode.Opcode.{Opcode}
 use Rattle.nap_codes.specs.CodeSets.{set_at}
@@ -98,7 +98,7 @@ sequence_front-Opens sets byte =
 
 control1_front-Opens : (sets : CodeSets) (byte : ℕ) (found : Option Row) → Opens (λ bytes. control1_front sets byte bytes found)
 unfolding control1_front
-control1_front-Opens sets byte (Some (Complete code)) = ends code sets
+control1_front-Opens sets byte (Some (Whole code)) = ends code sets
 control1_front-Opens sets byte (Some (Out name)) = fails _
 control1_front-Opens sets byte (Some More) = continues _ (argument_front-Steady sets (argument_of byte))
 control1_front-Opens sets byte None = sequence_front-Opens sets byte
@@ -121,7 +121,7 @@ more_front-Steady sets byte =
 
 control0_front-Opens : (sets : CodeSets) (byte : ℕ) (found : Option Row) → Opens (λ bytes. control0_front sets byte bytes found)
 unfolding control0_front
-control0_front-Opens sets byte (Some (Complete code)) = ends code _
+control0_front-Opens sets byte (Some (Whole code)) = ends code _
 control0_front-Opens sets byte (Some (Out name)) = fails _
 control0_front-Opens sets byte (Some More) = continues _ (more_front-Steady sets byte)
 control0_front-Opens sets byte None =

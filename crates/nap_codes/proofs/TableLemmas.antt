@@ -5,7 +5,7 @@ use Rattle.nap_codes.specs.declared.code.Code.TheVariants as codes
 use Rattle.nap_codes.specs.declared.code_set.CodeSet.{CodeSet}
 use Rattle.nap_codes.specs.declared.code_set.CodeSet.TheVariants as code_sets
 use Rattle.nap_codes.specs.declared.control.Row.{Row}
-use Rattle.nap_codes.specs.declared.control.Row.TheVariants.{Complete, More}
+use Rattle.nap_codes.specs.declared.control.Row.TheVariants.{Whole, More}
 use Rattle.nap_codes.specs.declared.opcode.Opcode.{Opcode}
 use Rattle.nap_codes.specs.Tables.{row_of, number_rows, set_rows, option_pair, control0_rows, control1_rows, opcode_rows}
 use Rattle.nap_codes.specs.Front.{is_graphic, non_pdi_code, argument_of}
@@ -87,27 +87,27 @@ long_control byte e = row_found LongRow control0_rows byte More (assumption (shi
 
 -- the format effectors of the C0 set without further bytes
 abbrev MovesAlone : ℕ → Row → Type 0
-MovesAlone byte (Complete (codes.Step step)) = FormatEffector byte step
+MovesAlone byte (Whole (codes.Step step)) = FormatEffector byte step
 MovesAlone byte _ = Unit {0}
 
-pub effector_known : (byte : ℕ) (step : TextStep) → row_of control0_rows byte ≡ Some (Complete (codes.Step step)) → FormatEffector byte step
+pub effector_known : (byte : ℕ) (step : TextStep) → row_of control0_rows byte ≡ Some (Whole (codes.Step step)) → FormatEffector byte step
 unfolding control0_rows
-effector_known byte step e = row_found MovesAlone control0_rows byte (Complete (codes.Step step)) (assumption (backward, forward, down, up, return, home)) e
+effector_known byte step e = row_found MovesAlone control0_rows byte (Whole (codes.Step step)) (assumption (backward, forward, down, up, return, home)) e
 
 -- the locking shifts of the C0 set: SO and SI
 abbrev ShiftsAlone : ℕ → Row → Type 0
-ShiftsAlone byte (Complete codes.Shifted) = eqb byte 0x0E || eqb byte 0x0F ≡ true
+ShiftsAlone byte (Whole codes.Shifted) = eqb byte 0x0E || eqb byte 0x0F ≡ true
 ShiftsAlone byte _ = Unit {0}
 
-pub shifts_alone : (byte : ℕ) → row_of control0_rows byte ≡ Some (Complete codes.Shifted) → eqb byte 0x0E || eqb byte 0x0F ≡ true
+pub shifts_alone : (byte : ℕ) → row_of control0_rows byte ≡ Some (Whole codes.Shifted) → eqb byte 0x0E || eqb byte 0x0F ≡ true
 unfolding control0_rows
-shifts_alone byte e = row_found ShiftsAlone control0_rows byte (Complete codes.Shifted) (assumption) e
+shifts_alone byte e = row_found ShiftsAlone control0_rows byte (Whole codes.Shifted) (assumption) e
 
-pub shift_out_row : row_of control0_rows 0x0E ≡ Some (Complete codes.Shifted)
+pub shift_out_row : row_of control0_rows 0x0E ≡ Some (Whole codes.Shifted)
 unfolding row_of control0_rows
 shift_out_row = refl
 
-pub shift_in_row : row_of control0_rows 0x0F ≡ Some (Complete codes.Shifted)
+pub shift_in_row : row_of control0_rows 0x0F ≡ Some (Whole codes.Shifted)
 unfolding row_of control0_rows
 shift_in_row = refl
 

@@ -12,7 +12,7 @@ use Rattle.nap_codes.specs.declared.code_set.GSet.TheVariants.{G2, G3}
 use Rattle.nap_codes.specs.declared.control.Argument.{Argument}
 use Rattle.nap_codes.specs.declared.control.Argument.TheVariants as arguments
 use Rattle.nap_codes.specs.declared.control.Row.{Row}
-use Rattle.nap_codes.specs.declared.control.Row.TheVariants.{Complete, More, Out}
+use Rattle.nap_codes.specs.declared.control.Row.TheVariants.{Whole, More, Out}
 use Rattle.nap_codes.specs.declared.control.TextStep.TheVariants.{Aps}
 use Rattle.nap_codes.specs.declared.opcode.Left.{Left}
 use Rattle.nap_codes.specs.declared.opcode.Opcode.{Opcode}
@@ -145,7 +145,7 @@ sequence_front sets byte bytes =
 
 -- the front after ESC, given the row of the C1 set
 unfoldable pub control1_front : CodeSets → ℕ → List ℕ → Option Row → Front
-control1_front sets byte bytes (Some (Complete code)) = complete code 1 sets
+control1_front sets byte bytes (Some (Whole code)) = complete code 1 sets
 control1_front sets byte bytes (Some (Out name)) = refused (LeftOut name) 0
 control1_front sets byte bytes (Some More) = one_byte_later (argument_front sets (argument_of byte) bytes)
 control1_front sets byte bytes None = sequence_front sets byte bytes
@@ -165,7 +165,7 @@ more_front sets byte bytes =
 
 -- the front of a list, given the row of the C0 set for its first byte
 unfoldable pub control0_front : CodeSets → ℕ → List ℕ → Option Row → Front
-control0_front sets byte bytes (Some (Complete code)) = complete code 1 (after_control0 sets byte)
+control0_front sets byte bytes (Some (Whole code)) = complete code 1 (after_control0 sets byte)
 control0_front sets byte bytes (Some (Out name)) = refused (LeftOut name) 0
 control0_front sets byte bytes (Some More) = one_byte_later (more_front sets byte bytes)
 control0_front sets byte bytes None =

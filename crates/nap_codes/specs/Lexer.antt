@@ -5,7 +5,7 @@ use Rattle.nap_codes.specs.declared.code.Step.TheVariants as steps
 use Rattle.nap_codes.specs.declared.code_set.CharSet.{CharSet}
 use Rattle.nap_codes.specs.declared.code_set.CodeSet.TheVariants.{Pdi}
 use Rattle.nap_codes.specs.declared.code_set.CodeSets.{CodeSets}
-use Rattle.nap_codes.specs.declared.control.Row.TheVariants.{Complete}
+use Rattle.nap_codes.specs.declared.control.Row.TheVariants.{Whole}
 use Rattle.nap_codes.specs.declared.control.TextStep.{TextStep}
 use Rattle.nap_codes.specs.declared.opcode.Opcode.{Opcode}
 use Rattle.nap_codes.specs.CodeSets.{set_at}
@@ -44,7 +44,7 @@ IsOpcode lexer byte op =
 -- The byte is this format effector in this state: no code is incomplete, and the C0 set has the format effector for the
 -- byte.
 abbrev pub IsFormatEffector : LexerState → ℕ → TextStep → Type 0
-IsFormatEffector lexer byte step = (lexer.half ≡ []) × (row_of control0_rows byte ≡ Some (Complete (codes.Step step)))
+IsFormatEffector lexer byte step = (lexer.half ≡ []) × (row_of control0_rows byte ≡ Some (Whole (codes.Step step)))
 
 -- The byte is SO or SI in this state: no code is incomplete.
 abbrev pub IsShift : LexerState → ℕ → Type 0

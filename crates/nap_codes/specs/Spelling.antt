@@ -9,7 +9,7 @@ use Rattle.nap_codes.specs.declared.code_set.CodeSets.{CodeSets}
 use Rattle.nap_codes.specs.declared.code_set.GSet.TheVariants.{G0, G1, G2, G3}
 use Rattle.nap_codes.specs.declared.control.Mask.{Mask}
 use Rattle.nap_codes.specs.declared.control.Row.{Row}
-use Rattle.nap_codes.specs.declared.control.Row.TheVariants.{Complete, Out}
+use Rattle.nap_codes.specs.declared.control.Row.TheVariants.{Whole, Out}
 use Rattle.nap_codes.specs.declared.control.TextStep.TheVariants.{Aps}
 use Rattle.nap_codes.specs.declared.opcode.Left.{Left}
 use Rattle.nap_codes.specs.declared.opcode.Opcode.{Opcode}
@@ -21,7 +21,7 @@ use Rattle.nap_codes.specs.Tables.{row_of, number_rows, set_rows, control0_rows,
 -- Under these code sets, the bytes spell this code, and these are the code sets after it.
 pub data Spells (sets : CodeSets) : List ℕ → Code → CodeSets → Type 0 where
   -- a control of the C0 set that isn't a shift
-  control0 : {byte : ℕ} {code : Code} → row_of control0_rows byte ≡ Some (Complete code) → code ≢ codes.Shifted →
+  control0 : {byte : ℕ} {code : Code} → row_of control0_rows byte ≡ Some (Whole code) → code ≢ codes.Shifted →
       Spells sets (byte ∷ []) code sets
   -- SO, SI, LS2 and LS3
   shift_out : Spells sets (0x0E ∷ []) codes.Shifted (record sets { gl = G1 })
@@ -32,7 +32,7 @@ pub data Spells (sets : CodeSets) : List ℕ → Code → CodeSets → Type 0 wh
   position : {row column : ℕ} → IsGraphic row → IsGraphic column →
       Spells sets (0x1C ∷ row ∷ column ∷ []) (codes.Step (Aps row column)) sets
   -- a control of the C1 set without an argument
-  control1 : {byte : ℕ} {code : Code} → row_of control1_rows byte ≡ Some (Complete code) → Spells sets (0x1B ∷ byte ∷ []) code sets
+  control1 : {byte : ℕ} {code : Code} → row_of control1_rows byte ≡ Some (Whole code) → Spells sets (0x1B ∷ byte ∷ []) code sets
   -- DEF MACRO, DEFP MACRO, DEF DRCS, DEF TEXTURE and REPEAT
   def_macro : {name : ℕ} → IsGraphic name → Spells sets (0x1B ∷ 0x40 ∷ name ∷ []) (codes.DefMacro name false) sets
   defp_macro : {name : ℕ} → IsGraphic name → Spells sets (0x1B ∷ 0x41 ∷ name ∷ []) (codes.DefMacro name true) sets

@@ -85,7 +85,7 @@ pub(crate) enum Argument {
 #[derive(Clone, Copy, PartialEq, Eq, Drop)]
 pub enum Row {
     /// The byte is a complete code.
-    Complete(Code),
+    Whole(Code),
     /// The code has further bytes.
     More,
     /// The profile leaves the code out by name.
@@ -138,19 +138,19 @@ pub fn control0(byte: u8) -> Option<Row>
     ensures { result ≡ row_of control0_rows byte }
 {
     let row = match byte {
-        0x00..=0x06 | 0x10..=0x17 => Row::Complete(Code::Fill),
-        0x07 => Row::Complete(Code::Bell),
-        0x08 => Row::Complete(Code::Step(TextStep::Apb)),
-        0x09 => Row::Complete(Code::Step(TextStep::Apf)),
-        0x0A => Row::Complete(Code::Step(TextStep::Apd)),
-        0x0B => Row::Complete(Code::Step(TextStep::Apu)),
-        0x0C => Row::Complete(Code::Clear),
-        0x0D => Row::Complete(Code::Step(TextStep::Apr)),
-        0x0E | 0x0F => Row::Complete(Code::Shifted),
+        0x00..=0x06 | 0x10..=0x17 => Row::Whole(Code::Fill),
+        0x07 => Row::Whole(Code::Bell),
+        0x08 => Row::Whole(Code::Step(TextStep::Apb)),
+        0x09 => Row::Whole(Code::Step(TextStep::Apf)),
+        0x0A => Row::Whole(Code::Step(TextStep::Apd)),
+        0x0B => Row::Whole(Code::Step(TextStep::Apu)),
+        0x0C => Row::Whole(Code::Clear),
+        0x0D => Row::Whole(Code::Step(TextStep::Apr)),
+        0x0E | 0x0F => Row::Whole(Code::Shifted),
         0x18 => Row::Out(Left::Can),
         0x1A => Row::Out(Left::Sdc),
         0x19 | 0x1B..=0x1D => Row::More,
-        0x1E => Row::Complete(Code::Step(TextStep::Aph)),
+        0x1E => Row::Whole(Code::Step(TextStep::Aph)),
         0x1F => Row::Out(Left::Nsr),
         _ => return None,
     };
@@ -164,7 +164,7 @@ pub fn format_effector(byte: u8) -> Option<TextStep>
     ensures { result ≡ format_effector byte }
 {
     match control0(byte) {
-        Some(Row::Complete(Code::Step(step))) => Some(step),
+        Some(Row::Whole(Code::Step(step))) => Some(step),
         _ => None,
     }
 }
@@ -177,31 +177,31 @@ pub fn control1(byte: u8) -> Option<Row>
     let row = match byte {
         0x40 | 0x41 | 0x43 | 0x44 | 0x46 => Row::More,
         0x42 => Row::Out(Left::Deft),
-        0x45 => Row::Complete(Code::End),
-        0x47 => Row::Complete(Code::ToEol),
-        0x48 => Row::Complete(Code::Reverse(true)),
-        0x49 => Row::Complete(Code::Reverse(false)),
-        0x4A => Row::Complete(Code::Named(Size::Small)),
-        0x4B => Row::Complete(Code::Named(Size::Medium)),
-        0x4C => Row::Complete(Code::Named(Size::Normal)),
-        0x4D => Row::Complete(Code::Named(Size::Tall)),
-        0x4E => Row::Complete(Code::BlinkMark(true)),
-        0x4F => Row::Complete(Code::Named(Size::Double)),
-        0x50 => Row::Complete(Code::Fill),
+        0x45 => Row::Whole(Code::End),
+        0x47 => Row::Whole(Code::ToEol),
+        0x48 => Row::Whole(Code::Reverse(true)),
+        0x49 => Row::Whole(Code::Reverse(false)),
+        0x4A => Row::Whole(Code::Named(Size::Small)),
+        0x4B => Row::Whole(Code::Named(Size::Medium)),
+        0x4C => Row::Whole(Code::Named(Size::Normal)),
+        0x4D => Row::Whole(Code::Named(Size::Tall)),
+        0x4E => Row::Whole(Code::BlinkMark(true)),
+        0x4F => Row::Whole(Code::Named(Size::Double)),
+        0x50 => Row::Whole(Code::Fill),
         0x51 => Row::Out(Left::Edc1),
         0x52 => Row::Out(Left::Edc2),
         0x53 => Row::Out(Left::Edc3),
         0x54 => Row::Out(Left::Edc4),
-        0x55 => Row::Complete(Code::Wrap(true)),
-        0x56 => Row::Complete(Code::Wrap(false)),
-        0x57 => Row::Complete(Code::Scroll(true)),
-        0x58 => Row::Complete(Code::Scroll(false)),
-        0x59 => Row::Complete(Code::Underline(true)),
-        0x5A => Row::Complete(Code::Underline(false)),
-        0x5B => Row::Complete(Code::Cursor(CursorKind::Flash)),
-        0x5C => Row::Complete(Code::Cursor(CursorKind::Steady)),
-        0x5D => Row::Complete(Code::Cursor(CursorKind::Off)),
-        0x5E => Row::Complete(Code::BlinkMark(false)),
+        0x55 => Row::Whole(Code::Wrap(true)),
+        0x56 => Row::Whole(Code::Wrap(false)),
+        0x57 => Row::Whole(Code::Scroll(true)),
+        0x58 => Row::Whole(Code::Scroll(false)),
+        0x59 => Row::Whole(Code::Underline(true)),
+        0x5A => Row::Whole(Code::Underline(false)),
+        0x5B => Row::Whole(Code::Cursor(CursorKind::Flash)),
+        0x5C => Row::Whole(Code::Cursor(CursorKind::Steady)),
+        0x5D => Row::Whole(Code::Cursor(CursorKind::Off)),
+        0x5E => Row::Whole(Code::BlinkMark(false)),
         0x5F => Row::Out(Left::Unprotect),
         _ => return None,
     };

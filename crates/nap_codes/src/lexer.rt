@@ -146,7 +146,7 @@ impl Lexer {
         ensures front { IfSome result (λ step. front self.now.sets (byte ∷ []) ≡ complete (codes.Step step) 1 self.now.sets) }
     {
         match control0(byte) {
-            Some(Row::Complete(Code::Step(step))) if self.at_rest() => Some(step),
+            Some(Row::Whole(Code::Step(step))) if self.at_rest() => Some(step),
             _ => None,
         }
     }
@@ -223,7 +223,7 @@ fn first_byte(sets: CodeSets, byte: u8) -> ByteOutcome
     ensures { IsOutcomeOf sets HalfRead.Nothing byte result }
 {
     match control0(byte) {
-        Some(Row::Complete(code)) => ByteOutcome::Code(code, sets.after_control0(byte)),
+        Some(Row::Whole(code)) => ByteOutcome::Code(code, sets.after_control0(byte)),
         Some(Row::Out(left)) => ByteOutcome::Fault(CodeFault::LeftOut(left)),
         Some(Row::More) => ByteOutcome::More(HalfRead::after_control(byte)),
         None if byte < 0x80 => graphic_byte(sets, byte),
@@ -270,7 +270,7 @@ fn escaped_byte(sets: CodeSets, byte: u8) -> ByteOutcome
     ensures { IsOutcomeOf sets HalfRead.Escape byte result }
 {
     match control1(byte) {
-        Some(Row::Complete(code)) => ByteOutcome::Code(code, sets),
+        Some(Row::Whole(code)) => ByteOutcome::Code(code, sets),
         Some(Row::Out(left)) => ByteOutcome::Fault(CodeFault::LeftOut(left)),
         Some(Row::More) => ByteOutcome::More(HalfRead::Control(Argument::of(byte))),
         None => match byte {

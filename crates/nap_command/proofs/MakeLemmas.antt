@@ -2,35 +2,23 @@
 
 use Rattle.std.proofs.Common.{◌≡◌, ◌≤◌, inl, inr, ℕ, zero, suc, List, [], Bool, true, false, Option, Ok, Err, refl, sym, subst, take, length, length-take, arith}
 use Rattle.std.specs.Io.KnownBytes.{Appends}
-use Rattle.nap_list.specs.Reading.{Reading, IsCutOff}
+use Rattle.nap_list.specs.Reading.{Reading}
 use Rattle.nap_line_reader.specs.declared.fault.MakeFault.{MakeFault}
 use Rattle.nap_line_reader.specs.declared.fault.MakeFault.TheVariants as make_faults
-use Rattle.nap_maker.specs.declared.page.PageFault.TheVariants as page_faults
-use Rattle.nap_maker.specs.Pages.{MakesPage}
+use Rattle.nap_line_reader.specs.declared.making.ListFault.TheVariants as list_faults
+use Rattle.nap_maker.specs.Texts.{DeniesInput}
 use Rattle.nap_command.specs.declared.failure.Failure.{Failure}
 use Rattle.nap_command.specs.declared.failure.Failure.TheVariants as failure
 use Rattle.nap_command.specs.Devices.{Takes}
 use Rattle.nap_command.specs.Making.{EndsMadeWhole, FailsToMake, FindsPage, IsPartlyMade, failure_of}
 
-module _ (p q : List ℕ) (seen : Reading) where
-  -- the page was made
-  pub page_found : (failed : Bool) (n : ℕ) → MakesPage p seen q failed (Ok n) → FindsPage p seen q
-  page_found false n h = (h.1.read, h.1.made)
-  page_found true n h = absurd h
-
-  -- the lines make no page
-  pub lines_refused : (failed : Bool) (fault : MakeFault) (n : ℕ) → MakesPage p seen q failed (Err (page_faults.Lines fault n)) → FailsToMake p seen (failure_of fault)
-  lines_refused false (make_faults.Line number column) n h = record { fault = make_faults.Line number column; before = q; refuses = h.1; fails = refl }
-  lines_refused false (make_faults.Misfit number) n h = record { fault = make_faults.Misfit number; before = q; refuses = h.1; fails = refl }
-  lines_refused false (make_faults.Open number opening) n h = record { fault = make_faults.Open number opening; before = q; refuses = h.1; fails = refl }
-  lines_refused false make_faults.Memory n h = tt
-  lines_refused false make_faults.Write n h = tt
-  lines_refused true fault n h = absurd h
-
-  -- the input failed
-  pub lines_cut_off : (failed : Bool) (n : ℕ) → MakesPage p seen q failed (Err (page_faults.Read n)) → IsCutOff seen p
-  lines_cut_off false n h = h.1.cut_off
-  lines_cut_off true n h = absurd h
+-- the lines make no page
+pub lines_refused : (p : List ℕ) (seen : Reading) (fault : MakeFault) → DeniesInput p seen (list_faults.Lines fault) → FailsToMake p seen (failure_of fault)
+lines_refused p seen (make_faults.Line number column) h = record { fault = make_faults.Line number column; before = h.0; refuses = h.1; fails = refl }
+lines_refused p seen (make_faults.Misfit number) h = record { fault = make_faults.Misfit number; before = h.0; refuses = h.1; fails = refl }
+lines_refused p seen (make_faults.Open number opening) h = record { fault = make_faults.Open number opening; before = h.0; refuses = h.1; fails = refl }
+lines_refused p seen make_faults.Memory h = h
+lines_refused p seen make_faults.Write h = absurd h.1
 
 -- The output failed.
 

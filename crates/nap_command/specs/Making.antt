@@ -2,13 +2,13 @@ use Rattle.std.specs.Prelude.{ℕ, ◌≡◌, ◌⊎◌, ◌+◌, ◌≤◌, Boo
 use Rattle.std.specs.Io.KnownBytes.{Appends, Consumes}
 use Rattle.nap_list.specs.Flushing.{flush_count}
 use Rattle.nap_list.specs.Limits.{reads_limit}
-use Rattle.nap_list.specs.Reading.{Reading, IsCutOff, IsReadWhole}
+use Rattle.nap_list.specs.Reading.{Reading, NoneFailed, IsCutOff, IsReadWhole}
 use Rattle.nap_line_reader.specs.declared.fault.MakeFault.{MakeFault}
 use Rattle.nap_line_reader.specs.declared.fault.MakeFault.TheVariants as make_faults
 use Rattle.nap_maker.specs.declared.page.PageFault.{PageFault}
 use Rattle.nap_maker.specs.declared.page.PageFault.TheVariants as page_faults
 use Rattle.nap_maker.specs.Making.{IsMadeOf}
-use Rattle.nap_maker.specs.Pages.{MakesPage, RefusesBy}
+use Rattle.nap_maker.specs.Pages.{MakesPage, RefusesBy, StopsAtOnce}
 use Rattle.nap_command.specs.declared.answer.Verdict.{Verdict}
 use Rattle.nap_command.specs.declared.answer.Verdict.TheVariants as verdict
 use Rattle.nap_command.specs.declared.failure.Failure.{Failure}
@@ -37,10 +37,11 @@ pub record RefusesPage (p : List ℕ) (seen : Reading) (f : Failure) : Type 0 wh
   pub refuses : RefusesBy p seen before fault
   pub fails : f ≡ failure_of fault
 
--- why nothing is printed of the lines p: the input failed or was read too often, memory ran out, or they make no page
+-- why nothing is printed of the lines p: the input failed or was read too often; memory ran out, and no read failed; or
+-- they make no page
 abbrev pub FailsToMake : List ℕ → Reading → Failure → Type 0
 FailsToMake p seen failure.Read = IsCutOff seen p
-FailsToMake p seen failure.Memory = Unit {0}
+FailsToMake p seen failure.Memory = NoneFailed seen
 FailsToMake p seen f = RefusesPage p seen f
 
 -- q is a prefix of the page that lines make, which is nothing if they make none
@@ -63,16 +64,17 @@ verdict_of_page (Err (page_faults.Lines fault n)) = Err (failure_of fault)
 verdict_of_page (Err (page_faults.Read n)) = Err failure.Read
 verdict_of_page (Err (page_faults.Write n)) = Err (failure.Write n)
 
--- `make` printed as it read.
-pub record EndsMadeStreamed (p : List ℕ) (seen : Reading) (q : List ℕ) (failed : Bool) (ended : Result Verdict Failure) : Type 0 where
+-- `make` printed as it read, and read nothing after a failed write.
+pub record EndsMadeStreamed (p : List ℕ) (seen : Reading) (q : List ℕ) (failed broke : Bool) (ended : Result Verdict Failure) : Type 0 where
   pub made : Result ℕ PageFault
   pub makes : MakesPage p seen q failed made
+  pub stops : StopsAtOnce broke p seen
   pub ended_is : ended ≡ verdict_of_page made
 
--- `make` with or without `--stream`
-abbrev pub EndsMade : Bool → List ℕ → Reading → List ℕ → Bool → Result Verdict Failure → Type 0
-EndsMade true p seen q failed ended = EndsMadeStreamed p seen q failed ended
-EndsMade false p seen q failed ended = EndsMadeWhole p seen q failed ended
+-- `make` with or without `--stream`, by whether its output has failed, and whether by a write
+abbrev pub EndsMade : Bool → List ℕ → Reading → List ℕ → Bool → Bool → Result Verdict Failure → Type 0
+EndsMade true p seen q failed broke ended = EndsMadeStreamed p seen q failed broke ended
+EndsMade false p seen q failed broke ended = EndsMadeWhole p seen q failed ended
 
 -- `make` ran from the devices before to those after, with this exit status: it read the bytes p, printed q and reported
 -- e.
@@ -85,7 +87,7 @@ pub record Made (stream : Bool) (before after : Devices) (status : ℕ) : Type 0
   pub printed : Appends before.taken after.taken q
   pub reported : Appends before.reported after.reported e
   pub few : after.reads ≤ before.reads + reads_limit
-  pub ends : EndsMade stream p (reading_of before after) q after.output_failed ended
+  pub ends : EndsMade stream p (reading_of before after) q after.output_failed after.write_failed ended
   pub sends : after.output_failed ≡ false → after.sent ≡ true
   pub flushes : after.flushes ≡ flush_count after.write_failed before.flushes
   pub tells : Reports e after.errors_failed ended status

@@ -11,9 +11,9 @@ use crate::answer::Verdict;
 use crate::device::write_whole;
 use crate::execution::report_end;
 use crate::failure::Failure;
-use nap_line_reader::MakeFault;
-use nap_list::{Inlet, Outlet, Target};
-use nap_maker::{PageFault, make_page};
+use nap_line_reader::{ListFault, MakeFault};
+use nap_list::{Inlet, Outlet};
+use nap_maker::{PageFault, make_page, page_of_input};
 use std::alloc::Global;
 
 /// Returns the failure of `make` whose lines make no page. A failed write to memory is lack of memory.
@@ -37,12 +37,10 @@ fn find_page<I: Inlet>(alloc: Global, input: &mut I) -> Result<Vec<u8>, Failure>
         (p : List ℕ) × Consumes (I.left input.old) (I.left input.new) p
         × MatchResult result (λ page. FindsPage p seen page.items) (FailsToMake p seen) }
 {
-    let (output, made) = make_page(alloc, input, Target::new(Vec::new(alloc)));
-    match made {
-        Ok(_) => Ok(output.into_inner()),
-        Err(PageFault::Lines { fault, .. }) => Err(lines_failure(fault)),
-        Err(PageFault::Read { .. }) => Err(Failure::Read),
-        Err(PageFault::Write { .. }) => Err(Failure::Memory),
+    match page_of_input(alloc, input) {
+        Ok(page) => Ok(page),
+        Err(ListFault::Lines(fault)) => Err(lines_failure(fault)),
+        Err(ListFault::Read) => Err(Failure::Read),
     }
 }
 

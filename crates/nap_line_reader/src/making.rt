@@ -1,5 +1,5 @@
 //! Lists that an input gives as lines.
-ghost use Rattle.std.specs.Prelude.{◌≡◌, ◌+◌, ◌^◌, ◌<◌, ◌≤◌, ℕ, List, [], OnOk, false};
+ghost use Rattle.std.specs.Prelude.{◌≡◌, ◌+◌, ◌^◌, ◌<◌, ◌≤◌, ℕ, List, [], OnOk, false, length};
 ghost use Rattle.std.specs.Io.KnownBytes.{Consumes};
 ghost use Rattle.nap_list.specs.Limits.{reads_limit};
 ghost use Rattle.nap_list.specs.Reading.{reading};
@@ -12,9 +12,6 @@ use crate::line_reader::LineReader;
 use nap_list::{Inlet, READS, Sink};
 use std::alloc::Global;
 use thiserror::Error;
-
-/// The greatest number of bytes of one read.
-const READ_SIZE: usize = 4_096;
 
 /// Why an input doesn't give the lines of a list.
 #[derive(Clone, Copy, PartialEq, Eq, Debug, Drop, Error)]
@@ -35,13 +32,15 @@ impl From<MakeFault> for ListFault {
     }
 }
 
-/// Feeds a reader all that an input gives. Nothing is read after a wrong line or a failed read.
+/// Feeds a reader all that an input gives, reading into `buffer`. Nothing is read after a wrong line or a failed read.
 fn feed_from<I: Inlet, S: Sink>(
     alloc: Global,
     reader: &mut LineReader<S>,
     input: &mut I,
+    buffer: &mut [u8],
 ) -> Result<(), ListFault>
     requires calls { I.calls input.old < 2 ^ 63 }
+    requires buffer { 0 < length buffer.old }
     requires ready { IsReady S.Sink reader.old }
     ensures few { I.calls input.new ≤ I.calls input.old + reads_limit }
     ensures more { I.calls input.old ≤ I.calls input.new }
@@ -50,9 +49,8 @@ fn feed_from<I: Inlet, S: Sink>(
         (p : List ℕ) × Consumes (I.left input.old) (I.left input.new) p
         × ((s : S) → HasRead S.Sink s [] reader.old → FeedsFrom S.Sink s p seen reader.new result) }
 {
-    let mut buffer = [0; READ_SIZE];
     for _ in 0..READS {
-        let Ok(count) = input.read(&mut buffer) else {
+        let Ok(count) = input.read(buffer) else {
             return Err(ListFault::Read);
         };
         if count == 0 {
@@ -63,14 +61,16 @@ fn feed_from<I: Inlet, S: Sink>(
     Err(ListFault::Read)
 }
 
-/// Puts the entries of the lines that an input gives into a sink, as they are read, and returns the sink. Keeps one
-/// line at most (PROFILE.md, Lines that make a page).
+/// Puts the entries of the lines that an input gives into a sink, as they are read into `buffer`, and returns the sink.
+/// Keeps one line at most (PROFILE.md, Lines that make a page).
 pub fn make_list<I: Inlet, S: Sink + Drop>(
     alloc: Global,
     input: &mut I,
     sink: S,
+    buffer: &mut [u8],
 ) -> (S, Result<(), ListFault>)
     requires calls { I.calls input.old < 2 ^ 63 }
+    requires buffer { 0 < length buffer.old }
     requires start { S.state sink ≡ start }
     requires works { S.failed sink ≡ false }
     ensures few { I.calls input.new ≤ I.calls input.old + reads_limit }
@@ -79,7 +79,7 @@ pub fn make_list<I: Inlet, S: Sink + Drop>(
         (p : List ℕ) × Consumes (I.left input.old) (I.left input.new) p × Makes S.Sink sink p seen result.0 result.1 }
 {
     let mut reader = LineReader::new(alloc, sink);
-    if let Err(fault) = feed_from(alloc, &mut reader, input) {
+    if let Err(fault) = feed_from(alloc, &mut reader, input, buffer) {
         return (reader.into_sink(), Err(fault));
     }
     let made = reader.finish(alloc);

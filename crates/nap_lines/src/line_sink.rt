@@ -7,7 +7,7 @@ use crate::backward_buffer::BackwardBuffer;
 use crate::batch::write_batch;
 use crate::line::write_line;
 use crate::shape::write_shape_line;
-use nap_list::{Batch, BatchFault, Entry, Shape, Sink, SinkFault, State};
+use nap_list::{Batch, BatchFault, Entry, GhostState, Shape, Sink, SinkFault};
 use std::alloc::Global;
 use std::marker::Model;
 
@@ -16,7 +16,7 @@ use std::marker::Model;
 pub struct LineSink {
     buffer: BackwardBuffer,
     text: Vec<u8>,
-    state: State,
+    state: GhostState,
 }
 
 impl Model for LineSink {
@@ -24,7 +24,7 @@ impl Model for LineSink {
 
     ghost Value = { LineSinkState };
 
-    ghost view = { λ s. record { text = s.text.items; state = s.state } };
+    ghost view = { λ s. record { text = s.text.items; state = s.state.state } };
 }
 
 impl LineSink {
@@ -35,7 +35,7 @@ impl LineSink {
         LineSink {
             buffer: BackwardBuffer::new(),
             text: Vec::new(alloc),
-            state: State::start(),
+            state: GhostState::start(),
         }
     }
 
@@ -46,7 +46,7 @@ impl LineSink {
         LineSink {
             buffer: BackwardBuffer::new(),
             text,
-            state: State::start(),
+            state: GhostState::start(),
         }
     }
 
@@ -79,20 +79,20 @@ impl Sink for LineSink {
 
     fn put(&mut self, entry: Entry) -> Result<(), SinkFault> {
         write_line(&mut self.buffer, &mut self.text, &entry, "\n")?;
-        self.state.step(&entry);
+        self.state = self.state.after(&entry);
         Ok(())
     }
 
     #[inline(always)]
     fn put_batch(&mut self, batch: &Batch) -> Result<(), BatchFault> {
         let taken = write_batch(&mut self.buffer, &mut self.text, batch, 0, batch.len());
-        self.state.step_first(batch, taken);
+        self.state = self.state.after_first(batch, taken);
         BatchFault::error_unless_all(taken, batch)
     }
 
     fn put_shape(&mut self, _: Global, shape: &Shape) -> Result<(), SinkFault> {
         write_shape_line(&mut self.buffer, &mut self.text, shape)?;
-        self.state.step_shape(shape);
+        self.state = self.state.after_shape(shape);
         Ok(())
     }
 

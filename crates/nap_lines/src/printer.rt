@@ -10,7 +10,7 @@ use crate::batch::write_batch;
 use crate::line::write_line;
 use crate::sending::send_all;
 use crate::shape::write_shape_line;
-use nap_list::{Batch, BatchFault, DeviceFault, Entry, Outlet, Shape, Sink, SinkFault, State};
+use nap_list::{Batch, BatchFault, DeviceFault, Entry, GhostState, Outlet, Shape, Sink, SinkFault};
 use std::alloc::Global;
 use std::marker::Model;
 
@@ -30,7 +30,7 @@ pub const LINE_MEMORY: usize = 131_072;
 pub struct LinePrinter<O: Outlet + Drop> {
     buffer: BackwardBuffer,
     buffered: Vec<u8>,
-    state: State,
+    state: GhostState,
     outlet: O,
     written: u64,
 }
@@ -40,7 +40,7 @@ impl<O: Outlet + Drop> Model for LinePrinter<O> {
 
     ghost Value = { Printing O };
 
-    ghost view = { λ s. record { outlet = s.outlet; written = s.written; buffered = s.buffered.items; state = s.state } };
+    ghost view = { λ s. record { outlet = s.outlet; written = s.written; buffered = s.buffered.items; state = s.state.state } };
 }
 
 /// Returns how many of `count` entries were taken.
@@ -65,7 +65,7 @@ impl<O: Outlet + Drop> LinePrinter<O> {
         LinePrinter {
             buffer: BackwardBuffer::new(),
             buffered,
-            state: State::start(),
+            state: GhostState::start(),
             outlet,
             written: 0,
         }
@@ -195,7 +195,7 @@ impl<O: Outlet + Drop> Sink for LinePrinter<O> {
         let Ok(()) = self.send_if_large() else {
             return Err(SinkFault::Write);
         };
-        self.state.step(&entry);
+        self.state = self.state.after(&entry);
         Ok(())
     }
 
@@ -209,7 +209,7 @@ impl<O: Outlet + Drop> Sink for LinePrinter<O> {
         }
         let printed = self.print_batch(batch);
         let taken = taken_count(printed, batch.len());
-        self.state.step_first(batch, taken);
+        self.state = self.state.after_first(batch, taken);
         printed
     }
 
@@ -221,7 +221,7 @@ impl<O: Outlet + Drop> Sink for LinePrinter<O> {
         let Ok(()) = self.send_if_large() else {
             return Err(SinkFault::Write);
         };
-        self.state.step_shape(shape);
+        self.state = self.state.after_shape(shape);
         Ok(())
     }
 

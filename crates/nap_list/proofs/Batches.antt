@@ -144,27 +144,6 @@ batch_passes s t b m n count less all_current further leaves = by (drop (m + n) 
         let size : suc n ≡ count = omega arith in
         leaves x xs is ∙ rw (← size) (sym (chain_passes s (λ e. ⊤) (batch_entries b) m n x xs (batch_chain b) all_current (drop-drop n m (batch_entries b) ∙ is)))
 
--- the first entries leave the attributes of the first, and the pen and the last character of the last
-pub prefix_passes : (s t : State) (b : Batch) (n count : ℕ) (e : Entry) (es : List Entry) → n < length (batch_entries b) → (1 ≤ count) × (n ≡ count - 1) → batch_entries b ≡ e ∷ es →
-    ((x : Entry) (xs : List Entry) → drop n (batch_entries b) ≡ x ∷ xs → t ≡ with_pen_and_last s x (with_attributes s.drawing (attributes e))) → t ≡ walk s (take count (batch_entries b))
-unfolding Chain walk
-prefix_passes s t b n count e es less further all leaves =
-    let size : suc n ≡ count = omega arith in
-    rw (← size, all) (by n (subst (λ (list : List Entry). n < length list) all less) (λ x xs is. leaves x xs (ap (drop n) all ∙ is)))
-  where
-    chain : Chain (λ e. ⊤) (e ∷ es)
-    chain = subst (Chain (λ e. ⊤)) all (batch_chain b)
-
-    by : (n : ℕ) → n < length (e ∷ es) → ((x : Entry) (xs : List Entry) → drop n (e ∷ es) ≡ x ∷ xs → t ≡ with_pen_and_last s x (with_attributes s.drawing (attributes e))) → t ≡ walk s (take (suc n) (e ∷ es))
-    by zero less leaves = leaves e es refl ∙ sym (chain.1 s)
-    by (suc n) less leaves = follows (drop n es) refl
-      where
-        follows : (rest : List Entry) → drop n es ≡ rest → t ≡ walk (after s e) (take (suc n) es)
-        follows [] is = absurd (omega (arith, less, ap length is, length-drop n es))
-        follows (x ∷ xs) is =
-            leaves x xs is
-            ∙ sym (chain_passes (after s e) (Next e) es zero n x xs chain.2 (batch_is_current b s e es all) is ∙ ap (λ (t : State). with_pen_and_last t x t.drawing) (chain.1 s))
-
 -- the last entry of a text leaves the same state after another entry as with the first attributes
 abbrev Again : CharSet → ℕ → State → Hand → ℕ → Option TextStep → Option TextStep → Type 0
 Again set last s hand c first second =

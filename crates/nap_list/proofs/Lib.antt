@@ -3,3 +3,4 @@ pub mod Breaks
 pub mod PublicLaws
 mod KnownRows
 pub mod Batches
+pub mod FieldlessStructs

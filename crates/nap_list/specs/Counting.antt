@@ -9,7 +9,7 @@ use Rattle.nap_list.specs.Walks.{walks_join}
 -- a counting sink took these entries
 pub record CountsEntries (s : CountSink) (d : List Entry) (t : CountSink) : Type 0 where
   pub count : t.count ≡ s.count + length d
-  pub state : t.state ≡ walk s.state d
+  pub state : t.state.state ≡ walk s.state.state d
 
 -- the count of these entries would exceed 2^64 - 1
 abbrev pub Uncounted : CountSink → List Entry → Type 0
@@ -27,7 +27,7 @@ counts_none s = record { count = none s.count; state = refl }
 pub counts_more : (s t u : CountSink) (d e : List Entry) → CountsEntries s d t → CountsEntries t e u → CountsEntries s (d ++ e) u
 counts_more s t u d e first second = record {
   count = more (length d) (length e) (length (d ++ e)) s.count t.count u.count (length-append d e) first.count second.count;
-  state = second.state ∙ ap (λ (state : State). walk state e) first.state ∙ sym (walks_join s.state d e);
+  state = second.state ∙ ap (λ (state : State). walk state e) first.state ∙ sym (walks_join s.state.state d e);
 }
   where
     more : (a b c i j k : ℕ) → c ≡ a + b → j ≡ i + a → k ≡ j + b → k ≡ i + c
@@ -42,4 +42,4 @@ uncounted_more s t d e f first wants =
 
 -- a counting sink as a model of any sink
 abbrev pub count_sink_model : SinkModel CountSink
-count_sink_model = sink_model (λ s. s.state) Uncounted (λ s. false) CountsEntries (λ s d e t. ⊥)
+count_sink_model = sink_model (λ s. s.state.state) Uncounted (λ s. false) CountsEntries (λ s d e t. ⊥)

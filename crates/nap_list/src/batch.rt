@@ -185,18 +185,6 @@ impl State {
         }
     }
 
-    /// Advances past the first `count` entries of a batch.
-    #[inline(always)]
-    pub fn step_first(&mut self, batch: &Batch, count: usize)
-        requires few { count ≤ length (batch_entries batch.now) }
-        ensures { self.new ≡ walk self.old (take count (batch_entries batch.now)) }
-    {
-        if let Some(last) = count.checked_sub(1) {
-            self.drawing.apply_attributes(&batch.entry(0));
-            self.step_pen(batch, last);
-        }
-    }
-
     /// Advances past `count` entries of a batch from `first`, whose attributes are already current.
     #[inline(always)]
     pub fn step_from(&mut self, batch: &Batch, first: usize, count: usize)

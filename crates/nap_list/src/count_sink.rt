@@ -5,26 +5,26 @@ ghost use Rattle.nap_list.specs.Counting.{CountsEntries, Uncounted, counts_more,
 
 use crate::batch::Batch;
 use crate::entry::Entry;
+use crate::ghost_state::GhostState;
 use crate::shape::Shape;
 use crate::sink::{BatchFault, Sink, SinkFault};
-use crate::state::State;
 use std::alloc::Global;
 
 /// Counts the entries that it takes, and keeps none. Answers lack of memory if the count would exceed a `u64`.
 #[derive(Drop)]
 pub struct CountSink {
     count: u64,
-    state: State,
+    state: GhostState,
 }
 
 impl CountSink {
     /// Returns a sink that has taken no entry.
     pub fn new() -> CountSink
-        ensures { result ≡ record { count = 0; state = start } }
+        ensures { result ≡ record { count = 0; state = record { state = start } } }
     {
         CountSink {
             count: 0,
-            state: State::start(),
+            state: GhostState::start(),
         }
     }
 
@@ -45,7 +45,7 @@ impl CountSink {
 }
 
 impl Sink for CountSink {
-    ghost state = { λ s. s.state };
+    ghost state = { λ s. s.state.state };
 
     ghost wants = { λ s d. Uncounted s d };
 
@@ -61,7 +61,7 @@ impl Sink for CountSink {
             return Err(SinkFault::Memory);
         };
         self.count = count;
-        self.state.step(&entry);
+        self.state = self.state.after(&entry);
         Ok(())
     }
 
@@ -69,7 +69,7 @@ impl Sink for CountSink {
     fn put_batch(&mut self, batch: &Batch) -> Result<(), BatchFault> {
         let taken = (batch.len() as u64).min(self.space_left()) as usize;
         self.count += taken as u64;
-        self.state.step_first(batch, taken);
+        self.state = self.state.after_first(batch, taken);
         BatchFault::error_unless_all(taken, batch)
     }
 
@@ -79,7 +79,7 @@ impl Sink for CountSink {
             return Err(SinkFault::Memory);
         };
         self.count = count;
-        self.state.step_shape(shape);
+        self.state = self.state.after_shape(shape);
         Ok(())
     }
 

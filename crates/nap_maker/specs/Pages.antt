@@ -1,4 +1,4 @@
-use Rattle.std.specs.Prelude.{ℕ, ◌≡◌, ◌≢◌, ◌⊎◌, Bool, true, false, List, Result, Ok, Err, All}
+use Rattle.std.specs.Prelude.{ℕ, ◌≡◌, ◌≢◌, ◌⊎◌, ◌≤◌, Bool, true, false, List, Result, Ok, Err, All, length}
 use Rattle.nap_list.specs.declared.entry.Entry.{Entry}
 use Rattle.nap_list.specs.Reading.{Reading, NoneFailed, IsCutOff, IsReadWhole}
 use Rattle.nap_canon.specs.Converting.{IsPrefixOf, count_of}
@@ -42,19 +42,31 @@ pub record StopsReading (p : List ℕ) (seen : Reading) (q : List ℕ) : Type 0 
   pub none : All (λ b. b ≢ 10) rest
   pub text_is : q ≡ text entries
 
--- A write or the flush failed, and q is a prefix of the text of lines that were read.
-pub record StopsWriting (p q : List ℕ) : Type 0 where
+-- No read failed, and each gave bytes.
+pub record EachGave (p : List ℕ) (seen : Reading) : Type 0 where
+  pub none_failed : NoneFailed seen
+  pub gave : seen.reads ≤ length p
+
+-- A write or the flush failed, and q is a prefix of the text of lines that were read. Bytes are left unread only if a
+-- write failed, or the input.
+pub record StopsWriting (p : List ℕ) (seen : Reading) (q : List ℕ) : Type 0 where
   pub entries : List Entry
   pub rest : List ℕ
   pub so_far : LinesSoFar p entries rest
   pub prefix : IsPrefixOf q (text entries)
+  pub left : IsReadWhole seen p ⊎ (IsCutOff seen p ⊎ EachGave p seen)
+
+-- By whether a write has failed: no read after it could fail or find the end, so nothing was read after it.
+abbrev pub StopsAtOnce : Bool → List ℕ → Reading → Type 0
+StopsAtOnce true p seen = EachGave p seen
+StopsAtOnce false p seen = Unit {0}
 
 -- what is answered, by whether the output has failed
 abbrev pub MakesPage : List ℕ → Reading → List ℕ → Bool → Result ℕ PageFault → Type 0
 MakesPage p seen q false (Ok n) = (n ≡ count_of q) × MakesWhole p seen q
 MakesPage p seen q false (Err (faults.Lines fault n)) = (n ≡ count_of q) × RefusesBy p seen q fault
 MakesPage p seen q false (Err (faults.Read n)) = (n ≡ count_of q) × StopsReading p seen q
-MakesPage p seen q true (Err (faults.Write n)) = (n ≡ count_of q) × StopsWriting p q
+MakesPage p seen q true (Err (faults.Write n)) = (n ≡ count_of q) × StopsWriting p seen q
 MakesPage p seen q failed answer = ⊥
 
 -- the answer for lines that were read with this result, where n bytes were written

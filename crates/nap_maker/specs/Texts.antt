@@ -1,10 +1,14 @@
 use Rattle.std.specs.Prelude.{ℕ, ◌≡◌, List, length}
 use Rattle.nap_list.specs.declared.entry.Entry.{Entry}
+use Rattle.nap_list.specs.Reading.{Reading, NoneFailed, IsCutOff}
 use Rattle.nap_line_reader.specs.declared.fault.MakeFault.{MakeFault}
 use Rattle.nap_line_reader.specs.declared.fault.MakeFault.TheVariants as faults
+use Rattle.nap_line_reader.specs.declared.making.ListFault.{ListFault}
+use Rattle.nap_line_reader.specs.declared.making.ListFault.TheVariants as list_faults
 use Rattle.nap_line_reader.specs.Lists.{MakesNone}
 use Rattle.nap_maker.specs.declared.text.MadePage.{MadePage}
 use Rattle.nap_maker.specs.Making.{IsMadeOf}
+use Rattle.nap_maker.specs.Pages.{RefusesBy}
 
 -- A page made in memory of the lines p.
 
@@ -18,7 +22,19 @@ DeniesLines p faults.Memory = Unit {0}
 DeniesLines p faults.Write = ⊥
 DeniesLines p fault = (before : List Entry) × MakesNone p before fault
 
+-- Why an input whose bytes p were read gives no page: it failed or was read too often; memory ran out, and no read
+-- failed; or its lines make none.
+abbrev pub DeniesInput : List ℕ → Reading → ListFault → Type 0
+DeniesInput p seen list_faults.Read = IsCutOff seen p
+DeniesInput p seen (list_faults.Lines faults.Memory) = NoneFailed seen
+DeniesInput p seen (list_faults.Lines fault) = (before : List ℕ) × RefusesBy p seen before fault
+
 -- the fault where a failed write to memory is lack of memory
 abbrev pub fault_of_text : MakeFault → MakeFault
 fault_of_text faults.Write = faults.Memory
 fault_of_text fault = fault
+
+-- the same of an input
+abbrev pub fault_of_input : ListFault → ListFault
+fault_of_input (list_faults.Lines fault) = list_faults.Lines (fault_of_text fault)
+fault_of_input list_faults.Read = list_faults.Read

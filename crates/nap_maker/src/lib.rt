@@ -6,4 +6,4 @@ mod page;
 mod text;
 
 pub use page::{PageFault, make_page};
-pub use text::{MadePage, page_of_lines};
+pub use text::{MadePage, page_of_input, page_of_lines};

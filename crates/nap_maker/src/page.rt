@@ -4,13 +4,16 @@ ghost use Rattle.std.specs.Io.KnownBytes.{Appends, Consumes, Keeps};
 ghost use Rattle.nap_list.specs.Flushing.{FlushedOnce, flush_count};
 ghost use Rattle.nap_list.specs.Limits.{reads_limit};
 ghost use Rattle.nap_list.specs.Reading.{reading};
-ghost use Rattle.nap_maker.specs.Pages.{Concludes, MakesPage};
+ghost use Rattle.nap_maker.specs.Pages.{Concludes, MakesPage, StopsAtOnce};
 
 use nap_canon::CanonSink;
 use nap_line_reader::{ListFault, MakeFault, make_list};
 use nap_list::{Inlet, Outlet};
 use std::alloc::Global;
 use thiserror::Error;
+
+/// The greatest number of bytes of one read.
+const READ_SIZE: usize = 4_096;
 
 /// Why no page was made, and how many bytes the output took before, saturating at the greatest `u64`.
 #[derive(Clone, Copy, PartialEq, Eq, Debug, Drop, Error)]
@@ -64,8 +67,8 @@ fn conclude<O: Outlet + Drop>(
 }
 
 /// Writes the page that the lines of an input make, as they are read, and flushes the output. Returns the output, and
-/// the number of bytes that it took. Keeps one line at most, so its memory doesn't grow with the page (PROFILE.md,
-/// Lines that make a page).
+/// the number of bytes that it took. Nothing is read after a failed write. Keeps one line at most, so its memory
+/// doesn't grow with the page (PROFILE.md, Lines that make a page).
 pub fn make_page<I: Inlet, O: Outlet + Drop>(
     alloc: Global,
     input: &mut I,
@@ -79,12 +82,13 @@ pub fn make_page<I: Inlet, O: Outlet + Drop>(
     ensures makes { let seen = reading I.Inlet input.old input.new in
         (p : List ℕ) × (q : List ℕ) × Consumes (I.left input.old) (I.left input.new) p × Appends (O.taken output) (O.taken result.0) q
         × MakesPage p seen q (O.failed result.0) result.1
+        × StopsAtOnce (O.write_failed result.0) p seen
         × FlushedOnce O.Outlet output result.0 }
 {
     let sink = CanonSink::new(output);
     if sink.failed() {
         return conclude(sink, Ok(()));
     }
-    let (sink, made) = make_list(alloc, input, sink);
+    let (sink, made) = make_list(alloc, input, sink, &mut [0; READ_SIZE]);
     conclude(sink, made)
 }

@@ -38,7 +38,7 @@ pub mod lines {
 
     /// The page that lines make, in memory or as they come from an inlet; and why there is none.
     pub use nap_line_reader::MakeFault;
-    pub use nap_maker::{MadePage, PageFault, make_page, page_of_lines};
+    pub use nap_maker::{MadePage, PageFault, make_page, page_of_input, page_of_lines};
 
     /// The entries of lines, put into a sink; and why there are none.
     pub use nap_line_reader::{ListFault, make_list, put_lines};

@@ -62,7 +62,7 @@ lexed_front sets bytes = at (front sets bytes) refl
 -- the PDI set is in GL when an opcode is complete
 
 is_no_opcode : Row → Bool
-is_no_opcode (rows.Complete (codes.Op op)) = false
+is_no_opcode (rows.Whole (codes.Op op)) = false
 is_no_opcode _ = true
 
 all_pass : (Row → Bool) → List (ℕ × Row) → Bool
@@ -80,10 +80,10 @@ row_passes p (r ∷ rs) byte row all is = at (byte == r.0) is (p r.1) refl all (
     at true is true e all later = let same_row : r.1 ≡ row = cc in ap p (sym same_row) ∙ e
     at false is true e all later = later all is
 
-no_row : (byte : ℕ) (op : Opcode) → row_of control0_rows byte ≡ Some (rows.Complete (codes.Op op)) → ⊥
+no_row : (byte : ℕ) (op : Opcode) → row_of control0_rows byte ≡ Some (rows.Whole (codes.Op op)) → ⊥
 unfolding all_pass is_no_opcode control0_rows
 no_row byte op is =
-    let bad : ◌≡◌ {A = Bool} false true = row_passes is_no_opcode control0_rows byte (rows.Complete (codes.Op op)) refl is in
+    let bad : ◌≡◌ {A = Bool} false true = row_passes is_no_opcode control0_rows byte (rows.Whole (codes.Op op)) refl is in
     cc
 
 nothing_more : (sets : CodeSets) (byte : ℕ) → more_front sets byte [] ≡ unfinished
@@ -108,9 +108,9 @@ module _ (sets : CodeSets) (byte : ℕ) (op : Opcode) where
 
   by_row : (row : Option Row) → row_of control0_rows byte ≡ row → control0_front sets byte [] row ≡ complete (codes.Op op) 1 sets → set_at sets sets.gl ≡ code_sets.Pdi
   unfolding control0_front one_byte_later
-  by_row (Some (rows.Complete c)) e is =
+  by_row (Some (rows.Whole c)) e is =
       let same : c ≡ codes.Op op = cc in
-      absurd (no_row byte op (e ∙ ap (λ (x : Code). Some (rows.Complete x)) same))
+      absurd (no_row byte op (e ∙ ap (λ (x : Code). Some (rows.Whole x)) same))
   by_row (Some (rows.Out name)) e is = let bad : ⊥ = cc in absurd bad
   by_row (Some rows.More) e is =
       let more : one_byte_later (more_front sets byte []) ≡ unfinished = ap one_byte_later (nothing_more sets byte) in

@@ -7,7 +7,7 @@ use Rattle.nap_values.specs.Domains.{OperandLengths}
 use Rattle.nap_values.specs.Spellings.{move_bytes, point_bytes, addr_bytes, grb_bytes}
 use Rattle.nap_codes.specs.declared.code.Code.{Code}
 use Rattle.nap_codes.specs.declared.code.Code.TheVariants as code
-use Rattle.nap_codes.specs.declared.control.Row.TheVariants.{Complete}
+use Rattle.nap_codes.specs.declared.control.Row.TheVariants.{Whole}
 use Rattle.nap_codes.specs.declared.control.Size.{Size}
 use Rattle.nap_codes.specs.declared.control.Size.TheVariants as sizes
 use Rattle.nap_codes.specs.declared.opcode.Opcode.TheVariants as opcodes
@@ -52,7 +52,7 @@ set_base saved s (colours.Front a) grb zero = absurd zero
 set_base saved s (colours.Pair a b) grb zero = absurd zero
 set_base saved s (colours.ByReset preset) grb zero = absurd zero
 
-size_row : (size : Size) → row_of control1_rows (size_byte size) ≡ Some (Complete (code.Named size))
+size_row : (size : Size) → row_of control1_rows (size_byte size) ≡ Some (Whole (code.Named size))
 unfolding row_of control1_rows
 size_row sizes.Small = refl
 size_row sizes.Medium = refl
@@ -67,7 +67,7 @@ flag_code flags.Underline on = code.Underline on
 flag_code flags.Wrap on = code.Wrap on
 flag_code flags.Scroll on = code.Scroll on
 
-flag_row : (flag : Flag) (on : Bool) → row_of control1_rows (flag_byte flag on) ≡ Some (Complete (flag_code flag on))
+flag_row : (flag : Flag) (on : Bool) → row_of control1_rows (flag_byte flag on) ≡ Some (Whole (flag_code flag on))
 unfolding row_of control1_rows
 flag_row flags.Reverse true = refl
 flag_row flags.Reverse false = refl

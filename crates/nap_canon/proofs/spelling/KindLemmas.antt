@@ -19,7 +19,7 @@ use Rattle.nap_codes.specs.declared.control.CursorKind.{CursorKind}
 use Rattle.nap_codes.specs.declared.control.CursorKind.TheVariants as cursors
 use Rattle.nap_codes.specs.declared.control.Mask.{Mask}
 use Rattle.nap_codes.specs.declared.control.Mask.TheVariants as masks
-use Rattle.nap_codes.specs.declared.control.Row.TheVariants.{Complete}
+use Rattle.nap_codes.specs.declared.control.Row.TheVariants.{Whole}
 use Rattle.nap_codes.specs.declared.control.TextStep.{TextStep}
 use Rattle.nap_codes.specs.declared.control.TextStep.TheVariants as steps
 use Rattle.nap_codes.specs.declared.opcode.Opcode.{Opcode}
@@ -123,7 +123,7 @@ module _ (saved : OperandLengths) (s : State) (hand : Hand) where
       piece_draws saved s e (char_piece chars.Drcs byte) (by_drcs byte (entry_drawn saved s e) (graphic byte made) refl)
 
   -- one byte
-  effector_draws : (step : TextStep) (byte : ℕ) → byte < 32 → row_of control0_rows byte ≡ Some (Complete (code.Step step)) → Draws saved s (entries.TextMove step hand) (control (byte ∷ []) ∷ [])
+  effector_draws : (step : TextStep) (byte : ℕ) → byte < 32 → row_of control0_rows byte ≡ Some (Whole (code.Step step)) → Draws saved s (entries.TextMove step hand) (control (byte ∷ []) ∷ [])
   effector_draws step byte below row = control_draws saved s (entries.TextMove step hand) byte [] (code.Step step) below tt tt (λ gl. spells.control0 row (λ is. cc)) refl
 
   step_draws : (step : TextStep) → StepMade step → Draws saved s (entries.TextMove step hand) (control (step_bytes step) ∷ [])
@@ -142,13 +142,13 @@ with_some : (last : Option LastChar) (result : Result RuleResult DrawFault) → 
 with_some (Some l) result some = refl
 with_some None result never = let bad : ⊥ = cc in absurd bad
 
-cursor_row : (kind : CursorKind) → row_of control1_rows (cursor_byte kind) ≡ Some (Complete (code.Cursor kind))
+cursor_row : (kind : CursorKind) → row_of control1_rows (cursor_byte kind) ≡ Some (Whole (code.Cursor kind))
 unfolding row_of control1_rows
 cursor_row cursors.Flash = refl
 cursor_row cursors.Steady = refl
 cursor_row cursors.Off = refl
 
-mark_row : (on : Bool) → row_of control1_rows (if on then 0x4E else 0x5E) ≡ Some (Complete (code.BlinkMark on))
+mark_row : (on : Bool) → row_of control1_rows (if on then 0x4E else 0x5E) ≡ Some (Whole (code.BlinkMark on))
 unfolding row_of control1_rows
 mark_row true = refl
 mark_row false = refl

@@ -36,7 +36,7 @@ fn faults_tell_what_is_wrong(rt: HostRuntime) -> Result<(), Fail> {
 #[test]
 fn tables_end_where_the_standard_does(rt: HostRuntime) {
     let answers = [
-        control0(0x07) == Some(Row::Complete(Code::Bell)),
+        control0(0x07) == Some(Row::Whole(Code::Bell)),
         control0(0x20) == None,
         control1(0x5F) == Some(Row::Out(Left::Unprotect)),
         control1(0x60) == None,

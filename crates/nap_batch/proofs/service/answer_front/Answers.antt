@@ -6,7 +6,7 @@ pub returns-clause-answers : goal.returns-clause-answers
 returns-clause-answers g c =
     let r = c.args.line in
     let start = c.args.start in
-    let buffer = c.args.buffer.now in
+    let buffer = c.args.buffer.now.bytes in
     let (text, is, sent) = c.answer-sent.ensures in
     let size : start + r.size - start ≡ r.size = omega arith in
     let page : take (start + r.size - start) (drop start c.bytes.result.now) ≡ take r.size (drop start buffer) =

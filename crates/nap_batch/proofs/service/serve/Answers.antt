@@ -1,4 +1,5 @@
-use Rattle.std.proofs.Common.{List, ℕ, refl, sym, subst, arith}
+use Rattle.std.proofs.Common.{List, ℕ, ap, refl, sym, subst, arith}
+use Rattle.nap_batch.specs.Buffering.{Buffered}
 use Rattle.nap_batch.specs.Sessions.{pipes}
 use Rattle.nap_batch.proofs.GoingLemmas.{Going, ends, ends_full, ends_unbegun, one_more_answered, starts}
 use Rattle.nap_batch.proofs.service.serve.Goals as goal
@@ -9,7 +10,7 @@ returns-in_default g c = ends_unbegun (pipes g.I.Inlet g.O.Outlet c.args.input.n
 pub loop-init : goal.loop-init
 loop-init g c =
     let p = pipes g.I.Inlet g.O.Outlet c.args.input.now c.args.output.now in
-    record { scratch = refl; going = subst (λ (buffer : List ℕ). Going p p buffer 0 0) (sym c.in-Ok.ensures) (starts p) }
+    record { scratch = refl; going = subst (λ (buffer : List ℕ). Going p p buffer 0 0) (sym (ap (λ (b : Buffered). b.bytes) c.over-buffer.ensures)) (starts p) }
 
 pub loop-preserved : goal.loop-preserved
 loop-preserved g c =

@@ -7,5 +7,5 @@ use Rattle.nap_batch.proofs.service.serve.Given as goal
 abbrev pub invariant-loop : goal.invariant-loop
 invariant-loop g l = record {
   scratch : length l.scratch ≡ READ_SIZE;
-  going : Going (pipes g.I.Inlet g.O.Outlet l.fn.input l.fn.output) (pipes g.I.Inlet g.O.Outlet l.input l.output) l.buffer l.written l.counter;
+  going : Going (pipes g.I.Inlet g.O.Outlet l.fn.input l.fn.output) (pipes g.I.Inlet g.O.Outlet l.input l.output) l.buffer.bytes l.written l.counter;
 }

@@ -4,7 +4,7 @@ use Rattle.nap_cli.proofs.reporting.run_buffered.Goals as goal
 pub returns : goal.returns
 returns g c =
     let ran = rw (c.new.ensures, c.new-notes.ensures, c.requires.empty) at c.run-output.ensures in
-    let told = c.tell-status.ensures in
+    let reported = c.tell-status.ensures in
     record {
       after = _;
       ended = c.run-output.result.1;
@@ -13,7 +13,7 @@ returns g c =
       taken = rw (c.into_parts-writer.ensures.inner, c.into_parts-writer.ensures.buffer, c.into_inner.ensures) refl;
       notes = c.run-output.new.errors.writer.items;
       noted = refl;
-      e = told.0;
-      appended = told.1;
-      tells = rw c.failed-failed.ensures at told.2;
+      e = reported.0;
+      appended = reported.1;
+      tells = rw c.failed-failed.ensures at reported.2;
     }

@@ -38,7 +38,7 @@ returns-then-count-eq0-clause-feeds g c =
       λ s h. (
         record {
           none_failed = flag_stays _ _ _ c.loop.invariant.flag c.in-Ok.ensures.failed;
-          end = c.in-Ok.ensures.bytes.1 c.if-count-eq0.true (omega (arith, c.read.auto.room, c.loop.invariant.buffer));
+          end = c.in-Ok.ensures.bytes.1 c.if-count-eq0.true (omega (arith, c.read.auto.room, c.loop.invariant.buffer, c.requires.buffer));
           gave = omega (arith, c.in-Ok.ensures.calls, c.loop.invariant.calls, c.requires.calls, gave);
         },
         has_read s h,

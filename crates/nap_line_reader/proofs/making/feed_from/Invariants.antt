@@ -1,12 +1,11 @@
 use Rattle.std.proofs.Common.{◌≡◌, ◌+◌, ◌≤◌, ℕ, List, [], length}
 use Rattle.std.specs.Io.KnownBytes.{Consumes}
-use Rattle.nap_line_reader.specs.declared.making.TheConstants.{READ_SIZE}
 use Rattle.nap_line_reader.specs.Making.{IsReady, HasRead}
 use Rattle.nap_line_reader.proofs.making.feed_from.Given as goal
 
 abbrev pub invariant-loop : goal.invariant-loop
 invariant-loop g l = record {
-  buffer : length l.buffer ≡ READ_SIZE;
+  buffer : length l.buffer ≡ length l.fn.buffer;
   calls : g.I.Inlet.calls l.input ≡ g.I.Inlet.calls l.fn.input + l.counter;
   flag : g.I.Inlet.failed l.input ≡ g.I.Inlet.failed l.fn.input;
   ready : IsReady g.S.Sink l.reader;

@@ -1,4 +1,4 @@
-use Rattle.std.proofs.Common.{◌≡◌, ◌∙◌, [], true, false, refl, sym}
+use Rattle.std.proofs.Common.{◌≡◌, ◌∙◌, [], true, false, refl, sym, arith}
 use Rattle.std.proofs.KnownBytes.{Consumes-nil}
 use Rattle.nap_list.specs.Reading.{reading}
 use Rattle.nap_maker.proofs.PageLemmas.{concluded, header_fails}
@@ -13,13 +13,14 @@ returns-then-failed-clause-makes g c =
     let input = c.args.input.now in
     let end = c.conclude in
     let fails : O.failed s.outlet ≡ true = sym c.failed.ensures ∙ c.if-failed.true in
-    let h = header_fails O c.args.output s c.new-sink.ensures fails (reading g.I.Inlet input input) end.result.0 end.result.1 end.ensures.taken (end.ensures.failed fails) end.ensures.answer in (
+    let h = header_fails O c.args.output s c.new-sink.ensures fails (reading g.I.Inlet input input) (record { none_failed = refl; gave = omega arith }) end.result.0 end.result.1 end.ensures.taken (end.ensures.failed fails) end.ensures.answer in (
       [],
       h.0,
       Consumes-nil _,
       h.1,
       h.2,
-      flushed_once O g.met.O.Outlet.fails_by_write c.args.output c.requires.works s end.result.0 h.3 end.ensures.flushes end.ensures.write_failed,
+      h.3,
+      flushed_once O g.met.O.Outlet.fails_by_write c.args.output c.requires.works s end.result.0 h.4 end.ensures.flushes end.ensures.write_failed,
     )
 
 pub returns-clause-makes : goal.returns-clause-makes
@@ -30,12 +31,13 @@ returns-clause-makes g c =
     let t = c.make_list-sink.result.0 in
     let end = c.conclude-2 in
     let works : O.failed s.outlet ≡ false = sym c.failed.ensures ∙ c.if-failed.false in
-    let h = concluded O c.args.output s c.new-sink.ensures works _ (λ t d k. k) (λ t d e k. k) (λ t. refl) p (reading g.I.Inlet c.args.input.now c.make_list-sink.new.input) t c.make_list-sink.result.1
-    end.result.0 end.result.1 makes end.ensures.taken end.ensures.failed end.ensures.answer in (
+    let h = concluded O c.args.output s c.new-sink.ensures works _ (λ t d k. k) (λ t d e k. k) (λ t. refl) p (reading g.I.Inlet c.args.input.now c.make_list-sink.new.input)
+    g.met.O.Outlet.fails_by_write t c.make_list-sink.result.1 end.result.0 end.result.1 makes end.ensures.taken end.ensures.failed end.ensures.write_failed end.ensures.answer in (
       p,
       h.0,
       read,
       h.1,
       h.2,
-      flushed_once O g.met.O.Outlet.fails_by_write c.args.output c.requires.works t end.result.0 h.3 end.ensures.flushes end.ensures.write_failed,
+      h.3,
+      flushed_once O g.met.O.Outlet.fails_by_write c.args.output c.requires.works t end.result.0 h.4 end.ensures.flushes end.ensures.write_failed,
     )

@@ -2,6 +2,6 @@ use Rattle.std.proofs.Common.{rules}
 use Rattle.nap_codes.proofs.ControlLemmas.{format_effector_alone}
 use Rattle.nap_codes.proofs.lexer.Lexer.format_effector.Goals as goal
 
-pub returns-in-Some-Complete-Step-clause-front : goal.returns-in-Some-Complete-Step-clause-front
-returns-in-Some-Complete-Step-clause-front c =
-    format_effector_alone c.args.self.now.sets c.args.byte c.in-Some-Complete-Step.step (search rules)
+pub returns-in-Some-Whole-Step-clause-front : goal.returns-in-Some-Whole-Step-clause-front
+returns-in-Some-Whole-Step-clause-front c =
+    format_effector_alone c.args.self.now.sets c.args.byte c.in-Some-Whole-Step.step (search rules)

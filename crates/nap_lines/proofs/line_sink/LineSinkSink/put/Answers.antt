@@ -7,5 +7,5 @@ unfolding walk
 returns-clause-took c =
     rw (← c.self.view_is) (record {
       text = c.in_ok-write_line.ensures.ok ∙ simp (append_assoc, append-nil);
-      state = c.step.ensures;
+      state = c.after-self-inside.ensures;
     })

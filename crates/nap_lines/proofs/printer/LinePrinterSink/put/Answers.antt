@@ -14,4 +14,4 @@ unfolding walk
 returns-clause-took g c =
     rw (← c.self.view_is) (took_one g.O.Outlet _ _ c.send_if_large.new.self _ refl (c.in_ok-write_line.ensures.ok ∙ simp (append_assoc, append-nil)) _ _ _ _ _ c.in-Ok.ensures refl
     (ap (λ (t : Printing _). t.outlet) c.self-2.view_is) (ap (λ (t : Printing _). t.written) c.self-2.view_is) (ap (λ (t : Printing _). t.buffered) c.self-2.view_is)
-    (c.step.ensures ∙ ap (λ (v : State). after v c.args.entry) (ap (λ (t : Printing _). t.state) c.self-2.view_is ∙ c.in-Ok.ensures.2)))
+    (c.after-self-inside.ensures ∙ ap (λ (v : State). after v c.args.entry) (ap (λ (t : Printing _). t.state) c.self-2.view_is ∙ c.in-Ok.ensures.2)))

@@ -14,8 +14,8 @@ returns g c =
     let list = batch_entries c.args.batch.now in
     let r = c.print_batch-printed.result in
     let prints = c.print_batch-printed.ensures in
-    put_at O s t c.step_first.new.self list (sym c.failed.ensures ∙ c.if-failed.false) _ _ _ r (ap (λ (t : Printing _). t.outlet) c.self.view_is)
+    put_at O s t _ list (sym c.failed.ensures ∙ c.if-failed.false) _ _ _ r (ap (λ (t : Printing _). t.outlet) c.self.view_is)
     (ap (λ (t : Printing _). t.written) c.self.view_is) (ap (λ (t : Printing _). t.buffered) c.self.view_is) prints
-    (c.step_first.ensures
+    (c.after_first-self-inside.ensures
     ∙ ap (λ (v : State). walk v (take c.taken_count-taken.result list)) (ap (λ (t : Printing _). t.state) c.self.view_is ∙ prints_state O s t list r prints)
     ∙ ap (λ (n : ℕ). walk s.state (take n list)) (c.taken_count-taken.ensures ∙ ap (λ (n : ℕ). taken_count n r) c.len.ensures))

@@ -8,7 +8,7 @@ use Rattle.nap_lines.proofs.printer.LinePrinterSink.put_shape.Goals as goal
 
 pub returns-in_err-write_shape_line : goal.returns-in_err-write_shape_line
 returns-in_err-write_shape_line g c =
-    shape_refused g.O.Outlet c.args.self.now c.self.inside.outlet c.self.inside.written c.self.inside.buffered.items c.write_shape_line.new.text.items c.self.inside.state
+    shape_refused g.O.Outlet c.args.self.now c.self.inside.outlet c.self.inside.written c.self.inside.buffered.items c.write_shape_line.new.text.items c.self.inside.state.state
     (entry_of_shape c.args.shape.now) c.from_residual.result c.self.view_is c.in_err-write_shape_line.ensures.err c.from_residual.ensures.1 (sym c.failed.ensures ∙ c.if-failed.false)
 
 pub returns-in_default : goal.returns-in_default
@@ -26,4 +26,4 @@ returns g c =
     (rw (← c.self.view_is) (took_one g.O.Outlet _ _ c.send_if_large.new.self _ refl
     (c.in_ok-write_shape_line.ensures.ok ∙ ap (λ (bytes : List ℕ). c.self.inside.buffered.items ++ bytes) (one_line x)) _ _ _ _ _ c.in-Ok.ensures refl
     (ap (λ (t : Printing _). t.outlet) c.self-2.view_is) (ap (λ (t : Printing _). t.written) c.self-2.view_is) (ap (λ (t : Printing _). t.buffered) c.self-2.view_is)
-    (c.step_shape.ensures ∙ ap (λ (v : State). after v x) (ap (λ (t : Printing _). t.state) c.self-2.view_is ∙ c.in-Ok.ensures.2))))
+    (c.after_shape-self-inside.ensures ∙ ap (λ (v : State). after v x) (ap (λ (t : Printing _). t.state) c.self-2.view_is ∙ c.in-Ok.ensures.2))))

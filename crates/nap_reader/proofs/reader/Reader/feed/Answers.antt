@@ -63,14 +63,14 @@ returns-in-Err g c =
     let stops = c.in-Err.ensures.reads in
     let same : stops.0 ≡ refusal = let both : Some stops.0 ≡ Some refusal = sym stops.1 ∙ kept in cc in
     let refuses = λ (live : refusal_of c.args.self.now ≡ None). rw same at (stops.2 c.args.self.now (begins g (goal.at.returns-in-Err g c).After-read live)) in
-    let told = (refuses c.in_default.is).tells in
+    let known = (refuses c.in_default.is).tells in
     rw is (record {
       has_read = has_read_past_stop kept (refuses c.in_default.is).budget ((refuses c.in_default.is).stops _ _).1;
       budget = (refuses c.in_default.is).budget;
       answered = kept;
       latched = search rules;
-      failed = λ before device. told.0 device;
-      kept = λ other working. not_failed _ (λ fails. other (told.1 working fails));
+      failed = λ before device. known.0 device;
+      kept = λ other working. not_failed _ (λ fails. other (known.1 working fails));
       clear = search rules;
       fed = search rules;
       stops = λ before. (refuses before).stops _ _;
