@@ -41,7 +41,7 @@ class Changed(unittest.TestCase):
         """What a change needs, as people would say it."""
         for file, wanted, unwanted in (
             ("python/naplps_pages/census.py", "scripts/test-pages old-files", "scripts/test-pages player"),
-            ("python/naplps_pages/answering.py", "scripts/test-pages commands", "scripts/test-pages player"),
+            ("python/naplps_pages/commands/check.py", "scripts/test-pages commands", "scripts/test-pages player"),
             ("docs/BATCH.md", "scripts/test/test-batch", "library/test-library"),
             ("docs/LIBRARY.md", "library/test-library", "scripts/test/test-batch"),
             ("docs/MAKING.md", "scripts/test-pages making", "scripts/test-pages scans"),
