@@ -265,8 +265,7 @@ def test_a_file_that_is_no_store(run, tmp_path, store, make):
         connection.close()
     before = os.path.isfile(store) and open(store, "rb").read()
     for words in (["scan", str(tmp_path), "--into", store], ["equal", store], ["files", store, "--refused"],
-                  ["files", store],
-                  ["canon", store, "--into", os.path.join(str(tmp_path), "to")]):
+                  ["files", store]):
         said = run(words)
         assert (said.stdout, said.returncode) == (b"", 3)
         assert said.stderr.decode() == "naplps-pages: %s: %s\n" % (store, reason)
