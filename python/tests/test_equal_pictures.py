@@ -243,8 +243,8 @@ def test_a_scan_without_it_makes_nothing_of_it(run, store):
 
 
 WRONG = (
-    (["--copies"], 2, "--by picture and --copies exclude each other"),
-    (["--treated"], 2, "--by picture and --treated exclude each other"),
+    (["--with", "copies"], 2, "--by picture and --with copies exclude each other"),
+    (["--treated"], 2, "--by picture and --with treated exclude each other"),
     (["--verify"], 2, "--by picture and --verify exclude each other"),
     (["other.db"], 3, "other.db: pictures are compared in one store: merge makes one of several"))
 
