@@ -1000,7 +1000,8 @@ const composed = (accent, base) => (
 
 const SIZES = { small: [1 / 80, 5 / 128], medium: [1 / 32, 3 / 64], normal: [1 / 40, 5 / 128], tall: [1 / 40, 5 / 64],
   double: [1 / 20, 5 / 64] };
-const SPACINGS = [1, 1.25, 1.5, 1], PROPORTIONAL = 3, RIGHT = 0, LEFT = 1, UP = 2, TOP = HEIGHT / WIDTH, DOT = THIN / WIDTH;
+const SPACINGS = [1, 1.25, 1.5, 1], PROPORTIONAL = 3, RIGHT = 0, LEFT = 1, UP = 2;
+const TOP = HEIGHT / WIDTH, DOT = THIN / WIDTH;
 const SCREEN_FIELD = [0, 0, 1, TOP], NOWHERE = { x: 0, y: 0, known: false, scrolled: false, field: SCREEN_FIELD };
 const cells = new WeakMap();
 
@@ -1016,7 +1017,8 @@ function cellOf(text) {
   return cell;
 }
 
-const advanceOf = ({ wide, spacing, byLetters }, columns) => byLetters ? wide * (columns + 1) / COLUMNS : wide * spacing;
+const advanceOf = ({ wide, spacing, byLetters }, columns) => (
+  byLetters ? wide * (columns + 1) / COLUMNS : wide * spacing);
 const isSameCell = (a, b) => a === b || Object.keys(a).every((name) => a[name] === b[name]);
 
 class TextCursor {
