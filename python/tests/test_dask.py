@@ -258,7 +258,6 @@ def test_a_worker_that_is_silent_is_named_and_left_out(monkeypatch, capfd, fake,
     monkeypatch.setattr("naplps_pages.collection.cluster_watch.SILENT", 25.0)
     monkeypatch.setattr("naplps_pages.collection.cluster_watch.LOOK", 0.5)
     monkeypatch.setattr("naplps_pages.collection.cluster.MOST_FILES", 200)
-    monkeypatch.setattr("naplps_pages.collection.scan.MOST_FILES", 200)
     monkeypatch.setenv("NAPLPS", program)
 
     def stops():
