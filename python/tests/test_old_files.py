@@ -300,11 +300,12 @@ def wanted(groups):
     return sorted(sorted(map(sorted, some.values())) for some in groups)
 
 
-def as_they_are(files):
-    """The files that are accepted: for each page that they draw its spellings, with the names of each."""
+def as_they_are(files, treated=False):
+    """The files that are accepted, and those that are after treatments too: for each page that they draw its spellings,
+    with the names of each."""
     pages = {}
     for each in kept(files).values():
-        if each.sort in KINDS:
+        if each.sort in KINDS or treated and each.page is not None:
             page = b"" if each.sort == "blank" else each.page or each.data
             pages.setdefault(page, {}).setdefault(each.data, []).append(each.name)
     return list(pages.values())
@@ -321,8 +322,9 @@ def test_the_report_counts_what_was_put_in(files, checked, naplps, store, tmp_pa
         len(some), sum(kinds.values()), len(some) - sum(kinds.values()))
     assert (counts["accepted: pages"], counts["accepted: texts"], counts["accepted: blank"]) == (
         kinds["page"], kinds["text"], kinds["blank"])
-    spelled = [spellings for spellings in as_they_are(files) if len(spellings) > 1]
-    alone = [names for spellings in as_they_are(files) if len(spellings) == 1 for names in spellings.values()]
+    drawn = as_they_are(files, treated=True)
+    spelled = [spellings for spellings in drawn if len(spellings) > 1]
+    alone = [names for spellings in drawn if len(spellings) == 1 for names in spellings.values()]
     assert counts["groups of equal pages that are spelled differently"] == len(spelled) > 50
     assert counts["groups of copies alone"] == sum(len(names) > 1 for names in alone) > 50
     assert counts["different pages"] == len({each.data for each in some.values()})
