@@ -186,7 +186,7 @@ def test_an_exception_that_nobody_expected_names_the_file(tmp_path, monkeypatch,
     assert said.err.endswith("): OverflowError: Python int too large to convert to SQLite INTEGER\n")
     monkeypatch.undo()
     monkeypatch.setenv("NAPLPS", naplps)
-    monkeypatch.setattr("naplps_pages.json_lines.dumps", lambda members: [][0])
+    monkeypatch.setattr("naplps_pages.page_session.Session.print_answer", lambda *_, **__: [][0])
     assert main(["check", "--json", pages + "/a", pages + "/b"], COMMAND) == 3
     said = capfd.readouterr().err.splitlines()
     assert [line.split(": the tool")[0] for line in said] == ["naplps-pages: %s/%s" % (pages, name) for name in "ab"]
