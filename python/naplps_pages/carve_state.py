@@ -7,7 +7,7 @@ from typing import List, Tuple
 
 from naplps.version import VERSION
 
-from . import TOOL
+from . import TOOL, messages
 from .console import NotWritten
 from .new_files import replace
 
@@ -35,7 +35,7 @@ class CarveState:
             if held["what"] != WHAT:
                 raise ValueError
         except (OSError, ValueError, KeyError, TypeError, RecursionError):
-            raise NotWritten(self.path, "is there already, and isn't of this tool") from None
+            raise NotWritten(self.path, messages.FOREIGN_STATE) from None
         at, found = held.get("at"), held.get("found")
         is_mine = held.get("terms") == self.terms and all(type(each) is int and each >= 0 for each in (at, found))
         return (at, found) if is_mine else (0, 0)

@@ -12,7 +12,7 @@ from naplps.names import Members, as_json, shown
 from naplps.program import version
 from naplps.version import VERSION
 
-from . import TOOL
+from . import TOOL, messages
 from .carve_state import CarveState
 from .collection.progress import Progress
 from .collection.stopping import Stopping
@@ -29,9 +29,6 @@ PIECE = 1 << 20
 OFTEN = 5.0
 # The digits of an offset in a name.
 LEAST_DIGITS = 10
-CHANGED = "it changed while it was read"
-SKIPPED = "%d beginnings in it weren't asked about: there are too many that no page follows"
-STOPPED = "stopped; what was found is kept, and the same command goes on"
 
 
 def carve(session: Session) -> int:
@@ -43,7 +40,7 @@ def carve(session: Session) -> int:
         status = session.each(work)
     session.output.flush()
     if stopping.number is not None:
-        tell(STOPPED)
+        tell(messages.STOPPED)
     stopping.act()
     return status
 
@@ -84,7 +81,7 @@ class _Carving:
         finally:
             self.progress.clear()
         if self._marks() != marks:
-            session.complain(self.page.name, CHANGED)
+            session.complain(self.page.name, messages.CHANGED)
         elif not finder.stopped:
             self._end(finder)
 
@@ -92,7 +89,7 @@ class _Carving:
         if self.state:
             self.state.remove()
         if finder.skipped:
-            tell(f"{shown(self.page.name)}: {SKIPPED % finder.skipped}")
+            tell(f"{shown(self.page.name)}: {messages.BEGINNINGS_SKIPPED.format(number=finder.skipped)}")
         if finder.skipped or not self.found:
             self.session.fail(REFUSED)
         if not self.session.json:

@@ -11,7 +11,7 @@ from naplps.treating.borders import Piece, pieces, text_length
 from naplps.treating.search import Ask, TreatmentSearch
 from naplps.version import VERSION
 
-from . import TOOL, file_kinds
+from . import TOOL, file_kinds, messages
 from .console import FAILED, REFUSED
 from .json_lines import dumps
 from .new_files import make_folder, put_inside, require_free
@@ -21,9 +21,6 @@ from .source import Page
 
 # A capture of more pages isn't cut.
 MOST_PAGES = 100_000
-NO_BORDER = ("no page is cut: there is no border, which is NSR, CAN, 1A or an announcer with bytes that draw on both "
-             "sides of it")
-NONE_ACCEPTED = "nothing is written: of %d parts none is accepted as a page"
 
 
 class CutPart(NamedTuple):
@@ -45,13 +42,13 @@ def split(session: Session) -> int:
     """Cuts captures into their pages."""
     def work(page: Page) -> None:
         if page.data is None:
-            session.complain(page.name, "the capture is longer than 16 MiB")
+            session.complain(page.name, messages.LONG_CAPTURE)
             return
         some = pieces(page.data)
         if len(some) > MOST_PAGES:
-            session.complain(page.name, "it would be cut into %d pages, and %d are the most" % (len(some), MOST_PAGES))
+            session.complain(page.name, messages.MANY_PARTS.format(pages=len(some), most=MOST_PAGES))
         elif not some:
-            _fail(session, page, NO_BORDER)
+            _fail(session, page, messages.NO_BORDER)
         else:
             _cut(session, page, some)
     return session.each(work)
@@ -71,7 +68,7 @@ def _cut(session: Session, page: Page, some: List[Piece]) -> None:
     parts = parts_of(session.program.ask, page.data, some)
     lacking = [each.answer for each in parts if isinstance(each.answer, Unanswered)]
     if not has_a_page(session.program.ask, parts):
-        _fail(session, page, NONE_ACCEPTED % len(parts))
+        _fail(session, page, messages.NO_PAGE_AMONG_PARTS.format(parts=len(parts)))
         return
     _write(session, page, parts)
     if not session.json:

@@ -44,9 +44,9 @@ PARTS: Dict[str, Part] = {
          "beside_stores", "stores_hostile", "stores_random", "packs_random"),
     ),
     "house": Part(
-        "the sources of naplps-pages: types, sizes, Python 3.9; and that the manual page says what the "
-        "tool says",
-        ("house",),
+        "the sources of naplps-pages: types, sizes, Python 3.9, messages; and that the manual page says what the tool "
+        "says",
+        ("house", "messages"),
     ),
     "making": Part(
         "pages of lines and of what people write: what each line makes, mistakes and hostile sources, the writer, and "
