@@ -30,8 +30,8 @@ PARTS: Dict[str, Part] = {
     ),
     "commands": Part(
         "the program is asked, and the commands answer: words, statuses, messages, JSON, hostile names, programs that "
-        "fail, documents",
-        ("client", "commands", "documents", "words"),
+        "fail, documents; and columns, members and lines that stay as earlier versions had them",
+        ("client", "commands", "documents", "words", "forms"),
     ),
     "dask": Part(
         "scans on workers of Dask's distributed: the same tables, and workers and schedulers that end",
