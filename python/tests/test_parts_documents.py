@@ -1,4 +1,4 @@
-"""The recipes of docs/COLLECTIONS.md for many machines, and the commands that docs/measurements/SPEED.md names."""
+"""The recipes of docs/COLLECTIONS.md for many machines, and the commands that docs/measurements/README.md names."""
 import os
 import re
 import shutil
@@ -123,7 +123,7 @@ def test_a_page_without_an_answer_ends_no_job(slurm, fake, monkeypatch):
 
 
 def test_what_the_document_on_scale_names_is_there():
-    text = document(os.path.join("measurements", "SPEED.md")).split("## Large collections\n")[1].split("\n## ")[0]
+    text = document(os.path.join("measurements", "README.md")).split("## Large collections\n")[1].split("\n## ")[0]
     scripts = set(re.findall(r"scripts/([\w/-]+)", text))
     assert scripts >= {"measure/scale", "measure/speed-pages"}
     for name in scripts:

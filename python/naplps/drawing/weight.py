@@ -1,6 +1,6 @@
 """What elements cost a browser, in points: as much as it takes to draw a number of corners of a filled polygon.
 
-The numbers come from times of Chromium, and are rounded up; docs/measurements/SPEED.md has the times of the worst
+The numbers come from times of Chromium, and are rounded up; docs/measurements/README.md has the times of the worst
 pages.
 """
 from typing import NamedTuple, Sequence, Tuple
