@@ -2,11 +2,11 @@
 import re
 from typing import Dict, Iterator, List, Tuple
 
-from naplps_pages.commands import FILES, FOLDERS, GROUPS, Argument, OneOf, Option, Part, command, options
+from naplps_pages.commands import (
+    FILES, FOLDERS, GROUPS, SHARED_WORDS, Argument, OneOf, Option, Part, command, options,
+)
 
 NAMES = tuple(name for group in GROUPS for name in (*group.first, *group.others))
-# Options that each command has in common stand once in the manual, and in no synopsis.
-UNLISTED = ("--budget", "--seconds")
 HELP = Option("--help", "print help", default=False)
 
 
@@ -204,14 +204,17 @@ def synopsis() -> str:
     for name in NAMES:
         lines += [".Nm", f".Cm {name}"]
         parts = parts_of(name)
-        lines += [_mdoc(part) for part in parts if not isinstance(part, Argument)
-                  and not any(each.word in UNLISTED for each in options([part]))]
+        lines += [_mdoc(part, some) for part in parts for some in [_listed(part)] if some]
         lines += [_mdoc_argument(part) for part in parts if isinstance(part, Argument)]
     return "\n".join(lines) + "\n"
 
 
-def _mdoc(part: Part) -> str:
-    some = list(options([part]))
+def _listed(part: Part) -> List[Option]:
+    """The options of a part but for those of several commands, which have one place in the manual, as in the help."""
+    return [each for each in options([part]) if each.word not in SHARED_WORDS]
+
+
+def _mdoc(part: Part, some: List[Option]) -> str:
     is_required = part.is_required if isinstance(part, OneOf) else any(each.is_required for each in some)
     words = " | ".join(map(_mdoc_option, some))
     return f".{words}" if is_required else f".Op {words}"
