@@ -1,7 +1,7 @@
 """The command box: what it makes is what the single commands make of the same files, in one run that opens each file
 once, whatever ends it.
 
-KILLED names how often a run is ended at a moment by chance.
+KILLED names how often a run is ended at a moment by chance, and BOXED how many files the box has.
 """
 import csv
 import hashlib
@@ -20,11 +20,12 @@ import pytest
 
 from conftest import COMMAND, file
 from mixed_box import write
+from reports import held
 from samples import POINT, SPELLED, has
 from scans import every_table, start, tree, wait_until
 from spelled import logo
 
-KILLED = int(os.environ.get("KILLED", "6"))
+KILLED, BOXED = int(os.environ.get("KILLED", "6")), int(os.environ.get("BOXED", "160"))
 needs_strace = pytest.mark.skipif(not has("strace"), reason="there is no strace")
 # The program, which writes down what it is asked.
 LOGS = r"""
@@ -50,10 +51,10 @@ UNKNOWN = ("kind", "looks_like", "treated_hash")
 
 @pytest.fixture(scope="module")
 def mixed(naplps, tmp_path_factory):
-    """A folder of some two hundred files of all kinds."""
+    """A folder of files of all kinds."""
     folder = tmp_path_factory.mktemp("mixed") / "disks"
     folder.mkdir()
-    write(str(folder), 160, 1992, naplps)
+    write(str(folder), BOXED, 1992, naplps)
     return str(folder)
 
 
@@ -167,7 +168,10 @@ def test_its_ten_lines_are_right_to_the_number(place):
     assert numbers["carved"] == [len(carved), len({row["source"] for row in carved})]
     canonical = [row["canonical"] for row in accepted]
     groups = {each for each in canonical if canonical.count(each) > 1}
-    assert numbers["equal pages"] == [len(groups), len(set(canonical))]
+    drawn = Counter([*canonical, *(row["treated_canonical"] for row in copies)])
+    with_copies = [own for own, number in drawn.items() if number > 1]
+    assert numbers["equal pages"] == [len(groups), len(with_copies), len(set(canonical))]
+    assert len(groups) < len(with_copies) == len(held(os.path.join(made, "index.html"))[0]["groups"])
     assert numbers["other kinds"][0] == sum(bool(row["looks_like"]) for row in refused)
     assert numbers["not known"] == [sum(not row["looks_like"] for row in refused)]
     assert lines[8] == "not read:        nothing" and f"{made}/index.html" in lines[9]

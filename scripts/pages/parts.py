@@ -14,8 +14,8 @@ class Part(NamedTuple):
 PARTS: Dict[str, Part] = {
     "box": Part(
         "boxes of files of all kinds: what the command box makes is what eight commands make, and runs that are "
-        "killed, full disks and foreign files lose nothing",
-        ("box",),
+        "killed, full disks and foreign files lose nothing; what an archivist asks first is one command each",
+        ("box", "wishes"),
     ),
     "canonical": Part(
         "readers of canonical streams, in Python, JavaScript and C, beside the program, and the document of these; the "

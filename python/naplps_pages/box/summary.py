@@ -8,6 +8,7 @@ from ..collection import equal, tables
 from ..collection.counts import UNKNOWN, WORDS
 from ..collection.printing import numbered
 from ..collection.status import Status
+from ..report import groups as of_groups
 from .making import Totals
 from .folder import CANONICAL, CAPTURES, CARVED, CUT, READABLE, REPORT, TABLE, BoxFolder
 
@@ -24,6 +25,7 @@ def lines(place: BoxFolder, connection: sqlite3.Connection, it: Status, totals: 
     connection.execute("DROP TABLE IF EXISTS temp.found")
     connection.execute(equal.GROUPS.format(equal.SEVERAL + equal.COPIES, "count(*) > 1"))
     groups = int(connection.execute("SELECT count(*) FROM found").fetchone()[0])
+    with_copies = len(of_groups.load(connection))
     unknown, known = (int(connection.execute(OTHERS.format(is_so)).fetchone()[0]) for is_so in ("=", "<>"))
     counts, kinds = it.counts.get, it.tally.kinds.get
     folder = shown(place.path)
@@ -36,8 +38,9 @@ def lines(place: BoxFolder, connection: sqlite3.Connection, it: Status, totals: 
         "readable copies: %d, %d of them guesses, in %s" % (totals.copies, totals.guesses, READABLE),
         "carved:          %s" % (f"{numbered(totals.carved, 'page')} out of {numbered(totals.sources, 'file')}, in "
                                  f"{CARVED}"),
-        "equal pages:     %s; %s, in %s" % (numbered(groups, "group"), numbered(
-            len(totals.canonical), "different canonical page"), CANONICAL),
+        "equal pages:     %s of accepted files, %d with readable copies; %s, in %s" % (
+            numbered(groups, "group"), with_copies, numbered(
+                len(totals.canonical), "different canonical page"), CANONICAL),
         f"other kinds:     {known}{_looks(it)}",
         f"not known:       {numbered(unknown, 'file')}",
         f"not read:        {_unread(it)}",
