@@ -207,21 +207,19 @@ def test_the_manual_page_names_each_member_of_json():
 
 
 def manual_refusals():
-    """The text of each refusal in the manual page, without its marks."""
+    """The text of each refusal and of each code in the manual page, without its marks."""
     with open(os.path.join(TOP, "man", "naplps.1"), encoding="utf-8") as source:
         text = source.read()
     section = text[text.index(".Sh REFUSALS"):text.index(".Sh DIAGNOSTICS")]
-    for title, body in re.findall(r"\.It (\d+ [^\n]+)\n(.*?)(?=\n\.It |\n\.El)", section, re.DOTALL):
-        body = re.sub(r"\.Fl Fl |\.Dl ", lambda mark: "--" if "Fl" in mark[0] else "", body)
-        yield title, re.sub(r" ([.,;])", r"\1", " ".join(body.replace(" Li ", " ").replace("\\-", "-").split()))
+    for title, body in re.findall(r"\.It ([^\n]+)\n(.*?)(?=\n\.It |\n\.El)", section, re.DOTALL):
+        body = body.replace(".Fl Fl ", "--").replace(" Li ", " ").replace("\\-", "-")
+        yield title, re.sub(r" ([.,;])", r"\1", " ".join(body.split()))
 
 
 def test_the_manual_page_says_of_refusals_what_the_tool_says():
-    told = dict(manual_refusals())
-    assert set(refusals.load()) == set(range(1, 23)) and list(told) == [each.title for each in refusals.every()]
-    for each in refusals.every():
-        causes = "May come from " + each.causes if each.causes else ""
-        text = " ".join(part for part in (each.means, causes, each.do, each.command) if part)
-        if each.treatments:
-            text += " naplps-pages cures tries: %s." % ", ".join(each.treatments)
-        assert told[each.title] == text
+    some = [each for each in refusals.every() if not each.case]
+    assert set(refusals.load()) == set(range(1, 23)) == {each.number for each in some}
+    causes = {each: "May come from " + each.causes if each.causes else "" for each in some}
+    assert dict(manual_refusals()) == {
+        each.code or each.title: each.means if each.code
+        else " ".join(part for part in (each.means, causes[each], each.do) if part) for each in some}
