@@ -6,6 +6,7 @@ from naplps.entry_json import members_of
 from naplps.names import shown
 from naplps.reading import lines_in, read_line
 
+from . import messages
 from .console import tell
 from .json_lines import AT_ONCE, pieces_of
 from .listing import Row, command_of, rows_of
@@ -76,7 +77,7 @@ def _list_json(session: Session, page: Page) -> None:
 def _limited(answer: Answer) -> Answer:
     """The answer, which says what else can be done where it would be too much."""
     if isinstance(answer, Unanswered) and answer.too_much:
-        return Unanswered(answer.reason + "; by itself, as `naplps list < PAGE`, it has no such limit", too_much=True)
+        return Unanswered(messages.NO_LIMIT_BY_ITSELF.format(reason=answer.reason), too_much=True)
     return answer
 
 

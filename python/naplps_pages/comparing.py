@@ -10,6 +10,7 @@ from naplps.answers import Refusal
 from naplps.limits import MOST_LISTED
 from naplps.names import printable, shown
 
+from . import messages
 from .authoring.writing import source_lines
 from .console import COMPLETE
 from .page_session import Session
@@ -69,13 +70,13 @@ def diff(session: Session) -> int:
         if not session.answered(page, answer):
             return
         if isinstance(answer, Refusal):
-            session.complain(page.name, f"{answer.line}; only an accepted page has a source")
+            session.complain(page.name, messages.NO_SOURCE_OF_REFUSED.format(answer=answer.line))
         elif entries is None:
-            session.complain(page.name, f"it has more than {MOST_LISTED} entries, too many for a source")
+            session.complain(page.name, messages.LONG_FOR_SOURCE.format(most=MOST_LISTED))
         else:
             source = list(source_lines(list(entries)))
             if len(source) > MOST_LINES:
-                session.complain(page.name, f"its source has more than {MOST_LINES} lines, too many to be compared")
+                session.complain(page.name, messages.LONG_TO_COMPARE.format(most=MOST_LINES))
             else:
                 pages.append(_Compared(shown(page.name), source, drawing.draw(entries).svg if session.html else ""))
     status = session.each(work)

@@ -13,7 +13,7 @@ from naplps.treating.changes import AROUND, WITHIN, Change
 from naplps.treating.search import Cure, TreatmentSearch
 from naplps.version import VERSION
 
-from . import TOOL
+from . import TOOL, messages
 from .json_lines import dumps
 from .new_files import made_folder, put_inside, require_free
 from .page_session import Session
@@ -32,7 +32,7 @@ def cures(session: Session) -> int:
     def work(page: Page) -> None:
         answer = session.program.ask("check", page)
         if isinstance(answer, Refusal) and page.data is None:
-            answer = Unanswered("the page is longer than 16 MiB: no treatment is tried")
+            answer = Unanswered(messages.LONG_FOR_TREATMENTS)
         if not session.answered(page, answer) and not session.json:
             return
         cure, search = None, TreatmentSearch(session.program.ask)

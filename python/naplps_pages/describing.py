@@ -7,6 +7,7 @@ from naplps.drawing.description import PageDescription, describe
 from naplps.limits import MOST_LISTED
 from naplps.names import shown
 
+from . import messages
 from .console import tell
 from .page_session import Session
 from .source import Page
@@ -37,8 +38,8 @@ def describe_pages(session: Session) -> int:
         if not session.answered(page, answer):
             return
         if entries is None:
-            session.complain(page.name, f"it has more than {MOST_LISTED} entries, too many for a description"
-                             if isinstance(answer, Accepted) else "too much comes before the refusal")
+            session.complain(page.name, messages.LONG_FOR_DESCRIPTION.format(most=MOST_LISTED)
+                             if isinstance(answer, Accepted) else messages.LONG_BEFORE_REFUSAL)
             return
         described = describe(list(entries))
         if session.html:
@@ -48,7 +49,7 @@ def describe_pages(session: Session) -> int:
             session.output.text("".join(front + line + "\n" for line in described.lines()))
         if isinstance(answer, Refusal):
             session.output.flush()
-            tell(f"{shown(page.name)}: {answer.line}; the description is of what comes before")
+            tell(messages.DESCRIBED_BEFORE_REFUSAL.format(path=shown(page.name), answer=answer.line))
     return session.each(work)
 
 

@@ -5,15 +5,13 @@ from naplps.dots.frames import apng, moving
 from naplps.dots.png import png
 from naplps.names import shown
 
+from . import messages
 from .console import tell
 from .listing import Listed
 from .new_files import make_folder, put, put_inside
 from .page_session import Session
 from .source import Page
 
-TOO_MUCH = "too many entries for a picture"
-ENDS = "the picture ends before entry %d: what comes before paints as much as a picture may"
-CUT = "the picture has the first %d frames; what comes then isn't in it"
 
 
 def look(session: Session) -> int:
@@ -26,7 +24,7 @@ def look(session: Session) -> int:
         if not session.answered(page, told.last.answer):
             return
         if told.every.lines is None:
-            session.complain(page.name, TOO_MUCH)
+            session.complain(page.name, messages.LONG_FOR_PICTURE)
             return
         if not session.takes(Listed(told.last.answer, told.every.rows)):
             return
@@ -46,7 +44,7 @@ def _tell_of(session: Session, page: Page, last: Listed) -> None:
     """Tells that a page is refused, and what its picture shows then."""
     if isinstance(last.answer, Refusal) and not session.is_quiet:
         session.output.flush()
-        tell(f"{shown(page.name)}: {last.answer.line}; the picture shows what comes before")
+        tell(messages.PICTURE_BEFORE_REFUSAL.format(path=shown(page.name), answer=last.answer.line))
 
 
 def _still(session: Session, page: Page, every: Listed, _before: int) -> bytes:
@@ -54,7 +52,7 @@ def _still(session: Session, page: Page, every: Listed, _before: int) -> bytes:
     assert every.entries is not None
     it = raster(every.entries)
     if it.drawn < it.total:
-        session.complain(page.name, ENDS % (it.drawn + 1))
+        session.complain(page.name, messages.PICTURE_ENDS.format(entry=it.drawn + 1))
     colours = it.colours()
     return png([[colours[ink] for ink in row] for row in it.rows()], session.scale)
 
@@ -67,5 +65,5 @@ def _moving(session: Session, page: Page, every: Listed, before: int) -> bytes:
         every.rows or [(None, line) for line in every.lines or ()])]
     film = moving(list(every.entries), places, session.speed)
     if film.was_cut:
-        session.complain(page.name, CUT % len(film.frames))
+        session.complain(page.name, messages.FRAMES_END.format(frames=len(film.frames)))
     return apng(film.frames, session.scale)

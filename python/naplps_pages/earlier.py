@@ -7,11 +7,10 @@ from naplps.client import Client
 from naplps.limits import MOST_PAGE
 from naplps.names import shown
 
+from . import messages
 from .listing import Listed, Row, listed
 from .source import Page, Unread, read
 
-TOO_LONG = "it and the pages before it are longer than 16 MiB together"
-TOO_MUCH = "it and the pages before it have too many entries to be told apart"
 
 
 @dataclass(frozen=True)
@@ -30,7 +29,7 @@ class Earlier:
         """What is reported where one of the earlier pages is refused."""
         at = next(number for number, end in enumerate(self.ends) if answer.place < end)
         start = self.ends[at - 1] if at else 0
-        return f"the page before it, {shown(self.names[at])}, is {moved(answer, start).line}"
+        return messages.EARLIER_REFUSED.format(path=shown(self.names[at]), answer=moved(answer, start).line)
 
 
 class Heard(NamedTuple):
@@ -52,7 +51,7 @@ def read_earlier(names: List[str], seconds: float) -> Earlier:
         page.close()
         length = (ends[-1] if ends else 0) + len(page.data or b"")
         if page.data is None or length > MOST_PAGE:
-            raise Unread(f"{shown(name)}: the earlier pages are longer than 16 MiB")
+            raise Unread(messages.LONG_EARLIER.format(path=shown(name)))
         pieces.append(page.data)
         ends.append(length)
     return Earlier(b"".join(pieces), tuple(names), tuple(ends))
@@ -64,7 +63,7 @@ def heard(program: Client, earlier: Earlier, page: Page) -> Heard:
         told = listed(program, page)
         return Heard(told, told)
     if page.data is None or len(earlier.data) + len(page.data) > MOST_PAGE:
-        return _without(Unanswered(TOO_LONG))
+        return _without(Unanswered(messages.LONG_WITH_EARLIER))
     every = listed(program, earlier.joined(page))
     answer, start = every.answer, len(earlier.data)
     if isinstance(answer, Unanswered):
@@ -75,7 +74,7 @@ def heard(program: Client, earlier: Earlier, page: Page) -> Heard:
     if isinstance(before.answer, Unanswered):
         return _without(before.answer)
     if every.rows is None or before.rows is None:
-        return _without(Unanswered(TOO_MUCH))
+        return _without(Unanswered(messages.MANY_WITH_EARLIER))
     rows = _behind(every.rows, before.rows, start)
     mine: Answer = Accepted(len(rows)) if isinstance(answer, Accepted) else moved(answer, start)
     return Heard(Listed(mine, rows), every)

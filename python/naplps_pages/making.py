@@ -6,6 +6,7 @@ from naplps.answers import Accepted, Refusal, Unanswered, WrongLine
 from naplps.limits import MOST_LISTED
 from naplps.names import printable, shown
 
+from . import messages
 from .authoring.mistakes import Mistake, quoted
 from .authoring.translating import MOST_MISTAKES, Translation, misfit, translate
 from .authoring.writing import source_lines
@@ -16,14 +17,13 @@ from .showing import sketch
 from .source import Page
 
 ENDING, PICTURE = ".nap", ".svg"
-TOO_LONG = "a source has 16 MiB at most; longer lines of a list are for `naplps make`"
 
 
 def make(session: Session) -> int:
     """The page of each source, or its sketch: printed, or put into a folder."""
     def work(page: Page) -> None:
         if page.data is None:
-            session.complain(page.name, TOO_LONG)
+            session.complain(page.name, messages.LONG_SOURCE)
             return
         text, mistakes = _decoded(page.data)
         made = Translation(mistakes=mistakes) if mistakes else translate(text)
@@ -66,19 +66,19 @@ def _decoded(data: bytes) -> Tuple[str, List[Mistake]]:
     except UnicodeDecodeError as error:
         before = data[data.rfind(b"\n", 0, error.start) + 1:error.start]
         return "", [Mistake(data.count(b"\n", 0, error.start) + 1, len(before.decode("utf-8")) + 1,
-                            f"expected UTF-8, not the byte {data[error.start]:02X}")]
+                            messages.NOT_UTF_8.format(byte=data[error.start]))]
 
 
 def _mistake(source: str, made: Translation, wrong: WrongLine) -> Mistake:
     """What the program found, at what of the source it comes from."""
     if wrong.opening is not None:
-        return Mistake(*made.origin(wrong.opening), "expected END for the definition that begins here")
+        return Mistake(*made.origin(wrong.opening), messages.NO_END)
     where = made.origin(wrong.number)
     if wrong.column is None:
         why: Optional[str] = misfit(source, wrong.number)
         return Mistake(*where, wrong.reason + (f": {why}" if why else ""))
     line = bytes(made.text).split(b"\n")[wrong.number - 1].decode("ascii")
-    return Mistake(*where, f"the program doesn't take the line that this makes, {quoted(line)}, at {wrong.column}")
+    return Mistake(*where, messages.LINE_NOT_TAKEN.format(line=quoted(line), column=wrong.column))
 
 
 def _tell(session: Session, name: str, mistakes: List[Mistake]) -> None:
@@ -87,7 +87,7 @@ def _tell(session: Session, name: str, mistakes: List[Mistake]) -> None:
     for line, column, message in mistakes:
         tell_line(f"{shown(name)}:{line}:{column}: {printable(message)}")
     if len(mistakes) >= MOST_MISTAKES:
-        tell(f"{shown(name)}: no more than {MOST_MISTAKES} mistakes are told")
+        tell(messages.MANY_MISTAKES.format(path=shown(name), most=MOST_MISTAKES))
     session.fail(REFUSED)
 
 
@@ -99,9 +99,9 @@ def source(session: Session) -> int:
         if not session.answered(page, answer):
             return
         if isinstance(answer, Refusal):
-            tell(f"{shown(page.name)}: {answer.line}; only an accepted page has a source")
+            tell(f"{shown(page.name)}: {messages.NO_SOURCE_OF_REFUSED.format(answer=answer.line)}")
         elif entries is None:
-            session.complain(page.name, f"it has more than {MOST_LISTED} entries, too many for a source")
+            session.complain(page.name, messages.LONG_FOR_SOURCE.format(most=MOST_LISTED))
         else:
             session.output.text("".join(line + "\n" for line in source_lines(list(entries))))
     return session.each(work)

@@ -7,14 +7,13 @@ from naplps.names import Members, as_json, shown
 from naplps.treating.search import find
 from naplps.treating.treatments import graded
 
+from . import messages
 from .console import Output, tell
 from .json_lines import dumps
 from .nearness import WORDS, Beginning, Difference, ListedPage, NearPages, PageName
 from .page_session import Session
 from .source import Page
 
-NOT_WHOLE = "too many entries: not all pages were looked at as beginnings of others"
-TOO_MANY = f"it has more than {MOST_LISTED} entries, too many to be compared"
 SAME_WORDS, NO_OTHERS = "(the same words, in another order)", "(no others)"
 Found = Union[Difference, Beginning]
 
@@ -31,7 +30,7 @@ def near(session: Session) -> int:
         if isinstance(heard.answer, Refusal):
             _add_copy(session, found, page, heard.answer)
         elif heard.lines is None:
-            session.complain(page.name, TOO_MANY)
+            session.complain(page.name, messages.LONG_TO_BE_NEAR.format(most=MOST_LISTED))
         else:
             found.add(PageName(page.name), "".join(line + "\n" for line in heard.lines).encode("ascii"))
     status = session.each(work)
@@ -41,7 +40,7 @@ def near(session: Session) -> int:
         show(session.output, beginning, session.json)
     session.output.flush()
     if not found.is_whole:
-        tell(NOT_WHOLE)
+        tell(messages.NOT_ALL_BEGINNINGS)
     return status
 
 
@@ -49,11 +48,11 @@ def _add_copy(session: Session, found: NearPages, page: Page, refusal: Refusal) 
     """Takes the treated copy of a refused page, if a treatment makes it readable."""
     cure = None if page.data is None else find(session.program.ask, page.data, refusal.place)
     if cure is None:
-        tell(f"{shown(page.name)}: {refusal.line}, and no treatment makes it readable; it isn't compared")
+        tell(messages.NOT_COMPARED.format(path=shown(page.name), answer=refusal.line))
         return
     told = session.program.ask("list", cure.data)
     if not isinstance(told, Accepted) or told.entries > MOST_LISTED:
-        session.complain(page.name, TOO_MANY)
+        session.complain(page.name, messages.LONG_TO_BE_NEAR.format(most=MOST_LISTED))
         return
     names = "+".join(each.treatment for each in cure.changes)
     found.add(PageName(page.name, graded(names)), told.body)

@@ -6,6 +6,7 @@ from typing import Dict, Iterable, Iterator, Optional
 
 from naplps.names import leaf
 
+from . import messages
 from .console import NotWritten
 
 
@@ -42,7 +43,7 @@ def replace(path: str, data: bytes) -> None:
 def require_free(path: str, data: bytes) -> None:
     """Raises NotWritten where anything but these bytes is there already."""
     if os.path.lexists(path) and not _has(path, data):
-        raise NotWritten(path, "is there already with other bytes, and isn't written over")
+        raise NotWritten(path, messages.OTHER_BYTES_THERE)
 
 
 def _claim(path: str, data: bytes) -> None:
@@ -106,7 +107,7 @@ def make_folders(folder: str, path: str) -> None:
     for number in range(1, len(parts) + 1):
         each = os.path.join(folder, *parts[:number])
         if os.path.islink(each):
-            raise NotWritten(each, "is a link, and isn't followed")
+            raise NotWritten(each, messages.IS_A_LINK)
         make_folder(each)
 
 

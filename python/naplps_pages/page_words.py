@@ -7,6 +7,8 @@ import re
 import unicodedata
 from typing import List, NamedTuple, Optional, Tuple
 
+from . import messages
+
 # The greatest number of characters of a page's text that is kept, and of its first words.
 MOST_TEXT, FIRST = 1 << 16, 60
 # The number of characters that are looked at for the first words, and of those that are asked for.
@@ -47,16 +49,16 @@ def _small(text: str) -> str:
 def wanted(text: str) -> List[Phrase]:
     """What is looked for. Raises NoWords."""
     if len(text) > MOST_ASKED:
-        raise NoWords(f"more than {MOST_ASKED} characters are too many to look for")
+        raise NoWords(messages.LONG_TO_FIND.format(most=MOST_ASKED))
     parts: List[Phrase] = []
     for phrase, word in PART.findall(text):
         words = folded(word or phrase)
         if words:
             parts.append(Phrase(tuple(words), bool(word)))
     if not parts:
-        raise NoWords("no word to look for: it has letters or digits")
+        raise NoWords(messages.NO_WORD)
     if len(parts) > MOST_PARTS:
-        raise NoWords(f"more than {MOST_PARTS} words are too many to look for")
+        raise NoWords(messages.MANY_WORDS.format(most=MOST_PARTS))
     return parts
 
 

@@ -5,6 +5,8 @@ import time
 from types import TracebackType
 from typing import Optional, Type
 
+from . import messages
+
 
 class Late(OSError):
     """It didn't end in time."""
@@ -33,7 +35,7 @@ class Pipe:
             left = self.end - time.monotonic()
             ready = self.poll.poll(max(0, left) * 1000)
             if not ready or left <= 0:
-                raise Late(f"it is a pipe that didn't end in {self.seconds:g} s")
+                raise Late(messages.LATE_PIPE.format(seconds=self.seconds))
             try:
                 return os.read(self.descriptor, most)
             except BlockingIOError:

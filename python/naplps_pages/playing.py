@@ -6,6 +6,7 @@ from naplps.answers import Accepted, Refusal
 from naplps.limits import MOST_LISTED
 from naplps.names import shown
 
+from . import messages
 from .console import tell
 from .earlier import Earlier, Heard
 from .new_files import put
@@ -15,8 +16,6 @@ from .player.played import can_be_played, played
 from .source import Page
 
 TITLE = "%s, as it came down the line"
-UNKNOWN_PLACES = "a page above 16 MiB isn't played, since the places of its entries aren't known"
-TOO_MUCH = f"not played: it has more than {MOST_LISTED} entries, or their lines are too long"
 
 
 def play(session: Session) -> int:
@@ -28,13 +27,14 @@ def play(session: Session) -> int:
             return
         assert isinstance(answer, (Accepted, Refusal)) and session.output_file is not None
         if page.data is None or not can_be_played(told):
-            session.complain(page.name, UNKNOWN_PLACES if page.data is None else TOO_MUCH)
+            session.complain(page.name, messages.UNKNOWN_PLACES if page.data is None else
+                             messages.LONG_TO_PLAY.format(most=MOST_LISTED))
             return
         made = played(page.data, told, before=_before(heard))
         name = "A page" if page.name == "-" else shown(os.path.basename(page.name))
         put(session.output_file, html(TITLE % name, _said(answer, session.earlier), made).encode("utf-8"))
         if isinstance(answer, Refusal):
-            tell(f"{shown(page.name)}: {answer.line}; the player shows what comes before")
+            tell(messages.PLAYED_BEFORE_REFUSAL.format(path=shown(page.name), answer=answer.line))
     return session.each(work)
 
 

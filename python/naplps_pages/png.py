@@ -4,8 +4,9 @@ import subprocess
 
 from naplps.surroundings import for_child, on_path
 
+from . import messages
+
 PROGRAM = "rsvg-convert"
-WANTING = f"PNG needs {PROGRAM}, which isn't there (Debian: apt-get install librsvg2-bin)"
 
 
 class NoPng(Exception):
@@ -16,7 +17,7 @@ def find() -> str:
     """The program. Raises NoPng."""
     path, why = on_path(PROGRAM)
     if path is None:
-        raise NoPng(why or WANTING)
+        raise NoPng(why or messages.NO_RSVG_CONVERT.format(program=PROGRAM))
     return path
 
 
@@ -27,10 +28,10 @@ def png_of(svg: bytes, seconds: float) -> bytes:
         said = subprocess.run([find(), "--unlimited"], input=svg, stdout=subprocess.PIPE, stderr=subprocess.PIPE,
                               timeout=seconds, check=False, env=for_child())
     except subprocess.TimeoutExpired:
-        raise NoPng(f"{PROGRAM} didn't end in {seconds:g} s") from None
+        raise NoPng(messages.PNG_LATE.format(program=PROGRAM, seconds=seconds)) from None
     except OSError as error:
         raise NoPng(f"{PROGRAM}: {error.strerror or error}") from None
     if said.returncode or not said.stdout:
         told = said.stderr[:300].decode("utf-8", "replace").strip() or os.strerror(5)
-        raise NoPng(f"{PROGRAM} failed: {told}")
+        raise NoPng(messages.PNG_FAILED.format(program=PROGRAM, reason=told))
     return said.stdout

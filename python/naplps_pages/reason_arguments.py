@@ -1,7 +1,7 @@
 """Refusals and codes as words of the command line."""
 import argparse
 
-from . import refusals
+from . import messages, refusals
 from .collection.every_file import ANY
 
 
@@ -9,7 +9,7 @@ def refusal(text: str) -> int:
     """The number of a refusal."""
     known = refusals.load()
     if text.lstrip("0") not in map(str, known) or not text.isdigit():
-        raise argparse.ArgumentTypeError(f"the number of a refusal, not {text!r}: {_refusals()}")
+        raise argparse.ArgumentTypeError(messages.NO_REFUSAL.format(text=text, known=_refusals()))
     return int(text)
 
 
@@ -19,7 +19,7 @@ def reason(text: str) -> refusals.Reason:
     if found is None:
         codes = ", ".join(f"{code.upper()} {title}" for code, title in refusals.CODES.items())
         raise argparse.ArgumentTypeError(
-            f"a refusal or a code, not {text!r}: {_refusals()}; the codes of LeftOut are {codes}")
+            messages.NO_REASON.format(text=text, known=_refusals(), codes=codes))
     return found
 
 

@@ -8,7 +8,7 @@ from naplps.names import shown
 from naplps.reading import Entries
 from naplps.screen_text import lines_of
 
-from . import png
+from . import messages, png
 from .console import FAILED, tell
 from .earlier import Heard
 from .guessing import Guesser
@@ -119,9 +119,9 @@ def _with_guess(session: Session, page: Page, heard: Heard) -> _Shown:
     if session.past and page.data is not None:
         guessed = Guesser(session.program, session.earlier.data + page.data).guess(heard.every)
     session.output.flush()
-    shows = "; the sketch shows what comes before" if told.lines is not None else ""
+    shows = messages.SKETCHED_BEFORE_REFUSAL if told.lines is not None else ""
     if session.past:
-        shows += ", and hatched a guess of what stands behind" if guessed else "; what stands behind can't be read on"
+        shows += messages.GUESSED_BEHIND if guessed else messages.NOT_GUESSED_BEHIND
     if not session.is_quiet:
         tell(f"{shown(page.name)}: {answer.line}{shows}")
     if guessed is None:
@@ -152,7 +152,7 @@ def text(session: Session) -> int:
         if not session.answered(page, answer):
             return
         if told.lines is None or entries is None:
-            session.complain(page.name, "too much for its text to be asked")
+            session.complain(page.name, messages.LONG_FOR_TEXT)
             return
         list(entries)  # (raises NotALine where one isn't that of an entry)
         front = session.front(page.name)
@@ -160,5 +160,5 @@ def text(session: Session) -> int:
             f"{each}\n" for each in told.lines))))
         if isinstance(answer, Refusal):
             session.output.flush()
-            tell(f"{shown(page.name)}: {answer.line}; the text is what comes before")
+            tell(messages.TEXT_BEFORE_REFUSAL.format(path=shown(page.name), answer=answer.line))
     return session.each(work)

@@ -16,10 +16,7 @@ MESSAGES = {name: text for name, text in vars(messages).items() if name.isupper(
 # What a message is given to, besides an exception that is raised.
 TELLING = ("tell", "tell_line", "complain", "error", "Unanswered", "ArgumentTypeError")
 # Where messages still stand in the code that tells them.
-ELSEWHERE = ("__main__.py", "answering.py", "authoring", "box", "cli.py", "collection", "commands", "comparing.py",
-             "curing.py", "describing.py", "dotting.py", "earlier.py", "making.py", "near_pages.py", "new_files.py",
-             "packs", "page_words.py", "pipe.py", "playing.py", "png.py", "reason_arguments.py", "report", "showing.py",
-             "source.py")
+ELSEWHERE = ("__main__.py", "cli.py", "collection", "commands", "source.py")
 
 
 def parsed(path):

@@ -8,6 +8,7 @@ from naplps.entry import (
 )
 from naplps.page_state import Attributes
 
+from .. import messages
 from . import values
 from .mistakes import NotUnderstood, expected, quoted
 
@@ -56,11 +57,11 @@ def _one_of(*choices: str) -> Operand:
     return Operand(what, read)
 
 
-POINT, CODE = Operand(values.A_POINT, values.point), Operand("a code, two hexadecimal digits", values.code)
+POINT, CODE = Operand(values.A_POINT, values.point), Operand(messages.A_CODE, values.code)
 ADDRESS = Operand(values.AN_ADDRESS, values.address)
-WORD = Operand(f"a number from 0 to {values.MOST_WORD}", values.word)
-VALUE = Operand("a colour by its name, #rrggbb or g,r,b", values.map_value)
-ON_OFF_DELAY = Operand("three words on,off,delay", values.words)
+WORD = Operand(messages.A_NUMBER.format(most=values.MOST_WORD), values.word)
+VALUE = Operand(messages.A_MAP_COLOUR, values.map_value)
+ON_OFF_DELAY = Operand(messages.ON_OFF_DELAY, values.words)
 
 
 def _shape(name: str, least: int, make: Callable[[Tuple[Position, ...], Attributes], Entry]) -> LineKind:
@@ -72,7 +73,7 @@ def _circle(name: str, filled: bool) -> LineKind:
     def make(it: Sequence[Any], by: Attributes) -> Entry:
         (x, y), radius = it
         if not radius <= x < ONE - radius:
-            raise NotUnderstood(0, "the circle leaves the unit screen at its left or its right")
+            raise NotUnderstood(0, messages.CIRCLE_LEAVES)
         left, right = (x - radius, y), (x + radius, y)
         return Arc(filled, (left, right, left), by.pel, by.colour, by.texture)
     return LineKind(name + " x,y r", (POINT, Operand(values.A_RADIUS, values.radius)), INK, make)
@@ -132,12 +133,12 @@ def kind_of(name: str, second: str) -> LineKind:
 def unknown(name: str) -> Exception:
     """The fault of a first word that no line has, with the one that may be meant."""
     if name.startswith("#"):
-        return expected("a space behind the # of a comment", name)
+        return expected(messages.A_SPACE_AFTER_HASH, name)
     near = get_close_matches(name.upper()[:LONGEST_NAME], NAMES, 1)
-    what = f"what a line begins with, as {near[0]}" if near else "what a line begins with, one of " + ", ".join(NAMES)
-    return expected(what, name)
+    return expected(messages.A_BEGINNING_AS.format(name=near[0]) if near else
+                    messages.A_BEGINNING.format(names=", ".join(NAMES)), name)
 
 
 def surplus(word: str, shown: str) -> str:
     """What is said of a word after the last that a line has."""
-    return f"{quoted(word)} is too much: the line is {shown}"
+    return messages.TOO_MUCH_IN_LINE.format(word=quoted(word), line=shown)

@@ -1,6 +1,8 @@
 """What is wrong with a source, and where."""
 from typing import NamedTuple
 
+from .. import messages
+
 MOST_QUOTED = 40
 
 
@@ -27,4 +29,5 @@ def quoted(text: str) -> str:
 
 def expected(what: str, text: str, offset: int = 0) -> NotUnderstood:
     """The fault of a text that stands in the place of something else."""
-    return NotUnderstood(offset, f"expected {what}, not {quoted(text)}" if text else f"expected {what} here")
+    return NotUnderstood(offset, messages.EXPECTED.format(what=what, text=quoted(text)) if text else
+                         messages.EXPECTED_HERE.format(what=what))

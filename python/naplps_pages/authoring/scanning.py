@@ -2,6 +2,7 @@
 import re
 from typing import List, NamedTuple, Tuple
 
+from .. import messages
 from .mistakes import NotUnderstood
 
 # A longer line is none.
@@ -25,10 +26,10 @@ class LinePart(NamedTuple):
 def parts_of(line: str) -> List[LinePart]:
     """The parts of a line without its comment. Raises NotUnderstood."""
     if len(line) > MOST_LINE:
-        raise NotUnderstood(MOST_LINE, f"a line has {MOST_LINE} characters at most")
+        raise NotUnderstood(MOST_LINE, messages.LONG_LINE.format(most=MOST_LINE))
     control = _CONTROL.search(line)
     if control:
-        raise NotUnderstood(control.start(), f"a control character (U+{ord(control[0]):04X}) can't stand in a line")
+        raise NotUnderstood(control.start(), messages.CONTROL_IN_LINE.format(code=ord(control[0])))
     found: List[LinePart] = []
     at = _blanks(line, 0)
     while at < len(line):
@@ -49,7 +50,7 @@ def _word(line: str, at: int) -> Tuple[LinePart, int]:
     found = _WORD.match(line, at)
     assert found
     if line[found.end():found.end() + 1] == QUOTE:
-        raise NotUnderstood(found.end(), 'a text between quotes is a word of its own, as in TEXT "OPEN"')
+        raise NotUnderstood(found.end(), messages.TEXT_IN_WORD)
     return LinePart(at, found[0]), found.end()
 
 
@@ -60,7 +61,7 @@ def _quoted(line: str, start: int) -> Tuple[LinePart, int]:
     while at < len(line) and line[at] != QUOTE:
         if line[at] == ESCAPE:
             if line[at + 1:at + 2] not in (QUOTE, ESCAPE):
-                raise NotUnderstood(at, 'behind a backslash stands " or another backslash')
+                raise NotUnderstood(at, messages.WRONG_ESCAPE)
             at += 1
             letters.append((at - 1, line[at]))
             at += 1
@@ -70,7 +71,7 @@ def _quoted(line: str, start: int) -> Tuple[LinePart, int]:
         letters.extend(enumerate(plain[0], at))
         at = plain.end()
     if at == len(line):
-        raise NotUnderstood(start, "the text isn't ended: expected a quote behind it")
+        raise NotUnderstood(start, messages.TEXT_NOT_ENDED)
     if line[at + 1:at + 2] not in ("", " ", "\t"):
-        raise NotUnderstood(at + 1, "expected a space behind the text")
+        raise NotUnderstood(at + 1, messages.NO_SPACE_AFTER_TEXT)
     return LinePart(start, "", tuple(letters), True), at + 1

@@ -8,6 +8,7 @@ from naplps import letters
 from naplps.entry import Char, Colour, Entry, Pen, Position
 from naplps.page_state import HELD, Attributes, PageState
 
+from .. import messages
 from . import values
 from .kinds import HAND, SET, TEXT, LineKind, kind_of, surplus
 from .mistakes import Mistake, NotUnderstood, expected, quoted
@@ -18,9 +19,7 @@ from .values import NO_LOOK_PARTS, NO_TEXTURE_PARTS, LookParts, TextureParts, in
 MOST_MISTAKES, MOST_BYTES = 20, 16 << 20
 BYTE_ORDER_MARK = "\ufeff"
 BLANK = ("\n", "\r\n")
-TEXT_FORM = 'TEXT pen=x,y colour=.. text=.. "LETTERS"'
 OF_SET = ("pel", "colour", "texture", "text")
-SET_FORM = "SET pel=.. colour=.. texture=.. text=.."
 READERS: Dict[str, Callable[[str], Any]] = {
     "pen": values.pen, "pel": values.size, "colour": values.colour, "texture": values.texture, "text": values.look}
 
@@ -122,22 +121,22 @@ class Translator:
 
     def _set(self, rest: List[LinePart]) -> None:
         """Sets what stands for fields that are left out; nothing forgets what was set."""
-        operands, given = _parted(rest, OF_SET, SET_FORM)
+        operands, given = _parted(rest, OF_SET, messages.SET_LINE)
         if operands:
-            raise NotUnderstood(operands[0].column, surplus(operands[0].word, SET_FORM))
+            raise NotUnderstood(operands[0].column, surplus(operands[0].word, messages.SET_LINE))
         named = {part.word.partition("=")[0] for part in rest}
         self.presets = self.presets._replace(**{name: getattr(given, name) for name in named}) if named else NO_FIELDS
 
     def _text(self, first: LinePart, rest: List[LinePart]) -> Iterator[Tuple[int, Entry]]:
         """A character for each letter, and one before it for its accent."""
         texts = [part for part in rest if part.is_quoted]
-        operands, given = _parted([part for part in rest if not part.is_quoted], HAND, TEXT_FORM)
+        operands, given = _parted([part for part in rest if not part.is_quoted], HAND, messages.TEXT_LINE)
         if operands:
-            raise NotUnderstood(operands[0].column, surplus(operands[0].word, TEXT_FORM))
+            raise NotUnderstood(operands[0].column, surplus(operands[0].word, messages.TEXT_LINE))
         if not texts:
-            raise NotUnderstood(_end(rest[-1] if rest else first), f"expected a text between quotes: {TEXT_FORM}")
+            raise NotUnderstood(_end(rest[-1] if rest else first), messages.NO_TEXT.format(line=messages.TEXT_LINE))
         if len(texts) > 1 or not texts[0].letters:
-            raise NotUnderstood(texts[-1].column, "expected one text between quotes, of a letter at least")
+            raise NotUnderstood(texts[-1].column, messages.NOT_ONE_TEXT)
         by = self._attributes(given)
         for column, set_name, code in _characters(texts[0].letters):
             yield column, Char(set_name, code, by.pen, by.colour, by.text)
@@ -157,9 +156,9 @@ def _parted(rest: List[LinePart], allowed: Tuple[str, ...], shown: str) -> Tuple
         if not equals:
             operands.append(part)
         elif name not in allowed:
-            raise NotUnderstood(part.column, f"{quoted(name)} is no field here: the line is {shown}")
+            raise NotUnderstood(part.column, messages.NO_FIELD.format(name=quoted(name), line=shown))
         elif name in given:
-            raise NotUnderstood(part.column, f"{name}= stands twice")
+            raise NotUnderstood(part.column, messages.FIELD_TWICE.format(name=name))
         else:
             given[name] = inner(READERS[name], part.column + len(name) + 1, value)
     return operands, Fields(**given) if given else NO_FIELDS
@@ -170,20 +169,20 @@ def _read(kind: LineKind, operands: List[LinePart], end: int) -> List[Any]:
     least = len(kind.operands)
     if len(operands) > max(least, kind.most):
         extra = operands[max(least, kind.most)]
-        raise NotUnderstood(extra.column, f"{kind.most} points are the most of a shape" if kind.most else surplus(
+        raise NotUnderstood(extra.column, messages.MANY_POINTS.format(most=kind.most) if kind.most else surplus(
             extra.word, kind.shown))
     found = [_value(kind, number, part) for number, part in enumerate(operands)]
     if len(found) < least:
         missing = kind.operand(len(found)).what
-        raise NotUnderstood(end, f"expected {missing} here: the line is {kind.shown}")
+        raise NotUnderstood(end, messages.LACKING_IN_LINE.format(what=missing, line=kind.shown))
     return found
 
 
 def _value(kind: LineKind, number: int, part: LinePart) -> Any:
     operand = kind.operand(number)
     if part.is_quoted:
-        raise NotUnderstood(part.column, f"expected {operand.what}, not a text" if kind.operands else surplus(
-            "a text", kind.shown))
+        raise NotUnderstood(part.column, messages.EXPECTED.format(what=operand.what, text=messages.A_TEXT)
+                            if kind.operands else surplus(messages.A_TEXT, kind.shown))
     return inner(operand.read, part.column, part.word)
 
 
@@ -194,7 +193,7 @@ def _characters(quoted_letters: Tuple[Tuple[int, str], ...]) -> List[Tuple[int, 
         column = quoted_letters[at][0]
         codes = letters.codes(sign)
         if not codes:
-            raise expected("letters of ASCII and of the supplementary set, with one accent at most", sign, column)
+            raise expected(messages.LETTERS, sign, column)
         found.extend((column, set_name, code) for set_name, code in codes)
     return found
 
@@ -217,8 +216,7 @@ class Translation:
         self._lines.append(made.line)
         self._columns.append(made.column)
         if len(self.text) > MOST_BYTES:
-            self.mistakes.append(Mistake(*self.origin(len(self._lines)), f"the lines that the source makes have "
-                                         f"{MOST_BYTES} bytes at most, and pass that here"))
+            self.mistakes.append(Mistake(*self.origin(len(self._lines)), messages.LONG_LIST.format(most=MOST_BYTES)))
 
     def origin(self, number: int) -> Tuple[int, int]:
         """The line and the column of the source that a line, from 1, comes from."""

@@ -5,6 +5,7 @@ from typing import Callable, Dict, List, NamedTuple, Optional, Tuple, TypeVar, U
 
 from naplps.entry import ONE, Colour, Look, Pen, Position, Texture
 
+from .. import messages
 from .mistakes import NotUnderstood, expected, quoted
 
 MOST_WORD, MOST_PART, ADDRESSES = 63, 65535, 1 << 24
@@ -23,15 +24,12 @@ _FRACTION = re.compile(r"(-?)([0-9]*)\.([0-9]+)")
 _SIGNED = re.compile("-?[0-9]+")
 _SIX = re.compile("#[0-9a-fA-F]{6}")
 _CODE = re.compile("[0-9a-fA-F]{2}")
-A_POINT = f"a point x,y, each from 0 to {ONE - 1} or a fraction from 0.0 to 1.0"
-A_SIZE = f"a size x,y, each from {-ONE} to {ONE - 1} or a fraction from -1.0 to 1.0"
-A_COLOUR = ("a colour (" + ", ".join(sorted(set(NAMED) - {"gray"})) + ", #rrggbb, front:A, pair:A,A, direct:G,R,B, "
-            "own-start, own-reset, reset-2 or reset-3)")
-AN_ADDRESS = f"an address of the colour map, from 0 to {ADDRESSES - 1} or as 1/16"
-A_LOOK = "a size (small, medium, normal, tall, double or x,y), SIZE/FLAGS or W,W/SIZE/FLAGS, as 0,0/double/-u--"
-A_TEXTURE = ("a texture by its names (solid, dotted, dashed, dot-dashed; edge; vertical, horizontal, cross, mask-a to "
-             "mask-d), joined by +; a word from 0 to 63; or either with /none or /x,y")
-A_RADIUS = f"a radius, from 1 to {ONE // 2} or a fraction up to 0.5"
+A_POINT = messages.A_POINT.format(most=ONE - 1)
+A_PEN = messages.A_PEN.format(point=A_POINT)
+A_SIZE = messages.A_SIZE.format(least=-ONE, most=ONE - 1)
+A_COLOUR = messages.A_COLOUR.format(names=", ".join(sorted(set(NAMED) - {"gray"})))
+AN_ADDRESS = messages.AN_ADDRESS.format(most=ADDRESSES - 1)
+A_RADIUS = messages.A_RADIUS.format(most=ONE // 2)
 # The height of the part of the unit screen that screens show, 25/32 of the side, and its name.
 TOP, TOP_NAME = ONE * 25 // 32, "top"
 # The names in a texture by their parts of its word. One name of the first four and one of the last seven can stand.
@@ -63,9 +61,8 @@ def inner(read: Callable[[str], Kept], offset: int, text: str) -> Kept:
 
 def whole(text: str, most: int) -> int:
     """A whole number from 0 to `most`."""
-    what = f"a whole number from 0 to {most}"
     if not text.isascii() or not _WHOLE.fullmatch(text) or len(text) > MOST_DIGITS or int(text) > most:
-        raise expected(what, text)
+        raise expected(messages.A_WHOLE_NUMBER.format(most=most), text)
     return int(text)
 
 
@@ -75,7 +72,7 @@ def _coordinate(text: str, least: int, what: str) -> int:
     found = _FRACTION.fullmatch(text) if text.isascii() else None
     if found:
         if len(found[2]) + len(found[3]) > MOST_FRACTION:
-            raise NotUnderstood(0, f"a fraction has {MOST_FRACTION} digits at most")
+            raise NotUnderstood(0, messages.LONG_FRACTION.format(most=MOST_FRACTION))
         number, base = int(found[2] + found[3]), int(10 ** len(found[3]))
         units = (2 * number * ONE + base) // (2 * base)
         if number > base or (found[1] and units and least == 0):
@@ -99,9 +96,8 @@ def _position(text: str, least: int, what: str) -> Position:
 def _check_units(text: str, other: str, offset: int) -> None:
     """Raises NotUnderstood for units beside a fraction: whoever writes 1 there means 1.0. Zero is both."""
     if (POINT in other or other == TOP_NAME) and POINT not in text and text != TOP_NAME and int(text):
-        meant = f"{text}.0" if text in ("1", "-1") else "a fraction"
-        raise NotUnderstood(offset, f"expected {meant}, not {quoted(text)}: {other} beside it is a fraction, and a "
-                            "number without a point is one of units")
+        meant = f"{text}.0" if text in ("1", "-1") else messages.A_FRACTION
+        raise NotUnderstood(offset, messages.UNITS_BESIDE_FRACTION.format(what=meant, text=quoted(text), other=other))
 
 
 def radius(text: str) -> int:
@@ -124,7 +120,7 @@ def size(text: str) -> Position:
 
 def pen(text: str) -> Pen:
     """A pen: a point, start or after."""
-    return text if text in ("start", "after") else _position(text, 0, "start, after or " + A_POINT)
+    return text if text in ("start", "after") else _position(text, 0, A_PEN)
 
 
 def word(text: str) -> int:
@@ -134,13 +130,13 @@ def word(text: str) -> int:
 
 def words(text: str) -> Tuple[int, ...]:
     """Three words, on,off,delay."""
-    return tuple(inner(word, at, part) for at, part in _split(text, ",", 3, "three words on,off,delay"))
+    return tuple(inner(word, at, part) for at, part in _split(text, ",", 3, messages.ON_OFF_DELAY))
 
 
 def code(text: str) -> int:
     """A code of a set, 20 to 7f, in hexadecimal digits."""
     if not text.isascii() or not _CODE.fullmatch(text) or not 0x20 <= int(text, 16) <= 0x7F:
-        raise expected("a code of a set, two hexadecimal digits from 20 to 7f", text)
+        raise expected(messages.A_CODE_OF_SET, text)
     return int(text, 16)
 
 
@@ -149,10 +145,10 @@ def address(text: str) -> int:
     if "/" not in text:
         return _whole_as(text, ADDRESSES - 1, AN_ADDRESS)
     (_, number), (at, count) = _split(text, "/", 2, AN_ADDRESS)
-    colours = inner(lambda part: _whole_as(part, ADDRESSES, "how many colours the map has, a power of two"), at, count)
+    colours = inner(lambda part: _whole_as(part, ADDRESSES, messages.A_NUMBER_OF_COLOURS), at, count)
     if colours == 0 or colours & (colours - 1):
-        raise expected("how many colours the map has, a power of two", count, at)
-    return _whole_as(number, colours - 1, f"a colour of that map, from 0 to {colours - 1}") * (ADDRESSES // colours)
+        raise expected(messages.A_NUMBER_OF_COLOURS, count, at)
+    return _whole_as(number, colours - 1, messages.A_COLOUR_OF_MAP.format(most=colours - 1)) * (ADDRESSES // colours)
 
 
 def _whole_as(text: str, most: int, what: str) -> int:
@@ -164,13 +160,13 @@ def _whole_as(text: str, most: int, what: str) -> int:
 
 def _parts(text: str) -> Tuple[int, ...]:
     """Green, red and blue of 16 bits each."""
-    what = f"green, red and blue as g,r,b, each from 0 to {MOST_PART}"
+    what = messages.GREEN_RED_BLUE.format(most=MOST_PART)
     return tuple(inner(lambda part: _whole_as(part, MOST_PART, what), at, part)
                  for at, part in _split(text, ",", 3, what))
 
 
 def _addresses(text: str) -> Tuple[int, ...]:
-    return tuple(inner(address, at, part) for at, part in _split(text, ",", 2, "two addresses of the colour map, A,A"))
+    return tuple(inner(address, at, part) for at, part in _split(text, ",", 2, messages.TWO_ADDRESSES))
 
 
 def _direct(red: int, green: int, blue: int) -> Colour:
@@ -184,7 +180,7 @@ def _shown_colour(text: str) -> Optional[Colour]:
         return _direct(*NAMED[text])
     if text.startswith("#"):
         if not text.isascii() or not _SIX.fullmatch(text):
-            raise expected("# and six hexadecimal digits, two each of red, green and blue", text)
+            raise expected(messages.SIX_DIGITS, text)
         return _direct(*bytes.fromhex(text[1:]))
     return None
 
@@ -216,7 +212,7 @@ def map_value(text: str) -> Tuple[int, ...]:
     if shown is not None:
         return shown.parts
     if "," not in text:
-        raise expected("a colour by its name, #rrggbb or g,r,b", text)
+        raise expected(messages.A_MAP_COLOUR, text)
     return _parts(text)
 
 
@@ -241,7 +237,7 @@ NO_TEXTURE_PARTS = TextureParts()
 def texture(text: str) -> TextureParts:
     """A texture, whose mask may be left out."""
     number, between, mask = text.partition("/")
-    value = _whole_as(number, MOST_WORD, A_TEXTURE) if number[:1].isdigit() else _named_texture(number)
+    value = _whole_as(number, MOST_WORD, messages.A_TEXTURE) if number[:1].isdigit() else _named_texture(number)
     if not between:
         return TextureParts(value)
     return TextureParts(value, True, None if mask == "none" else inner(size, len(number) + 1, mask))
@@ -253,11 +249,11 @@ def _named_texture(text: str) -> int:
     taken = 0
     for name in text.split("+"):
         if name not in TEXTURES:
-            raise expected(A_TEXTURE, name, at)
+            raise expected(messages.A_TEXTURE, name, at)
         part = TEXTURES[name]
         bits = EDGE_BIT if part == EDGE_BIT else LINE_BITS if part <= LINE_BITS else FILL_BITS
         if taken & bits:
-            raise NotUnderstood(at, f"{name} can't be joined to another of its kind: the names are {A_TEXTURE}")
+            raise NotUnderstood(at, messages.TEXTURES_OF_ONE_KIND.format(name=name, names=messages.A_TEXTURE))
         word, taken, at = word | part, taken | bits, at + len(name) + 1
     return word
 
@@ -286,7 +282,7 @@ def look(text: str) -> LookParts:
     """The look of text: its size; its size and flags; or its words, size and flags."""
     parts = text.split("/")
     if len(parts) > 3:
-        raise expected(A_LOOK, text)
+        raise expected(messages.A_LOOK, text)
     at, both = 0, None
     if len(parts) == 3:
         both, at = _two_words(parts.pop(0)), text.index("/") + 1
@@ -298,16 +294,16 @@ def _size_of_text(text: str, at: int) -> Union[str, Position]:
     if text in SIZES:
         return text
     if "," not in text:
-        raise expected(A_LOOK, text, at)
+        raise expected(messages.A_LOOK, text, at)
     return inner(size, at, text)
 
 
 def _two_words(text: str) -> Tuple[int, int]:
-    (_, first), (at, second) = _split(text, ",", 2, "the two words of TEXT, w,w")
+    (_, first), (at, second) = _split(text, ",", 2, messages.TWO_WORDS)
     return word(first), inner(word, at, second)
 
 
 def _flags(text: str, at: int) -> Tuple[bool, ...]:
     if len(text) != len(FLAGS) or any(each not in (letter, "-") for each, letter in zip(text, FLAGS)):
-        raise expected("four flags, r u w s for reverse, underline, wrap and scroll, each - where it is off", text, at)
+        raise expected(messages.FOUR_FLAGS, text, at)
     return tuple(each != "-" for each in text)

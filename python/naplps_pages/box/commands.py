@@ -27,6 +27,7 @@ from ..collection.search import apart
 from ..collection.session import Names
 from ..collection.status import status
 from ..collection.store import StoreFailed, open_to_read
+from .. import messages
 from ..console import COMPLETE, FAILED, SOME_LACK, NotWritten, Output, tell
 from ..report import making
 from ..report.limits import USUAL_SKETCHES
@@ -41,8 +42,6 @@ from .folder import CLAIMS, KEPT, REPORT, STORE, BoxFolder
 from .put_files import PutFiles
 
 Given = argparse.Namespace
-GOES_ON = "what was found is kept, and the same command goes on"
-STOPPED = "stopped; " + GOES_ON
 
 
 def run(given: Given, command: str) -> int:
@@ -54,7 +53,7 @@ def run(given: Given, command: str) -> int:
     except BrokenPipeError:
         raise
     except sqlite3.Error as error:
-        tell(f"{shown(given.into)}: {error}; {GOES_ON}")
+        tell(messages.GOES_ON_AFTER.format(path=shown(given.into), reason=error))
     except Exception as error:  # pylint: disable=broad-except
         tell(f"{shown(given.into)}: {told(error)}")
     return FAILED
@@ -97,7 +96,7 @@ class BoxRun:
             try:
                 lines = self._made(found)
             except Stopped:
-                tell(STOPPED)
+                tell(messages.STOPPED)
                 raise
         finally:
             with suppress(OSError):
@@ -134,7 +133,7 @@ class BoxRun:
             self.place.of(STORE), self.place.of(REPORT), self.how.program, USUAL_SKETCHES, False, self.processes,
             self.how.seconds, replace=True, kept=self.place.of(KEPT)))
         for path, why in made.missed:
-            self._complain(path, f"no sketch: {why}")
+            self._complain(path, messages.NO_SKETCH.format(reason=why))
 
     def _complain(self, name: str, why: str) -> None:
         tell(f"{shown(name)}: {why}")

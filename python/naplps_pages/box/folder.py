@@ -11,7 +11,7 @@ from typing import Iterator, List, Optional, Type
 from naplps.names import as_json, shown
 from naplps.version import VERSION
 
-from .. import TOOL
+from .. import TOOL, messages
 from ..collection.folders import reason
 from ..collection.lock import Busy, Lock
 from ..console import NotWritten
@@ -30,13 +30,6 @@ MOST_MARKER = 1 << 20
 # That of which worker asks about which page; and files that aren't whole, of a run that was killed.
 CLAIMS = ".naplps-claiming"
 UNFINISHED = re.compile(r"\.naplps-[a-z0-9_]{8}")
-WITHIN = "stands in %s, of which it would be the box"
-AROUND = "%s stands in it: a box has a folder of its own"
-FOREIGN = "isn't empty, and is no box of this tool: it has %s"
-OTHERS = "is the box of %s: others have a box of their own"
-NO_MARKER = "isn't the marker of a box of this tool"
-NOT_OWN = "isn't a %s of the box, which has one of that name; move it away"
-BUSY = "another run is at work on it: %s"
 
 
 class BoxFolder:
@@ -59,7 +52,7 @@ class BoxFolder:
         try:
             self.lock.__enter__()
         except Busy as busy:
-            raise NotWritten(self.path, BUSY % busy) from None
+            raise NotWritten(self.path, messages.BUSY_BOX.format(reason=busy)) from None
         except OSError as error:
             raise NotWritten(self.path, reason(error)) from None
         try:
@@ -82,9 +75,9 @@ class BoxFolder:
         for root in self.roots:
             real = os.path.realpath(root)
             if _stands_in(place, real):
-                raise NotWritten(self.path, WITHIN % shown(os.fsdecode(root)))
+                raise NotWritten(self.path, messages.BOX_WITHIN.format(folder=shown(os.fsdecode(root))))
             if _stands_in(real, place):
-                raise NotWritten(self.path, AROUND % shown(os.fsdecode(root)))
+                raise NotWritten(self.path, messages.BOX_AROUND.format(folder=shown(os.fsdecode(root))))
 
     def _require_own(self) -> None:
         """Raises NotWritten where the folder isn't empty and no box, or something foreign has a name of a box's."""
@@ -99,13 +92,13 @@ class BoxFolder:
         else:
             others = [name for name in names if name != LOCK and not UNFINISHED.fullmatch(name)]
             if others:
-                raise NotWritten(self.path, FOREIGN % shown(others[0]))
+                raise NotWritten(self.path, messages.NO_BOX.format(name=shown(others[0])))
         for name in names:
             what = "file" if name in FILES else "folder" if name in FOLDERS else ""
             mode = os.lstat(self.of(name))
             if what and not (stat.S_ISREG(mode.st_mode) and mode.st_nlink == 1 if what == "file"
                              else stat.S_ISDIR(mode.st_mode)):
-                raise NotWritten(self.of(name), NOT_OWN % what)
+                raise NotWritten(self.of(name), messages.FOREIGN_IN_BOX.format(kind=what))
 
     def _require_marker(self) -> None:
         path = self.of(MARKER)
@@ -122,9 +115,9 @@ class BoxFolder:
         except OSError as error:
             raise NotWritten(path, reason(error)) from None
         except (ValueError, KeyError, TypeError, RecursionError):
-            raise NotWritten(path, NO_MARKER) from None
+            raise NotWritten(path, messages.NO_MARKER) from None
         if held["folders"] != self.folders:
-            raise NotWritten(self.path, OTHERS % ", ".join(map(shown, names)))
+            raise NotWritten(self.path, messages.BOX_OF_OTHERS.format(folders=", ".join(map(shown, names))))
 
     def _marker(self) -> bytes:
         members = {"what": WHAT, "tool": f"{TOOL} {VERSION}", "folders": self.folders}

@@ -7,8 +7,9 @@ import sqlite3
 import zlib
 from typing import Iterable, List, NamedTuple, Optional, Sequence, Tuple
 
-from naplps.names import Members, shown
+from naplps.names import Members
 
+from .. import messages
 from ..collection.rows import Answered, Values
 from ..collection.store import StoreFailed, address
 
@@ -24,7 +25,6 @@ READ = f"SELECT {', '.join(COLUMNS)} FROM pages WHERE own = ?"
 LEVEL = 1
 # No page and no answer that is kept is longer.
 MOST_LENGTH = 64 << 20
-FOREIGN = "isn't what a box keeps of its pages: take it away, and the next run reads all files anew"
 
 
 class KeptPart(NamedTuple):
@@ -107,7 +107,7 @@ class KeptPages:
             self.connection.close()
             if isinstance(error, sqlite3.OperationalError):
                 raise
-            raise StoreFailed(path, FOREIGN) from None
+            raise StoreFailed(path, messages.NO_PAGES_OF_BOX) from None
         except BaseException:
             self.connection.close()
             raise
@@ -121,7 +121,7 @@ class KeptPages:
         known = [ask(f"PRAGMA {name}").fetchone()[0] for name in ("application_id", "user_version")]
         some = [sql for sql, in ask("SELECT sql FROM sqlite_master WHERE sql IS NOT NULL")]
         if known != [APPLICATION, FORM] or some != [*TABLES]:
-            raise StoreFailed(self.path, FOREIGN)
+            raise StoreFailed(self.path, messages.NO_PAGES_OF_BOX)
 
     def take(self, answers: Sequence[Answered]) -> None:
         """Takes what workers found."""
@@ -151,7 +151,7 @@ class KeptPages:
                             None if cure is None else json.loads(cure), _unpacked(copy), _unpacked(copied),
                             _parts(parts), _parts(carved), _unpacked(cut))
         except (ValueError, TypeError, IndexError, zlib.error, RecursionError):
-            raise StoreFailed(self.path, f"what it has of the page {shown(own.hex())} can't be read") from None
+            raise StoreFailed(self.path, messages.PAGE_OF_BOX_UNREADABLE.format(sha256=own.hex())) from None
 
     def close(self) -> None:
         """Closes it."""

@@ -8,7 +8,7 @@ from naplps.answers import Accepted, Answer, Refusal, Unanswered, read_line
 from naplps.names import Members, shown
 from naplps.treating.borders import Piece
 
-from .. import carving, curing, splitting
+from .. import carving, curing, messages, splitting
 from ..collection import every_file, tables
 from ..collection.every_file import FileFacts
 from ..collection.printing import Printer
@@ -20,7 +20,6 @@ from .kept_pages import KeptPage, KeptPart
 from .folder import CANONICAL, CAPTURES, CARVED, CUT, READABLE, TABLE
 from .put_files import PutFiles
 
-NOT_KEPT = "isn't made: nothing is kept of its page"
 # The columns of the table of pages that were cut out of files.
 OF_CUT = ["path", "source", "how", "offset", "bytes", "cut_at", "at_least_bytes", "at_most_offset", "answer"]
 
@@ -94,7 +93,7 @@ class BoxFiles:
             pass  # (it isn't there)
         kept = self.find(file)
         if kept is None or kept.canon is None:
-            self.complain(path, NOT_KEPT)
+            self.complain(path, messages.NOT_KEPT)
         else:
             self.put.put(path, kept.canon)
 
@@ -105,7 +104,7 @@ class BoxFiles:
             return
         kept = self.find(file)
         if kept is None:
-            self.complain(file.at_path.path, NOT_KEPT)
+            self.complain(file.at_path.path, messages.NOT_KEPT)
             return
         if file.treated is not None and kept.cure is not None and kept.copy is not None:
             self._copy(file, kept.cure, kept.copy)

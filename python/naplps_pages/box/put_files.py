@@ -10,6 +10,7 @@ from typing import Callable, Dict, List, Optional, Set, Tuple
 
 from naplps.names import Members
 
+from .. import messages
 from ..collection.folders import reason
 from ..console import NotWritten
 from ..curing import tells_the_same
@@ -18,8 +19,6 @@ from .folder import BoxFolder
 
 # The number of files that are put together, and of their bytes.
 MOST_FILES, MOST_BYTES = 200, 16 << 20
-CHANGED = "isn't as the box made it, and isn't written over: move it away, and the same command makes it anew"
-NO_FILE = "is there already, and is no file"
 
 
 class PutFiles:
@@ -81,7 +80,7 @@ class PutFiles:
             replace(whole, data)
         else:
             self.lost.add(path)
-            self.complain(whole, CHANGED)
+            self.complain(whole, messages.CHANGED_IN_BOX)
 
     def _note(self, new: Dict[str, bytes]) -> None:
         """Notes what will stand where."""
@@ -105,7 +104,7 @@ def _hash_of(path: str) -> Optional[bytes]:
     try:
         status = os.lstat(path)
         if not stat.S_ISREG(status.st_mode):
-            raise NotWritten(path, NO_FILE)
+            raise NotWritten(path, messages.NO_FILE_THERE)
         hashed = hashlib.sha256()
         with open(os.open(path, os.O_RDONLY | os.O_NOFOLLOW | os.O_NONBLOCK | os.O_CLOEXEC), "rb") as file:
             for piece in iter(lambda: file.read(1 << 20), b""):

@@ -2,8 +2,9 @@
 import sqlite3
 import sys
 
+from .. import messages
 from ..console import FAILED, Output, tell
-from ..near_pages import NOT_WHOLE, show
+from ..near_pages import show
 from .canon_filling import CanonFilling
 from .near_groups import NearGroups
 from .near_table import NEAR_KEYS
@@ -28,4 +29,4 @@ def _print(connection: sqlite3.Connection, as_objects: bool) -> None:
         show(output, one, as_objects)
     output.flush()
     if not found.is_whole:
-        tell(NOT_WHOLE)
+        tell(messages.NOT_ALL_BEGINNINGS)

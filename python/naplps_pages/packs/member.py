@@ -1,14 +1,13 @@
 """What is found in a pack."""
 from typing import Callable, NamedTuple, Optional
 
+from .. import messages
 from ..collection.tables import MOST_NUMBER, NOT_A_FILE, READ, TOO_LONG, UNREADABLE
 from .naming import is_pack
 
-NESTED = "a pack in a pack isn't opened"
-CUT = "the pack is cut or damaged amid it"
-OUTSIDE = "it begins outside of the pack"
-SEVERAL = "the pack has several members of this name"
-NO_FILE = "it is no regular file"
+
+# What a scan says of files, and of members that a store can't tell apart.
+SEVERAL, NO_FILE = messages.SEVERAL_OF_NAME, messages.NOT_REGULAR
 
 
 class Damage(Exception):
@@ -47,9 +46,9 @@ def passed_over(name: bytes, why: Optional[str], size: int, at: int, most: int) 
         return Member(name, UNREADABLE, why, None, at)
     kept = size if size <= MOST_NUMBER else None
     if is_pack(name):
-        return Member(name, UNREADABLE, NESTED, kept, at)
+        return Member(name, UNREADABLE, messages.PACK_IN_PACK, kept, at)
     if size > most:
-        said = "%d bytes" % size if size <= MOST_NUMBER else "more than %d bytes" % MOST_NUMBER
+        said = messages.BYTES.format(number=size) if kept is not None else messages.MORE_BYTES.format(most=MOST_NUMBER)
         return Member(name, TOO_LONG, said, kept, at)
     return None
 
@@ -57,5 +56,5 @@ def passed_over(name: bytes, why: Optional[str], size: int, at: int, most: int) 
 def taken(name: bytes, data: bytes, size: int, at: int) -> Member:
     """The member that was read."""
     if len(data) != size:
-        return Member(name, UNREADABLE, CUT, size, at)
+        return Member(name, UNREADABLE, messages.CUT_IN_MEMBER, size, at)
     return Member(name, READ, None, size, at, data)

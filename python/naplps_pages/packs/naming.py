@@ -1,6 +1,8 @@
 """Names of packs and of their members. In a store a pack is a folder of this path: that of the file, with '!/'."""
 from typing import Optional, Tuple
 
+from .. import messages
+
 ENDINGS = (b".tar", b".tar.gz", b".tgz", b".zip")
 ZIP = b".zip"
 # (The path of a folder never ends so.)
@@ -32,13 +34,13 @@ def named(raw: bytes) -> Tuple[bytes, Optional[str]]:
     name = b"/".join(parts)
     why = None
     if whole != raw:
-        why = "its name has a NUL"
+        why = messages.NUL_IN_NAME
     elif whole.startswith(b"/"):
-        why = "its name is absolute"
+        why = messages.ABSOLUTE_NAME
     elif b".." in parts:
-        why = "its name leads out of the pack"
+        why = messages.NAME_LEADS_OUT
     elif not parts:
-        why = "it has no name"
+        why = messages.NO_NAME
     elif len(name) > MOST_NAME:
-        why = f"its name is longer than {MOST_NAME} bytes"
+        why = messages.LONG_NAME.format(most=MOST_NAME)
     return (name, None) if why is None else ((whole or b".")[:MOST_NAME], why)

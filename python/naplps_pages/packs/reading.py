@@ -7,9 +7,10 @@ from typing import IO, Dict, Optional, Tuple, Union
 
 from naplps.limits import MOST_PAGE
 
+from .. import messages
 from ..collection.folders import FolderIdentity, opened, opened_again, reason
 from ..collection.tables import READ
-from .member import NO_FILE, SEVERAL, Damage, Member, PackLimits
+from .member import Damage, Member, PackLimits
 from .naming import ZIP
 from .tars import Tar
 from .zips import Zip
@@ -19,7 +20,6 @@ FLAGS = os.O_RDONLY | os.O_NONBLOCK | os.O_CLOEXEC | os.O_NOCTTY
 BUFFER = 1 << 16
 # The number of packs that are held open.
 MOST_OPEN = 4
-NO_MEMBER = "the pack has no such member"
 
 
 def open_file(path: bytes, identity: Optional[FolderIdentity] = None, elsewhere: bool = False) -> IO[bytes]:
@@ -33,13 +33,13 @@ def open_file(path: bytes, identity: Optional[FolderIdentity] = None, elsewhere:
     follow = identity is None
     try:
         if not stat.S_ISREG(os.stat(name, dir_fd=at, follow_symlinks=follow).st_mode):
-            raise OSError(NO_FILE)  # (to open a device might do something)
+            raise OSError(messages.NOT_REGULAR)  # (to open a device might do something)
         descriptor = os.open(name, FLAGS if follow else FLAGS | os.O_NOFOLLOW, dir_fd=at)
     finally:
         os.close(at)
     if not stat.S_ISREG(os.fstat(descriptor).st_mode):
         os.close(descriptor)
-        raise OSError(NO_FILE)
+        raise OSError(messages.NOT_REGULAR)
     return open(descriptor, "rb", buffering=BUFFER)
 
 
@@ -70,11 +70,11 @@ class _Held:
             self.places = {}
             for member in self.pack.members(reads=False):
                 if member.name in self.places:
-                    self.places[member.name] = SEVERAL
+                    self.places[member.name] = messages.SEVERAL_OF_NAME
                 else:
-                    self.places[member.name] = (member.why or NO_MEMBER) if member.at is None else member.at
+                    self.places[member.name] = (member.why or messages.NO_MEMBER) if member.at is None else member.at
         if name not in self.places:
-            raise NoMember(self.pack.why or NO_MEMBER)
+            raise NoMember(self.pack.why or messages.NO_MEMBER)
         place = self.places[name]
         if isinstance(place, str):
             raise NoMember(place)
@@ -106,7 +106,7 @@ class Packs:
         except OSError as error:
             raise NoMember(reason(error)) from None
         if member is None or member.data is None:
-            raise NoMember(member.why or NO_MEMBER if member else NO_MEMBER)
+            raise NoMember(member.why or messages.NO_MEMBER if member else messages.NO_MEMBER)
         return member.data
 
     def _held(self, path: bytes) -> _Held:

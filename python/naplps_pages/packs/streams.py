@@ -3,6 +3,7 @@ import os
 import zlib
 from typing import IO, Callable, List, NamedTuple, Tuple, Union
 
+from .. import messages
 from .member import Damage
 
 GZIP = b"\x1f\x8b"
@@ -12,9 +13,6 @@ PIECE, UNPACKED = 1 << 14, 1 << 18
 MOST_RATIO, LEAST = 100, 1 << 24
 # The greatest number of places to go back to, and the bytes between them at first.
 MOST_KEPT, APART = 128, 1 << 18
-ENDS = "it is cut: it ends at byte %d"
-DAMAGED = "it is damaged behind byte %d: %s"
-BOMB = "what stands behind byte %d isn't read: it unpacks to more than %d times its size"
 
 
 class Plain:
@@ -30,7 +28,7 @@ class Plain:
     def seek(self, at: int) -> None:
         """Goes to a place. Raises Damage where the file ends before it."""
         if at > self.size:
-            raise Damage(ENDS % self.size)
+            raise Damage(messages.PACK_CUT.format(at=self.size))
         self.file.seek(at)
 
     def pass_over(self, at: int) -> None:
@@ -91,14 +89,14 @@ class Unpacked:
             self._step(at)
             dropped = self.tell() - start
             if dropped > LEAST and dropped > MOST_RATIO * (self._packed() - packed):
-                raise Damage(BOMB % (start, MOST_RATIO))
+                raise Damage(messages.PACK_TOO_LARGE.format(at=start, most=MOST_RATIO))
 
     def _step(self, at: int) -> None:
         """Drops what is held before a place, or unpacks more."""
         step = min(at - self.tell(), len(self.held) - self.at)
         self.at += step
         if not step and not self._more():
-            raise Damage(ENDS % self.tell())
+            raise Damage(messages.PACK_CUT.format(at=self.tell()))
 
     def _packed(self) -> int:
         """How much of the file was unpacked."""
@@ -130,14 +128,15 @@ class Unpacked:
                 self.beat()
                 data = self.file.read(PIECE)
             if not data:
-                raise Damage(ENDS % self.come)
+                raise Damage(messages.PACK_CUT.format(at=self.come))
             before = self.unpacker.copy()
             try:
                 piece = self.unpacker.decompress(data, UNPACKED)
             except zlib.error as error:
                 piece, self.unpacker = _salvaged(before, data)
                 if not piece:
-                    raise Damage(DAMAGED % (self.come, str(error).split(": ")[-1])) from None
+                    reason = str(error).split(": ")[-1]
+                    raise Damage(messages.GZIP_DAMAGED.format(at=self.come, reason=reason)) from None
             if piece:
                 return piece
 

@@ -1,20 +1,16 @@
 """Tar files, read as a stream: no list of the members is kept."""
 from typing import IO, Iterator, Optional
 
+from .. import messages
 from ..collection.tables import READ
 from . import tar_headers
 from .member import Damage, Member, PackLimits, other, passed_over, taken
 from .naming import named
-from .streams import ENDS, stream_of
+from .streams import stream_of
 from .tar_headers import BLOCK, BadHeader, Header, NoHeader, read_header
 
 # How far what follows the end is looked through.
 MOST_BEHIND = 1 << 20
-NO_TAR = "it is no tar file"
-NO_END = "it has no mark of its end: it may be cut"
-MORE = "something stands behind its end, and isn't read"
-DAMAGED = "it is damaged at byte %d"
-SPARSE = "a sparse file isn't read in a pack"
 KINDS = {tar_headers.LINK: "a symbolic link", tar_headers.HARD_LINK: "a hard link", tar_headers.FIFO: "a fifo",
          tar_headers.CHARACTERS: "a device", tar_headers.BLOCKS: "a device"}
 
@@ -41,8 +37,8 @@ class Tar:
                     yield member
         except Damage as damage:
             self.why = self.why or str(damage)
-        if not found and not start and self.why == DAMAGED % 0:
-            self.why = NO_TAR
+        if not found and not start and self.why == messages.TAR_DAMAGED.format(at=0):
+            self.why = messages.NO_TAR
 
     def member_at(self, at: int) -> Optional[Member]:
         """The member that begins at this place. Raises Damage."""
@@ -65,12 +61,12 @@ class Tar:
                 self._end(none.block)
                 return
             except BadHeader:
-                self.why = self.why or DAMAGED % position
+                self.why = self.why or messages.TAR_DAMAGED.format(at=position)
                 behind = max(position + BLOCK, -(-self.stream.tell() // BLOCK) * BLOCK)
                 position, searched = behind, searched + behind - position
                 continue
             if not header.is_whole:
-                self.why = self.why or DAMAGED % position
+                self.why = self.why or messages.TAR_DAMAGED.format(at=position)
             position, searched = header.behind, 0
             self.next = position
             yield header
@@ -78,9 +74,9 @@ class Tar:
     def _end(self, block: bytes) -> None:
         """Looks at what stands after the mark of the end, which is zeros where nothing was added. Raises Damage."""
         if any(block):
-            raise Damage(ENDS % self.stream.tell())
+            raise Damage(messages.PACK_CUT.format(at=self.stream.tell()))
         if not block:
-            self.why = self.why or NO_END
+            self.why = self.why or messages.NO_END_OF_TAR
             return
         left = MOST_BEHIND
         while left > 0:
@@ -88,7 +84,7 @@ class Tar:
             if not piece:
                 return
             if any(piece):
-                self.why = self.why or MORE
+                self.why = self.why or messages.MORE_AFTER_TAR
                 return
             left -= len(piece)
 
@@ -100,7 +96,8 @@ class Tar:
         at, size = header.at, header.size
         if header.kind not in tar_headers.FILES and not why:
             return other(name, KINDS.get(header.kind, "of another kind"), at)
-        member = passed_over(name, why or (SPARSE if header.is_sparse else None), size, at, self.limits.most)
+        why = why or (messages.SPARSE_FILE if header.is_sparse else None)
+        member = passed_over(name, why, size, at, self.limits.most)
         if member or not reads:
             return member or Member(name, READ, None, size, at)
         return taken(name, self._bytes(size), size, at)

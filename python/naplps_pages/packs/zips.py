@@ -7,21 +7,20 @@ import zipfile
 import zlib
 from typing import IO, Dict, Iterator, List, Optional, Set, cast
 
+from .. import messages
 from ..collection.tables import READ, UNREADABLE
-from .member import OUTSIDE, Member, PackLimits, other, passed_over, taken
+from .member import Member, PackLimits, other, passed_over, taken
 from .naming import named
 
 # The greatest number of bytes of a directory: some 400,000 members.
 MOST_DIRECTORY = 32 << 20
 ENCRYPTED, UTF_8 = 1, 1 << 11
 MOST_SAID = 200
-NO_ZIP = "it can't be read as a zip file"
 # What is wrong with a file is said by these alone, and in part by some versions of Python only.
 ZIP_FAULTS = (zipfile.BadZipFile, zipfile.LargeZipFile, NotImplementedError)
 UNSAID = ("Bad offset for central directory",)
 # What stands before the bytes of a member: its mark, the length of what has no name, and where two lengths are in that.
 LOCAL, LOCAL_LENGTH, LENGTHS = b"PK\3\4", 30, struct.Struct("<26xHH")
-OVERLAPS = "it overlaps another member, or the directory"
 # What zipfile raises over directories and members that are made up.
 FAULTS = (zipfile.BadZipFile, zipfile.LargeZipFile, NotImplementedError, RuntimeError, ValueError, LookupError,
           ArithmeticError, TypeError, EOFError, struct.error, zlib.error)
@@ -40,7 +39,7 @@ class _Directory:
         """As of files."""
         self.limits.beat()
         if most > MOST_DIRECTORY:
-            raise zipfile.BadZipFile(f"its directory is longer than {MOST_DIRECTORY} bytes")
+            raise zipfile.BadZipFile(messages.LONG_DIRECTORY.format(most=MOST_DIRECTORY))
         return self.file.read(most if most >= 0 else MOST_DIRECTORY)
 
 
@@ -62,11 +61,11 @@ class Zip:
         except FAULTS as error:
             said = _said(error)
             is_of_zip = isinstance(error, ZIP_FAULTS) and said not in UNSAID
-            self.why = f"{NO_ZIP}: {said}" if is_of_zip else NO_ZIP
+            self.why = f"{messages.NO_ZIP}: {said}" if is_of_zip else messages.NO_ZIP
         except OSError as error:
             if error.errno not in (None, errno.EINVAL):  # (that is a place before the start, or none)
                 raise
-            self.why = NO_ZIP
+            self.why = messages.NO_ZIP
 
     def members(self, start: int = 0, reads: bool = True) -> Iterator[Member]:
         """The members from a place on, which is 0 or was `next`, that after the last one; also without their bytes."""
@@ -131,10 +130,10 @@ class Zip:
         name, why = named(raw)
         at, size = info.header_offset, info.file_size
         if not 0 <= at < self.size:
-            return Member(name, UNREADABLE, why or OUTSIDE, None, None)
+            return Member(name, UNREADABLE, why or messages.OUTSIDE_OF_PACK, None, None)
         if mode in KINDS and not why:
             return other(name, KINDS[mode], at)
-        why = why or (OVERLAPS if at in self.overlapping else _unreadable(info))
+        why = why or (messages.OVERLAPS if at in self.overlapping else _unreadable(info))
         member = passed_over(name, why, size, at, self.limits.most)
         if member or not reads:
             return member or Member(name, READ, None, size, at)
@@ -143,15 +142,15 @@ class Zip:
             with self.zip.open(info) as file:
                 return taken(name, file.read(size + 1), size, at)
         except FAULTS as error:
-            return Member(name, UNREADABLE, f"it can't be unpacked: {_said(error)}", size, at)
+            return Member(name, UNREADABLE, messages.NOT_UNPACKED.format(reason=_said(error)), size, at)
 
 
 def _unreadable(info: zipfile.ZipInfo) -> Optional[str]:
     """Why a member can't be unpacked, whatever its bytes are."""
     if info.flag_bits & ENCRYPTED:
-        return "it is encrypted"
+        return messages.ENCRYPTED
     if info.compress_type not in (zipfile.ZIP_STORED, zipfile.ZIP_DEFLATED):
-        return f"its compression isn't known: method {info.compress_type}"
+        return messages.UNKNOWN_COMPRESSION.format(method=info.compress_type)
     return None
 
 

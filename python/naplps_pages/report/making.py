@@ -6,6 +6,7 @@ from concurrent.futures import ThreadPoolExecutor
 from itertools import chain
 from typing import List, NamedTuple, Tuple
 
+from .. import messages
 from ..collection import tables
 from ..collection.progress import Progress
 from ..console import NotWritten
@@ -70,12 +71,12 @@ def require_room(path: str, is_replaced: bool = False) -> None:
     """Raises NotWritten where the file can't be made, before the work that it would cost."""
     if os.path.lexists(path) and (os.path.isfile(path) or not os.path.exists(path)):
         if not is_replaced:
-            raise NotWritten(path, "is there already, and isn't written over")
+            raise NotWritten(path, messages.IS_THERE)
         if not _is_report(path):
-            raise NotWritten(path, "is there already, and is no report that may be replaced")
+            raise NotWritten(path, messages.NO_REPORT_THERE)
     folder = os.path.dirname(path) or "."
     if not os.path.isdir(folder):
-        raise NotWritten(path, "there is no such folder")
+        raise NotWritten(path, messages.NO_FOLDER)
 
 
 def _is_report(path: str) -> bool:
@@ -99,7 +100,7 @@ def make(connection: sqlite3.Connection, options: ReportOptions) -> ReportTotals
             some, table = _read(connection)
             pictures = sketch_choice.pictures(table)
             if options.all and pictures > MOST_SKETCHES:
-                raise TooLarge(f"{pictures} sketches are too many for one file; `naplps-pages serve` shows them")
+                raise TooLarge(messages.MANY_SKETCHES.format(number=pictures))
             tasks = _tasks(table, sketch_choice.choose(table, MOST_SKETCHES if options.all else options.sketches))
             queue.begin(_blocks(tasks))
             facts = load_facts(connection, options.store, some)
@@ -128,7 +129,7 @@ def _read(connection: sqlite3.Connection) -> Tuple[List[groups.GroupSummary], Ta
     """The groups and the files of a store. Raises TooLarge."""
     files: int = connection.execute(COUNT).fetchone()[0]
     if files > MOST_FILES:
-        raise TooLarge(f"{files} files are too many for one file; `naplps-pages serve` shows them")
+        raise TooLarge(messages.MANY_FILES.format(number=files))
     some = groups.load(connection)
     return some, Table(connection, load_roots(connection), some)
 

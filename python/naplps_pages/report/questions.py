@@ -4,6 +4,7 @@ from typing import Dict, List, NamedTuple, Optional, Set, Tuple
 
 from naplps.treating.treatments import graded
 
+from .. import messages
 from ..collection import tables, word_index
 from ..collection.kinds import checked, one
 from ..collection.store import open_to_read
@@ -141,11 +142,11 @@ class Questions:
         """The first file with a page of a hash, and its position among the files that are found."""
         wanted_hash = words.get("hash", "").lower()
         if not HASH.fullmatch(wanted_hash):
-            raise Unasked(f"a page's hash has {HASH_DIGITS} digits or more")
+            raise Unasked(messages.SHORT_HASH.format(digits=HASH_DIGITS))
         ends = [bytes.fromhex((wanted_hash + digit * 64)[:64]) for digit in "0f"]
         found = one(self.connection.execute(OF_HASH, ends).fetchone(), "folder name")
         if found is None:
-            raise Unasked("there is no page of this hash")
+            raise Unasked(messages.NO_PAGE_OF_HASH)
         self._find(words)
         position = self.connection.execute(POSITION, found).fetchone()
         return {"key": f"{found[0]}-{found[1].hex()}", "position": position[0] - 1 if position else -1}
@@ -271,7 +272,7 @@ class Questions:
         found = KEY.fullmatch(words.get("key", ""))
         rows = self.connection.execute(ONE, (int(found[1]), bytes.fromhex(found[2]))).fetchall() if found else []
         if not rows:
-            raise Unasked("there is no such file")
+            raise Unasked(messages.NO_SUCH_FILE)
         return next(of_files.read(rows))
 
 
@@ -283,5 +284,5 @@ def key_of(file: ReportFile) -> str:
 def _number(words: Words, name: str, most: int = 1 << 40) -> int:
     text = words.get(name, "")
     if not text.isascii() or not text.isdigit() or len(text) > 12 or int(text) > most:
-        raise Unasked(f"{name}: no number that is understood")
+        raise Unasked(messages.NO_NUMBER.format(name=name))
     return int(text)

@@ -15,6 +15,7 @@ from http.server import BaseHTTPRequestHandler, ThreadingHTTPServer
 from typing import Callable, Dict, Mapping, Optional, Tuple
 from urllib.parse import parse_qsl
 
+from .. import messages
 from ..packs.naming import MOST_NAME
 from .connections import HEAD_SECONDS, Connections, Heads, HeadTooLong
 from .desk import Desk
@@ -32,10 +33,8 @@ SILENCE, GRACE = 30, 5
 # The system has no descriptor or no memory for another connection; so long nobody is taken then, in seconds.
 WANTING, PAUSE = (errno.EMFILE, errno.ENFILE, errno.ENOBUFS, errno.ENOMEM), 0.1
 DRAWING, THUMBNAIL, PLAYED = "drawing", "thumbnail", "played"
-NO_ANSWER = "There is no answer to draw"
 # Random bytes of the key in the address.
 KEY_BYTES = 24
-NO_KEY = "the address has a key, which was printed when the server began"
 # The greatest number of pages that are drawn at the same time.
 MOST_DRAWERS = max(2, min(4, os.cpu_count() or 1))
 HEADERS = {
@@ -158,12 +157,12 @@ class Handler(BaseHTTPRequestHandler):
         """Refuses what comes by another name of this machine, or from a page of another place."""
         names = self.headers.get_all("Host") or []
         if names not in ([f"{each}:{self.server.server_port}"] for each in (HERE, "localhost")):
-            raise BadRequest(403, f"this is served as http://{HERE}:{self.server.server_port}/ alone")
+            raise BadRequest(403, messages.OTHER_HOST.format(host=HERE, port=self.server.server_port))
         if not hmac.compare_digest(self.path[:len(self.server.top)].encode("utf-8"), self.server.top.encode("ascii")):
-            raise BadRequest(403, NO_KEY)
+            raise BadRequest(403, messages.NO_KEY)
         self.server.connections.know(self.connection)
         if self._name() and self.headers.get("Sec-Fetch-Site", "same-origin") not in ("same-origin", "none"):
-            raise BadRequest(403, "another site asked for it")
+            raise BadRequest(403, messages.OTHER_SITE)
 
     def _name(self) -> str:
         """What is asked for, after the key."""
@@ -179,20 +178,22 @@ class Handler(BaseHTTPRequestHandler):
         if name in (DRAWING, THUMBNAIL):
             it = one.submit(questions.wanted, words(query)).result()
             is_small = name == THUMBNAIL
-            drawing = self.server.desk.drawing(it._replace(is_small=is_small)) if it else Drawing(why=NO_ANSWER)
+            drawing = (self.server.desk.drawing(it._replace(is_small=is_small)) if it else
+                       Drawing(why=messages.NOTHING_TO_DRAW))
             answer: Mapping[str, object] = drawing.small() if is_small else drawing._asdict()
         elif name == PLAYED:
             return "application/json", NOTHING, self._played(one.submit(questions.wanted, words(query)).result())
         elif name in questions.ways:
             answer = one.submit(questions.ask, name, words(query)).result()
         else:
-            raise BadRequest(404, "there is nothing of that name")
+            raise BadRequest(404, messages.NO_SUCH_NAME)
         return "application/json", NOTHING, json.dumps(answer).encode("ascii")
 
     def _played(self, it: Optional[WantedDrawing]) -> bytes:
         """What a player has of a page, or why it has nothing."""
-        drawing = self.server.desk.drawing(it._replace(is_played=True)) if it else Drawing(why=NO_ANSWER)
-        why = "" if drawing.played else drawing.why or "it has too much to be played"
+        drawing = (self.server.desk.drawing(it._replace(is_played=True)) if it else
+                   Drawing(why=messages.NOTHING_TO_DRAW))
+        why = "" if drawing.played else drawing.why or messages.LONG_TO_BE_PLAYED
         return ('{"why":%s,"page":%s}' % (json.dumps(why), drawing.played or "null")).encode("ascii")
 
     def _send(self, status: int, kind: str, policy: str, body: bytes, whole: bool, allow: str = "") -> None:
@@ -226,11 +227,11 @@ def words(query: str) -> Words:
     try:
         pairs = parse_qsl(query, keep_blank_values=True, max_num_fields=MOST_WORDS)
     except ValueError:
-        raise BadRequest(400, "there are too many words") from None
+        raise BadRequest(400, messages.MANY_WORDS_ASKED) from None
     made: Dict[str, str] = dict(pairs)
     if len(made) != len(pairs) or any(
             len(value) > (MOST_KEY if name == "key" else MOST_WORD) for name, value in made.items()):
-        raise BadRequest(400, "a word is there twice, or is too long")
+        raise BadRequest(400, messages.WORD_TWICE)
     return made
 
 
@@ -241,7 +242,7 @@ def serve(store: str, how: DrawingOptions, port: int, began: Callable[[str], Non
     try:
         server = Server(port, one, questions, desk)
     except OSError as error:
-        raise NotServed("%s:%d: %s" % (HERE, port, os.strerror(error.errno or 0))) from None
+        raise NotServed(f"{HERE}:{port}: {os.strerror(error.errno or 0)}") from None
     try:
         one.submit(questions.page).result()  # (the first who opens it needn't wait for what is the same for all)
         desk.begin()
