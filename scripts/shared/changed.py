@@ -41,7 +41,10 @@ RULES = (
     Rule(".git*", (), "git alone reads it"),
     Rule(".ci*", (), "what runs the gate alone reads it"),
     Rule("NOTICES.md", ("scripts/packages/test-package", PLAIN_WORDS)),
-    Rule("VERSION", ("scripts/test/test-words", "scripts/packages/test-package", "scripts/packages/test-browser")),
+    Rule("VERSION", (
+        "scripts/test/test-versions", "scripts/test/test-words", "scripts/packages/test-package",
+        "scripts/packages/test-browser",
+    )),
     Rule("naplps", ("scripts/test/test-launcher",)),
     Rule("pages/*", ("scripts/test-pages commands", "scripts/test-pages hostile", HOUSE)),
     Rule("dist/browser/*", ("scripts/packages/test-browser", "scripts/test/test-webassembly")),
