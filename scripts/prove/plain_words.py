@@ -28,8 +28,8 @@ DOCSTRING = re.compile(r'r?"""(.*)"""', re.DOTALL)
 # What is looked through, but for what was built; of tables of streams, the lines of `#`.
 FILES = (
     "crates/*/*/**/*.rt", "crates/*/*/**/*.antt", "crates/*/*/*.edit", "crates/*/data/*.rows", "crates/*/data/*.md",
-    "*.md", "docs/*.md", "scripts/**/*", "library/**/*", "python/*.md", "vectors/*.md", "vectors/*.rows", "man/*.1",
-    "docs/wrong-bodies.tsv",
+    "crates/*/*.md", "*.md", "docs/*.md", "scripts/**/*", "library/**/*", "python/*.md", "vectors/*.md",
+    "vectors/*.rows", "man/*.1", "docs/wrong-bodies.tsv",
 )
 
 

@@ -51,6 +51,7 @@ RULES = (
     Rule("dist/*", ("scripts/test/test-launcher", *OF_PROGRAM)),
     Rule("crates.txt", ("scripts/prove/test-citations", *OF_PROGRAM)),
     Rule("crates/nap_rows/data/*", ("scripts/vectors/test-rows",)),
+    Rule("crates/*/README.md", ("scripts/prove/test-promises", PLAIN_WORDS, SAID_ONCE, "scripts/test-pages commands")),
     Rule("crates/*/wrong-bodies/*", ("scripts/prove/test-wrong-bodies",)),
     Rule("crates/*/must-fail/*", ("scripts/prove/test-wrong-bodies",)),
     Rule("crates/*", (
