@@ -31,7 +31,7 @@ PARTS: Dict[str, Part] = {
     "commands": Part(
         "the program is asked, and the commands answer: words, statuses, messages, JSON, hostile names, programs that "
         "fail, documents; and columns, members and lines that stay as earlier versions had them",
-        ("client", "commands", "documents", "words", "forms"),
+        ("client", "commands", "documents", "words", "forms", "written_earlier"),
     ),
     "dask": Part(
         "scans on workers of Dask's distributed: the same tables, and workers and schedulers that end",
