@@ -75,7 +75,7 @@ LONG_TO_COMPARE = "its source has more than {most} lines, too many to be compare
 NO_REFUSAL = "the number of a refusal, not {text!r}: {known}"
 NO_REASON = "a refusal or a code, not {text!r}: {known}; the codes of LeftOut are {codes}"
 # find
-NO_WORD = "no word to look for: it has letters or digits"
+NO_WORD = "there is no word to look for: a word has letters or digits"
 MANY_WORDS = "more than {most} words are too many to look for"
 LONG_TO_FIND = "more than {most} characters are too many to look for"
 # list
@@ -153,7 +153,7 @@ ON_OFF_DELAY = "three words on,off,delay"
 # near
 LONG_TO_BE_NEAR = "it has more than {most} entries, too many to be compared"
 NOT_COMPARED = "{path}: {answer}, and no treatment makes it readable; it isn't compared"
-NOT_ALL_BEGINNINGS = "too many entries: not all pages were looked at as beginnings of others"
+NOT_ALL_BEGINNINGS = "too many entries: not every page was compared with beginnings of others"
 # play
 UNKNOWN_PLACES = "a page above 16 MiB isn't played, since the places of its entries aren't known"
 LONG_TO_PLAY = "not played: it has more than {most} entries, or their lines are too long"

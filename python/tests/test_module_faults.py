@@ -27,7 +27,7 @@ def bare(monkeypatch, tmp_path, naplps):
 
 
 def why(call, *words):
-    """The reason with which nothing can be asked."""
+    """The reason why nothing can be asked."""
     with pytest.raises(nap.Unavailable) as caught:
         call(*words)
     return caught.value

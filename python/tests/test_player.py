@@ -66,7 +66,7 @@ def program(naplps):
 
 @pytest.fixture
 def shown(browser, naplps, tmp_path):
-    """Shows the player of a page by its bytes or name; after the test it reported no fault, and asked for nothing."""
+    """Shows the player of a page, given by its bytes or name; at the end it has reported and requested nothing."""
     addresses = []
 
     def shows(page, bypass=False, words=()):

@@ -124,7 +124,7 @@ TREES = st.recursive(st.dictionaries(NAMES, FILES, max_size=4),
 
 
 def grow(folder, made):
-    """Makes a folder as it is given."""
+    """Makes a folder with these files and folders."""
     os.mkdir(folder)
     for name, what in made.items():
         path = os.path.join(folder, name)

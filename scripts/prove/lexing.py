@@ -83,7 +83,7 @@ def without_comments(text: str) -> str:
 
 
 def tokens_of_logic(text: str) -> List[str]:
-    """What counts of a file of the logic: its lines."""
+    """What counts in a file of the logic: its lines."""
     if UNCLEAR.search(text):
         return text.split("\n")
     found = []

@@ -28,8 +28,8 @@ def segments(points: Sequence[Position], box: Box, texture: Texture) -> Iterator
 
 
 def _marks(dashes: Tuple[int, ...], unit: int) -> Marks:
-    """Where in a period the pen goes down and up, and how long the period is. What a dash paints is as long as it:
-    the pen itself is one unit of that."""
+    """Where in a period the pen goes down and up, and how long the period is. What a dash paints is as long
+    as the dash, since the pen itself is one unit of it."""
     places, at = [], 0
     for number, long in enumerate(dashes):
         if number % 2 == 0:

@@ -131,7 +131,7 @@ def kind_of(name: str, second: str) -> LineKind:
 
 
 def unknown(name: str) -> Exception:
-    """The fault of a first word that no line has, with the one that may be meant."""
+    """The fault for a first word that no line has, with the name that was probably meant."""
     if name.startswith("#"):
         return expected(messages.A_SPACE_AFTER_HASH, name)
     near = get_close_matches(name.upper()[:LONGEST_NAME], NAMES, 1)

@@ -89,8 +89,8 @@ class Answered(NamedTuple):
 class FolderFiles(NamedTuple):
     """Files of one folder: its number in the store, its path, and their names; and which folder it was, as it was met.
 
-    A pack is a folder with one name: nothing, or from where on it is to be read. Its identity is that of the folder in
-    which it stands, and none where it was named, so that it may be a link.
+    A pack is a folder with one name: nothing, or from where on it is to be read. It has the identity of the folder that
+    it is in; a pack that was named by itself has none, so it may be a link.
     """
 
     folder: int

@@ -90,7 +90,7 @@ def own(schema: int = SCHEMA) -> Dict[Tuple[str, str], str]:
 
 
 def renewal() -> str:
-    """What makes a store of the schema before one of this schema.
+    """The statements that renew a store of the previous schema.
 
     What is added to a table stands after its other columns, so its words are those of a new store. Of treated copies
     that may lack a page it isn't known any more what they draw.

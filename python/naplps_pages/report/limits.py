@@ -14,7 +14,7 @@ A_LINE = 2000
 SERVED_LINES, SERVED_TEXT, SERVED_SKETCH = 20_000, 200_000, 16 << 20
 # The number of pages of a report that can be played; and characters of a player's data, in a report and served.
 MOST_PLAYED, HELD_PLAYER, SERVED_PLAYER = 1000, 300_000, 32 << 20
-# Sketches that are packed together at most and at least, texts, and pages that can be played.
+# How many sketches are packed together, at most and at least; how many texts; how many pages that can be played.
 A_BLOCK, A_SMALL_BLOCK, SOME_TEXTS, A_PLAYED_BLOCK = 50, 5, 500, 20
 # The number of blocks before blocks have the most, so that several processes can share them.
 SMALL_BLOCKS = 32
