@@ -3,6 +3,7 @@
 
 import { Asking } from "./asking.js";
 import { MOST_FILES, MOST_FILE_BYTES, chosenFiles, droppedFiles } from "./files.js";
+import { looksBy } from "./looks.js";
 import { node } from "./node.js";
 import { csvOf, save, zipOf } from "./saving.js";
 
@@ -10,7 +11,7 @@ const held = (id) => document.getElementById(id).textContent;
 const byId = (id) => document.getElementById(id);
 const bytesOf = (text) => Uint8Array.from(atob(text), (letter) => letter.charCodeAt(0));
 const latin = new TextDecoder("latin1"), utf8 = new TextEncoder();
-const refusals = JSON.parse(held("refusals")), kinds = JSON.parse(held("kinds"));
+const refusals = JSON.parse(held("refusals")), lookOf = looksBy(JSON.parse(held("kinds")));
 const asking = new Asking(held("worker"), bytesOf(held("module")));
 // How many files are read ahead, how many cards come onto the wall at once, and how many names are shown of pages that
 // are the same.
@@ -27,13 +28,6 @@ const reasonOf = ({ number, name }) => {
   const [first, code] = name.split(" ");
   return refusals[`${number} ${first} ${code}`] || refusals[`${number} ${first}`];
 };
-
-// What a file looks like that isn't a page, by how it begins.
-function lookOf(bytes) {
-  const found = kinds.find(([offset, hex]) => hex.match(/../g).every((digits, at) => (
-    bytes[offset + at] === parseInt(digits, 16))));
-  return found ? found[2] : "";
-}
 
 // ---- the wall
 

@@ -18,6 +18,9 @@ ARC_HEADER, MOST_ARC_METHOD, ARC_NAME = 29, 11, re.compile(rb"[!-~]{1,12}")
 TEXT_BYTES, LEAST_PLAIN = re.compile(rb"[\t\n\x0c\r\x20-\x7e\x80-\xff]*"), 4
 LATIN_1 = re.compile(rb"[\t-\r\x20-\x7e\xa0\xa1\xa3\xa7-\xab\xb0-\xb7\xb9-\xbf\xc0-\xff]*")
 OF_DOS = re.compile(rb"[\t-\r\x20-\x7e\x80-\xa8\xad-\xaf\xb3\xba-\xbc\xbf-\xc0\xc4\xc8-\xc9\xcd\xd9-\xda\xe1\xf8]*")
+CODES = (("Latin-1", LATIN_1), ("a code page of DOS", OF_DOS))
+# How many bytes a sector of a disk may have.
+SECTORS = (128, 256, 512, 1024, 2048, 4096)
 # In an accepted page they stand in the bodies of its macros alone.
 DEFINITION, BEGINNINGS = b"\x1b\x40", re.compile(rb"\x1f|\x1b[\x22\x25]")
 
@@ -111,7 +114,7 @@ def _is_arc(beginning: bytes, _length: int) -> bool:
 def _is_dos_disk(beginning: bytes, _length: int) -> bool:
     """Whether it begins with the boot sector of a disk: a jump, bytes of a sector, and the mark at its end."""
     return (beginning[:1] in (b"\xeb", b"\xe9") and beginning[510:512] == b"\x55\xaa"
-            and int.from_bytes(beginning[11:13], "little") in (128, 256, 512, 1024, 2048, 4096))
+            and int.from_bytes(beginning[11:13], "little") in SECTORS)
 
 
 def _text_in(beginning: bytes, length: int) -> Optional[str]:
@@ -124,7 +127,7 @@ def _text_in(beginning: bytes, length: int) -> Optional[str]:
         return "text in UTF-8"
     if high * LEAST_PLAIN > len(text):
         return None
-    for name, letters in (("Latin-1", LATIN_1), ("a code page of DOS", OF_DOS)):
+    for name, letters in CODES:
         if letters.fullmatch(text):
             return "text in " + name
     return None

@@ -96,12 +96,14 @@ def clicked(word, number=0):
 def test_files_are_answered_and_drawn(address, browser, tmp_path):
     browser.open(address)
     some = {name: data for name, data in pages().items() if "skyline" in name or name in ("weather.nap", "ferry.nap")}
-    choose(browser, written(tmp_path / "files", {**some, HOSTILE: OUTSIDE, "a.gif": b"GIF89a..\xff"}))
+    choose(browser, written(tmp_path / "files", {**some, HOSTILE: OUTSIDE, "a.gif": b"GIF89a..\xff",
+                                                   "letter.txt": "Un \u00e9t\u00e9 en ville.\n".encode("latin-1")}))
     texts = "\n".join(cards(browser))
     assert texts.count("accepted ") == 4 and "refused 10 Outside at 3" in texts and "It looks like GIF." in texts
+    assert "It looks like text in Latin-1." in texts
     assert HOSTILE in texts and texts.count("The same as skyline") == 2
     assert browser.run("document.getElementById('counted').textContent") == (
-        "6 files: 4 accepted, 2 not; 3 different pages, 1 of them more than once")
+        "7 files: 4 accepted, 3 not; 3 different pages, 1 of them more than once")
     browser.until("[...document.querySelectorAll('.card img')].filter((each) => each.naturalWidth).length >= 4")
     assert browser.errors == [] and [each for each in browser.requests if each.startswith("http")] == []
 

@@ -1,23 +1,31 @@
 """What a file is: page, text or blank; and what a refused file looks like."""
+import base64
 import gzip
 import io
 import json
 import os
 import struct
+import subprocess
+import sys
 import tarfile
 import zipfile
+from random import Random
 
 import pytest
 from hypothesis import given
 from hypothesis import strategies as st
 
 import gallery
-from conftest import TOP, file
+import old_files
+from conftest import HERE, TOP, file
 from naplps.answers import Accepted, Refusal
 from naplps.client import Client
 from naplps.reading import read_line
-from naplps_pages.file_kinds import MAGIC, kind, looks_like
-from samples import OUTSIDE, POINT, with_parity
+from naplps_pages.file_kinds import MAGIC, MOST_LOOKED_AT, kind, looks_like
+from samples import OUTSIDE, POINT, needs_node, with_parity
+
+sys.path.append(os.path.join(TOP, "scripts"))
+from packages.for_pages import kinds as kinds_for_pages  # noqa: E402
 
 TYPING = {"CHAR", "MOVE", "CLEAR", "BELL"}
 BYTES = st.lists(st.sampled_from([b"A", b"\n", b"\x0c", b"\x07", b"\x0f", b"\0", b"\x1c\x41\x42", b"\x1e", b"\x09",
@@ -125,7 +133,7 @@ FRENCH = "L'\u00e9t\u00e9 \u00e0 Montr\u00e9al, caf\u00e9 et th\u00e9\u00e2tre.\
 OF_437 = FRENCH.replace("\u00e9", "\x82").replace("\u00e0", "\x85").replace("\u00e2", "\x83").encode("latin-1")
 
 
-@pytest.mark.parametrize("data, wanted", [
+LOOKS = [
     (FRENCH.encode("latin-1"), "text in Latin-1"), (FRENCH.encode("latin-1") + b"\x1a", "text in Latin-1"),
     ("caf\u00e9".encode("latin-1"), "text in Latin-1"), (FRENCH.encode("utf-8"), "text in UTF-8"),
     (("a" * 4096 + "\u00e9").encode("utf-8"), None),
@@ -136,7 +144,10 @@ OF_437 = FRENCH.replace("\u00e9", "\x82").replace("\u00e0", "\x85").replace("\u0
     (b"\x1a\x08PAGE.NAP", None), (b"\x1a\x0cPAGE.NAP" + bytes(40), None),
     (b"\x60\xea\x20\0", "ARJ"), (b"!\x0b-lzs-", "LHA"), (b"SZDD\x88\xf0\x27\x33A", "SZDD"), (b"\x0a\5\1\x08", "PCX"),
     (b"\xeb\x3c\x90MSDOS3.3" + struct.pack("<H", 512) + bytes(497) + b"\x55\xaa", "disk of DOS"),
-    (b"\xeb\x3c\x90MSDOS3.3" + struct.pack("<H", 512) + bytes(499), None)], ids=lambda each: str(each)[:20])
+    (b"\xeb\x3c\x90MSDOS3.3" + struct.pack("<H", 512) + bytes(499), None)]
+
+
+@pytest.mark.parametrize("data, wanted", LOOKS, ids=lambda each: str(each)[:20])
 def test_texts_and_what_else_a_box_holds(data, wanted):
     assert looks_like(data[:4096], len(data)) == wanted
 
@@ -146,3 +157,27 @@ def test_what_looks_like_a_text_has_no_control_of_pages(data):
     told = looks_like(data, len(data))
     if told and told.startswith("text in ") and not data.startswith((b"\xff\xfe", b"\xfe\xff", b"\xef\xbb\xbf")):
         assert not set(data.rstrip(b"\x1a")) & {0x0E, 0x0F, 0x19, 0x1B, 0x1D}
+
+
+def changed(chance, data):
+    """Bytes that are cut, or of which some are others."""
+    some = bytearray(data[:chance.randrange(len(data) + 1)] if chance.random() < 0.3 else data)
+    for _ in range(chance.randrange(3) if some else 0):
+        some[chance.randrange(min(len(some), 600))] = chance.randrange(256)
+    return bytes(some)
+
+
+@needs_node
+def test_the_page_in_a_browser_says_the_same():
+    chance = Random(84)
+    some = [data for data, _ in LOOKS] + [each.data for each in old_files.box(300)] + [mac_binary("PAGE", OUTSIDE)]
+    some += [bytes(magic.offset) + magic.data + chance.randbytes(600) for magic in MAGIC]
+    some += [changed(chance, chance.choice(some)) for _ in range(3000)]
+    asked = {"kinds": kinds_for_pages(), "files": [base64.b64encode(data).decode("ascii") for data in some]}
+    said = subprocess.run(["node", os.path.join(HERE, "looks_answers.mjs")], input=json.dumps(asked).encode("ascii"),
+                          stdout=subprocess.PIPE, check=True)
+    wanted = [looks_like(data[:MOST_LOOKED_AT], len(data)) or "" for data in some]
+    assert json.loads(said.stdout) == wanted
+    names = set(wanted)
+    assert names >= {magic.name for magic in MAGIC} | {
+        "", "MacBinary", "ARC", "disk of DOS", "text in Latin-1", "text in UTF-8", "text in a code page of DOS"}

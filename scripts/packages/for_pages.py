@@ -99,7 +99,7 @@ def page(module: bytes) -> str:
             "accepted, their lists and their canonical streams are its answers; pictures are sketches.")
     parts = {"POLICY": escape(POLICY % tuple(sums)), "STYLE": style, "SCRIPT": script,
              "WORKER": joined("page/worker.js"), "MODULE": base64.b64encode(module).decode("ascii"),
-             "REFUSALS": _refusals(), "KINDS": _kinds(), "FOOT": escape(foot)}
+             "REFUSALS": _refusals(), "KINDS": _told(kinds()), "FOOT": escape(foot)}
     return MARK.sub(lambda found: parts[found[1]], (PAGE / "page.html").read_text("utf-8"))
 
 
@@ -109,9 +109,18 @@ def _refusals() -> str:
                   for each in refusals.every() if not each.case})
 
 
-def _kinds() -> str:
-    """By which bytes a format is known that isn't a page, as `check` knows it: offset, bytes and name."""
-    return _told([[each.offset, each.data.hex(), each.name] for each in file_kinds.MAGIC])
+def kinds() -> Dict[str, object]:
+    """By what a format is known that isn't a page, as `check` knows it, for browser/page/looks.js."""
+    it = file_kinds
+    return {"most": it.MOST_LOOKED_AT, "magic": [[each.offset, each.data.hex(), each.name] for each in it.MAGIC],
+            "archive": {"header": it.ARC_HEADER, "methods": it.MOST_ARC_METHOD, "name": _pattern(it.ARC_NAME)},
+            "sectors": it.SECTORS, "texts": _pattern(it.TEXT_BYTES), "plain": it.LEAST_PLAIN,
+            "codes": [[name, _pattern(letters)] for name, letters in it.CODES]}
+
+
+def _pattern(of: "re.Pattern[bytes]") -> str:
+    """A pattern over bytes as one over the letters of Latin-1, which JavaScript has too."""
+    return of.pattern.decode("ascii")
 
 
 def _told(it: object) -> str:
