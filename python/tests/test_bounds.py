@@ -1,6 +1,7 @@
 """What the tool itself takes for a page of very many entries, or of codes that aren't read; the program's stack."""
 import json
 import os
+import re
 import resource
 import subprocess
 import time
@@ -12,7 +13,7 @@ from naplps import Char
 from naplps.reading import read_line
 from naplps_pages.census import Census
 from naplps_pages.json_lines import AT_ONCE, dumps, pieces_of
-from samples import MACRO
+from samples import MACRO, has
 
 MOST_MIB = 128
 # A macro of letters that repeat 63 times each, which is called again and again.
@@ -82,3 +83,37 @@ def test_the_stack_that_the_manual_asks_for(naplps, words):
     said = subprocess.run([naplps, *words], input=b"" if words == ["batch"] else MACRO, capture_output=True, env={},
                           preexec_fn=lambda: resource.setrlimit(resource.RLIMIT_STACK, (room, room)))
     assert (said.returncode, said.stderr) == (0, b"")
+
+
+# A character, or one of the DRCS, and REPEATs of 63 copies.
+REPEATS = 1_000
+REPEATED = {"A": b"A", "DRCS": b"\x1b\x28\x7b\x41"}
+COPIES = b"\x1b\x46\x7f" * REPEATS
+
+
+@pytest.mark.parametrize("before", REPEATED.values(), ids=REPEATED)
+def test_pages_of_copies_come_near_to_the_bounds(naplps, before):
+    page = before + COPIES
+    said = [subprocess.run([naplps, command, "--budget", "0"], input=page, capture_output=True, check=True).stdout
+            for command in ("check", "canon")]
+    entries, size = int(said[0].split()[1]), len(said[1])
+    assert entries == 63 * REPEATS + 1 and entries <= 21 * len(page) < 2 * entries
+    assert size <= 190 * len(page) + 3
+    assert before == b"A" or 2 * size > 190 * len(page) + 3
+
+
+READ = re.compile(r"^read\(0, .*, (\d+)\) += \d+$", re.MULTILINE)
+
+
+@pytest.mark.skipif(not has("strace"), reason="not tried: there is no strace (Debian: apt-get install strace)")
+@pytest.mark.parametrize("words, size", [(["make"], 65_536), (["make", "--stream"], 4_096), (["canon"], 65_536),
+                                         (["canon", "--stream"], 4_096)], ids=lambda value: str(value))
+def test_how_much_is_read_at_a_time(naplps, tmp_path, words, size):
+    trace = tmp_path / "trace"
+    data = b"BELL\n" * 60_000 if words[0] == "make" else b"\x07" * 300_000
+    (tmp_path / "input").write_bytes(data)
+    with open(tmp_path / "input", "rb") as source:
+        subprocess.run(["strace", "-o", str(trace), "-e", "trace=read", "-s", "1", naplps, *words], stdin=source,
+                       stdout=subprocess.DEVNULL, check=True)
+    sizes = [int(each) for each in READ.findall(trace.read_text("ascii"))]
+    assert set(sizes) == {size} and len(sizes) >= len(data) // size
