@@ -10,9 +10,9 @@ from typing import NamedTuple, Optional
 from conftest import COMMAND, bare
 from naplps_pages.collection import schemas, tables
 from naplps_pages.collection.part import keep_part, read_part
-from naplps_pages.collection.rows import Answered, File
+from naplps_pages.collection.schemas import Answered, File, Terms
 from naplps_pages.collection.store import open_to_write
-from naplps_pages.collection.writer import Terms, Writer
+from naplps_pages.collection.writer import Writer
 
 # What is said of a file that is no database.
 NO_STORE = ("isn't a store: `naplps-pages scan FOLDER --into STORE` makes one, and `naplps-pages check` says what this "

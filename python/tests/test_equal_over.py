@@ -12,9 +12,8 @@ from hypothesis import strategies as st
 from conftest import COMMAND, PACKAGES
 from naplps_pages.collection import equal, equal_over, tables
 from naplps_pages.collection.merge import merge
-from naplps_pages.collection.rows import Answered
+from naplps_pages.collection.schemas import Answered, Terms
 from naplps_pages.collection.store import open_to_read
-from naplps_pages.collection.writer import Terms
 from samples import OUTSIDE, POINT, POINT_AND_BELL, SPELLED
 from scans import made_up, tree, written
 from test_parts import scan_parts

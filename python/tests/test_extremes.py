@@ -14,8 +14,9 @@ from naplps_pages.cli import main
 from naplps_pages.collection import tables
 from naplps_pages.collection.pack_reader import PackScan
 from naplps_pages.collection.rows import FolderFiles
+from naplps_pages.collection.schemas import Terms
 from naplps_pages.collection.store import open_to_write
-from naplps_pages.collection.writer import Terms, Writer
+from naplps_pages.collection.writer import Writer
 from naplps_pages.packs.member import PackLimits
 from naplps_pages.packs.naming import inside
 from naplps_pages.packs.reading import PACKS

@@ -81,7 +81,7 @@ def test_no_program(run, tmp_path, store):
 WORKER = """
 import os, time
 from multiprocessing.connection import Connection
-from naplps_pages.collection.rows import File
+from naplps_pages.collection.schemas import File
 from naplps_pages.collection.tables import READ
 def main(descriptor):
     line = Connection(descriptor)
@@ -100,7 +100,8 @@ def main(descriptor):
 
 def test_workers_that_fail(tmp_path):
     tree(tmp_path, {"odd_worker.py": WORKER.encode("ascii"), "no_worker.py": b"import nothing_that_there_is"})
-    os.symlink(os.path.join(PACKAGES, "naplps_pages"), os.path.join(str(tmp_path), "naplps_pages"))
+    for package in ("naplps", "naplps_pages"):
+        os.symlink(os.path.join(PACKAGES, package), os.path.join(str(tmp_path), package))
     names = tuple(sorted([b"%03d" % number for number in range(300)] + [b"150 and more", b"hangs", b"fails", b"dies"]))
     pool = Pool(2, (), 5.0, "odd_worker", str(tmp_path))
     try:
@@ -132,7 +133,8 @@ def test_a_worker_that_is_killed_in_its_first_moment_is_replaced(tmp_path, monke
         return process
     monkeypatch.setattr(interpreter, "start", start_and_kill)
     tree(tmp_path, {"odd_worker.py": WORKER.encode("ascii")})
-    os.symlink(os.path.join(PACKAGES, "naplps_pages"), os.path.join(str(tmp_path), "naplps_pages"))
+    for package in ("naplps", "naplps_pages"):
+        os.symlink(os.path.join(PACKAGES, package), os.path.join(str(tmp_path), package))
     pool = Pool(1, ("much" * 100_000,), 600.0, "odd_worker", str(tmp_path))
     try:
         chunks = [(FolderFiles(1, b"/x", (b"%d" % number,)),) for number in range(9)]

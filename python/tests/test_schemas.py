@@ -8,7 +8,8 @@ import sqlite3
 import pytest
 
 from naplps_pages.collection import schemas, tables, word_index
-from naplps_pages.collection.kinds import NotAStore, require_right
+from naplps_pages.collection.canon_tables import CANON_TABLES
+from naplps_pages.collection.kinds import NotAStore
 from naplps_pages.collection.store import StoreFailed, open_to_read, open_to_write, open_unchanged
 from samples import OUTSIDE, POINT, SPELLED, with_parity
 from scans import rows, tree
@@ -262,7 +263,7 @@ WRONG = ["UPDATE pages SET kind = 3 WHERE state = 0", "UPDATE pages SET holds = 
 @pytest.mark.parametrize("words", WRONG)
 def test_values_that_no_scan_writes(store, words):
     connection = sqlite3.connect(store)
-    require_right(connection)
+    schemas.require_right(connection, [each.table for each in CANON_TABLES])
     connection.execute(words)
     with pytest.raises(NotAStore):
-        require_right(connection)
+        schemas.require_right(connection, [each.table for each in CANON_TABLES])

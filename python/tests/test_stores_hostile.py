@@ -7,8 +7,8 @@ import struct
 import pytest
 
 from forked import forked, require_told
-from naplps_pages.collection import kinds, refused, schemas, tables, word_index
-from naplps_pages.collection.rows import Answered
+from naplps_pages.collection import refused, schemas, tables, word_index
+from naplps_pages.collection.schemas import Answered
 from naplps_pages.collection.store import StoreFailed, open_to_read, open_to_write, open_unchanged
 from naplps_pages.report.questions import Questions
 from scans import rows, written
@@ -360,10 +360,10 @@ def test_as_many_reasons_as_pages_take_no_longer_than_one(tmp_path):
 def test_every_column_has_a_kind():
     connection = sqlite3.connect(":memory:")
     connection.executescript(schemas.tables())
-    for table, told in kinds.TABLES.items():
+    for table, declared in schemas.TABLES.items():
         some = [(row[1], bool(row[3] or row[5])) for row in connection.execute("PRAGMA table_info(%s)" % table)]
-        assert [(each.name, not each.may_lack) for each in kinds.columns(told)] == some
-    assert set(kinds.TABLES) | {"meta"} == {name for name, in connection.execute("SELECT name FROM sqlite_master "
+        assert [(each.name, not each.may_lack) for each in declared.columns] == some
+    assert set(schemas.TABLES) | {"meta"} == {name for name, in connection.execute("SELECT name FROM sqlite_master "
                                                                                  "WHERE type = 'table'")}
 
 

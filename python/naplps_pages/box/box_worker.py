@@ -12,7 +12,8 @@ from .. import curing
 from ..collection import tables
 from ..collection.file_reader import Seen
 from ..collection.known_hashes import KnownHashes
-from ..collection.rows import Answered, Cured, Piece, WorkerOptions
+from ..collection.rows import Piece, WorkerOptions
+from ..collection.schemas import Answered, Cured
 from ..collection.worker import Knows, Worker
 from ..collection.worker_process import PieceMaker, serve
 from ..listing import PLACES

@@ -21,7 +21,8 @@ from ..collection.folders import absolute
 from ..collection.kept_options import refused_by
 from ..collection.page_reader import Otherwise, read
 from ..collection.pool import processors
-from ..collection.rows import AskAgain, File, WorkerOptions
+from ..collection.rows import AskAgain, WorkerOptions
+from ..collection.schemas import File
 from ..collection.scan import ScanOptions, ScanRun, missing, scanned
 from ..collection.search import apart
 from ..collection.session import Names

@@ -10,7 +10,7 @@ from typing import Iterable, List, NamedTuple, Optional, Sequence, Tuple
 from naplps.names import Members
 
 from .. import messages
-from ..collection.rows import Answered, Values
+from ..collection.schemas import Answered, CanonValues
 from ..collection.store import StoreFailed, address
 
 # "npbx", by which the file is known again, and its form.
@@ -58,7 +58,7 @@ class KeptPage(NamedTuple):
     cut: Optional[bytes] = None
 
     @property
-    def values(self) -> Values:
+    def values(self) -> CanonValues:
         """This as a worker sends it, and as it stands in the file."""
         return (_packed(self.data), _packed(self.places), _packed(self.canon), _told(self.cure), _packed(self.copy),
                 _packed(self.copied), _told(self.parts), _told(self.carved), _packed(self.cut))
@@ -98,7 +98,7 @@ class KeptPages:
         self.path = path
         self.first: Tuple[object, ...] = (carves, claims)
         self.anew: Tuple[object, ...] = (carves, "")
-        self.rows: List[Tuple[bytes, Values]] = []
+        self.rows: List[Tuple[bytes, CanonValues]] = []
         name = address(path, "rwc" if is_new else "rw")
         self.connection = sqlite3.connect(name, uri=True, timeout=60, isolation_level=None)
         try:
@@ -132,7 +132,7 @@ class KeptPages:
         self.put(self.rows)
         self.rows = []
 
-    def put(self, rows: Iterable[Tuple[bytes, Values]]) -> None:
+    def put(self, rows: Iterable[Tuple[bytes, CanonValues]]) -> None:
         """Writes pages by their hashes."""
         some = [(own, *values) for own, values in rows]
         if some:

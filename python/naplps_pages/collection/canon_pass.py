@@ -13,7 +13,8 @@ from .folders import join
 from .kinds import checked
 from .pool import Pool
 from .progress import Progress
-from .rows import Chunk, File, FolderFiles, Values, WorkerOptions
+from .rows import Chunk, FolderFiles, WorkerOptions
+from .schemas import CanonValues, File
 from .stopping import Stopping
 from .tables import READ
 
@@ -33,7 +34,7 @@ class CanonPass:
         self.pool = Pool(processes, (how, store), PATIENCE + 2 * how.seconds, table.module)
         self.total = table.find_wanted(connection)
         self.progress = Progress(sys.stderr, lambda: self.total, what=table.what)
-        self.rows: List[Tuple[bytes, Values]] = []
+        self.rows: List[Tuple[bytes, CanonValues]] = []
         self.written = time.monotonic()
         self.done = 0
         self.status = COMPLETE

@@ -3,14 +3,12 @@
 Rows of another form than the table's count as if they weren't there.
 """
 import sqlite3
-from typing import TYPE_CHECKING, Iterable, NamedTuple, Tuple
+from typing import Iterable, NamedTuple, Tuple
 
 from naplps.limits import MOST_LISTED
 
+from .schemas import CanonValues, Table
 from .tables import ACCEPTED, READ
-
-if TYPE_CHECKING:
-    from .rows import Values
 
 # The canonical streams that files have which are there: those of accepted pages, and of treated copies.
 OF_PAGES = """SELECT p.canon AS canon, f.folder AS folder, f.name AS name, NULL AS treatments, p.entries AS entries
@@ -26,20 +24,18 @@ WANTED = ("CREATE TEMP TABLE wanted(canon BLOB PRIMARY KEY, folder INTEGER, name
           f"AND {MOST_LISTED}{{lacks}}")
 LACKS = " AND NOT EXISTS(SELECT 1 FROM {name} k WHERE k.canon = n.canon AND k.form = {form})"
 SWEEP = "DELETE FROM {name} WHERE canon NOT IN (SELECT canon FROM ({named})) OR form <> {form}"
-JOIN = "INSERT OR IGNORE INTO main.{name}(%s) SELECT %s FROM part.{name} WHERE form = {form}"
+JOIN = "INSERT OR IGNORE INTO main.{name}({columns}) SELECT {columns} FROM part.{name} WHERE form = {form}"
+WRITE = "INSERT OR REPLACE INTO {name}({columns}) VALUES(?, {form}{marks})"
 
 
 class CanonTable(NamedTuple):
-    """Such a table: its name and that of the option of a scan, its words in SQL and its columns, of which the first are
-    `canon` and `form`, and its form; which streams have a value, and with how many entries at least; the module of the
+    """Such a table, whose first columns are `canon` and `form`; the option of a scan, and the form; which streams have a value, and with how many entries at least; the module of the
     process that finds values out; what is told of its progress, of a page without a value, and of those that lack; and
     whether it holds words of pages, so that only the store's owner may read it.
     """
 
-    name: str
+    table: Table
     option: str
-    words: str
-    columns: str
     form: int
     named: str
     least: int
@@ -49,6 +45,11 @@ class CanonTable(NamedTuple):
     lack: str
     is_private: bool
 
+    @property
+    def name(self) -> str:
+        """Its name."""
+        return self.table.name
+
     def is_there(self, connection: sqlite3.Connection, name: str = "main") -> bool:
         """Whether the store of this name has the table."""
         return connection.execute(f"SELECT 1 FROM {name}.sqlite_master WHERE type = 'table' AND name = ?",
@@ -57,11 +58,11 @@ class CanonTable(NamedTuple):
     def make(self, connection: sqlite3.Connection) -> None:
         """Makes the table where it isn't there. Raises sqlite3.Error where that can't be written."""
         if not self.is_there(connection):
-            connection.execute(self.words)
+            connection.execute(self.table.words())
 
     def make_aside(self, connection: sqlite3.Connection) -> None:
         """Makes a copy of the table for this connection alone, or an empty one."""
-        connection.execute("CREATE TEMP TABLE " + self.words.split(None, 2)[2])
+        connection.execute(self.table.words().replace("CREATE TABLE", "CREATE TEMP TABLE", 1))
         if self.is_there(connection):
             connection.execute(f"INSERT INTO temp.{self.name} SELECT * FROM main.{self.name}")
 
@@ -76,11 +77,9 @@ class CanonTable(NamedTuple):
         count, = connection.execute("SELECT count(*) FROM wanted").fetchone()
         return int(count)
 
-    def write(self, connection: sqlite3.Connection, rows: "Iterable[Tuple[bytes, Values]]") -> None:
+    def write(self, connection: sqlite3.Connection, rows: Iterable[Tuple[bytes, CanonValues]]) -> None:
         """Writes the values of canonical streams, which are known by their hashes."""
-        marks = ", ?" * (self.columns.count(",") - 1)
-        connection.executemany(f"INSERT OR REPLACE INTO {self.name}({self.columns}) VALUES(?, {self.form}{marks})",
-                               ((canon, *values) for canon, values in rows))
+        connection.executemany(self._of(WRITE), ((canon, *values) for canon, values in rows))
 
     def sweep(self, connection: sqlite3.Connection) -> None:
         """Takes away the values of pages without a file, and those of another form."""
@@ -91,7 +90,9 @@ class CanonTable(NamedTuple):
         """Takes the values of the store `part`, if that has the table."""
         if self.is_there(connection, "part"):
             self.make(connection)
-            connection.execute(self._of(JOIN % (self.columns, self.columns)))
+            connection.execute(self._of(JOIN))
 
     def _of(self, words: str) -> str:
-        return words.format(name=self.name, named=self.named, form=self.form)
+        names = [column.name for column in self.table.columns]
+        return words.format(name=self.name, named=self.named, form=self.form, columns=", ".join(names),
+                            marks=", ?" * (len(names) - 2))

@@ -6,4 +6,4 @@ from .picture_table import PICTURES
 
 CANON_TABLES = (NEAR_KEYS, PICTURES)
 # Their words in SQL, by their names.
-OWN: Dict[str, str] = {each.name: each.words for each in CANON_TABLES}
+OWN: Dict[str, str] = {each.name: each.table.words() for each in CANON_TABLES}

@@ -13,7 +13,8 @@ from . import tables
 from .kinds import one
 from .page_reader import Otherwise, read
 from .places import Place
-from .rows import Answered, Chunk, File, Piece, Values, WorkerOptions
+from .rows import Chunk, Piece, WorkerOptions
+from .schemas import Answered, CanonValues, File
 from .store import reader
 from .worker_process import PieceMaker, serve
 
@@ -46,7 +47,7 @@ class ValueMaker:
     """Makes the values of files that a store has, each of the lines of a list."""
 
     def __init__(self, how: WorkerOptions, store: str, beat: Callable[[], None],
-                 value_of: Callable[[bytes], Values]) -> None:
+                 value_of: Callable[[bytes], CanonValues]) -> None:
         self.connection = reader(store)
         self.beat, self.value_of = beat, value_of
         self.program = Client(how.program, how.budget, MODEST._replace(seconds=how.seconds), beat)
@@ -127,7 +128,7 @@ class ValueMaker:
         self.beat()
         return self.program.ask(call, data)
 
-    def _values(self, it: Wanted, told: Answer) -> Union[Values, str]:
+    def _values(self, it: Wanted, told: Answer) -> Union[CanonValues, str]:
         """The values that the list of a page has, or why there are none."""
         if isinstance(told, Accepted) and told.entries == it.entries:
             try:
@@ -142,7 +143,7 @@ class ValueMaker:
         self.connection.close()
 
 
-def values_by(descriptor: int, value_of: Callable[[bytes], Values]) -> None:
+def values_by(descriptor: int, value_of: Callable[[bytes], CanonValues]) -> None:
     """Works until the connection ends, and makes what this makes of the lines of a list."""
     def maker(first: Sequence[Any], beat: Callable[[], None]) -> PieceMaker:
         how, store = first

@@ -23,7 +23,8 @@ from .cluster_watch import Watch
 from .folders import reason
 from .pool import ClusterFailed, count, ending, halves, next_of
 from .remote import Alike, Done, Given
-from .rows import Chunk, File, Piece, WorkerOptions
+from .rows import Chunk, Piece, WorkerOptions
+from .schemas import File
 from .tables import UNREADABLE
 from .unread import UnreadFiles, is_here
 

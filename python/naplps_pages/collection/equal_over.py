@@ -6,18 +6,20 @@ pages of groups are kept, in a database of temporary files, so memory doesn't gr
 import heapq
 import sqlite3
 import sys
-from typing import Callable, Iterable, Iterator, List, Optional, Sequence, Tuple
+from typing import Callable, Iterable, Iterator, List, NamedTuple, Optional, Sequence, Tuple
 
 from naplps.names import shown
 
 from .equal import Group, grouped
+from .kinds import Count, Hash, Name, PageState, Path, Text
 from .progress import Progress
-from .sources import CACHE, Row, Source, Sources, lacking, require_apart
+from .schemas import marks
+from .sources import CACHE, Source, Sources, lacking, require_apart
 from .store import StoreFailed, show_present
 from .tables import NO_ANSWER
 
 # Pages for which it isn't their store alone that says what counts: without an answer there, or on other terms.
-ODD = "SELECT own FROM pages WHERE state = %d OR terms NOT IN ({})" % NO_ANSWER
+ODD = f"SELECT own FROM pages WHERE state = {NO_ANSWER} OR terms NOT IN ({{}})"
 TABLES = """
     CREATE TABLE odd(own BLOB PRIMARY KEY) WITHOUT ROWID;
     CREATE TABLE answers(own BLOB, store INTEGER, page INTEGER, state INTEGER, canon BLOB, form TEXT, entries INTEGER,
@@ -38,18 +40,16 @@ COPIES = """SELECT p.canon, ?, p.id, NULL, NULL, NULL
     WHERE p.canon IS NOT NULL {} ORDER BY p.canon, p.id"""
 NOT_ODD = "AND {} NOT IN (SELECT page FROM temp.apart)"
 # What counts for odd pages: the answer of the last store that has one.
-ANSWERED = """SELECT w.canon, a.store, a.page, w.form, w.entries, w.length
+ANSWERED = f"""SELECT w.canon, a.store, a.page, w.form, w.entries, w.length
     FROM answers a JOIN answers w ON w.own = a.own AND w.store =
-        (SELECT max(b.store) FROM answers b WHERE b.own = a.own AND b.state <> %d)
-    WHERE w.canon IS NOT NULL ORDER BY w.canon, a.store, a.page""" % NO_ANSWER
+        (SELECT max(b.store) FROM answers b WHERE b.own = a.own AND b.state <> {NO_ANSWER})
+    WHERE w.canon IS NOT NULL ORDER BY w.canon, a.store, a.page"""
 FILES = """SELECT w.number, coalesce(w.form, t.form), p.own, d.path, f.name, f.at,
     coalesce(w.entries, p.entries), coalesce(w.length, p.canon_size) FROM temp.wanted w
     CROSS JOIN pages p ON p.id = w.page CROSS JOIN terms t ON t.id = p.terms CROSS JOIN present f ON f.page = p.id
     CROSS JOIN folders d ON d.id = f.folder"""
-# What the rows of these have.
-ANSWER = "own at:count page state:page_state canon? form entries? canon_size?"
-CANON = "canon at:count id form? entries? canon_size?"
-FILE = "id form own path name inode? entries canon_size"
+TERMS = """SELECT t.id, t.program_hash, t.form, t.budget FROM terms t LEFT JOIN runs r ON r.terms = t.id
+    GROUP BY t.id ORDER BY max(r.id)"""
 # (a script ends the transaction that it finds, and each row would be one)
 SORTED = """
     CREATE TABLE canons(number INTEGER PRIMARY KEY, canon BLOB);
@@ -66,6 +66,58 @@ GROUPS = """
 MEMBERS = """SELECT c.canon, r.form, m.entries, m.length, m.own, m.folder, m.name, m.at FROM ranked r
     CROSS JOIN canons c ON c.number = r.number CROSS JOIN members m ON m.number = r.number AND m.form = r.form
     ORDER BY r.rowid, m.own, m.folder, m.name"""
+
+
+class PageHash(NamedTuple):
+    """The hash of a page."""
+
+    own: Hash
+
+
+class OddAnswer(NamedTuple):
+    """What a store, by its place among the sources, says of an odd page."""
+
+    own: Hash
+    store: Count
+    page: Count
+    state: PageState
+    canon: Optional[Hash]
+    form: Text
+    entries: Optional[Count]
+    length: Optional[Count]
+
+
+class RunRow(NamedTuple):
+    """A row of a run."""
+
+    canon: Hash
+    store: Count
+    page: Count
+    form: Optional[Text]
+    entries: Optional[Count]
+    length: Optional[Count]
+
+
+class WantedFile(NamedTuple):
+    """A file of a page that is in a group, by the number of that."""
+
+    number: Count
+    form: Text
+    own: Hash
+    folder: Path
+    name: Name
+    at: Optional[Count]
+    entries: Count
+    length: Count
+
+
+class TermsNumber(NamedTuple):
+    """The number of terms in a store, and what they are."""
+
+    id: Count
+    program_hash: Hash
+    form: Text
+    budget: Count
 
 
 def groups(paths: Sequence[str], copies: bool, complain: Callable[[str, str], None]) -> Iterator[Group]:
@@ -99,7 +151,7 @@ class _Over:
         self.work, self.sources, self.copies = work, sources, copies
         self.has_odd = False
 
-    def members(self) -> Iterator[Row]:
+    def members(self) -> Iterator[Tuple[object, ...]]:
         """The members of the groups, in their order."""
         self.work.executescript(f"PRAGMA journal_mode = OFF; PRAGMA cache_size = {-CACHE // 2}; {TABLES} BEGIN;")
         for source in self.sources:
@@ -113,53 +165,53 @@ class _Over:
             _copy(self.work.execute("SELECT page, number, form, entries, length FROM wanted WHERE store = ? "
                                     "ORDER BY page", (at,)), source,
                   "wanted(page INTEGER PRIMARY KEY, number INTEGER, form TEXT, entries INTEGER, length INTEGER)")
-            self.work.executemany("INSERT INTO found VALUES(?, ?, ?, ?, ?, ?, ?, ?)", source.rows(FILES, FILE))
+            self.work.executemany(f"INSERT INTO found VALUES({marks(WantedFile)})", source.rows(FILES, WantedFile))
         self.work.executescript(GROUPS.format("count(*)" if self.copies else "count(DISTINCT own)"))
         return self.work.execute(MEMBERS)
 
     def _set_apart(self) -> None:
         """Looks what counts for odd pages."""
-        all_terms = [list(_terms(source)) for source in self.sources]
-        usual = [terms for some in all_terms for _, terms in some][-1:]
+        all_terms = [list(source.rows(TERMS, TermsNumber)) for source in self.sources]
+        usual = [terms._replace(id=0) for some in all_terms for terms in some][-1:]
         for source, some in zip(self.sources, all_terms):
-            numbers = [str(number) for number, terms in some if [terms] == usual]
+            numbers = [str(terms.id) for terms in some if [terms._replace(id=0)] == usual]
             self.work.executemany("INSERT OR IGNORE INTO odd VALUES(?)", source.rows(
-                ODD.format(", ".join(numbers)), "own"))
+                ODD.format(", ".join(numbers)), PageHash))
         self.has_odd = self.work.execute("SELECT 1 FROM odd LIMIT 1").fetchone() is not None
         for at, source in enumerate(self.sources if self.has_odd else ()):
             _copy(self.work.execute("SELECT own FROM odd ORDER BY own"), source, "odd(own BLOB PRIMARY KEY)")
-            self.work.executemany("INSERT INTO answers VALUES(?, ?, ?, ?, ?, ?, ?, ?)", source.rows(
-                ANSWERS, ANSWER, (at,)))
+            self.work.executemany(f"INSERT INTO answers VALUES({marks(OddAnswer)})", source.rows(
+                ANSWERS, OddAnswer, (at,)))
             _copy(self.work.execute("SELECT page FROM answers WHERE store = ? ORDER BY page", (at,)), source,
                   "apart(page INTEGER PRIMARY KEY)")
 
-    def _runs(self) -> Iterator[Iterator[Row]]:
+    def _runs(self) -> Iterator[Iterator[RunRow]]:
         """The runs, each sorted."""
         for at, source in enumerate(self.sources):
-            yield source.rows(RUN.format(NOT_ODD.format("id") if self.has_odd else ""), CANON, (at,))
+            yield source.rows(RUN.format(NOT_ODD.format("id") if self.has_odd else ""), RunRow, (at,))
             if self.copies:
-                yield source.rows(COPIES.format(NOT_ODD.format("p.id") if self.has_odd else ""), CANON, (at,))
+                yield source.rows(COPIES.format(NOT_ODD.format("p.id") if self.has_odd else ""), RunRow, (at,))
         if self.has_odd:
             for _ in range(2 if self.copies else 1):  # (each may be that of several files)
-                yield self.work.execute(ANSWERED)
+                yield map(RunRow._make, self.work.execute(ANSWERED))
 
     def _choose(self) -> None:
         """Merges the runs, and notes the pages of hashes that are there twice."""
         total = sum(source.number("SELECT count(*) FROM pages") for source in self.sources)
         progress = Progress(sys.stderr, lambda: total, what="pages")
-        self.work.executemany("INSERT INTO wanted VALUES(?, ?, ?, ?, ?, ?, ?)",
+        self.work.executemany(f"INSERT INTO wanted VALUES({marks(RunRow, 1)})",
                               _several(progress.through(heapq.merge(*self._runs()))))
         progress.clear()
         self.work.executescript(SORTED)
 
 
-def _several(rows: Iterable[Row]) -> Iterator[Row]:
+def _several(rows: Iterable[RunRow]) -> Iterator[Tuple[object, ...]]:
     """The rows of runs, in order, whose hash is there twice: each once, after a number of the hash, in its order."""
     number = 0
-    last: Optional[Row] = None
+    last: Optional[RunRow] = None
     is_first = False
     for row in rows:
-        if last is None or row[0] != last[0]:
+        if last is None or row.canon != last.canon:
             is_first = True
         else:
             if is_first:
@@ -171,15 +223,7 @@ def _several(rows: Iterable[Row]) -> Iterator[Row]:
         last = row
 
 
-def _terms(source: Source) -> Iterator[Tuple[int, Row]]:
-    """The terms of a source by their numbers, those of the last run at the end."""
-    for number, *terms in source.rows("SELECT t.id, t.program_hash, t.form, t.budget FROM terms t LEFT JOIN runs r "
-                                      "ON r.terms = t.id GROUP BY t.id ORDER BY max(r.id)",
-                                      "terms program_hash form budget"):
-        yield number, tuple(terms)
-
-
-def _copy(rows: Iterator[Row], source: Source, table: str) -> None:
+def _copy(rows: Iterable[Tuple[object, ...]], source: Source, table: str) -> None:
     """Puts rows into a temporary table of a source, which is made."""
     try:
         source.connection.execute(f"CREATE TEMP TABLE {table}")

@@ -6,7 +6,7 @@ import time
 from typing import Callable, List, NamedTuple, Optional, Tuple
 
 from .folders import is_gone, reason
-from .rows import File
+from .schemas import File
 from .tables import CHANGED, MOST_NUMBER, NOT_A_FILE, READ, TOO_LONG, UNREADABLE, VANISHED
 
 FLAGS = os.O_RDONLY | os.O_NOFOLLOW | os.O_NONBLOCK | os.O_CLOEXEC | os.O_NOCTTY

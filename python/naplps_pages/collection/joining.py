@@ -2,65 +2,61 @@
 import sqlite3
 from typing import Dict, Iterable, List, NamedTuple, Optional, Sequence
 
-from . import kinds, schemas, tables, word_index
+from . import schemas, word_index
 from .canon_tables import CANON_TABLES
 from .counts import Counts, counted
+from .kinds import Count, columns
+from .schemas import Answered, Cured, Fault, File, Folder, PageText, Root, Run, Terms, listed, marks, taken_over
 from .sources import Source
 from .store import StoreFailed, attach
+from .tables import NO_ANSWER, UNREADABLE
 
-# What the schema before hasn't is unknown of its pages. What isn't known of a page counts less than what is.
-KNOWN = {"pages": "kind, looks_like, several, stop, holds", "cures": "grade, canon, canon_size"}
-UNKNOWN = {"pages": "kind, looks_like, several, stop, NULL", "cures": ", ".join(schemas.RENEWED.values())}
-ANSWER = "state, number, left_out, place, entries, canon, canon_size, why, terms, run, " + KNOWN["pages"]
-# A later answer counts more than an earlier one, and any more than none. Under the same terms all are the same.
-# (By +, SQLite sorts the rows by runs that it writes, and needn't jump in their table.)
-PAGES = """INSERT INTO main.pages(own, %s) SELECT own, state, number, left_out, place, entries, canon, canon_size, why,
-    {terms}, {run}, {pages} FROM part.pages WHERE true ORDER BY +own ON CONFLICT(own) DO UPDATE SET %s
-    WHERE excluded.state <> %d AND (excluded.terms <> terms OR holds IS NULL) OR state = %d""" % (
-        ANSWER, ", ".join("{0} = excluded.{0}".format(each) for each in ANSWER.split(", ")), tables.NO_ANSWER,
-        tables.NO_ANSWER)
+# What isn't known of a page counts less than what is. A later answer counts more than an earlier one, and any more than
+# none. Under the same terms all are the same. (By +, SQLite sorts the rows by runs that it writes, and needn't jump in
+# their table.)
+ANSWER = listed(Answered, "terms", "run")
+PAGES = f"""INSERT INTO main.pages({ANSWER}) SELECT {{pages}}, {{terms}}, {{run}} FROM part.pages
+    WHERE true ORDER BY +own ON CONFLICT(own) DO UPDATE SET {taken_over(ANSWER)}
+    WHERE excluded.state <> {NO_ANSWER} AND (excluded.terms <> terms OR holds IS NULL) OR state = {NO_ANSWER}"""
 # The numbers of its pages and of its folders here.
 NUMBERED = ("CREATE TEMP TABLE page(old INTEGER PRIMARY KEY, number INTEGER NOT NULL)",
             "CREATE TEMP TABLE place(number INTEGER PRIMARY KEY, old INTEGER NOT NULL)")
 PAGE = """INSERT INTO temp.page SELECT p.id, m.id FROM (SELECT own, id FROM part.pages ORDER BY own) p
     CROSS JOIN main.pages m ON m.own = p.own ORDER BY p.id"""
 PLACE = "INSERT INTO temp.place SELECT m.id, p.id FROM part.folders p CROSS JOIN main.folders m ON m.path = p.path"
-CURES = """INSERT INTO main.cures(page, terms, treatments, entries, copy, why, %s) SELECT n.number, {terms},
-    c.treatments, c.entries, c.copy, c.why, {cures} FROM part.cures c CROSS JOIN temp.page n ON n.old = c.page
-    WHERE true ON CONFLICT(page) DO UPDATE SET terms = excluded.terms, treatments = excluded.treatments,
-    entries = excluded.entries, copy = excluded.copy, why = excluded.why, %s
-    WHERE excluded.terms = (SELECT p.terms FROM main.pages p WHERE p.id = page) AND (excluded.terms <> terms
-    OR grade IS NULL)""" % (KNOWN["cures"], ", ".join("{0} = excluded.{0}".format(each)
-                                                      for each in KNOWN["cures"].split(", ")))
-TEXTS = """INSERT INTO main.texts(page, terms, source, text, first, why) SELECT n.number, {terms}, t.source, t.text,
-    t.first, t.why FROM part.texts t CROSS JOIN temp.page n ON n.old = t.page WHERE true ON CONFLICT(page) DO UPDATE
-    SET terms = excluded.terms, source = excluded.source, text = excluded.text, first = excluded.first,
-    why = excluded.why WHERE excluded.terms = (SELECT p.terms FROM main.pages p WHERE p.id = page)"""
+# (of what a page hasn't under the terms that count for it nothing is taken)
+COUNTS = "excluded.terms = (SELECT p.terms FROM main.pages p WHERE p.id = page)"
+CURES = f"""INSERT INTO main.cures(page, terms, {listed(Cured)}) SELECT n.number, {{terms}}, {{cures}}
+    FROM part.cures c CROSS JOIN temp.page n ON n.old = c.page
+    WHERE true ON CONFLICT(page) DO UPDATE SET {taken_over("terms, " + listed(Cured))}
+    WHERE {COUNTS} AND (excluded.terms <> terms OR grade IS NULL)"""
+TEXTS = f"""INSERT INTO main.texts(page, terms, {listed(PageText)}) SELECT n.number, {{terms}}, {listed(PageText)}
+    FROM part.texts t CROSS JOIN temp.page n ON n.old = t.page WHERE true ON CONFLICT(page) DO UPDATE
+    SET {taken_over("terms, " + listed(PageText))} WHERE {COUNTS}"""
 # What one store says of a folder counts more than what another does, in this order: unreadable, read, vanished, gone.
-FOLDERS = """INSERT INTO main.folders(path, state, why, run) SELECT path, state, why, {{run}} FROM part.folders
-    WHERE true ORDER BY id ON CONFLICT(path) DO UPDATE SET state = CASE WHEN {0} THEN excluded.state ELSE state END,
-    why = CASE WHEN {0} THEN excluded.why ELSE why END, run = max(run, excluded.run)""".format(
-        "(excluded.state = 1 OR excluded.state < state AND state <> 1)")
-FILES = """INSERT INTO main.files(folder, name, state, why, size, mtime_ns, ctime_ns, inode, page, run)
-    SELECT d.number, f.name, f.state, f.why, f.size, f.mtime_ns, f.ctime_ns, f.inode, n.number, {run}
+IS_MORE = f"(excluded.state = {UNREADABLE} OR excluded.state < state AND state <> {UNREADABLE})"
+FOLDERS = f"""INSERT INTO main.folders({listed(Folder, "run")}) SELECT {listed(Folder)}, {{run}} FROM part.folders
+    WHERE true ORDER BY id ON CONFLICT(path) DO UPDATE SET
+    state = CASE WHEN {IS_MORE} THEN excluded.state ELSE state END,
+    why = CASE WHEN {IS_MORE} THEN excluded.why ELSE why END, run = max(run, excluded.run)"""
+OF_FILE = ", ".join(f"f.{column.name}" for column in columns(File) if column.name != "folder")
+FILES = f"""INSERT INTO main.files({listed(File, "page", "run")}) SELECT d.number, {OF_FILE}, n.number, {{run}}
     FROM temp.place d CROSS JOIN part.files f ON f.folder = d.old LEFT JOIN temp.page n ON n.old = f.page
     ORDER BY d.number, f.name"""
-FAULTS = "INSERT OR REPLACE INTO main.faults(number, name) SELECT number, name FROM part.faults"
+FAULTS = f"INSERT OR REPLACE INTO main.faults({listed(Fault)}) SELECT {listed(Fault)} FROM part.faults"
 STEPS = (*NUMBERED, FAULTS, PAGES, PAGE, CURES, FOLDERS, PLACE, FILES, TEXTS)
 LAST_STEPS = ("DROP TABLE temp.page", "DROP TABLE temp.place")
-ROOT = """INSERT INTO roots(run, path, why) VALUES(?, ?, ?) ON CONFLICT(run, path) DO UPDATE
+ROOT = f"""INSERT INTO roots({listed(Root)}) VALUES({marks(Root)}) ON CONFLICT(run, path) DO UPDATE
     SET why = coalesce(why, excluded.why)"""
 # (the other options are those of the schema before too)
 KEEP = "INSERT OR IGNORE INTO main.meta SELECT key, 1 FROM part.meta WHERE key = ?"
 
 
-class JoinedRun(NamedTuple):
-    """The last run of a store under some terms."""
+class RunNumber(NamedTuple):
+    """The number of a run or of terms, and which terms these are."""
 
-    began: str
-    ended: Optional[str]
-    tool: str
-    program: bytes
+    id: Count
+    terms: Count
 
 
 class Joining:
@@ -88,21 +84,20 @@ class Joining:
     def _terms(self, source: Source) -> Dict[int, int]:
         """The terms of a source; their numbers here."""
         numbers: Dict[int, int] = {}
-        for number, *some in source.rows(
-                "SELECT id, version, program_hash, form, budget FROM terms ORDER BY id", kinds.TABLES["terms"]):
-            self.connection.execute("INSERT INTO terms(version, program_hash, form, budget) VALUES(?, ?, ?, ?) "
-                                    "ON CONFLICT DO NOTHING", some)
-            numbers[number], = self.connection.execute(
-                "SELECT id FROM terms WHERE program_hash = ? AND form = ? AND budget = ?", some[1:]).fetchone()
+        some = source.rows(f"SELECT {listed(Terms)} FROM terms ORDER BY id", Terms)
+        for number, terms in zip(source.rows("SELECT id, id FROM terms ORDER BY id", RunNumber), some):
+            self.connection.execute(f"INSERT INTO terms({listed(Terms)}) VALUES({marks(Terms)}) ON CONFLICT DO NOTHING",
+                                    terms)
+            numbers[number.id], = self.connection.execute(
+                "SELECT id FROM terms WHERE program_hash = ? AND form = ? AND budget = ?",
+                (terms.program_hash, terms.form, terms.budget)).fetchone()
         return numbers
 
     def _runs(self, finished: bool) -> None:
         """The runs: those under the same terms are one here, and the one that began last is the last."""
-        found: Dict[int, List[JoinedRun]] = {}
+        found: Dict[int, List[Run]] = {}
         for source, terms in zip(self.sources, self.terms):
-            last = {terms[row[0]]: JoinedRun(*row[1:]) for row in source.rows(
-                "SELECT terms, began, ended, tool, program FROM runs ORDER BY id",
-                "terms began ended? tool program")}
+            last = {terms[run.terms]: run for run in source.rows(f"SELECT {listed(Run)} FROM runs ORDER BY id", Run)}
             for each, run in last.items():
                 found.setdefault(each, []).append(run)
         numbers: Dict[int, int] = {}
@@ -115,14 +110,15 @@ class Joining:
                  latest.program, each))
         ended = _all_ended(source.ended for source in self.sources) if finished else None
         self.connection.execute("UPDATE runs SET ended = ? WHERE id = ?", (ended, len(numbers)))
-        self.runs = [{run: numbers[terms[each]] for run, each in source.rows("SELECT id, terms FROM runs", "run terms")}
+        self.runs = [{run.id: numbers[terms[run.terms]]
+                      for run in source.rows("SELECT id, terms FROM runs", RunNumber)}
                      for source, terms in zip(self.sources, self.terms)]
 
     def _roots(self) -> None:
         for source, runs in zip(self.sources, self.runs):
-            why = {(runs[run], path): why for run, path, why in source.rows(
-                "SELECT run, path, why FROM roots ORDER BY run", kinds.TABLES["roots"])}
-            self.connection.executemany(ROOT, ((*key, each) for key, each in why.items()))
+            roots = source.rows(f"SELECT {listed(Root)} FROM roots ORDER BY run", Root)
+            last = {(runs[root.run], root.path): root._replace(run=runs[root.run]) for root in roots}
+            self.connection.executemany(ROOT, last.values())
 
     def _rows(self, source: Source, terms: Dict[int, int], runs: Dict[int, int]) -> None:
         """The pages, the folders and the files of a source."""
@@ -130,14 +126,16 @@ class Joining:
         try:
             self.connection.execute("BEGIN")
             is_earlier = source.schema == schemas.EARLIER
-            added = UNKNOWN if is_earlier else KNOWN
-            for each in schemas.OPTIONS.items():
-                self.connection.execute(schemas.KEEP.format(*each, "part"))
+            pages, cures = (_columns(row, table if is_earlier else "") for row, table in (
+                (Answered, "pages"), (Cured, "cures")))
+            for option in schemas.OPTIONS:
+                self.connection.execute(schemas.keep(option, "part"))
             for table in CANON_TABLES:
                 self.connection.execute(KEEP, (table.option,))
                 table.join(self.connection)
             for step in (*STEPS, *LAST_STEPS):
-                self.connection.execute(step.format(terms=_as("terms", terms), run=_as("run", runs), **added))
+                self.connection.execute(step.format(terms=_as("terms", terms), run=_as("run", runs), pages=pages,
+                                                    cures=cures))
             self.connection.execute("COMMIT")
         except sqlite3.DatabaseError as error:
             if type(error) is sqlite3.DatabaseError:  # of what is read; what is written has others
@@ -155,6 +153,12 @@ class Joining:
                 self.connection.execute("UPDATE runs SET files = ?, asked = ? WHERE id = ?",
                                         (counts.met, counts.asked, run))
         return total
+
+
+def _columns(row: type, earlier: str) -> str:
+    """The columns of a row; of a table of the schema before, if it is one, as they are by the rules of now."""
+    others = schemas.unknown(earlier)
+    return ", ".join(others.get(column.name, column.name) for column in columns(row))
 
 
 def _as(column: str, numbers: Dict[int, int]) -> str:

@@ -2,10 +2,10 @@
 """
 from ..nearness import keys_of
 from .canon_worker import values_by
-from .rows import Values
+from .schemas import CanonValues
 
 
-def _values(listed: bytes) -> Values:
+def _values(listed: bytes) -> CanonValues:
     keys = keys_of(listed)
     return (keys.start, *keys)
 

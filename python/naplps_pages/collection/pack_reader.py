@@ -8,7 +8,8 @@ from ..packs.naming import pack_of
 from ..packs.reading import open_file, open_pack
 from .file_reader import OTHER, Marks, Seen, change, marks, with_marks
 from .folders import Replaced, is_gone, reason
-from .rows import File, FolderFiles
+from .rows import FolderFiles
+from .schemas import File
 from .tables import CHANGED, READ, UNREADABLE, VANISHED, hashed
 
 

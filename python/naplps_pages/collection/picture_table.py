@@ -2,13 +2,25 @@
 
 A page that paints too much has a row without a hash.
 """
+from typing import Annotated, NamedTuple, Optional
+
 from .canon_table import ACCEPTED_ALONE, CanonTable
+from .kinds import Count, Hash, Sql, columns
+from .schemas import Table
 
 # That of naplps.dots, which takes long to be imported.
 FORM = 1
+
+
+class PictureHash(NamedTuple):
+    """A row of `pictures`."""
+
+    canon: Annotated[Hash, Sql("PRIMARY KEY")]
+    form: Count
+    picture: Optional[Hash] = None
+
+
 PICTURES = CanonTable(
-    "pictures", "pictures",
-    "CREATE TABLE pictures(canon BLOB PRIMARY KEY, form INTEGER NOT NULL, picture BLOB)",
-    "canon, form, picture", FORM, ACCEPTED_ALONE, 0,
+    Table("pictures", columns(PictureHash)), "pictures", FORM, ACCEPTED_ALONE, 0,
     "naplps_pages.collection.picture_worker", "pictures", "its picture isn't known",
     "without the hash of their picture", False)

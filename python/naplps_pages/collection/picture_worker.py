@@ -3,10 +3,10 @@ from naplps.dots import raster
 from naplps.reading import lines_in, read
 
 from .canon_worker import values_by
-from .rows import Values
+from .schemas import CanonValues
 
 
-def _values(listed: bytes) -> Values:
+def _values(listed: bytes) -> CanonValues:
     """The hash; none of a page that paints too much."""
     it = raster(read(lines_in(listed)))
     return (bytes.fromhex(it.hash()) if it.drawn == it.total else None,)

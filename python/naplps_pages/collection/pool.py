@@ -10,7 +10,8 @@ from typing import Deque, Iterator, List, Optional, Sequence, Set, Tuple
 
 from .. import interpreter
 from ..packs.naming import pack_of
-from .rows import ALIVE, DONE, FAILED, MOST_AHEAD, Chunk, File, Piece, received
+from .rows import ALIVE, DONE, FAILED, MOST_AHEAD, Chunk, Piece, received
+from .schemas import File
 from .tables import UNREADABLE
 
 MAIN = "naplps_pages.collection.worker_process"

@@ -30,13 +30,14 @@ from .part import Part, keep_part
 from .pack_state import MOST_BROKEN, broken
 from .pool import MAIN, ClusterFailed, NoWorkers, Pool
 from .progress import Counting, Progress
-from .rows import Answered, Chunk, File, FolderFiles, Piece, WorkerOptions
-from .schemas import INDICES
+from .rows import Chunk, FolderFiles, Piece, WorkerOptions
+from .schemas import Answered, File
+from .schemas import INDICES, Terms
 from .search import Scope, Search, apart
 from .stopping import Stopping
 from .store import StoreFailed, fold, keep_log, keep_private, open_to_write
 from .walk import hidden
-from .writer import Terms, Writer
+from .writer import Writer
 
 if TYPE_CHECKING:
     from .cluster import Cluster

@@ -3,14 +3,16 @@ import os
 import resource
 import sqlite3
 from dataclasses import dataclass, field
-from typing import Any, Dict, Iterator, List, Optional, Sequence, Tuple
+from typing import Dict, Iterator, List, NamedTuple, Optional, Sequence, Tuple, Type
 
 from naplps.names import shown
 
 from . import word_index
-from .kinds import checked, require_right
+from .canon_tables import CANON_TABLES
+from .kinds import Count, Path, Row, Text, checked
 from .lock import is_held
 from .part import Part, kept_part
+from .schemas import require_right
 from .store import StoreFailed, open_unchanged, schema_of
 
 # What is held of all their files together, and of each at least, in KiB.
@@ -19,9 +21,35 @@ CACHE, LEAST = 64 << 10, 64
 OTHERS, EACH = 64, 3
 # The greatest number of lacking parts that are told by their numbers.
 MOST_LISTED = 5
-Row = Tuple[Any, ...]
 LAST = "SELECT id, began, ended FROM runs ORDER BY id DESC LIMIT 1"
 UNREAD = "SELECT path, why FROM roots WHERE run = ? AND why IS NOT NULL ORDER BY path"
+
+
+class Number(NamedTuple):
+    """A number of rows."""
+
+    value: Count
+
+
+class RootPath(NamedTuple):
+    """A folder that was named."""
+
+    path: Path
+
+
+class RunTimes(NamedTuple):
+    """The number of a run, and when it began and ended."""
+
+    id: Count
+    began: Text
+    ended: Optional[Text]
+
+
+class UnreadRoot(NamedTuple):
+    """A folder that was named and couldn't be read, and why."""
+
+    path: Path
+    why: Text
 
 
 @dataclass(eq=False)
@@ -32,30 +60,29 @@ class Source:
     connection: sqlite3.Connection
     part: Optional[Part] = None
     roots: List[bytes] = field(default_factory=list)
-    unread: List[Tuple[bytes, str]] = field(default_factory=list)
+    unread: "List[UnreadRoot]" = field(default_factory=list)
     began: str = ""
     ended: Optional[str] = None
     schema: int = 0
     has_words: bool = False
 
-    def rows(self, words: str, told: str, values: Sequence[object] = ()) -> Iterator[Row]:
-        """The rows of a query, checked as `told` says. Raises StoreFailed."""
+    def rows(self, words: str, row: Type[Row], values: Sequence[object] = ()) -> Iterator[Row]:
+        """The rows of a query, which are checked. Raises StoreFailed."""
         try:
-            for row in checked(self.connection.execute(words, values), told):
-                yield row
+            yield from checked(self.connection.execute(words, values), row)
         except sqlite3.Error as error:
             raise StoreFailed(self.path, str(error)) from None
 
     def require_right(self) -> None:
         """Looks at each value. Raises StoreFailed."""
         try:
-            require_right(self.connection)
+            require_right(self.connection, [each.table for each in CANON_TABLES])
         except sqlite3.Error as error:
             raise StoreFailed(self.path, str(error)) from None
 
     def number(self, words: str) -> int:
         """The number that a query has. Raises StoreFailed."""
-        return int(next(self.rows(words, "count"))[0])
+        return next(self.rows(words, Number)).value
 
 
 class Sources:
@@ -100,9 +127,10 @@ def _opened(path: str, cache: int) -> Source:
         source.connection.execute("BEGIN")  # (so it stays as it is now, though a scan may be at work)
         source.part = kept_part(source.connection)
         source.schema, source.has_words = schema_of(source.connection), word_index.is_there(source.connection)
-        source.roots = [each for each, in source.rows("SELECT DISTINCT path FROM roots ORDER BY path", "path")]
-        for run, source.began, source.ended in source.rows(LAST, "run began ended?"):
-            source.unread = [(each, why) for each, why in source.rows(UNREAD, "path why", (run,))]
+        source.roots = [root.path for root in source.rows("SELECT DISTINCT path FROM roots ORDER BY path", RootPath)]
+        for run in source.rows(LAST, RunTimes):
+            source.began, source.ended = run.began, run.ended
+            source.unread = list(source.rows(UNREAD, UnreadRoot, (run.id,)))
         return source
     except sqlite3.Error as error:
         if source:

@@ -187,8 +187,8 @@ def _checked(path: str, mode: str) -> sqlite3.Connection:
 
 def _show_as_now(connection: sqlite3.Connection) -> None:
     """Lets the tables of the schema before be read as those of this one."""
-    for name in (*schemas.ADDED, "cures"):
-        connection.execute(f"CREATE TEMP VIEW {name} AS {schemas.as_now(name)}")
+    for name, words in schemas.as_now():
+        connection.execute(f"CREATE TEMP VIEW {name} AS {words}")
 
 
 def _check_tables(path: str, connection: sqlite3.Connection, schema: int) -> None:

@@ -6,12 +6,12 @@ from naplps.answers import Answer, Unanswered
 from naplps.limits import MOST_LISTED
 
 from . import word_index
-from .rows import PageText
+from .schemas import PageText, listed, marks
 
 TOO_MANY = "it has too many entries for its text"
 TOO_LONG = "it is too long for its text"
 OF_PAGE = "SELECT id FROM pages WHERE own = ?"
-TEXT = """INSERT OR REPLACE INTO texts(page, terms, source, text, first, why) VALUES(?, ?, ?, ?, ?, ?)"""
+TEXT = f"INSERT OR REPLACE INTO texts(page, terms, {listed(PageText)}) VALUES({marks(PageText, 2)})"
 
 
 def said(source: int, answer: Answer) -> PageText:

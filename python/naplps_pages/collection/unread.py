@@ -4,7 +4,8 @@ from typing import Dict, List, Set, Tuple
 
 from ..packs.naming import pack_of
 from .folders import Replaced, join, opened_again
-from .rows import Chunk, File, FolderFiles, Piece
+from .rows import Chunk, FolderFiles, Piece
+from .schemas import File
 from .tables import UNREADABLE, VANISHED
 
 NOT_THERE = "it isn't there on the workers"

@@ -19,7 +19,8 @@ from . import tables, texts
 from .file_reader import OTHER, Seen, change, look
 from .folders import Replaced, is_gone, opened_again, reason
 from .pack_reader import REPLACED, PackScan
-from .rows import MOST_AHEAD, Answered, Chunk, Cured, File, FolderFiles, PageText, Piece, WorkerOptions
+from .rows import MOST_AHEAD, Chunk, FolderFiles, Piece, WorkerOptions
+from .schemas import Answered, Cured, File, PageText
 from .tables import CHANGED, UNREADABLE, VANISHED
 
 # The number of bytes of requests that are written ahead.

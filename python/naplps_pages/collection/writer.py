@@ -2,7 +2,7 @@
 import sqlite3
 import time
 from operator import attrgetter
-from typing import Dict, Iterable, Iterator, List, NamedTuple, Optional, Set, Tuple, TypeVar
+from typing import Dict, Iterable, Iterator, List, Optional, Set, Tuple, TypeVar
 
 from naplps.version import VERSION
 
@@ -11,47 +11,40 @@ from ..packs.member import SEVERAL
 from ..packs.naming import pack_of
 from . import texts, word_index
 from .folders import is_within, join
-from .rows import Answered, File, Piece
-from .tables import ACCEPTED, GONE, READ, UNREADABLE, VANISHED
+from .rows import Piece
+from .schemas import Answered, Cured, Fault, File, Folder, Root, Terms, listed, marks, taken_over
+from .tables import ACCEPTED, GONE, NO_ANSWER, READ, UNREADABLE, VANISHED
 
 # The number of files, or the age in seconds, with which a step is written.
 STEP, SECONDS = 2000, 2.0
 
-ANSWER = ("state", "number", "left_out", "place", "entries", "canon", "canon_size", "why", "kind", "looks_like",
-          "several", "stop", "holds", "terms", "run")
-# What an accepted page has of that. To give SQLite a null takes longer than any of these.
-OF_ACCEPTED = ("state", "entries", "canon", "canon_size", "kind", "several", "holds", "terms", "run")
-PAGE, ACCEPTED_PAGE = ("INSERT INTO pages(own, %s) VALUES(?%s) ON CONFLICT(own) DO UPDATE SET %s %s" % (
-    ", ".join(some), ", ?" * len(some), ", ".join("{0} = excluded.{0}".format(each) for each in ANSWER),
-    "WHERE terms <> excluded.terms OR state = 2 OR excluded.state <> 2") for some in (ANSWER, OF_ACCEPTED))
-FILE = """INSERT OR REPLACE INTO files(folder, name, state, why, size, mtime_ns, ctime_ns, inode, page, run)
-    VALUES(?, ?, ?, ?, ?, ?, ?, ?, (SELECT id FROM pages WHERE own = ?), ?)"""
+# What an accepted page has of an answer. To give SQLite a null takes longer than any of these.
+OF_ACCEPTED = "own, state, entries, canon, canon_size, kind, several, holds"
+ANSWER = f"""ON CONFLICT(own) DO UPDATE SET {taken_over(listed(Answered, "terms", "run"))}
+    WHERE terms <> excluded.terms OR state = {NO_ANSWER} OR excluded.state <> {NO_ANSWER}"""
+PAGE = f"INSERT INTO pages({listed(Answered, 'terms', 'run')}) VALUES({marks(Answered, 2)}) {ANSWER}"
+ACCEPTED_PAGE = f"INSERT INTO pages({OF_ACCEPTED}, terms, run) VALUES(?{', ?' * (OF_ACCEPTED.count(',') + 2)}) {ANSWER}"
+# (a file has the hash of its page after what is a column)
+OF_FILE = f"files({listed(File, 'page', 'run')}) VALUES({marks(File)}, (SELECT id FROM pages WHERE own = ?), ?)"
+FILE = f"INSERT OR REPLACE INTO {OF_FILE}"
 # A member that was met before in this run, elsewhere in its pack, is one of several of its name.
 AGAIN = "run = excluded.run AND inode IS NOT excluded.inode"
-MEMBER = """INSERT INTO files(folder, name, state, why, size, mtime_ns, ctime_ns, inode, page, run)
-    VALUES(?, ?, ?, ?, ?, ?, ?, ?, (SELECT id FROM pages WHERE own = ?), ?)
-    ON CONFLICT(folder, name) DO UPDATE SET state = CASE WHEN {0} THEN {1} ELSE excluded.state END,
-    why = CASE WHEN {0} THEN '{2}' ELSE excluded.why END, page = CASE WHEN {0} THEN NULL ELSE excluded.page END,
-    size = excluded.size, mtime_ns = NULL, ctime_ns = NULL, inode = excluded.inode, run = excluded.run""".format(
-    AGAIN, UNREADABLE, SEVERAL)
-CURE = """INSERT OR REPLACE INTO cures(page, terms, treatments, entries, copy, why, grade, canon, canon_size)
-    SELECT id, ?, ?, ?, ?, ?, ?, ?, ? FROM pages WHERE own = ?"""
-FOLDER = """INSERT INTO folders(path, state, why, run) VALUES(?, ?, ?, ?)
-    ON CONFLICT(path) DO UPDATE SET state = excluded.state, why = excluded.why, run = excluded.run"""
-# The number of members of an answer that are columns of `pages`.
-ANSWERED = 1 + len(ANSWER) - 2
-accepted_values = attrgetter("own", *OF_ACCEPTED[:-2])
+MEMBER = f"""INSERT INTO {OF_FILE}
+    ON CONFLICT(folder, name) DO UPDATE SET state = CASE WHEN {AGAIN} THEN {UNREADABLE} ELSE excluded.state END,
+    why = CASE WHEN {AGAIN} THEN '{SEVERAL}' ELSE excluded.why END,
+    page = CASE WHEN {AGAIN} THEN NULL ELSE excluded.page END,
+    size = excluded.size, mtime_ns = NULL, ctime_ns = NULL, inode = excluded.inode, run = excluded.run"""
+CURE = f"""INSERT OR REPLACE INTO cures(page, terms, {listed(Cured)})
+    SELECT id, ?, {marks(Cured)} FROM pages WHERE own = ?"""
+FOLDER = f"""INSERT INTO folders({listed(Folder, "run")}) VALUES({marks(Folder, 1)})
+    ON CONFLICT(path) DO UPDATE SET {taken_over("state, why, run")}"""
+IS_GONE = f"UPDATE files SET state = {GONE}, why = NULL, run = ? WHERE folder = ? AND name = ?"
+FOLDER_IS_GONE = f"UPDATE folders SET state = {GONE}, why = NULL WHERE id = ?"
+FILES_ARE_GONE = f"UPDATE files SET state = {GONE}, why = NULL, run = ? WHERE folder = ? AND state <> {GONE}"
+answer_values = attrgetter(*listed(Answered).split(", "))
+accepted_values = attrgetter(*OF_ACCEPTED.split(", "))
 
 Row = TypeVar("Row", File, Answered)
-
-
-class Terms(NamedTuple):
-    """On what an answer depends beside the bytes of the page."""
-
-    version: str
-    program_hash: bytes
-    form: str
-    budget: int
 
 
 class Writer:
@@ -85,21 +78,22 @@ class Writer:
 
     def _terms(self, terms: Terms) -> int:
         found = self.connection.execute("SELECT id FROM terms WHERE program_hash = ? AND form = ? AND budget = ?",
-                                        terms[1:]).fetchone()
+                                        (terms.program_hash, terms.form, terms.budget)).fetchone()
         if found:
             return int(found[0])
-        return self._insert("INSERT INTO terms(version, program_hash, form, budget) VALUES(?, ?, ?, ?)", terms)
+        return self._insert(f"INSERT INTO terms({listed(Terms)}) VALUES({marks(Terms)})", terms)
 
     def root(self, path: bytes, why: Optional[str] = None) -> None:
         """Notes a folder that was named, and what is wrong with it."""
         self._begin()
-        self.connection.execute("INSERT OR REPLACE INTO roots(run, path, why) VALUES(?, ?, ?)", (self.run, path, why))
+        self.connection.execute(f"INSERT OR REPLACE INTO roots({listed(Root)}) VALUES({marks(Root)})",
+                                Root(self.run, path, why))
 
     def folder(self, path: bytes, state: int, why: Optional[str]) -> Tuple[int, bool]:
         """Notes a folder or a pack; its number, and whether it was known."""
         self._begin()
         found = self.connection.execute("SELECT id FROM folders WHERE path = ?", (path,)).fetchone()
-        self.connection.execute(FOLDER, (path, state, why, self.run))
+        self.connection.execute(FOLDER, (*Folder(path, state, why), self.run))
         number, = found or self.connection.execute("SELECT id FROM folders WHERE path = ?", (path,)).fetchone()
         if pack_of(path) is not None:
             self.packs.add(number)
@@ -145,9 +139,7 @@ class Writer:
             self._pages()
             held = self._held() if self.holds else []
             self._files()
-            self.connection.executemany(
-                f"UPDATE files SET state = {GONE}, why = NULL, run = ? WHERE folder = ? AND name = ?",
-                ((self.run, *each) for each in self.gone))
+            self.connection.executemany(IS_GONE, ((self.run, folder, name) for folder, name in self.gone))
         if self.connection.in_transaction:
             self.connection.execute("COMMIT")
         self.files, self.answers, self.gone = held, [], []
@@ -158,7 +150,7 @@ class Writer:
         """The path of the file whose row is written."""
         row = self.current
         if isinstance(row, Answered):
-            row = next((file for file in self.files if file.own == row[0]), None)
+            row = next((file for file in self.files if file.own == row.own), None)
         if not isinstance(row, File):
             return None
         path = self.connection.execute("SELECT path FROM folders WHERE id = ?", (row.folder,)).fetchone()
@@ -178,14 +170,16 @@ class Writer:
         others = [each for each in answers if each.state != ACCEPTED]
         self.connection.executemany(ACCEPTED_PAGE, (
             (*accepted_values(each), self.terms, self.run) for each in self._in_turn(accepted)))
-        self.connection.executemany(PAGE, ((*each[:ANSWERED], self.terms, self.run) for each in self._in_turn(others)))
+        self.connection.executemany(PAGE, (
+            (*answer_values(each), self.terms, self.run) for each in self._in_turn(others)))
         self.connection.executemany(CURE, ((self.terms, *each.cured, each.own) for each in answers if each.cured))
         texts.write(self.connection, self.terms, ((each.own, each.said) for each in answers if each.said),
                     self.has_words)
         names = {each.number: each.fault for each in answers if each.number is not None and each.fault is not None}
         if not names.items() <= self.names.items():
             self.names.update(names)
-            self.connection.executemany("INSERT OR REPLACE INTO faults(number, name) VALUES(?, ?)", names.items())
+            self.connection.executemany(f"INSERT OR REPLACE INTO faults({listed(Fault)}) VALUES({marks(Fault)})",
+                                        names.items())
 
     def _held(self) -> List[File]:
         """Takes the files out of the step that wait for the answer to their page, and packs of which members wait."""
@@ -236,11 +230,9 @@ class Writer:
             missed = self.connection.execute(
                 "SELECT id, path FROM folders WHERE path >= ? AND path < ? AND (run <> ? OR state = ?) AND state <> ?",
                 (below, below[:-1] + b"0", self.run, VANISHED, GONE)).fetchall()
-            ids = [(each,) for each, path in missed if not any(is_within(path, one) for one in closed)]
-            self.connection.executemany(f"UPDATE folders SET state = {GONE}, why = NULL WHERE id = ?", ids)
-            self.connection.executemany(
-                "UPDATE files SET state = %d, why = NULL, run = %d WHERE folder = ? AND state <> %d" % (
-                    GONE, self.run, GONE), ids)
+            ids = [number for number, path in missed if not any(is_within(path, one) for one in closed)]
+            self.connection.executemany(FOLDER_IS_GONE, ((number,) for number in ids))
+            self.connection.executemany(FILES_ARE_GONE, ((self.run, number) for number in ids))
         self.write()
 
     def has_below(self, root: bytes) -> bool:
