@@ -3,14 +3,14 @@ import os
 import sqlite3
 import sys
 import time
-from typing import Iterator, List, Sequence, Tuple
+from typing import Iterator, List, NamedTuple, Sequence, Tuple
 
 from naplps.names import shown
 
 from ..console import COMPLETE, SOME_LACK
 from .canon_table import CanonTable
 from .folders import join
-from .kinds import checked
+from .kinds import Count, Name, checked
 from .pool import Pool
 from .progress import Progress
 from .rows import Chunk, FolderFiles, WorkerOptions
@@ -23,6 +23,13 @@ PATIENCE = 60.0
 # The number of files of a chunk, and of rows, or the seconds, with which these are written.
 MOST_FILES, STEP, SECONDS = 64, 1000, 2.0
 WANTED = "SELECT folder, name FROM wanted ORDER BY folder, name"
+
+
+class FileWithoutValue(NamedTuple):
+    """A file of a page without a value, by its folder's number and its name."""
+
+    folder: Count
+    name: Name
 
 
 class CanonPass:
@@ -68,7 +75,7 @@ class CanonPass:
         held: List[FolderFiles] = []
         names: List[bytes] = []
         count = last = 0
-        for folder, name in list(checked(self.connection.execute(WANTED), "folder name")):
+        for folder, name in list(checked(self.connection.execute(WANTED), FileWithoutValue)):
             if names and (folder != last or count >= MOST_FILES):
                 held.append(FolderFiles(last, b"", tuple(names)))
                 names = []

@@ -29,9 +29,10 @@ WRITE = "INSERT OR REPLACE INTO {name}({columns}) VALUES(?, {form}{marks})"
 
 
 class CanonTable(NamedTuple):
-    """Such a table, whose first columns are `canon` and `form`; the option of a scan, and the form; which streams have a value, and with how many entries at least; the module of the
-    process that finds values out; what is told of its progress, of a page without a value, and of those that lack; and
-    whether it holds words of pages, so that only the store's owner may read it.
+    """Such a table, whose first columns are `canon` and `form`; the option of a scan; the form; which streams have a
+    value, and with how many entries at least; the module of the process that finds values out; what is told of its
+    progress, of a page without a value, and of those that lack; and whether it holds words of pages, so that only the
+    store's owner may read it.
     """
 
     table: Table

@@ -10,7 +10,7 @@ from naplps.treating.search import find
 
 from ..source import Page
 from . import tables
-from .kinds import one
+from .kinds import Count, Hash, Name, Path, one
 from .page_reader import Otherwise, read
 from .places import Place
 from .rows import Chunk, Piece, WorkerOptions
@@ -28,19 +28,25 @@ FILE = f"""SELECT d.path, f.name, {tables.AT}, p.own, p.place, coalesce(c.entrie
     CROSS JOIN folders d ON d.id = f.folder CROSS JOIN pages p ON p.id = f.page
     LEFT JOIN cures c ON c.page = p.id AND c.terms = p.terms AND p.canon IS NULL
     WHERE f.folder = ? AND f.name = ? AND f.state = {tables.READ}"""
-FILE_TOLD = "path name inode? own place? entries canon copy?"
 
 
 class Wanted(NamedTuple):
     """A page whose value is wanted: its place and hash; the number of entries and the canonical hash, of its treated
     copy where it is refused; and the place of the refusal and the hash of the copy then."""
 
-    place: Place
-    own: bytes
-    refused_at: Optional[int]
-    entries: int
-    canon: bytes
-    copy: Optional[bytes]
+    folder: Path
+    name: Name
+    at: Optional[Count]
+    own: Hash
+    refused_at: Optional[Count]
+    entries: Count
+    canon: Hash
+    copy: Optional[Hash]
+
+    @property
+    def place(self) -> Place:
+        """Where it is."""
+        return Place(self.folder, self.name, self.at)
 
 
 class ValueMaker:
@@ -68,13 +74,10 @@ class ValueMaker:
 
     def _looked_up(self, folder: int, name: bytes) -> Union[Wanted, File]:
         try:
-            row = one(self.connection.execute(FILE, (folder, name)).fetchone(), FILE_TOLD)
+            found = one(self.connection.execute(FILE, (folder, name)).fetchone(), Wanted)
         except sqlite3.Error as error:
             return File(folder, name, tables.UNREADABLE, str(error))
-        if row is None:
-            return File(folder, name, tables.UNREADABLE, GONE)
-        path, named, at, own, refused_at, entries, canon, copy = row
-        return Wanted(Place(path, named, at), own, refused_at, entries, canon, copy)
+        return found or File(folder, name, tables.UNREADABLE, GONE)
 
     def _piece(self, folder: int, window: Sequence[Union[Wanted, File]]) -> Piece:
         """The files of a window, and the values of those of which there are any."""

@@ -5,7 +5,7 @@ How many pages are refused for each code is exact. What follows is read again fr
 import sqlite3
 import sys
 from collections import Counter
-from typing import Iterator, Tuple
+from typing import Iterator, NamedTuple, Optional, Tuple
 
 from naplps.answers import Refusal
 from naplps.names import shown
@@ -14,7 +14,7 @@ from .. import census as printing
 from ..census import EIGHTH_BIT, Census, Row, stops
 from ..console import SOME_LACK
 from ..page_session import Session
-from .kinds import checked
+from .kinds import Count, Hash, Name, PageState, Path, RefusalNumber, Text, checked
 from .page_reader import Otherwise, read
 from .places import Place
 from .progress import Progress
@@ -36,7 +36,34 @@ PAGES = f"""SELECT p.own, p.number, coalesce(n.name, ''), p.left_out, p.place, {
     CROSS JOIN present f ON f.page = p.id CROSS JOIN folders d ON d.id = f.folder LEFT JOIN faults n
     ON n.number = p.number WHERE p.number IS NOT NULL AND coalesce(p.looks_like, '') = '' GROUP BY p.id
     ORDER BY d.path, f.name LIMIT {MOST_READ}"""
-PAGE = "own number fault left_out? at:count stop path name inode?"
+
+
+class StateCount(NamedTuple):
+    """How many pages have a state."""
+
+    state: PageState
+    pages: Count
+
+
+class StopCount(NamedTuple):
+    """How many pages are refused for a code, by its name."""
+
+    name: Text
+    pages: Count
+
+
+class RefusedPage(NamedTuple):
+    """A refused page, what it is refused for, and a file that has it."""
+
+    own: Hash
+    number: RefusalNumber
+    fault: Text
+    left_out: Optional[Text]
+    at: Count
+    stop: Text
+    folder: Path
+    name: Name
+    begins: Optional[Count]
 
 
 def census(session: Session) -> int:
@@ -55,10 +82,10 @@ def census(session: Session) -> int:
 def exact(connection: sqlite3.Connection) -> Census:
     """What the store has: how many pages are accepted and refused, and for which codes they are refused."""
     found = Census()
-    for state, number in checked(connection.execute(STATES), "answer:page_state count"):
-        setattr(found, MEMBERS[state], number)
-    for name, number in checked(connection.execute(FIRST), "stop count"):
-        found.rows[name] = Row(first=number)
+    for count in checked(connection.execute(STATES), StateCount):
+        setattr(found, MEMBERS[count.state], count.pages)
+    for stop in checked(connection.execute(FIRST), StopCount):
+        found.rows[stop.name] = Row(first=stop.pages)
     found.others = connection.execute(OTHERS).fetchone()[0]
     return found
 
@@ -66,20 +93,20 @@ def exact(connection: sqlite3.Connection) -> Census:
 def read_on(connection: sqlite3.Connection, found: Census, progress: Progress) -> Iterator[Tuple[str, str]]:
     """Reads on after the refusals of pages, bounded; tells of files that aren't as they were, and why."""
     seen: "Counter[str]" = Counter()
-    some = progress.through(kept(connection, PAGES, PAGE))
-    for own, number, fault, left_out, place, name, *where in some:
+    for refused in progress.through(kept(connection, PAGES, RefusedPage)):
+        place = Place(refused.folder, refused.name, refused.begins)
         try:
-            page = read(Place(*where), own)
+            page = read(place, refused.own)
         except Otherwise as otherwise:
-            yield Place(*where).path, str(otherwise)
+            yield place.path, str(otherwise)
             continue
         try:
-            names = stops(page.data, Refusal(number, fault, left_out, place))
+            names = stops(page.data, Refusal(refused.number, refused.fault, refused.left_out, refused.at))
         finally:
             page.close()
-        seen[name] += 1
+        seen[refused.stop] += 1
         found.in_part += names[-1:] == [""]
-        found.note([name, *(each for each in names[1:] if each)])
+        found.note([refused.stop, *(each for each in names[1:] if each)])
     for name, row in found.rows.items():
         unread = row.first - seen[name]  # (each of these has one code at least, at its place)
         row.pages, row.times = row.pages + unread, row.times + unread

@@ -12,6 +12,7 @@ from naplps.names import Members, shown
 from ..new_files import made_folder, make_folders, put_inside
 from .equal_over import most_budget
 from .folders import reason
+from .kinds import Count, Hash, Name, Path
 from .page_reader import Otherwise, read
 from .places import Place
 from .printing import NAME, ErrorReporter, Printer, named, shown_as
@@ -25,7 +26,22 @@ WRITTEN, THERE, CHANGED, NOT_MADE = "written", "there", "changed", "not made"
 PAGES = """SELECT p.canon, p.canon_size, p.own, d.path, f.name, f.at FROM pages p
     JOIN present f ON f.page = p.id JOIN folders d ON d.id = f.folder
     WHERE p.canon IS NOT NULL ORDER BY p.canon, d.path, f.name"""
-PAGE = "canon canon_size own path name inode?"
+
+
+class CanonFile(NamedTuple):
+    """A canonical page, by its hash and length, and a file that gives it."""
+
+    canon: Hash
+    length: Count
+    own: Hash
+    folder: Path
+    name: Name
+    at: Optional[Count]
+
+    @property
+    def place(self) -> Place:
+        """Where it is."""
+        return Place(self.folder, self.name, self.at)
 
 
 class ConvertedRow(NamedTuple):
@@ -49,20 +65,21 @@ class Conversion:
         """Puts the canonical page of each group in place, and tells what came of it. Raises NotWritten."""
         done: Optional[bytes] = None
         with made_folder(self.into):
-            for canon, length, own, *place in kept(connection, PAGES, PAGE):
-                if canon != done:
-                    row = self._convert(canon, length, own, Place(*place))
+            for file in kept(connection, PAGES, CanonFile):
+                if file.canon != done:
+                    row = self._convert(file)
                     self.counts[row.status] = self.counts.get(row.status, 0) + 1
-                    done = None if row.status == CHANGED else canon  # another file may have the page still
+                    done = None if row.status == CHANGED else file.canon  # another file may have the page still
                     yield row
 
-    def _convert(self, canon: bytes, length: int, own: bytes, place: Place) -> ConvertedRow:
+    def _convert(self, file: CanonFile) -> ConvertedRow:
+        canon, place = file.canon, file.place
         path = self.path(canon)
         if os.path.lexists(path):
-            why = _otherwise(path, canon, length)
+            why = _otherwise(path, canon, file.length)
             return ConvertedRow(canon, NOT_MADE if why else THERE, path, place, why)
         try:
-            page = read(place, own)
+            page = read(place, file.own)
         except Otherwise as otherwise:
             return ConvertedRow(canon, CHANGED, path, place, str(otherwise))
         try:

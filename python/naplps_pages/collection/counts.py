@@ -6,15 +6,17 @@ from . import tables
 from .printing import numbered
 
 # Files in folders that the run read, those that it missed, and those that were named by themselves, by their states.
-FILES = """SELECT f.state, count(*) FROM files f JOIN folders d ON d.id = f.folder
-    WHERE ((d.run = :run AND d.state = 0 AND f.state <> :gone) OR (f.run = :run AND (f.state = :gone OR d.run <> :run)))
-    AND %s GROUP BY 1""" % tables.IS_FILE
+FILES = f"""SELECT f.state, count(*) FROM files f JOIN folders d ON d.id = f.folder
+    WHERE ((d.run = :run AND d.state = {tables.READ} AND f.state <> :gone)
+    OR (f.run = :run AND (f.state = :gone OR d.run <> :run)))
+    AND {tables.IS_FILE} GROUP BY 1"""
 # Of those that it read the files that aren't pages or aren't accepted, which are fewer.
-OTHERS = """SELECT p.state, p.kind, count(*) FROM pages p CROSS JOIN files f ON f.page = p.id AND f.state = 0
+OTHERS = f"""SELECT p.state, p.kind, count(*) FROM pages p
+    CROSS JOIN files f ON f.page = p.id AND f.state = {tables.READ}
     CROSS JOIN folders d ON d.id = f.folder WHERE p.kind IS NOT :page
-    AND (d.run = :run AND d.state = 0 OR f.run = :run AND d.run <> :run) GROUP BY 1, 2"""
-PACKS = """SELECT count(*) FROM folders d JOIN files f ON f.folder = d.id AND f.name = x''
-    WHERE d.run = ? AND f.state <> %d""" % tables.GONE
+    AND (d.run = :run AND d.state = {tables.READ} OR f.run = :run AND d.run <> :run) GROUP BY 1, 2"""
+PACKS = f"""SELECT count(*) FROM folders d JOIN files f ON f.folder = d.id AND f.name = x''
+    WHERE d.run = ? AND f.state <> {tables.GONE}"""
 FOLDERS = "SELECT count(*) FROM folders WHERE run = ? AND state = ?"
 WORDS = {tables.UNREADABLE: "unreadable", tables.VANISHED: "vanished", tables.TOO_LONG: "too long",
          tables.NOT_A_FILE: "not regular files", tables.CHANGED: "changed meanwhile"}

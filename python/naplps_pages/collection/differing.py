@@ -18,8 +18,8 @@ OWN = "SELECT own, ?, id FROM pages ORDER BY own"
 ANSWER = f"""SELECT t.version, t.budget, p.state, p.number, p.left_out, p.place, p.entries, p.canon, p.canon_size
     FROM pages p JOIN terms t ON t.id = p.terms WHERE p.id = ? AND p.state <> {tables.NO_ANSWER}"""
 # The first file that has a page, and the name of a refusal.
-NAME = f"""SELECT d.path, f.name FROM files f JOIN folders d ON d.id = f.folder WHERE f.page = ? AND f.state = {tables.READ}
-    LIMIT 1"""
+NAME = f"""SELECT d.path, f.name FROM files f JOIN folders d ON d.id = f.folder
+    WHERE f.page = ? AND f.state = {tables.READ} LIMIT 1"""
 # Between two looks whether to stop.
 OFTEN = 4096
 FAULT = "SELECT name FROM faults WHERE number = ?"

@@ -1,11 +1,13 @@
 """The command equal: groups of pages that draw the same."""
 import sqlite3
 from itertools import groupby
-from typing import Any, Iterable, Iterator, List, NamedTuple, Optional, Tuple
+from operator import attrgetter
+from typing import Iterable, Iterator, List, NamedTuple, Optional, Tuple
 
 from naplps.names import Members, shown
 from naplps.treating.treatments import graded
 
+from .kinds import Count, GradeNumber, Hash, Name, Path, Text
 from .places import Place
 from .printing import NAME, Printer, named, numbered, shown_as
 from .store import kept
@@ -25,7 +27,37 @@ MEMBERS = """SELECT g.canon, g.form, p.entries, p.canon_size, p.own, d.path, f.n
     CROSS JOIN pages p ON p.canon = g.canon CROSS JOIN terms t ON t.id = p.terms AND t.form = g.form
     CROSS JOIN present f ON f.page = p.id CROSS JOIN folders d ON d.id = f.folder
     ORDER BY g.spellings DESC, g.files DESC, g.canon, g.form, p.own, d.path, f.name"""
-MEMBER = "canon form entries canon_size own path name inode?"
+
+
+class EqualFile(NamedTuple):
+    """A file of a group: by its canonical stream and the form of that; by what it is treated, where it is the source of
+    a copy in the group, and how many other files draw the same; and the hash of its picture, in groups of these."""
+
+    canon: Hash
+    form: Text
+    entries: Count
+    length: Count
+    own: Hash
+    folder: Path
+    name: Name
+    at: Optional[Count]
+    treatments: Optional[Text] = None
+    grade: Optional[GradeNumber] = None
+    copy: Optional[Hash] = None
+    others: Count = 0
+    picture: Optional[Hash] = None
+
+    @property
+    def place(self) -> Place:
+        """Where it is."""
+        return Place(self.folder, self.name, self.at)
+
+    @property
+    def treated(self) -> "Optional[TreatedBy]":
+        """By what it is treated, if it is."""
+        if self.treatments is None or self.grade is None or self.copy is None:
+            return None
+        return TreatedBy(self.treatments, self.grade, self.copy)
 
 
 class TreatedBy(NamedTuple):
@@ -71,19 +103,18 @@ def groups(connection: sqlite3.Connection, copies: bool) -> Iterator[Group]:
     """The groups, those of most spellings first; those of one spelling, which are copies, only where that is said."""
     connection.execute(GROUPS.format(SEVERAL + COPIES, "count(*) > 1") if copies else
                        GROUPS.format(SEVERAL, "count(DISTINCT p.id) > 1"))
-    return grouped(kept(connection, MEMBERS, MEMBER))
+    return grouped(kept(connection, MEMBERS, EqualFile))
 
 
-def grouped(members: Iterable[Tuple[Any, ...]]) -> Iterator[Group]:
-    """The groups of rows of members, which stand in their order. A row may have treatments after its place."""
-    for (canon, form), some in groupby(members, key=lambda row: (row[0], row[1])):
+def grouped(files: Iterable[EqualFile]) -> Iterator[Group]:
+    """The groups of files, which stand in their order."""
+    for (canon, form), some in groupby(files, key=attrgetter("canon", "form")):
         group: Optional[Group] = None
-        for _, _, entries, length, own, path, name, at, *treated in some:
-            group = group or Group(canon, form, entries, length, [], *treated[3:])
-            if not group.spellings or group.spellings[-1].own != own:
-                by = TreatedBy(*treated[:3]) if treated and treated[0] is not None else None
-                group.spellings.append(Spelling(own, [], by))
-            group.spellings[-1].places.append(Place(path, name, at))
+        for file in some:
+            group = group or Group(canon, form, file.entries, file.length, [], file.others)
+            if not group.spellings or group.spellings[-1].own != file.own:
+                group.spellings.append(Spelling(file.own, [], file.treated))
+            group.spellings[-1].places.append(file.place)
         if group:
             yield group
 

@@ -4,13 +4,14 @@ The index of a store is such a run; where a scan was stopped there is none, and 
 pages of groups are kept, in a database of temporary files, so memory doesn't grow with the stores.
 """
 import heapq
+import itertools
 import sqlite3
 import sys
 from typing import Callable, Iterable, Iterator, List, NamedTuple, Optional, Sequence, Tuple
 
 from naplps.names import shown
 
-from .equal import Group, grouped
+from .equal import EqualFile, Group, grouped
 from .kinds import Count, Hash, Name, PageState, Path, Text
 from .progress import Progress
 from .schemas import marks
@@ -131,7 +132,7 @@ def groups(paths: Sequence[str], copies: bool, complain: Callable[[str, str], No
             complain(path, why)
         work = sqlite3.connect("", isolation_level=None)  # a database of temporary files
         try:
-            yield from grouped(_Over(work, sources, copies).members())
+            yield from grouped(_Over(work, sources, copies).files())
         except sqlite3.Error as error:
             raise StoreFailed(f"temporary files of {shown(paths[0])} and others", str(error)) from None
         finally:
@@ -151,8 +152,8 @@ class _Over:
         self.work, self.sources, self.copies = work, sources, copies
         self.has_odd = False
 
-    def members(self) -> Iterator[Tuple[object, ...]]:
-        """The members of the groups, in their order."""
+    def files(self) -> Iterator[EqualFile]:
+        """The files of the groups, in their order."""
         self.work.executescript(f"PRAGMA journal_mode = OFF; PRAGMA cache_size = {-CACHE // 2}; {TABLES} BEGIN;")
         for source in self.sources:
             try:
@@ -167,7 +168,7 @@ class _Over:
                   "wanted(page INTEGER PRIMARY KEY, number INTEGER, form TEXT, entries INTEGER, length INTEGER)")
             self.work.executemany(f"INSERT INTO found VALUES({marks(WantedFile)})", source.rows(FILES, WantedFile))
         self.work.executescript(GROUPS.format("count(*)" if self.copies else "count(DISTINCT own)"))
-        return self.work.execute(MEMBERS)
+        return itertools.starmap(EqualFile, self.work.execute(MEMBERS))
 
     def _set_apart(self) -> None:
         """Looks what counts for odd pages."""

@@ -1,13 +1,14 @@
 """Equal by picture: groups of accepted pages that look alike at their end, though their lists differ."""
 import sqlite3
 from itertools import groupby
-from operator import itemgetter
-from typing import Iterator, List, NamedTuple, Sequence, Tuple
+from operator import attrgetter
+from typing import Iterator, List, NamedTuple, Optional, Sequence, Tuple
 
 from naplps.limits import MOST_LISTED
 from naplps.names import Members, shown
 
-from .equal import Group, grouped
+from .equal import EqualFile, Group, grouped
+from .kinds import Count, Name, Path
 from .picture_table import PICTURES
 from .places import Place
 from .printing import NAME, Printer, named, numbered, shown_as
@@ -22,18 +23,27 @@ GROUPS = f"""CREATE TEMP TABLE found AS SELECT k.picture AS picture, t.form AS f
     WHERE k.form = {PICTURES.form} AND k.picture IN (SELECT picture FROM pictures WHERE form = {PICTURES.form}
     GROUP BY picture HAVING count(*) > 1) GROUP BY 1, 2 HAVING lists > 1"""
 INDEX = "CREATE INDEX temp.found_by_picture ON found(picture, form)"
-MEMBERS = f"""SELECT g.picture, k.canon, g.form, p.entries, p.canon_size, p.own, d.path, f.name, f.at FROM pictures k
+MEMBERS = f"""SELECT k.canon, g.form, p.entries, p.canon_size, p.own, d.path, f.name, f.at, NULL, NULL, NULL, 0,
+    g.picture FROM pictures k
     CROSS JOIN found g ON g.picture = k.picture CROSS JOIN pages p ON p.canon = k.canon AND p.state = {ACCEPTED}
     CROSS JOIN terms t ON t.id = p.terms AND t.form = g.form CROSS JOIN present f ON f.page = p.id
     CROSS JOIN folders d ON d.id = f.folder WHERE k.form = {PICTURES.form}
     ORDER BY g.lists DESC, g.files DESC, g.picture, g.form, k.canon, p.own, d.path, f.name"""
-MEMBER = "picture canon form entries canon_size own path name inode?"
 # Pages without a picture: they have too many entries, or paint too much.
 WITHOUT = f"""SELECT d.path, f.name, f.at, p.entries FROM pages p CROSS JOIN present f ON f.page = p.id
     CROSS JOIN folders d ON d.id = f.folder WHERE p.state = {ACCEPTED} AND (p.entries > {MOST_LISTED} OR EXISTS(
     SELECT 1 FROM pictures k WHERE k.canon = p.canon AND k.form = {PICTURES.form} AND k.picture IS NULL))
     ORDER BY d.path, f.name"""
 LISTED, PAINTED = f"it has no picture: more than {MOST_LISTED} entries", "it has no picture: it paints too much"
+
+
+class UnpaintedFile(NamedTuple):
+    """A file whose page has no picture, and how many entries that has."""
+
+    folder: Path
+    name: Name
+    at: Optional[Count]
+    entries: Count
 
 
 class PictureGroup(NamedTuple):
@@ -52,15 +62,15 @@ def groups(connection: sqlite3.Connection) -> Iterator[PictureGroup]:
     """The groups of a store whose pictures are known, those of most lists first."""
     connection.execute(GROUPS)
     connection.execute(INDEX)
-    for (picture, _), rows in groupby(kept(connection, MEMBERS, MEMBER), itemgetter(0, 2)):
-        yield PictureGroup(picture, list(grouped(row[1:] for row in rows)))
+    for (picture, _), files in groupby(kept(connection, MEMBERS, EqualFile), attrgetter("picture", "form")):
+        yield PictureGroup(picture, list(grouped(files)))
 
 
 def without(connection: sqlite3.Connection) -> Iterator[Tuple[str, str]]:
     """The files whose pages have no picture, and why."""
     connection.execute("DROP TABLE IF EXISTS temp.kept")
-    for path, name, at, entries in kept(connection, WITHOUT, "path name inode? entries"):
-        yield Place(path, name, at).path, LISTED if entries > MOST_LISTED else PAINTED
+    for file in kept(connection, WITHOUT, UnpaintedFile):
+        yield Place(file.folder, file.name, file.at).path, LISTED if file.entries > MOST_LISTED else PAINTED
     connection.execute("DROP TABLE temp.kept")
 
 

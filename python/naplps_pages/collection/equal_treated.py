@@ -7,9 +7,9 @@ groups of guesses alone, of which it is told how many other files draw the same.
 import sqlite3
 from typing import Iterator, Tuple
 
-from .equal import COPIES, SEVERAL, Group, grouped
+from .equal import COPIES, SEVERAL, EqualFile, Group, grouped
 from .store import kept
-from .tables import AROUND, WITHIN
+from .tables import AROUND, REFUSED, WITHIN
 
 # Treated copies of one grade, whose canonical hashes are found at once.
 TREATED = ("""CREATE TEMP TABLE {0} AS SELECT c.canon AS canon, t.form AS form, c.page AS page, c.entries AS entries,
@@ -38,9 +38,8 @@ MEMBERS = """SELECT g.canon, g.form, j.entries, j.canon_size, p.own, d.path, f.n
     CROSS JOIN pages p ON p.id = j.page CROSS JOIN present f ON f.page = p.id CROSS JOIN folders d ON d.id = f.folder
     ORDER BY g.spellings DESC, g.files DESC, g.canon, g.form, j.grade IS NOT NULL, p.own, d.path, f.name"""
 LEAST = ("count(DISTINCT j.page) > 1", "count(*) > 1")
-MEMBER = "canon form entries canon_size own path name inode? treatments? grade? copy? others:count"
 TABLES = ("around", "within", "readable", "several", "joined", "found", "kept")
-UNTRIED = """SELECT (SELECT count(*) FROM pages p WHERE p.state = 1 AND NOT EXISTS(SELECT 1 FROM cures c
+UNTRIED = f"""SELECT (SELECT count(*) FROM pages p WHERE p.state = {REFUSED} AND NOT EXISTS(SELECT 1 FROM cures c
     WHERE c.page = p.id AND c.terms = p.terms)),
     (SELECT count(*) FROM cures WHERE treatments IS NOT NULL AND grade IS NULL)"""
 
@@ -95,4 +94,4 @@ def _join(connection: sqlite3.Connection, name: str, several: str) -> None:
 def _grouped(connection: sqlite3.Connection, others: str, least: str) -> Iterator[Group]:
     connection.execute("CREATE INDEX temp.joined_by_canon ON joined(canon, form, page)")
     connection.execute(GROUPS.format(others, least))
-    return grouped(kept(connection, MEMBERS, MEMBER))
+    return grouped(kept(connection, MEMBERS, EqualFile))

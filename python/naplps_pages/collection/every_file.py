@@ -8,6 +8,9 @@ from naplps.treating.treatments import graded
 
 from ..refusals import Reason
 from . import tables
+from .kinds import (
+    Count, FileState, Flag, GradeNumber, Hash, Name, Number, PageKind, PageState, Path, RefusalNumber, Text, TextSource,
+)
 from .places import Place
 from .printing import NAME, Printer, named, shown_as
 from .refused import only
@@ -25,48 +28,45 @@ FILES = f"""SELECT d.path, f.name, f.inode, f.state, coalesce(f.why, p.why), f.s
     FROM files f CROSS JOIN folders d ON d.id = f.folder LEFT JOIN pages p ON p.id = f.page AND f.state = {tables.READ}
     LEFT JOIN terms t ON t.id = p.terms LEFT JOIN faults n ON n.number = p.number
     LEFT JOIN cures c ON c.page = p.id AND c.terms = p.terms LEFT JOIN texts x ON x.page = p.id AND x.terms = p.terms
-    WHERE {tables.IS_FILE} %s ORDER BY d.path, f.name"""
-FILE = "path name inode? state:file_state why? size? mtime_ns? page_state? number? fault? left_out? place? entries? " \
-    "own? canon? canon_size? form? budget? kind? looks_like? several? stop? tried:flag treatments? grade? entries? " \
-    "copy? canon? canon_size? first? source? holds?"
+    WHERE {tables.IS_FILE} {{}} ORDER BY d.path, f.name"""
 ANY = Reason(0)
 
 
 class FileFacts(NamedTuple):
     """All that a store knows of a file."""
 
-    folder: bytes
-    name: bytes
-    at: Optional[int]
-    state: int
-    why: Optional[str]
-    size: Optional[int]
-    mtime_ns: Optional[int]
-    answer: Optional[int]
-    number: Optional[int]
-    fault: Optional[str]
-    left_out: Optional[str]
-    place: Optional[int]
-    entries: Optional[int]
-    own: Optional[bytes]
-    canon: Optional[bytes]
-    canon_size: Optional[int]
-    form: Optional[str]
-    budget: Optional[int]
-    kind: Optional[int]
-    looks_like: Optional[str]
-    several: Optional[int]
-    stop: Optional[str]
-    tried: int
-    treatments: Optional[str]
-    grade: Optional[int]
-    treated_entries: Optional[int]
-    treated: Optional[bytes]
-    treated_canon: Optional[bytes]
-    treated_canon_size: Optional[int]
-    first: Optional[str]
-    source: Optional[int]
-    holds: Optional[int]
+    folder: Path
+    name: Name
+    at: Optional[Count]
+    state: FileState
+    why: Optional[Text]
+    size: Optional[Count]
+    mtime_ns: Optional[Number]
+    answer: Optional[PageState]
+    number: Optional[RefusalNumber]
+    fault: Optional[Text]
+    left_out: Optional[Text]
+    place: Optional[Count]
+    entries: Optional[Count]
+    own: Optional[Hash]
+    canon: Optional[Hash]
+    canon_size: Optional[Count]
+    form: Optional[Text]
+    budget: Optional[Count]
+    kind: Optional[PageKind]
+    looks_like: Optional[Text]
+    several: Optional[Flag]
+    stop: Optional[Text]
+    tried: Flag
+    treatments: Optional[Text]
+    grade: Optional[GradeNumber]
+    treated_entries: Optional[Count]
+    treated: Optional[Hash]
+    treated_canon: Optional[Hash]
+    treated_canon_size: Optional[Count]
+    first: Optional[Text]
+    source: Optional[TextSource]
+    holds: Optional[Count]
 
     @property
     def at_path(self) -> Place:
@@ -91,8 +91,7 @@ class FileFacts(NamedTuple):
 def load(connection: sqlite3.Connection, kind: Optional[str], refused: Optional[Reason]) -> Iterator[FileFacts]:
     """The files in the order of their names; those of one kind alone, or of one reason, where that is given."""
     some = "AND p.number IS NOT NULL" if refused == ANY else only(refused)
-    for row in kept(connection, FILES % some, FILE, code=refused.code if refused else ""):
-        file = FileFacts._make(row)
+    for file in kept(connection, FILES.format(some), FileFacts, code=refused.code if refused else ""):
         if kind is None or kind == kind_of(file):
             yield file
 

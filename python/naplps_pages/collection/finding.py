@@ -6,7 +6,7 @@ from naplps.names import Members, shown
 
 from ..page_words import Phrase, lines_with, match_of
 from . import tables, word_index
-from .kinds import checked
+from .kinds import Hash, Name, Path, TextLines, TextSource, checked
 from .places import Place
 from .printing import NAME, Printer, named, shown_as
 
@@ -18,11 +18,20 @@ FOUND = """SELECT d.path, f.name, p.own, x.source, x.text FROM {} CROSS JOIN pag
     WHERE {} ORDER BY d.path, f.name"""
 WITH_INDEX = FOUND.format("words w CROSS JOIN texts x ON x.page = w.rowid", "words MATCH ?")
 WITHOUT = FOUND.format("texts x", "x.text IS NOT NULL AND ? IS NOT NULL")
-FILE = "path name own source text"
-LACK = f"""SELECT count(*) FROM pages p WHERE p.state < 2 AND NOT {tables.HAS_TEXT}
+LACK = f"""SELECT count(*) FROM pages p WHERE p.state <> {tables.NO_ANSWER} AND NOT {tables.HAS_TEXT}
     AND EXISTS(SELECT 1 FROM present f WHERE f.page = p.id)"""
 LACKING = "%s no text kept, and can't be found: a scan with --words keeps it"
 NO_TEXTS = "has no texts: `naplps-pages scan --words` keeps them"
+
+
+class FoundText(NamedTuple):
+    """A file and the text of its page."""
+
+    folder: Path
+    name: Name
+    own: Hash
+    source: TextSource
+    text: TextLines
 
 
 class FoundPage(NamedTuple):
@@ -49,10 +58,10 @@ def found(connection: sqlite3.Connection, parts: List[Phrase]) -> Iterator[Found
     indexed = has_index(connection)
     with word_index.used():
         rows = connection.execute(WITH_INDEX if indexed else WITHOUT, (match_of(parts),))
-        for path, name, own, source, text in checked(rows, FILE):
-            lines = lines_with(text, parts)
+        for row in checked(rows, FoundText):
+            lines = lines_with(row.text, parts)
             if lines is not None or indexed:
-                yield FoundPage(Place(path, name, None), own, source, lines or text.split("\n")[:1])
+                yield FoundPage(Place(row.folder, row.name), row.own, row.source, lines or row.text.split("\n")[:1])
 
 
 def show(printer: Printer, page: FoundPage) -> None:

@@ -6,8 +6,7 @@ query are declared alike, and `checked` makes them.
 import sqlite3
 from functools import lru_cache
 from typing import (
-    Annotated, Any, Callable, Dict, Iterable, Iterator, NamedTuple, Optional, Tuple, Type, TypeVar, get_args,
-    overload,
+    Annotated, Any, Callable, Iterable, Iterator, NamedTuple, Optional, Tuple, TypeVar, get_args,
 )
 
 from naplps.names import printable
@@ -111,36 +110,12 @@ Name = Annotated[bytes, NAME]
 Path = Annotated[bytes, PATH]
 ListKey = Annotated[bytes, KEYS]
 PrefixKeys = Annotated[bytes, PREFIXES]
-# The kinds of columns by their names, for rows that are declared in words.
-KINDS: Dict[str, Kind] = {
-    **dict.fromkeys(("mtime_ns", "ctime_ns"), NUMBER),
-    **dict.fromkeys(("id", "folder", "page", "run", "terms", "place", "entries", "canon_size", "size", "inode",
-                     "budget", "files", "asked", "count", "holds"), COUNT),
-    **dict.fromkeys(("why", "left_out", "fault", "treatments", "version", "form", "tool", "began", "ended",
-                     "hex", "looks_like", "first", "stop"), TEXT),
-    **dict.fromkeys(("own", "canon", "copy", "program_hash", "picture"), HASHES),
-    "text": LINES,
-    "program": NAME, "name": NAME, "path": PATH, "number": REFUSAL,
-    "file_state": FILE_STATE, "page_state": PAGE_STATE,
-    "kind": PAGE_KIND, "grade": GRADE,
-    "source": SOURCE, "near_key": KEYS, "near_prefix": PREFIXES, "prefixes": PREFIXES,
-    "said": SAID, "near_form": COUNT, **dict.fromkeys(("flag", "several"), FLAG)}
 
 
 @lru_cache(maxsize=None)
 def columns(row: Any) -> Tuple[Column, ...]:
-    """The columns of a row by its class: those of its fields of which the type says the kind.
-
-    In words they are NAME or NAME:KIND, with ? where there may be no value.
-    """
-    if isinstance(row, str):
-        return tuple(map(_told, row.split()))
+    """The columns of a row by its class: those of its fields of which the type says the kind."""
     return tuple(column for column in map(_column, *zip(*row.__annotations__.items())) if column)
-
-
-def _told(word: str) -> Column:
-    name, _, kind = word.rstrip("?").partition(":")
-    return Column(name, KINDS[kind or name], word.endswith("?"))
 
 
 def _column(name: str, field: Any) -> Optional[Column]:
@@ -154,19 +129,10 @@ def _column(name: str, field: Any) -> Optional[Column]:
     return Column(name, kind, may_lack, *sql) if kind else None
 
 
-@overload
-def checked(rows: Iterable[Values], row: str) -> Iterator[Values]: ...
-
-
-@overload
-def checked(rows: Iterable[Values], row: Type[Row]) -> Iterator[Row]: ...
-
-
-def checked(rows: Iterable[Values], row: Any) -> Iterator[Any]:
+def checked(rows: Iterable[Values], row: Callable[..., Row]) -> Iterator[Row]:
     """The rows of a class, of values that are what its fields say. Texts are made fit to be printed. Raises NotAStore.
     """
     some = columns(row)
-    make: Callable[[Iterable[Any]], Any] = getattr(row, "_make", tuple)
     tests = [(each.kind.fits, each.may_lack, each.kind.name) for each in some]
     texts = [(at, each) for at, each in enumerate(some) if each.kind is TEXT or each.kind is LINES]
     for values in rows:
@@ -175,20 +141,12 @@ def checked(rows: Iterable[Values], row: Any) -> Iterator[Any]:
                 raise NotAStore(WRONG % (TOOL, _name_of(value), name))
         made = list(values)
         for at, column in texts:
-            if values[at] is not None:
-                made[at] = _printable(values[at], column)
-        yield make(made)
+            if at < len(made) and made[at] is not None:  # (the last fields of a row may have their defaults)
+                made[at] = _printable(made[at], column)
+        yield row(*made)
 
 
-@overload
-def one(values: Optional[Values], row: str) -> Optional[Values]: ...
-
-
-@overload
-def one(values: Optional[Values], row: Type[Row]) -> Optional[Row]: ...
-
-
-def one(values: Optional[Values], row: Any) -> Any:
+def one(values: Optional[Values], row: Callable[..., Row]) -> Optional[Row]:
     """The same for the values of one row, if there are some."""
     return next(checked((values,), row)) if values is not None else None
 

@@ -1,8 +1,8 @@
 """Pages of a store that are almost equal, by the keys of their lists."""
 import sqlite3
 from itertools import groupby
-from operator import itemgetter
-from typing import Dict, Iterator, List, Sequence
+from operator import attrgetter
+from typing import Dict, Iterator, List, NamedTuple, Optional, Sequence
 
 from naplps.treating.treatments import graded
 
@@ -12,7 +12,7 @@ from ..nearness import (
     numbers_of,
 )
 from .canon_table import WITH_COPIES
-from .kinds import checked
+from .kinds import Hash, ListKey, ListWords, Name, Path, PrefixKeys, Text, checked
 from .places import Place
 
 FIND = ("DROP TABLE IF EXISTS temp.named", "DROP TABLE IF EXISTS temp.compared",
@@ -26,6 +26,30 @@ WITH_KEYS = " CROSS JOIN near_keys k ON k.rowid = c.row"
 SAID = {WORDS: ("k.said", WITH_KEYS), COLOURS: ("''", ""), PLACES: ("''", "")}
 NAMES = """SELECT d.path, n.name, n.treatments FROM named n CROSS JOIN folders d ON d.id = n.folder WHERE n.canon = ?
     ORDER BY d.path, n.name"""
+
+
+class KeyedList(NamedTuple):
+    """A list by a key, its canonical hash, and the words that it has, or none."""
+
+    key: ListKey
+    canon: Hash
+    said: ListWords
+
+
+class BegunList(NamedTuple):
+    """A list by the key of its beginning, its canonical hash, and the keys of all its beginnings."""
+
+    start: PrefixKeys
+    canon: Hash
+    prefixes: PrefixKeys
+
+
+class DrawnFile(NamedTuple):
+    """A file that draws a list, and by which treatments."""
+
+    folder: Path
+    name: Name
+    treatments: Optional[Text]
 
 
 class NearGroups:
@@ -43,25 +67,24 @@ class NearGroups:
     def differences(self) -> Iterator[Difference]:
         """Pages that differ in words, in colours or in places alone, in the order of their names."""
         for what, (said, more) in SAID.items():
-            rows = checked(self.connection.execute(GROUPED.format(what, said, more)), "near_key canon said")
-            found = [self._in_order([self._page(canon, said) for _, canon, said in group])
-                     for _, group in groupby(rows, itemgetter(0))]
+            rows = checked(self.connection.execute(GROUPED.format(what, said, more)), KeyedList)
+            found = [self._in_order([self._page(row.canon, row.said) for row in group])
+                     for _, group in groupby(rows, attrgetter("key"))]
             yield from (difference(what, group) for group in sorted(found, key=lambda group: group[0].names))
 
     def beginnings(self) -> Iterator[Beginning]:
         """Of each page the longest ones that are its beginning, in the order of names."""
         found: List[Beginning] = []
-        rows = checked(self.connection.execute(GROUPED.format("start", "k.prefixes", WITH_KEYS)),
-                       "near_prefix canon prefixes")
+        rows = checked(self.connection.execute(GROUPED.format("start", "k.prefixes", WITH_KEYS)), BegunList)
         entries = 0
-        for _, group in groupby(rows, itemgetter(0)):
+        for _, group in groupby(rows, attrgetter("start")):
             pages: List[ListedPage] = []
-            for _, canon, prefixes in group:
-                entries += len(prefixes) // PREFIX
+            for row in group:
+                entries += len(row.prefixes) // PREFIX
                 if entries > MOST_ENTRIES:
                     self.is_whole = False
                     break
-                pages.append(ListedPage([], "", numbers_of(prefixes), canon))
+                pages.append(ListedPage([], "", numbers_of(row.prefixes), row.canon))
             found += beginnings(pages)
             if not self.is_whole:
                 break
@@ -82,8 +105,8 @@ class NearGroups:
             return []
         names = self.names.get(canon)
         if names is None:
-            rows = checked(self.connection.execute(NAMES, (canon,)), "path name treatments?")
+            rows = checked(self.connection.execute(NAMES, (canon,)), DrawnFile)
             names = self.names[canon] = [
-                PageName(Place(path, name).path, graded(treatments) if treatments else "")
-                for path, name, treatments in rows]
+                PageName(Place(row.folder, row.name).path, graded(row.treatments) if row.treatments else "")
+                for row in rows]
         return names

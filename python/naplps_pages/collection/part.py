@@ -4,17 +4,23 @@ import re
 import sqlite3
 import zlib
 from dataclasses import dataclass
-from typing import Iterable, Optional, Tuple
+from typing import Iterable, NamedTuple, Optional, Tuple
 
 from naplps.names import shown
 
 from .. import TOOL
 from .folders import is_within, join
-from .kinds import NotAStore, checked
+from .kinds import NotAStore, Path, checked
 from .store import StoreFailed
 
 MOST_PARTS = 1_000_000
 WORDS = re.compile(r"([0-9]{1,7})/([0-9]{1,7})")
+
+
+class RootPath(NamedTuple):
+    """A folder that was named."""
+
+    path: Path
 
 
 @dataclass(frozen=True)
@@ -75,7 +81,7 @@ def keep_part(connection: sqlite3.Connection, path: str, asked: Optional[Part], 
     kept = kept_part(connection)
     if kept != asked:
         raise StoreFailed(path, f"holds {_named(kept)}, not {_named(asked)}: each has a store of its own")
-    some = list(checked(connection.execute("SELECT DISTINCT path FROM roots"), "path")) if kept else []
+    some = list(checked(connection.execute("SELECT DISTINCT path FROM roots"), RootPath)) if kept else []
     for before, in some:
         for root in roots:
             if root != before and (is_within(root, before) or is_within(before, root)):

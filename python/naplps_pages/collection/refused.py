@@ -9,6 +9,7 @@ from naplps.treating.treatments import grade_of, graded
 
 from ..refusals import Reason as Wanted
 from ..schema import answered
+from .kinds import Count, Flag, Hash, Name, Path, RefusalNumber, Text
 from .places import Place
 from .printing import NAME, Printer, numbered, shown_as
 from .store import kept
@@ -26,7 +27,6 @@ MEMBERS = """SELECT r.number, n.name, r.left_out, r.stop, r.pages, r.files, p.pl
     LEFT JOIN faults n ON n.number = r.number LEFT JOIN cures c ON c.page = p.id AND c.terms = p.terms
     WHERE p.number IS NOT NULL
     ORDER BY r.files DESC, r.number, r.left_out, r.stop, d.path, f.name"""
-MEMBER = "number fault left_out stop pages:count files place own tried:flag treatments? path name"
 
 
 class ReasonCount(NamedTuple):
@@ -41,27 +41,42 @@ class ReasonCount(NamedTuple):
 
 
 class RefusedFile(NamedTuple):
-    """A file that is refused; whether treatments were tried, and which make it readable."""
+    """A file that is refused, after its reason; whether treatments were tried, and which make it readable."""
 
-    reason: ReasonCount
-    at: int
-    own: bytes
-    tried: bool
-    treatments: Optional[str]
-    place: Place
+    number: RefusalNumber
+    fault: Text
+    left_out: Text
+    stop: Text
+    pages: Count
+    files: Count
+    at: Count
+    own: Hash
+    tried: Flag
+    treatments: Optional[Text]
+    folder: Path
+    name: Name
+
+    @property
+    def reason(self) -> ReasonCount:
+        """Its reason."""
+        return ReasonCount(self.number, self.fault, self.left_out, self.stop, self.pages, self.files)
+
+    @property
+    def place(self) -> Place:
+        """Where it is."""
+        return Place(self.folder, self.name)
 
     @property
     def refused(self) -> Refusal:
         """The refusal."""
-        return Refusal(self.reason.number, self.reason.fault, self.reason.left_out or None, self.at)
+        return Refusal(self.number, self.fault, self.left_out or None, self.at)
 
 
 def members(connection: sqlite3.Connection, wanted: Optional[Wanted]) -> Iterator[RefusedFile]:
     """The refused files, by the reason, the most frequent first; those of one reason only where it is given."""
     connection.execute(REASONS.format(only(wanted)), {"code": wanted.code if wanted else ""})
     connection.execute(BY_REASON)
-    for row in kept(connection, MEMBERS, MEMBER):
-        yield RefusedFile(ReasonCount._make(row[:6]), row[6], row[7], bool(row[8]), row[9], Place(row[10], row[11]))
+    return kept(connection, MEMBERS, RefusedFile)
 
 
 def only(wanted: Optional[Wanted]) -> str:
@@ -104,7 +119,7 @@ def _cure(member: RefusedFile) -> str:
 
 def _object(member: RefusedFile) -> Members:
     return {**answered(member.place.path, member.refused), "stops": member.reason.stop or None,
-            "hash": member.own.hex(), "tried": member.tried,
+            "hash": member.own.hex(), "tried": bool(member.tried),
             "treatments": member.treatments.split("+") if member.treatments else None, "grade": _grade(member)}
 
 

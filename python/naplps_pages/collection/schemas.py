@@ -1,5 +1,5 @@
-"""The tables of a store, each declared once, as docs/STORE.md describes them: by the rows that a scan writes and the keys
-that these get there; and those of the schema before, and of both the view for people.
+"""The tables of a store, each declared once, as docs/STORE.md describes them: by the rows that a scan writes, and the
+keys that these get there; and those of the schema before, and of both the view for people.
 """
 import sqlite3
 from typing import Annotated, Any, Dict, Iterator, NamedTuple, Optional, Sequence, Tuple, Union
@@ -282,14 +282,13 @@ def renewal() -> str:
 
 
 def unknown(name: str) -> Dict[str, str]:
-    """The columns that a table of the schema before hasn't, or has by other rules, and what they are by those of now."""
+    """The columns that a table of the schema before hasn't, or has by other rules, and their values by those of now."""
     added = {each.name: "NULL" for each in TABLES[name].added()} if name else {}
     return {**added, **(RENEWED if name == "cures" else {})}
 
 
 def as_now() -> Iterator[Tuple[str, str]]:
-    """The tables of the schema before that aren't those of this one: their names, and what they are by the rules of now.
-    """
+    """The names of tables of the schema before that aren't those of this one, and their rows by the rules of now."""
     for name, table in TABLES.items():
         others = unknown(name)
         if others:

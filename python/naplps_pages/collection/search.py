@@ -2,13 +2,13 @@
 import os
 import sqlite3
 import stat
-from typing import Callable, Iterable, Iterator, List, NamedTuple, Optional, Tuple
+from typing import Callable, Dict, Iterable, Iterator, List, Mapping, NamedTuple, Optional, Tuple
 
 from ..packs.member import NO_FILE
 from ..packs.naming import inside, is_pack, pack_of
 from .file_reader import Marks, marks
 from .folders import FolderIdentity, identity_of, is_within, join, opened, reason
-from .kinds import checked
+from .kinds import Count, FileState, Flag, Name, Number, checked
 from .pack_state import PackState, settled
 from .part import Part, below
 from .rows import AskAgain, Chunk, FolderFiles
@@ -23,22 +23,26 @@ ROWS = 1000
 # The number of folders, or of known files, without any other, after which a chunk of nothing comes.
 QUIET_FOLDERS, QUIET_FILES = 64, 1000
 EMPTY = "it is empty, and had files before: is it mounted? Nothing in it is marked as gone"
-KNOWN = f"""SELECT f.name, f.state, f.size, f.mtime_ns, f.ctime_ns, f.inode, f.state = ? AND {SETTLED}
-    FROM files f LEFT JOIN pages p ON p.id = f.page WHERE f.folder = ? AND f.name > ? ORDER BY f.name LIMIT ?"""
-
-FILE = "name state:file_state size? mtime_ns? ctime_ns? inode? settled:flag?"
+KNOWN = f"""SELECT f.name, f.state, f.size, f.mtime_ns, f.ctime_ns, f.inode, f.state = {READ} AND {SETTLED}
+    FROM files f LEFT JOIN pages p ON p.id = f.page WHERE f.folder = :folder AND f.name > :last
+    ORDER BY f.name LIMIT {ROWS}"""
 
 
 class KnownFile(NamedTuple):
     """A file as the store knows it, and whether there is nothing left to ask about it."""
 
-    name: bytes
-    state: int
-    size: Optional[int]
-    mtime_ns: Optional[int]
-    ctime_ns: Optional[int]
-    inode: Optional[int]
-    settled: Optional[int]
+    name: Name
+    state: FileState
+    size: Optional[Count]
+    mtime_ns: Optional[Number]
+    ctime_ns: Optional[Number]
+    inode: Optional[Count]
+    settled: Optional[Flag]
+
+    @property
+    def marks(self) -> Tuple[Optional[int], ...]:
+        """By what it is known again."""
+        return self.size, self.mtime_ns, self.ctime_ns, self.inode
 
 
 # Files of one folder that may have to be looked at, by its number, its path and which it is; now and then no name is
@@ -154,7 +158,7 @@ class Search:
         known: Optional[PackState] = None
         if was_known and not self.scope.wanted.again:
             known = settled(self.writer.connection, folder, self._marks(name, descriptor),
-                            (*self._asked, self.scope.most))
+                            self._asked, self.scope.most)
         if known is None:
             return folder, inside(path), iter((b"",)), which
         self.known += known.members
@@ -163,9 +167,9 @@ class Search:
         return folder, inside(path), iter(()), which
 
     @property
-    def _asked(self) -> Tuple[int, bool, bool]:
-        """What SETTLED is asked with."""
-        return self.writer.terms, self.scope.wanted.cures, self.scope.wanted.words
+    def _asked(self) -> Dict[str, object]:
+        """The parameters of SETTLED."""
+        return {"terms": self.writer.terms, "cures": self.scope.wanted.cures, "words": self.scope.wanted.words}
 
     def _marks(self, name: bytes, descriptor: Optional[int]) -> Optional[Marks]:
         """The marks of a pack by its name in a folder; a link is followed, since one may be named."""
@@ -207,7 +211,7 @@ class Search:
 
     def _is_as_it_was(self, row: KnownFile, descriptor: int) -> bool:
         try:
-            return marks(os.stat(row.name, dir_fd=descriptor, follow_symlinks=False)) == row[2:6]
+            return marks(os.stat(row.name, dir_fd=descriptor, follow_symlinks=False)) == row.marks
         except OSError:
             return False
 
@@ -224,16 +228,15 @@ def _identity(path: bytes) -> Optional[FolderIdentity]:
         os.close(descriptor)
 
 
-def _rows(connection: sqlite3.Connection, folder: int, asked: Tuple[int, bool, bool]) -> Iterator[KnownFile]:
+def _rows(connection: sqlite3.Connection, folder: int, asked: Mapping[str, object]) -> Iterator[KnownFile]:
     """What the store knows of a folder's files, in the order of their names."""
     last = b""
     while True:
-        some = list(checked(connection.execute(KNOWN, (READ, *asked, folder, last, ROWS)), FILE))
-        for row in some:
-            yield KnownFile._make(row)
+        some = list(checked(connection.execute(KNOWN, {**asked, "folder": folder, "last": last}), KnownFile))
+        yield from some
         if len(some) < ROWS:
             return
-        last = some[-1][0]
+        last = some[-1].name
 
 
 def _cut(names: Iterator[Optional[bytes]], scope: Scope) -> Iterator[Tuple[bytes, ...]]:

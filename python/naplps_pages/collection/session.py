@@ -16,8 +16,9 @@ from ..sheet import MOST_PAGES
 from ..source import Page, Unread
 from .equal_over import most_budget
 from .folders import is_within
-from .kinds import checked
+from .kinds import Count, Hash, Name, Path, Text, checked
 from .page_reader import Otherwise, read
+from .part import RootPath
 from .places import Place
 from .printing import numbered
 from .store import kept, open_to_read
@@ -29,12 +30,11 @@ if TYPE_CHECKING:
 
 # The options that a session of the files of a store has.
 OPTIONS = ("json", "into", "past", "png", "sheet", "dots", "animate", "scale", "speed")
-ROOTS = "SELECT path, max(run) FROM roots GROUP BY path ORDER BY path"
+ROOTS = "SELECT DISTINCT path FROM roots ORDER BY path"
 # The files with an answer, in the order of their names.
-FILES = """SELECT p.own, d.path, f.name, f.at, p.place, p.entries, p.looks_like, c.treatments, c.copy FROM present f
+FILES = """SELECT d.path, f.name, f.at, p.own, p.place, p.entries, p.looks_like, c.treatments, c.copy FROM present f
     CROSS JOIN pages p ON p.id = f.page CROSS JOIN folders d ON d.id = f.folder LEFT JOIN cures c ON c.page = p.id AND
     c.terms = p.terms AND c.treatments IS NOT NULL WHERE p.state {} ORDER BY d.path, f.name"""
-FILE = "own path name inode? place? entries? looks_like? treatments? copy?"
 ANSWERED, REFUSED_ALONE = f"<= {REFUSED}", f"= {REFUSED}"
 CAPTURES_ALONE = f"= {REFUSED} AND p.kind = {CAPTURE}"
 NO_PATH = "no file can be named after it: its name in the store isn't that of a file"
@@ -45,13 +45,20 @@ class StoredFile(NamedTuple):
     """A file of a store, and the hash of its page: where that is refused, or how many entries it has; what it looks
     like; and the hash of its readable copy, with the treatments that make this."""
 
-    place: Place
-    own: bytes
-    at: Optional[int] = None
-    entries: Optional[int] = None
-    looks_like: Optional[str] = None
-    treatments: Optional[str] = None
-    copy: Optional[bytes] = None
+    folder: Path
+    name: Name
+    begins: Optional[Count]
+    own: Hash
+    at: Optional[Count] = None
+    entries: Optional[Count] = None
+    looks_like: Optional[Text] = None
+    treatments: Optional[Text] = None
+    copy: Optional[Hash] = None
+
+    @property
+    def place(self) -> Place:
+        """Where it is."""
+        return Place(self.folder, self.name, self.begins)
 
     @property
     def is_empty(self) -> bool:
@@ -66,15 +73,14 @@ class StoredFile(NamedTuple):
 
 def files(connection: sqlite3.Connection, which: str = ANSWERED) -> Iterator[StoredFile]:
     """The files of which the pages have such an answer."""
-    for own, path, name, begins, *more in kept(connection, FILES.format(which), FILE):
-        yield StoredFile(Place(path, name, begins), own, *more)
+    return kept(connection, FILES.format(which), StoredFile)
 
 
 class Names:
     """Names for files that are made of those of a store: relative to the folders that were scanned."""
 
     def __init__(self, connection: sqlite3.Connection) -> None:
-        paths = [path for path, _ in checked(connection.execute(ROOTS), "path run")]
+        paths = [root.path for root in checked(connection.execute(ROOTS), RootPath)]
         self.roots = [path for path in paths if not any(other != path and is_within(path, other) for other in paths)]
 
     def of(self, place: Place) -> str:

@@ -11,7 +11,7 @@ from . import word_index
 from .canon_tables import CANON_TABLES
 from .kinds import Count, Path, Row, Text, checked
 from .lock import is_held
-from .part import Part, kept_part
+from .part import Part, RootPath, kept_part
 from .schemas import require_right
 from .store import StoreFailed, open_unchanged, schema_of
 
@@ -29,12 +29,6 @@ class Number(NamedTuple):
     """A number of rows."""
 
     value: Count
-
-
-class RootPath(NamedTuple):
-    """A folder that was named."""
-
-    path: Path
 
 
 class RunTimes(NamedTuple):

@@ -11,7 +11,7 @@ from .beside import LOG
 from .canon_tables import CANON_TABLES
 from .counts import UNKNOWN
 from .kept_options import kept, lacking
-from .kinds import checked, one
+from .kinds import Count, FileState, Flag, Name, PageKind, PageState, Path, Text, checked, one
 from .lock import is_held
 from .part import Part, kept_part
 from .printing import Printer
@@ -20,18 +20,17 @@ from .store import log_of
 COLUMNS = ["what", "value"]
 RUN = """SELECT r.id, r.began, r.ended, r.tool, r.program, r.terms, t.version, lower(hex(t.program_hash)), t.form,
     t.budget FROM runs r JOIN terms t ON t.id = r.terms ORDER BY r.id DESC LIMIT 1"""
-ROOTS = """SELECT path, max(run), (SELECT why FROM roots o WHERE o.path = r.path ORDER BY run DESC LIMIT 1)
+ROOTS = """SELECT path, (SELECT why FROM roots o WHERE o.path = r.path ORDER BY run DESC LIMIT 1)
     FROM roots r GROUP BY path ORDER BY path"""
-FILES = """SELECT f.state, p.state, coalesce(f.why, p.why), f.state = 0 AND p.terms <> ?, p.kind, p.looks_like,
-    p.several, p.holds, count(*) FROM files f LEFT JOIN pages p ON p.id = f.page AND f.state = 0 WHERE %s
-    GROUP BY 1, 2, 3, 4, 5, 6, 7, 8""" % tables.IS_FILE
+FILES = f"""SELECT f.state, p.state, coalesce(f.why, p.why), f.state = {tables.READ} AND p.terms <> ?, p.kind,
+    p.looks_like, p.several, p.holds, count(*) FROM files f
+    LEFT JOIN pages p ON p.id = f.page AND f.state = {tables.READ} WHERE {tables.IS_FILE}
+    GROUP BY 1, 2, 3, 4, 5, 6, 7, 8"""
 PAGES = """SELECT (SELECT count(DISTINCT page) FROM present), (SELECT count(DISTINCT canon) FROM pages p
     WHERE canon IS NOT NULL AND EXISTS(SELECT 1 FROM present f WHERE f.page = p.id))"""
-LAST = "id began ended? tool program terms version hex form budget"
-COUNTED = "state:file_state answer:page_state? why? is_old:flag? kind? looks_like? several? holds? count"
 # Pages that lack what the store keeps, by the option.
-LACKING = {"cures": ("refused without treatments tried", f"p.state = 1 AND NOT {tables.TRIED}"),
-           "words": ("without their text", f"p.state < 2 AND NOT {tables.HAS_TEXT}")}
+LACKING = {"cures": ("refused without treatments tried", f"p.state = {tables.REFUSED} AND NOT {tables.TRIED}"),
+           "words": ("without their text", f"p.state <> {tables.NO_ANSWER} AND NOT {tables.HAS_TEXT}")}
 LACK = "SELECT count(*) FROM pages p WHERE {} AND EXISTS(SELECT 1 FROM present f WHERE f.page = p.id)"
 PERHAPS_SEVERAL = "perhaps several pages"
 # Reasons that are all alike but for a number.
@@ -42,30 +41,37 @@ LEFT = (tables.UNREADABLE, tables.VANISHED, tables.CHANGED)
 class FilesAlike(NamedTuple):
     """Files that are alike, and how many these are."""
 
-    state: int
-    answer: Optional[int]
-    why: Optional[str]
-    is_old: int
-    kind: Optional[int]
-    looks_like: Optional[str]
-    several: Optional[int]
-    holds: Optional[int]
-    files: int
+    state: FileState
+    answer: Optional[PageState]
+    why: Optional[Text]
+    is_old: Optional[Flag]
+    kind: Optional[PageKind]
+    looks_like: Optional[Text]
+    several: Optional[Flag]
+    holds: Optional[Count]
+    files: Count
 
 
 class LastRun(NamedTuple):
     """The last run, and its terms."""
 
-    id: int
-    began: str
-    ended: Optional[str]
-    tool: str
-    program: bytes
-    terms: int
-    version: str
-    program_hash: str
-    form: str
-    budget: int
+    id: Count
+    began: Text
+    ended: Optional[Text]
+    tool: Text
+    program: Name
+    terms: Count
+    version: Text
+    program_hash: Text
+    form: Text
+    budget: Count
+
+
+class RootState(NamedTuple):
+    """A folder that was named, and why it couldn't be read, if so."""
+
+    path: Path
+    why: Optional[Text]
 
 
 @dataclass
@@ -130,7 +136,7 @@ class Status(NamedTuple):
     path: str
     busy: bool
     run: Optional[LastRun]
-    roots: List[Tuple[bytes, Optional[str]]]
+    roots: List[RootState]
     tally: Tally
     pages: int
     canonical: int
@@ -146,11 +152,10 @@ class Status(NamedTuple):
 
 def status(connection: sqlite3.Connection, path: str) -> Status:
     """What the store holds."""
-    row = one(connection.execute(RUN).fetchone(), LAST)
-    run = LastRun._make(row) if row else None
+    run = one(connection.execute(RUN).fetchone(), LastRun)
     tally = Tally()
-    for each in checked(connection.execute(FILES, (run.terms if run else 0,)), COUNTED):
-        tally.take(FilesAlike._make(each))
+    for alike in checked(connection.execute(FILES, (run.terms if run else 0,)), FilesAlike):
+        tally.take(alike)
     shut, = connection.execute("SELECT count(*) FROM folders WHERE state = ?", (tables.UNREADABLE,)).fetchone()
     if shut:
         tally.left["unreadable folders"] = shut
@@ -163,7 +168,7 @@ def status(connection: sqlite3.Connection, path: str) -> Status:
         number, = connection.execute(LACK.format(words)).fetchone()
         if number:
             tally.left[name] = number
-    roots = [(each, why) for each, _, why in checked(connection.execute(ROOTS), "path run why?")]
+    roots = list(checked(connection.execute(ROOTS), RootState))
     pages, canonical = connection.execute(PAGES).fetchone()
     return Status(path, is_held(path), run, roots, tally, pages, canonical, kept_part(connection), log_of(connection),
                   lacking(connection))

@@ -3,7 +3,7 @@ import os
 import sqlite3
 import stat
 import time
-from typing import Any, Callable, Iterator, Optional, Set, Tuple
+from typing import Callable, Iterator, Optional, Set, Type
 
 from naplps.names import printable, shown
 from naplps.version import VERSION
@@ -12,7 +12,7 @@ from .. import TOOL
 from . import canon_tables, schemas, tables, word_index
 from .beside import LOG, foreign, place
 from .header import APPLICATION
-from .kinds import checked
+from .kinds import Row, checked
 from .lock import is_held
 from .near_table import NEAR_KEYS
 
@@ -247,13 +247,13 @@ def _check(path: str, connection: sqlite3.Connection) -> int:
     return int(schema[0])
 
 
-def kept(connection: sqlite3.Connection, words: str, told: str, **named: str) -> Iterator[Tuple[Any, ...]]:
-    """The rows of a query, checked as `told` says, and taken aside first, so that a scan needn't wait until then.
+def kept(connection: sqlite3.Connection, words: str, row: Type[Row], **named: str) -> Iterator[Row]:
+    """The rows of a query, which are checked, and taken aside first, so that a scan needn't wait until then.
 
     Its parameters are known by their names.
     """
     connection.execute("CREATE TEMP TABLE kept AS " + words, named)
-    return checked(connection.execute("SELECT * FROM kept ORDER BY rowid"), told)
+    return checked(connection.execute("SELECT * FROM kept ORDER BY rowid"), row)
 
 
 def path_of(connection: sqlite3.Connection) -> str:

@@ -25,10 +25,10 @@ TRIED = ("EXISTS(SELECT 1 FROM cures c WHERE c.page = p.id AND c.terms = p.terms
          "AND (c.treatments IS NULL OR c.grade IS NOT NULL))")
 # What an answer p needs to count under terms: treatments of a refused page, where these are asked for; and the text.
 HAS_TEXT = "EXISTS(SELECT 1 FROM texts x WHERE x.page = p.id AND x.terms = p.terms)"
-SETTLED = (f"p.terms = ? AND p.state < 2 AND {DESCRIBED} AND (p.state = 0 OR NOT ? OR {TRIED}) "
-           f"AND (NOT ? OR {HAS_TEXT})")
+SETTLED = (f"p.terms = :terms AND p.state <> {NO_ANSWER} AND {DESCRIBED} "
+           f"AND (p.state = {ACCEPTED} OR NOT :cures OR {TRIED}) AND (NOT :words OR {HAS_TEXT})")
 # A row without a name is that of the pack itself. It tells of a file where the pack can't be read as a whole.
-IS_FILE = "(f.name <> x'' OR f.state NOT IN (0, 6))"
+IS_FILE = f"(f.name <> x'' OR f.state NOT IN ({READ}, {GONE}))"
 
 
 # Where a member of a pack, which has no time, begins; and how long another file is.

@@ -5,12 +5,11 @@ from typing import Dict, Iterable, Iterator, List, NamedTuple, Optional, Tuple
 from naplps.treating.treatments import graded
 
 from ..collection import tables
-from ..collection.kinds import checked
+from ..collection.kinds import Count, FileState, PageKind, PageState, Path, RefusalNumber, Text, checked
 from .files import FROM, REASONS, THERE, told
 from .limits import MOST_FOLDERS
 from .roots import Roots
 
-REASON = "state:file_state why? answer:page_state? number? fault? left_out? why? count"
 CURES = f"SELECT c.treatments, count(*) {FROM} WHERE {THERE} AND c.page IS NOT NULL GROUP BY 1"
 KINDS = f"SELECT p.kind, p.looks_like, count(*) {FROM} WHERE {THERE} GROUP BY 1, 2"
 FOLDERS = f"SELECT d.path, count(*) {FROM} WHERE {THERE} GROUP BY d.id"
@@ -26,6 +25,46 @@ NO_CURE = "none"
 Choice = Tuple[str, int]
 
 
+class AnsweredFiles(NamedTuple):
+    """How many files have an answer, or why they have none."""
+
+    state: FileState
+    why: Optional[Text]
+    answer: Optional[PageState]
+    number: Optional[RefusalNumber]
+    fault: Optional[Text]
+    left_out: Optional[Text]
+    no_answer: Optional[Text]
+    files: Count
+
+    @property
+    def told(self) -> str:
+        """What there is to say of them."""
+        return told(self.state, self.why, self.answer, self.number, self.fault, self.left_out, self.no_answer)
+
+
+class TreatedFiles(NamedTuple):
+    """How many files have the same treatments."""
+
+    treatments: Optional[Text]
+    files: Count
+
+
+class FilesOfKind(NamedTuple):
+    """How many files are of a kind."""
+
+    kind: Optional[PageKind]
+    looks_like: Optional[Text]
+    files: Count
+
+
+class FilesBelow(NamedTuple):
+    """How many files are in a folder."""
+
+    path: Path
+    files: Count
+
+
 class Choices(NamedTuple):
     """The names of what can be chosen, each with its number of files."""
 
@@ -39,14 +78,13 @@ class Choices(NamedTuple):
 
 def load(connection: sqlite3.Connection, roots: Roots) -> Choices:
     """What can be chosen of the files of a store: the most frequent first, folders in the order of their names."""
-    answers = _summed((told(*reasons), number) for *reasons, number in checked(connection.execute(
-        f"SELECT {REASONS}, count(*) {FROM} WHERE {THERE} GROUP BY 1, 2, 3, 4, 5, 6, 7"), REASON))
-    cures = _summed((cure(treatments), number) for treatments, number in checked(
-        connection.execute(CURES), "treatments? count"))
-    kinds = _summed((kind(*it), number) for *it, number in checked(
-        connection.execute(KINDS), "kind? looks_like? count"))
+    answers = _summed((row.told, row.files) for row in checked(connection.execute(
+        f"SELECT {REASONS}, count(*) {FROM} WHERE {THERE} GROUP BY 1, 2, 3, 4, 5, 6, 7"), AnsweredFiles))
+    cures = _summed((cure(row.treatments), row.files) for row in checked(connection.execute(CURES), TreatedFiles))
+    kinds = _summed((kind(row.kind, row.looks_like), row.files) for row in checked(
+        connection.execute(KINDS), FilesOfKind))
     kinds.pop("", None)
-    folders = ((roots.relative(path), number) for path, number in checked(connection.execute(FOLDERS), "path count"))
+    folders = ((roots.relative(row.path), row.files) for row in checked(connection.execute(FOLDERS), FilesBelow))
     others: int = connection.execute(OTHERS).fetchone()[0]
     return Choices(_frequent(kinds)[:MOST_FOLDERS], _frequent(answers), _frequent(cures), _folders(folders), others)
 
@@ -58,7 +96,7 @@ def kind(number: Optional[int], looks_like: Optional[str]) -> str:
     return f"looks like {looks_like}" if looks_like else ""
 
 
-def cure(treatments: str) -> str:
+def cure(treatments: Optional[str]) -> str:
     """What treatments come to, by name."""
     return graded(treatments) if treatments else NO_CURE
 

@@ -7,7 +7,7 @@ from naplps.treating.treatments import graded
 from .. import refusals
 from ..collection import refused, tables
 from ..collection.counts import UNKNOWN
-from ..collection.kinds import checked
+from ..collection.kinds import Count, RefusalNumber, Text, checked
 from ..collection.status import LACK, LACKING, LastRun, status
 from . import groups as of_groups
 from . import store_words
@@ -26,6 +26,25 @@ KINDS = {"page": "pages", "text": "texts", "blank": "blank", UNKNOWN: UNKNOWN}
 READABLE = """SELECT p.number, coalesce(p.left_out, ''), c.treatments, count(*) FROM cures c CROSS JOIN pages p
     ON p.id = c.page AND p.terms = c.terms CROSS JOIN present f ON f.page = p.id
     WHERE c.treatments IS NOT NULL AND p.number IS NOT NULL GROUP BY 1, 2, 3 ORDER BY 4 DESC, 3"""
+
+
+class ReadableFiles(NamedTuple):
+    """How many files of a reason are readable by some treatments."""
+
+    number: RefusalNumber
+    left_out: Text
+    treatments: Text
+    files: Count
+
+
+class RefusedFiles(NamedTuple):
+    """How many pages and files are refused for a reason."""
+
+    number: RefusalNumber
+    fault: Text
+    left_out: Text
+    pages: Count
+    files: Count
 
 
 class ReasonRow(NamedTuple):
@@ -82,14 +101,12 @@ def _reasons(connection: sqlite3.Connection) -> List[ReasonRow]:
     connection.execute(refused.REASONS.format(""))
     known = refusals.load()
     readable: Dict[Tuple[int, str], List[Tuple[str, int]]] = {}
-    for number, left_out, treatments, files in checked(
-            connection.execute(READABLE), "number left_out treatments count"):
-        readable.setdefault((number, left_out), []).append((graded(treatments), files))
-    return [ReasonRow(reason(number, fault, left_out), number, pages, files,
-                      refusals.text_of(number, left_out).means if number in known else "",
-                      readable.get((number, left_out), []))
-            for number, fault, left_out, pages, files in checked(
-                connection.execute(REASONS), "number fault left_out count files")]
+    for some in checked(connection.execute(READABLE), ReadableFiles):
+        readable.setdefault((some.number, some.left_out), []).append((graded(some.treatments), some.files))
+    return [ReasonRow(reason(row.number, row.fault, row.left_out), row.number, row.pages, row.files,
+                      refusals.text_of(row.number, row.left_out).means if row.number in known else "",
+                      readable.get((row.number, row.left_out), []))
+            for row in checked(connection.execute(REASONS), RefusedFiles)]
 
 
 def told_refusals() -> Dict[str, Dict[str, str]]:

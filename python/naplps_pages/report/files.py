@@ -4,17 +4,16 @@ from typing import Any, Iterable, Iterator, NamedTuple, Optional, Tuple
 from naplps.answers import Accepted, Answer, Refusal, Unanswered
 
 from ..collection import tables
-from ..collection.kinds import checked
+from ..collection.kinds import (
+    Count, FileState, Flag, GradeNumber, Hash, Name, PageKind, PageState, Path, RefusalNumber, Text, checked,
+)
 from ..collection.places import Place
 
 # A file, its page, and on which terms that was asked about. (Files that are gone aren't shown.)
 COLUMNS = f"""d.id, d.path, f.name, f.state, f.why, f.size, p.id, p.own, p.state, p.number, n.name, p.left_out, p.place,
     p.entries, p.canon, p.canon_size, p.why, t.form, t.budget, c.page IS NOT NULL, c.treatments,
     {tables.AT}, p.kind, p.looks_like, p.several, c.grade, c.entries, c.copy, c.canon"""
-COLUMN = "folder path name state:file_state why? size? page? own? answer:page_state? number? fault? left_out? " \
-    "place? entries? canon? canon_size? why? form? budget? tried:flag treatments? inode? " \
-    "kind? looks_like? several? grade? entries? copy? canon?"
-JOINS = """JOIN folders d ON d.id = f.folder LEFT JOIN pages p ON p.id = f.page AND f.state = 0
+JOINS = f"""JOIN folders d ON d.id = f.folder LEFT JOIN pages p ON p.id = f.page AND f.state = {tables.READ}
     LEFT JOIN terms t ON t.id = p.terms LEFT JOIN faults n ON n.number = p.number
     LEFT JOIN cures c ON c.page = p.id AND c.terms = p.terms"""
 FROM = "FROM files f " + JOINS
@@ -28,35 +27,35 @@ NUMBERED = (tables.TOO_LONG,)
 class ReportFile(NamedTuple):
     """A row of the store."""
 
-    folder: int
-    path: bytes
-    name: bytes
-    state: int
-    why: Optional[str]
-    size: Optional[int]
-    page: Optional[int]
-    own: Optional[bytes]
-    answer: Optional[int]
-    number: Optional[int]
-    fault: Optional[str]
-    left_out: Optional[str]
-    at: Optional[int]
-    entries: Optional[int]
-    canon: Optional[bytes]
-    length: Optional[int]
-    no_answer: Optional[str]
-    form: Optional[str]
-    budget: Optional[int]
-    tried: bool
-    treatments: Optional[str]
-    begins: Optional[int]
-    kind: Optional[int] = None
-    looks_like: Optional[str] = None
-    several: Optional[int] = None
-    grade: Optional[int] = None
-    treated_entries: Optional[int] = None
-    treated: Optional[bytes] = None
-    treated_canon: Optional[bytes] = None
+    folder: Count
+    path: Path
+    name: Name
+    state: FileState
+    why: Optional[Text]
+    size: Optional[Count]
+    page: Optional[Count]
+    own: Optional[Hash]
+    answer: Optional[PageState]
+    number: Optional[RefusalNumber]
+    fault: Optional[Text]
+    left_out: Optional[Text]
+    at: Optional[Count]
+    entries: Optional[Count]
+    canon: Optional[Hash]
+    length: Optional[Count]
+    no_answer: Optional[Text]
+    form: Optional[Text]
+    budget: Optional[Count]
+    tried: Flag
+    treatments: Optional[Text]
+    begins: Optional[Count]
+    kind: Optional[PageKind] = None
+    looks_like: Optional[Text] = None
+    several: Optional[Flag] = None
+    grade: Optional[GradeNumber] = None
+    treated_entries: Optional[Count] = None
+    treated: Optional[Hash] = None
+    treated_canon: Optional[Hash] = None
 
     @property
     def place(self) -> Place:
@@ -97,8 +96,7 @@ class ReportFile(NamedTuple):
 
 def read(rows: Iterable[Tuple[Any, ...]]) -> Iterator[ReportFile]:
     """The files of rows of COLUMNS. Raises NotAStore."""
-    for row in checked(rows, COLUMN):
-        yield ReportFile._make(row[:19] + (bool(row[19]), *row[20:]))
+    return checked(rows, ReportFile)
 
 
 # What `told` is told of.

@@ -3,7 +3,7 @@ import sqlite3
 from typing import List, NamedTuple, Tuple
 
 from ..collection import equal, equal_treated
-from ..collection.kinds import checked
+from ..collection.kinds import Count, Hash, Text, checked
 
 # The readable copies of refused pages.
 COPIES = ("""CREATE TEMP TABLE copies AS SELECT c.canon AS canon, t.form AS form, c.page AS page, c.entries AS entries,
@@ -29,13 +29,13 @@ class GroupSummary(NamedTuple):
     """How many spellings and files a canonical stream has, for how many of these it is that of a readable copy, and how
     long it is."""
 
-    canon: bytes
-    form: str
-    spellings: int
-    files: int
-    copies: int
-    entries: int
-    length: int
+    canon: Hash
+    form: Text
+    spellings: Count
+    files: Count
+    copies: Count
+    entries: Count
+    length: Count
 
     @property
     def key(self) -> Tuple[bytes, str]:
@@ -49,8 +49,7 @@ def load(connection: sqlite3.Connection) -> List[GroupSummary]:
         connection.execute(f"DROP TABLE IF EXISTS temp.{name}")
     for statement in (*COPIES, SEVERAL):
         connection.execute(statement)
-    return [GroupSummary._make(row) for row in checked(
-        connection.execute(ORDERED), "canon form count files count entries canon_size")]
+    return list(checked(connection.execute(ORDERED), GroupSummary))
 
 
 def of_spellings(groups: List[GroupSummary]) -> int:

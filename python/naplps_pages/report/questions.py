@@ -6,7 +6,7 @@ from naplps.treating.treatments import graded
 
 from .. import messages
 from ..collection import tables, word_index
-from ..collection.kinds import checked, one
+from ..collection.kinds import Count, Name, Path, checked, one
 from ..collection.store import open_to_read
 from ..packs.naming import MOST_NAME
 from . import choices
@@ -58,6 +58,20 @@ COPIES = "SELECT %s FROM cures c CROSS JOIN pages p ON p.id = c.page AND p.terms
 FIELDS = ("text", "folder", "kind", "answer", "cure", "order", "pages", "once", "others")
 EQUALS = {"kind": "kind_of(p.kind, p.looks_like) = ?", "answer": f"told({of_files.REASONS}) = ?",
           "cure": "c.page IS NOT NULL AND cure_of(c.treatments) = ?"}
+
+
+class FolderPath(NamedTuple):
+    """A folder by its number, and its path."""
+
+    id: Count
+    path: Path
+
+
+class FileNumber(NamedTuple):
+    """A file, by the number of its folder and its name."""
+
+    folder: Count
+    name: Name
 
 
 class Unasked(Exception):
@@ -118,8 +132,8 @@ class Questions:
             numbers = {group.key: number for number, group in enumerate(some, 1)}
             self.near = None
             self.known = StoreFacts(version, facts, some, numbers, Document(facts, some, "asked.js"))
-            self.folders = {number: facts.roots.relative(path) for number, path in checked(self.connection.execute(
-                "SELECT id, path FROM folders"), "id path")}
+            self.folders = {folder.id: facts.roots.relative(folder.path) for folder in checked(self.connection.execute(
+                "SELECT id, path FROM folders"), FolderPath)}
         return self.known
 
     def _has(self, folder: int, name: bytes) -> bool:
@@ -144,7 +158,7 @@ class Questions:
         if not HASH.fullmatch(wanted_hash):
             raise Unasked(messages.SHORT_HASH.format(digits=HASH_DIGITS))
         ends = [bytes.fromhex((wanted_hash + digit * 64)[:64]) for digit in "0f"]
-        found = one(self.connection.execute(OF_HASH, ends).fetchone(), "folder name")
+        found = one(self.connection.execute(OF_HASH, ends).fetchone(), FileNumber)
         if found is None:
             raise Unasked(messages.NO_PAGE_OF_HASH)
         self._find(words)
@@ -257,7 +271,7 @@ class Questions:
             self.near = NearFiles(self.connection)
         found: List[Answer] = []
         for each in self.near.of(file):
-            place = one(self.connection.execute(OF_CANON, (each.canon,)).fetchone(), "folder name")
+            place = one(self.connection.execute(OF_CANON, (each.canon,)).fetchone(), FileNumber)
             rows = self.connection.execute(ONE, place).fetchall() if place else []
             found += [{"key": key_of(other), "name": self._name(other), "told": each.told}
                       for other in of_files.read(rows)]

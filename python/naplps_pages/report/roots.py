@@ -1,17 +1,24 @@
 """Names as a report shows them: relative to the folders that were scanned, and nothing of what is above these."""
 import os
 import sqlite3
-from typing import Dict, List, Tuple
+from typing import Dict, List, NamedTuple, Tuple
 
 from naplps.names import shown
 
 from ..collection.folders import is_within
-from ..collection.kinds import checked
+from ..collection.kinds import Flag, Path, checked
 from ..packs.naming import MARK, inside
 
 # (a file that was named by itself stands in a folder, and is none)
 ROOTS = """SELECT path, max(why IS NOT NULL OR EXISTS(SELECT 1 FROM folders d WHERE d.path IN
     (r.path, CAST(r.path || x'212F' AS BLOB)))) FROM roots r GROUP BY path ORDER BY path"""
+
+
+class NamedRoot(NamedTuple):
+    """A folder or a file that was named."""
+
+    path: Path
+    is_folder: Flag
 
 
 class Roots:
@@ -49,8 +56,8 @@ def _different(names: List[str]) -> List[str]:
 
 def load(connection: sqlite3.Connection) -> Roots:
     """The roots of all scans into the store."""
-    return Roots(list(dict.fromkeys(path if is_folder else os.path.dirname(path) for path, is_folder in checked(
-        connection.execute(ROOTS), "path is_folder:flag"))))
+    return Roots(list(dict.fromkeys(row.path if row.is_folder else os.path.dirname(row.path) for row in checked(
+        connection.execute(ROOTS), NamedRoot))))
 
 
 def joined(folder: str, name: bytes) -> str:
