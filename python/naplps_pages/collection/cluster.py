@@ -9,9 +9,8 @@ import site
 import subprocess
 import sys
 import time
-from collections import deque
 from queue import Empty, SimpleQueue
-from typing import Any, Deque, Dict, FrozenSet, Iterator, List, NamedTuple, Optional, Set, cast
+from typing import Any, Dict, Iterator, List, Optional, Set, cast
 
 from naplps.names import shown
 
@@ -21,19 +20,16 @@ from . import cluster_watch
 from .cluster_check import answers
 from .cluster_watch import Watch
 from .folders import reason
-from .pool import ClusterFailed, count, ending, halves, next_of
+from .pool import ClusterFailed, Task, Workers, count, ending, halves
 from .remote import Alike, Done, Given
 from .rows import Chunk, Piece, WorkerOptions
-from .schemas import File
-from .tables import UNREADABLE
 from .unread import UnreadFiles, is_here
 
 WORDS = interpreter("naplps_pages.collection.remote")
-# The number of chunks that are out at a time, and of files and bytes of names of a chunk.
-MOST_OUT = 64
-MOST_FILES, MOST_NAMES = 2000, 256 << 10
-# How long is waited at once; for the scheduler; for a first worker; for a result; and for the end, in seconds.
-TURN, CONNECT, JOIN, FETCH, END = 0.25, 10, 30, 5, 3
+# The number of chunks that are out at a time.
+MAX_IN_FLIGHT = 64
+# How long is waited for the scheduler; for a first worker; for a result; and for the end, in seconds.
+CONNECT, JOIN, FETCH, END = 10, 30, 5, 3
 # After so long without a result it is looked whether there are workers.
 SILENCE = 20.0
 NOT_INSTALLED = "Dask's distributed isn't there for %s (Debian: apt-get install python3-distributed)"
@@ -68,18 +64,14 @@ def _distributed() -> Any:
     return library
 
 
-class Task(NamedTuple):
-    """A chunk, which workers couldn't read it, and to which alone it is given; to any without one."""
-
-    chunk: Chunk
-    tried: FrozenSet[str] = frozenset()
-    workers: FrozenSet[str] = frozenset()
-
-
-class Cluster:
+class Cluster(Workers):
     """The workers of a scheduler. Raises ClusterFailed, also where a worker has another program or package."""
 
+    # (each task costs its scheduler time)
+    max_files, max_names = 2000, 256 << 10
+
     def __init__(self, where: str, how: WorkerOptions, alike: Alike) -> None:
+        super().__init__()
         library = _distributed()
         self.how, self.alike = how, alike
         self.address = address_of(where)
@@ -87,13 +79,11 @@ class Cluster:
             self.client = library.Client(self.address, timeout=CONNECT, set_as_default=False, name="naplps-pages")
         except (OSError, ValueError, TypeError) as error:
             raise ClusterFailed(f"{self.address}: no scheduler answers: {_first_line(error)}") from None
-        self.out: Dict[Any, Task] = {}
+        self.sent: Dict[Any, Task] = {}
         self.done: "SimpleQueue[Any]" = SimpleQueue()
-        self.again: Deque[Task] = deque()
         self.watch = Watch(self.client)
         self.told: Set[str] = set()
-        self.suspects: Set[Chunk] = set()
-        self.heard = time.monotonic()
+        self.received_at = time.monotonic()
         try:
             self._check()
         except BaseException:
@@ -120,29 +110,28 @@ class Cluster:
         return {"input": pickle.dumps(Given(self.how, self.alike, chunk)), "capture_output": True,
                 "start_new_session": True}
 
-    def run(self, chunks: Iterator[Chunk]) -> Iterator[Optional[Piece]]:
-        """What comes of the chunks, which are taken as they are needed; nothing, now and then, while none comes.
+    def set_options(self, how: WorkerOptions) -> None:
+        """Asks of the workers what the store keeps to."""
+        self.how = how
 
-        Raises ClusterFailed.
+    def is_busy(self) -> bool:
+        """Whether a task is out."""
+        return bool(self.sent)
+
+    def has_room(self) -> bool:
+        """Whether another task should be out."""
+        return len(self.sent) < MAX_IN_FLIGHT
+
+    def receive(self, seconds: float) -> Iterator[Optional[Piece]]:
+        """What came of a task, or nothing where none is done in that time. What a silent worker has is sent to others.
         """
-        more = True
-        while more or self.again or self.out:
-            given: Optional[Chunk] = None
-            while (more or self.again) and given != () and len(self.out) < MOST_OUT:
-                if self.again:
-                    self._give(self.again.popleft())
-                    continue
-                given = next_of(chunks)
-                if given:
-                    self._give(Task(given))
-                more = more and given is not None
-            self._look_after()
-            try:
-                future = self.done.get(timeout=TURN if self.out and given != () else 0.001)
-            except Empty:
-                self._wait()
-                yield None
-                continue
+        self._look_after()
+        try:
+            future = self.done.get(timeout=seconds if self.sent and seconds else 0.001)
+        except Empty:
+            self._wait()
+            yield None
+        else:
             yield from self._take(future)
 
     def _look(self) -> None:
@@ -153,16 +142,16 @@ class Cluster:
     def _wait(self) -> None:
         """Tells, once, that nothing comes since there are no workers."""
         self._look()
-        if time.monotonic() - self.heard < SILENCE:
+        if time.monotonic() - self.received_at < SILENCE:
             return
-        self.heard = time.monotonic()
+        self.received_at = time.monotonic()
         try:
             workers = self.client.scheduler_info()["workers"]
         except Exception:  # pylint: disable=broad-except
             return  # it is about to go
         if not workers:
             tell(f"{self.address}: there are no workers any more; the scan waits for some")
-            self.heard = math.inf
+            self.received_at = math.inf
 
     def _look_before(self) -> None:
         """Names the workers that are silent before anything is given out. Raises ClusterLost."""
@@ -175,11 +164,12 @@ class Cluster:
             worker = self.watch.found.pop()
             tell(f"{worker}: this worker has been silent for {cluster_watch.SILENT:.0f} s: {what}")
 
-    def _give(self, task: Task) -> None:
+    def send(self, task: Task) -> None:
+        """Sends a chunk to one of its workers, or to any that isn't silent."""
         workers = task.workers or (self.watch.live if self.watch.silent else frozenset())
         only = {"workers": sorted(workers)} if workers else {}
         future = self.client.submit(subprocess.run, WORDS, **self._input(task.chunk), pure=False, **only)
-        self.out[future] = task._replace(workers=workers)
+        self.sent[future] = task._replace(workers=workers)
         future.add_done_callback(self.done.put)
 
     def _look_after(self) -> None:
@@ -188,21 +178,21 @@ class Cluster:
             return
         self._name_silent("what it has is given to others")
         for worker in self.watch.silent:  # (the scheduler may still give it what it took from another)
-            self._give_again(self.watch.keys_of(worker))
-        gone = [future for future, task in self.out.items() if task.workers and not task.workers & self.watch.live]
-        self._give_again({future.key for future in gone})
+            self._send_again(self.watch.keys_of(worker))
+        gone = [future for future, task in self.sent.items() if task.workers and not task.workers & self.watch.live]
+        self._send_again({future.key for future in gone})
 
-    def _give_again(self, keys: Set[str]) -> None:
-        for future in [each for each in self.out if each.key in keys]:
-            self.again.append(self.out.pop(future)._replace(workers=frozenset()))
+    def _send_again(self, keys: Set[str]) -> None:
+        for future in [each for each in self.sent if each.key in keys]:
+            self.retry.append(self.sent.pop(future)._replace(workers=frozenset()))
             future.cancel()
 
     def _take(self, future: Any) -> Iterator[Piece]:
         """What came of a task."""
         self._look()
-        if future not in self.out:
+        if future not in self.sent:
             return  # it was given to another
-        self.heard = time.monotonic()
+        self.received_at = time.monotonic()
         if future.status not in ("finished", "error"):
             future.add_done_callback(self.done.put)  # its worker ended; the scheduler gives it to another
             return
@@ -212,7 +202,7 @@ class Cluster:
             self._look()
             future.add_done_callback(self.done.put)
             return
-        task = self.out.pop(future)
+        task = self.sent.pop(future)
         done = _done(said)
         if done is None:
             future.release()
@@ -229,7 +219,7 @@ class Cluster:
                                             done.differs or f"{shown(os.fsdecode(cast(Any, others).path))} is another "
                                                             "folder there, or isn't there"))
         if done.left:
-            self.again.append(Task(done.left))
+            self.retry.append(Task(done.left))
         unread = UnreadFiles(task.chunk, done.pieces)
         if not unread:
             yield from done.pieces
@@ -241,25 +231,21 @@ class Cluster:
             self.told.add(worker)
             tell(f"{worker}: some files can't be read there" + ("; another worker is asked" if left else ""))
         if left and worker:
-            self.again.append(Task(unread.chunk, tried, left))
+            self.retry.append(Task(unread.chunk, tried, left))
             yield from unread.others
         else:
             yield from unread.final
 
     def _lose(self, chunk: Chunk, why: str) -> Iterator[Piece]:
-        """Asks again for a chunk that ended its process, in halves; one file that does it twice has a row."""
+        """Asks again for a chunk that ended its process, in halves."""
         if count(chunk) > 1:
-            self.again.extend(map(Task, halves(chunk)))
-        elif chunk in self.suspects:
-            lost = chunk[0]
-            yield (File(lost.folder, lost.names[0], UNREADABLE, why),), ()
+            self.retry.extend(map(Task, halves(chunk)))
         else:
-            self.suspects.add(chunk)
-            self.again.append(Task(chunk))
+            yield from self.lost(chunk, why)
 
     def close(self) -> None:
         """Leaves the cluster. What its workers are at is forgotten."""
-        self.out.clear()
+        self.sent.clear()
         try:
             self.client.close(timeout=END)
         except Exception:  # pylint: disable=broad-except

@@ -9,7 +9,7 @@ from . import cluster_watch
 from .cluster_watch import Watch
 
 # How long is waited at once, and before one that couldn't be reached is asked again, in seconds.
-TURN, PAUSE = 0.25, 2.0
+POLL_SECONDS, PAUSE = 0.25, 2.0
 
 
 def answers(watch: Watch, words: List[str], given: Dict[str, Any], look: Callable[[], None]) -> Dict[str, Any]:
@@ -39,7 +39,7 @@ def _pause(seconds: float, look: Callable[[], None]) -> None:
     end = time.monotonic() + seconds
     while time.monotonic() < end:
         look()
-        time.sleep(TURN)
+        time.sleep(POLL_SECONDS)
 
 
 def _asked(watch: Watch, words: List[str], given: Dict[str, Any], look: Callable[[], None],
@@ -56,7 +56,7 @@ def _asked(watch: Watch, words: List[str], given: Dict[str, Any], look: Callable
     threading.Thread(target=asks, daemon=True).start()
     while True:
         try:
-            said = done.get(timeout=TURN)
+            said = done.get(timeout=POLL_SECONDS)
         except Empty:
             look()
             if workers & watch.silent:

@@ -1,37 +1,112 @@
-"""Workers as processes of this machine. One that ends or hangs is replaced, and costs one file its row at most."""
+"""Workers, and those of them that are processes of this machine. One that ends or hangs is replaced, and costs one file
+its row at most."""
 import os
 import signal
 import socket
 import subprocess
 import time
+from abc import ABC, abstractmethod
 from collections import deque
 from multiprocessing.connection import Connection, wait
-from typing import Deque, Iterator, List, Optional, Sequence, Set, Tuple
+from typing import Deque, FrozenSet, Iterator, List, NamedTuple, Optional, Sequence, Set, Tuple
 
 from .. import interpreter
 from ..packs.naming import pack_of
-from .rows import ALIVE, DONE, FAILED, MOST_AHEAD, Chunk, Piece, received
+from .rows import ALIVE, DONE, FAILED, MOST_AHEAD, Chunk, Piece, WorkerOptions, received
 from .schemas import File
 from .tables import UNREADABLE
 
 MAIN = "naplps_pages.collection.worker_process"
 # The number of chunks of a worker at a time, so that it needn't wait for the next. They fit into its socket's buffer,
 # so nobody waits to be read while he waits to be read himself.
-MOST_OUT, BUFFER = 3, 1 << 18
+MAX_IN_FLIGHT, BUFFER = 3, 1 << 18
 # How long is waited for a message at once, and for a worker to end.
-TURN, GRACE = 0.25, 2.0
+POLL_SECONDS, GRACE = 0.25, 2.0
 # The number of workers in a row that never said anything which is a fault of the tool's own.
-MOST_STILLBORN = 3
+MAX_FAILED_STARTS = 3
 # The greatest number of workers.
-MOST_PROCESSES = 512
+MAX_PROCESSES = 512
 
 
-class NoWorkers(Exception):
+class WorkersFailed(Exception):
+    """No worker works any more, with the reason."""
+
+
+class NoWorkers(WorkersFailed):
     """Workers can't be started."""
 
 
-class ClusterFailed(Exception):
-    """A cluster can't be used, with the reason."""
+class ClusterFailed(WorkersFailed):
+    """A cluster can't be used."""
+
+
+class Task(NamedTuple):
+    """A chunk, which workers of a cluster couldn't read it, and to which alone it is sent; to any without one."""
+
+    chunk: Chunk
+    tried: FrozenSet[str] = frozenset()
+    workers: FrozenSet[str] = frozenset()
+
+
+class Workers(ABC):
+    """Workers that turn chunks into pieces, on this machine or on others; `retry` are tasks that have to be sent again,
+    and `retried` chunks of one file that are so, since their worker failed. A chunk has no more than a number of files,
+    and of bytes of names."""
+
+    max_files, max_names = 200, 16 << 10
+
+    def __init__(self) -> None:
+        self.retry: Deque[Task] = deque()
+        self.retried: Set[Chunk] = set()
+
+    def run(self, chunks: Iterator[Chunk]) -> Iterator[Optional[Piece]]:
+        """What comes of the chunks, which are taken as they are needed; nothing, now and then, while none comes.
+
+        A chunk of nothing says that the next may take a while to be found. Raises WorkersFailed.
+        """
+        more = True
+        while more or self.retry or self.is_busy():
+            chunk: Optional[Chunk] = None
+            while (more or self.retry) and chunk != () and self.has_room():
+                if self.retry:
+                    self.send(self.retry.popleft())
+                    continue
+                chunk = next(chunks, None)
+                if chunk:
+                    self.send(Task(chunk))
+                more = chunk is not None
+            yield from self.receive(POLL_SECONDS if chunk != () else 0)
+
+    @abstractmethod
+    def is_busy(self) -> bool:
+        """Whether anything that was sent isn't answered yet."""
+
+    @abstractmethod
+    def has_room(self) -> bool:
+        """Whether some worker should have another chunk."""
+
+    @abstractmethod
+    def send(self, task: Task) -> None:
+        """Sends a chunk to a worker."""
+
+    @abstractmethod
+    def receive(self, seconds: float) -> Iterator[Optional[Piece]]:
+        """What workers have sent, or nothing where none has in that time. What one had that failed is sent again."""
+
+    @abstractmethod
+    def close(self) -> None:
+        """Ends the workers, or leaves them."""
+
+    def set_options(self, how: WorkerOptions) -> None:
+        """Asks of the workers what the store keeps to."""
+
+    def lost(self, chunk: Chunk, reason: str) -> Iterator[Piece]:
+        """Tries a chunk of one file once more whose worker failed, which may be by chance; the second time, its row."""
+        if chunk in self.retried:
+            yield (File(chunk[0].folder, chunk[0].names[0], UNREADABLE, reason),), ()
+        else:
+            self.retried.add(chunk)
+            self.retry.appendleft(Task(chunk))
 
 
 def processors() -> int:
@@ -40,7 +115,7 @@ def processors() -> int:
         number = len(os.sched_getaffinity(0))
     except AttributeError:  # (not all systems have it)
         number = os.cpu_count() or 1
-    return min(number, MOST_PROCESSES)
+    return min(number, MAX_PROCESSES)
 
 
 class WorkerHandle:
@@ -56,25 +131,25 @@ class WorkerHandle:
         self.connection = Connection(ours.detach())
         self.chunks: Deque[Chunk] = deque()
         self.reported = 0
-        self.heard = time.monotonic()
-        self.spoke = False
+        self.received_at = time.monotonic()
+        self.has_started = False
         self.reason = ""
         try:
             self.connection.send(tuple(first))
         except OSError:
-            pass  # it has ended, which is heard as that
+            pass  # it has ended, as is received
 
-    def give(self, chunk: Chunk) -> None:
-        """Gives it a chunk."""
+    def send(self, chunk: Chunk) -> None:
+        """Sends it a chunk."""
         if not self.chunks:
-            self.heard = time.monotonic()
+            self.received_at = time.monotonic()
         self.chunks.append(chunk)
         self.connection.send(chunk)
 
-    def hear(self) -> Optional[Piece]:
+    def receive(self) -> Optional[Piece]:
         """The next piece that it sends; nothing where it says something else. Raises EOFError where it has ended."""
         what, value = self.connection.recv()
-        self.heard, self.spoke = time.monotonic(), True
+        self.received_at, self.has_started = time.monotonic(), True
         if what == DONE:
             self.chunks.popleft()
             self.reported = 0
@@ -88,7 +163,7 @@ class WorkerHandle:
 
     def has_room(self) -> bool:
         """Whether it should have another chunk: not after a pack, which may take long."""
-        return len(self.chunks) < (1 if any(map(_is_pack, self.chunks)) else MOST_OUT)
+        return len(self.chunks) < (1 if any(map(_is_pack, self.chunks)) else MAX_IN_FLIGHT)
 
     def left(self) -> Tuple[Chunk, ...]:
         """The chunks without what was reported."""
@@ -118,91 +193,81 @@ class WorkerHandle:
             self.process.wait()
 
 
-class Pool:
-    """A number of workers. `first` is what each is told, `patience` how long one may be silent, `module` its module."""
+class Pool(Workers):
+    """Workers as processes of this machine, a number of them. `first` is what each is told, `patience` how long one may
+    be silent, `module` its module."""
 
     def __init__(self, number: int, first: Sequence[object], patience: float, module: str = MAIN,
                  folder: str = interpreter.FOLDER) -> None:
+        super().__init__()
         self.number, self.first, self.patience, self.module, self.folder = number, first, patience, module, folder
-        self.hands: List[WorkerHandle] = []
-        self.again: Deque[Chunk] = deque()
-        self.suspects: Set[Chunk] = set()
-        self.stillborn = 0
+        self.workers: List[WorkerHandle] = []
+        self.failed_starts = 0
 
-    def run(self, chunks: Iterator[Chunk]) -> Iterator[Optional[Piece]]:
-        """What comes of the chunks, which are taken as they are needed; nothing, now and then, while none comes.
+    def is_busy(self) -> bool:
+        """Whether a worker has a chunk."""
+        return any(worker.chunks for worker in self.workers)
 
-        A chunk of nothing says that the next may take a while to be found.
-        """
-        more = True
-        while more or self.again or any(hand.chunks for hand in self.hands):
-            given: Optional[Chunk] = None
-            while (more or self.again) and given != () and self._has_room():
-                given = self.again.popleft() if self.again else next_of(chunks)
-                if given:
-                    self._give(given)
-                more = more and given is not None
-            busy = [hand for hand in self.hands if hand.chunks]
-            ready = wait([hand.connection for hand in busy], TURN if busy and given != () else 0)
-            for hand in busy:
-                if hand.connection in ready:
-                    yield from self._hear(hand)
-                elif time.monotonic() - hand.heard > self.patience:
-                    hand.process.kill()
-                    hand.reason = "the worker that looked at it hung"
-                    yield from self._lose(hand)
-            if not ready:
-                yield None
+    def has_room(self) -> bool:
+        """Whether a worker should have another chunk, or there may be another worker."""
+        return len(self.workers) < self.number or any(worker.has_room() for worker in self.workers)
 
-    def _has_room(self) -> bool:
-        return len(self.hands) < self.number or any(hand.has_room() for hand in self.hands)
-
-    def _give(self, chunk: Chunk) -> None:
-        """Gives a chunk to the worker that has the fewest, of those that have room."""
-        least = min(filter(WorkerHandle.has_room, self.hands), key=lambda hand: len(hand.chunks), default=None)
-        if least is None or (least.chunks and len(self.hands) < self.number):
+    def send(self, task: Task) -> None:
+        """Sends a chunk to the worker that has the fewest, of those that have room."""
+        least = min(filter(WorkerHandle.has_room, self.workers), key=lambda worker: len(worker.chunks), default=None)
+        if least is None or (least.chunks and len(self.workers) < self.number):
             least = WorkerHandle(self.first, self.module, self.folder)
-            self.hands.append(least)
+            self.workers.append(least)
         try:
-            least.give(chunk)
+            least.send(task.chunk)
         except OSError:
-            pass  # it has ended, which is heard as that
+            pass  # it has ended, as is received
 
-    def _hear(self, hand: WorkerHandle) -> Iterator[Optional[Piece]]:
+    def receive(self, seconds: float) -> Iterator[Optional[Piece]]:
+        """What workers have sent, or nothing where none has in that time. One that has ended or hangs is replaced."""
+        busy = [worker for worker in self.workers if worker.chunks]
+        ready = wait([worker.connection for worker in busy], seconds if busy else 0)
+        for worker in busy:
+            if worker.connection in ready:
+                yield from self._receive(worker)
+            elif time.monotonic() - worker.received_at > self.patience:
+                worker.process.kill()
+                worker.reason = "the worker that looked at it hung"
+                yield from self._replace(worker)
+        if not ready:
+            yield None
+
+    def _receive(self, worker: WorkerHandle) -> Iterator[Piece]:
         try:
-            piece = hand.hear()
+            piece = worker.receive()
         except (EOFError, OSError):
-            yield from self._lose(hand)
+            yield from self._replace(worker)
             return
         if piece:
             yield piece
 
-    def _lose(self, hand: WorkerHandle) -> Iterator[Piece]:
+    def _replace(self, worker: WorkerHandle) -> Iterator[Piece]:
         """Replaces a worker that has ended. The files that it may have been at are tried one by one, and then again."""
-        reason = hand.how_it_ended()
-        self.stillborn = 0 if hand.spoke else self.stillborn + 1
-        if self.stillborn >= MOST_STILLBORN:
+        reason = worker.how_it_ended()
+        self.failed_starts = 0 if worker.has_started else self.failed_starts + 1
+        if self.failed_starts >= MAX_FAILED_STARTS:
             raise NoWorkers(f"workers can't be started: {reason}")
-        hand.connection.close()
-        self.hands.remove(hand)
-        left = [chunk for chunk in hand.left() if chunk]
-        if left and left[0] in self.suspects:
-            lost = left.pop(0)[0]
-            yield (File(lost.folder, lost.names[0], UNREADABLE, reason),), ()
-        elif left and count(left[0]) == 1:
-            self.suspects.add(left[0])  # once may be by chance, as where somebody else ended the worker
-        elif left:
-            first = left.pop(0)
+        worker.connection.close()
+        self.workers.remove(worker)
+        first, *left = [chunk for chunk in worker.left() if chunk] or [()]
+        if count(first) > 1:
             left[:0] = [each for each in (*_singles(first, MOST_AHEAD), _behind(first, MOST_AHEAD)) if each]
-        self.again.extendleft(reversed(left))
+        self.retry.extendleft(map(Task, reversed(left)))
+        if count(first) == 1:
+            yield from self.lost(first, reason)
 
     def close(self) -> None:
         """Ends all workers."""
-        for hand in self.hands:
-            hand.close()
-        for hand in self.hands:
-            hand.end()
-        self.hands = []
+        for worker in self.workers:
+            worker.close()
+        for worker in self.workers:
+            worker.end()
+        self.workers = []
 
 
 def ending(status: int) -> str:
@@ -259,10 +324,3 @@ def _singles(chunk: Chunk, number: int) -> List[Chunk]:
     """The first files of the chunk, a number of them, each as a chunk by itself."""
     singles: List[Chunk] = [(each._replace(names=(name,)),) for each in chunk for name in each.names]
     return singles[:number]
-
-
-def next_of(chunks: Iterator[Chunk]) -> Optional[Chunk]:
-    """The next chunk, if there is one."""
-    for chunk in chunks:
-        return chunk
-    return None

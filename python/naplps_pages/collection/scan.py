@@ -8,7 +8,7 @@ import sys
 from collections import Counter
 from dataclasses import dataclass, replace
 from typing import Counter as Counts
-from typing import TYPE_CHECKING, Dict, FrozenSet, Iterator, List, Optional, Protocol, Sequence, Tuple, Union
+from typing import Dict, FrozenSet, Iterator, List, Optional, Protocol, Sequence, Tuple, Union
 
 from naplps.answers import Unanswered
 from naplps.client import Client
@@ -28,7 +28,7 @@ from .kept_options import KEEPS_TO, keep
 from .lock import Busy, Lock
 from .part import Part, keep_part
 from .pack_state import MOST_BROKEN, broken
-from .pool import MAIN, ClusterFailed, NoWorkers, Pool
+from .pool import MAIN, ClusterFailed, NoWorkers, Pool, Workers, WorkersFailed
 from .progress import Counting, Progress
 from .rows import Chunk, FolderFiles, Piece, WorkerOptions
 from .schemas import Answered, File
@@ -38,9 +38,6 @@ from .stopping import Stopping
 from .store import StoreFailed, fold, keep_log, keep_private, open_to_write
 from .walk import hidden
 from .writer import Writer
-
-if TYPE_CHECKING:
-    from .cluster import Cluster
 
 # A worker that is silent for so long, beside the time of two answers, hangs.
 PATIENCE = 60.0
@@ -52,7 +49,7 @@ READERS = 5.0
 READ_NOW = ("is being read, so its last rows are in %s: a copy of the store needs both files, until a command on it "
             "moves them")
 # What may go wrong beside faults of the tool.
-EXPECTED = (OSError, sqlite3.Error, NoWorkers, ClusterFailed, StoreFailed)
+EXPECTED = (OSError, sqlite3.Error, WorkersFailed, StoreFailed)
 
 
 class Beside(Protocol):
@@ -125,7 +122,7 @@ def scanned(options: ScanOptions) -> "Union[ScanRun, int]":
     except (OSError, ValueError) as error:
         tell("%s: %s" % (shown(options.how.program), reason(error) if isinstance(error, OSError) else error))
         return FAILED
-    cluster: "Optional[Cluster]" = None
+    cluster: Optional[Workers] = None
     try:
         roots = apart(map(absolute, options.folders))
         lacking = missing(roots)
@@ -171,7 +168,7 @@ def _not_there(root: bytes) -> Optional[str]:
 
 
 def _scan_or_stop(options: ScanOptions, terms: Terms, stopping: Stopping, roots: List[bytes],
-                  cluster: "Optional[Cluster]") -> Optional["ScanRun"]:
+                  cluster: Optional[Workers]) -> Optional["ScanRun"]:
     """One scan; nothing where a signal ended what SQLite was at."""
     try:
         return _scan(options, terms, stopping, roots, cluster)
@@ -183,7 +180,7 @@ def _scan_or_stop(options: ScanOptions, terms: Terms, stopping: Stopping, roots:
 
 
 def _scan(options: ScanOptions, terms: Terms, stopping: Stopping, roots: List[bytes],
-          cluster: "Optional[Cluster]") -> "ScanRun":
+          cluster: Optional[Workers]) -> "ScanRun":
     connection = open_to_write(options.store)
     try:
         keep_part(connection, options.store, options.part, roots)
@@ -193,7 +190,7 @@ def _scan(options: ScanOptions, terms: Terms, stopping: Stopping, roots: List[by
                 tell(f"{shown(options.store)}: {KEEPS_TO[name]}")
         options = replace(options, how=options.how._replace(wanted=wanted))
         if cluster:
-            cluster.how = options.how
+            cluster.set_options(options.how)
         if options.how.wanted.words or options.how.wanted.near:
             keep_private(connection)
         if not keep_log(connection):
@@ -207,9 +204,9 @@ def _scan(options: ScanOptions, terms: Terms, stopping: Stopping, roots: List[by
             with stopping.ends(connection):
                 _keep_words(connection, options.store)
         writer = Writer(connection, os.fsencode(options.how.program), terms, options.beside is not None)
-        run = ScanRun(options, writer, progress, stopping)
+        run = ScanRun(options, writer, progress, stopping, cluster)
         try:
-            run.scan(roots, cluster)
+            run.scan(roots)
         except EXPECTED:
             raise
         except Exception as error:  # pylint: disable=broad-except
@@ -236,22 +233,22 @@ def _keep_words(connection: sqlite3.Connection, store: str) -> None:
 class ScanRun:
     """One run over the roots."""
 
-    def __init__(self, options: ScanOptions, writer: Writer, progress: Progress, stopping: Stopping) -> None:
+    def __init__(self, options: ScanOptions, writer: Writer, progress: Progress, stopping: Stopping,
+                 workers: Optional[Workers] = None) -> None:
         self.options, self.writer, self.progress, self.stopping = options, writer, progress, stopping
-        scope = Scope(options.how.wanted, hidden(options.store), min(options.how.most, MOST_PAGE), options.part)
-        if options.on is not None:
-            from .cluster import MOST_FILES, MOST_NAMES
-            scope = scope._replace(files=MOST_FILES, names=MOST_NAMES)
+        self.workers = workers or self._pool(options.beside.first if options.beside else ())
+        scope = Scope(options.how.wanted, hidden(options.store), min(options.how.most, MOST_PAGE), options.part,
+                      self.workers.max_files, self.workers.max_names)
         self.search = Search(writer, scope, self._complain)
         self.found = 0
         self.broken: Counts[int] = Counter()
         self.status = COMPLETE
         self.line = ""
 
-    def scan(self, roots: List[bytes], cluster: "Optional[Cluster]") -> None:
-        """Scans, on processes of this machine if there is no cluster."""
+    def scan(self, roots: List[bytes]) -> None:
+        """Scans, on processes of this machine if there are no other workers."""
         beside = self.options.beside
-        self._work(cluster or self._pool(beside.first if beside else ()), self.search.chunks(roots))
+        self._work(self.workers, self.search.chunks(roots))
         if beside and self.writer.files and self.stopping.number is None:
             self._work(self._pool(beside.anew), iter(self._waiting()))
         try:
@@ -270,16 +267,16 @@ class ScanRun:
         module = self.options.beside.module if self.options.beside else MAIN
         return Pool(self.options.processes, first, PATIENCE + 2 * self.options.how.seconds, module)
 
-    def _work(self, workers: "Union[Pool, Cluster]", chunks: Iterator[Chunk]) -> None:
+    def _work(self, workers: Workers, chunks: Iterator[Chunk]) -> None:
         """Takes what workers find in the files of these chunks, until it is to stop."""
         try:
             for piece in workers.run(chunks):
                 self._take(piece)
                 if self.stopping.number is not None:
                     break
-        except ClusterFailed as failed:
+        except WorkersFailed as failed:
             self._write()
-            raise ClusterFailed(f"{failed}; {KEPT}") from None
+            raise type(failed)(f"{failed}; {KEPT}") from None
         finally:
             workers.close()
             self.progress.clear()

@@ -16,8 +16,6 @@ from .tables import GONE, READ, SETTLED, UNREADABLE
 from .walk import Hidden, Listing, walk
 from .writer import Writer
 
-# The usual sizes of a chunk.
-MOST_FILES, MOST_NAMES = 200, 16 << 10
 # The number of rows of the store that are looked at together.
 ROWS = 1000
 # The number of folders, or of known files, without any other, after which a chunk of nothing comes.
@@ -59,9 +57,9 @@ class Scope(NamedTuple):
     wanted: AskAgain
     hides: Hidden
     most: int
-    part: Optional[Part] = None
-    files: int = MOST_FILES
-    names: int = MOST_NAMES
+    part: Optional[Part]
+    files: int
+    names: int
 
 
 class Search:
