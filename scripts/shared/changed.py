@@ -17,7 +17,7 @@ from shared.suite import test_scripts
 SCRIPTS = "scripts/shared/test-scripts"
 # Where Python is: the folder that its modules are imported from, and that of the files.
 ROOTS = (("python", "python"), ("python/tests", "python/tests"), ("scripts", "scripts"), ("library", "library"))
-PLAIN_WORDS = "scripts/prove/test-plain-words"
+PUBLIC_ITEMS = "scripts/prove/test-public-items"
 SAID_ONCE = "scripts/test/test-said-once"
 HOUSE = "scripts/test-pages house"
 OF_PROGRAM = (
@@ -40,7 +40,7 @@ RULES = (
     Rule("HANDLES", (), "the task sets it, and the toolchain refuses another"),
     Rule(".git*", (), "git alone reads it"),
     Rule(".ci*", (), "what runs the gate alone reads it"),
-    Rule("NOTICES.md", ("scripts/packages/test-package", PLAIN_WORDS)),
+    Rule("NOTICES.md", ("scripts/packages/test-package",)),
     Rule("VERSION", (
         "scripts/test/test-versions", "scripts/test/test-words", "scripts/packages/test-package",
         "scripts/packages/test-browser",
@@ -51,11 +51,11 @@ RULES = (
     Rule("dist/*", ("scripts/test/test-launcher", *OF_PROGRAM)),
     Rule("crates.txt", ("scripts/prove/test-citations", *OF_PROGRAM)),
     Rule("crates/nap_rows/data/*", ("scripts/vectors/test-rows",)),
-    Rule("crates/*/README.md", ("scripts/prove/test-promises", PLAIN_WORDS, SAID_ONCE, "scripts/test-pages commands")),
+    Rule("crates/*/README.md", ("scripts/prove/test-promises", SAID_ONCE, "scripts/test-pages commands")),
     Rule("crates/*/wrong-bodies/*", ("scripts/prove/test-wrong-bodies",)),
     Rule("crates/*/must-fail/*", ("scripts/prove/test-wrong-bodies",)),
     Rule("crates/*", (
-        PLAIN_WORDS, "scripts/prove/test-wrong-bodies", "scripts/prove/test-citations",
+        PUBLIC_ITEMS, "scripts/prove/test-wrong-bodies", "scripts/prove/test-citations",
         "scripts/prove/test-repeated-clauses", "scripts/prove/test-headline", *OF_PROGRAM,
     )),
     Rule("vectors/dots*", ("scripts/test-pages raster", SCRIPTS)),
@@ -68,19 +68,19 @@ RULES = (
     Rule("library/*", ("library/test-library", "scripts/test-pages module", SCRIPTS)),
     Rule("browser/*", ("scripts/test/test-webassembly", "scripts/packages/test-browser", "scripts/test-pages player",
                       "scripts/test-pages raster")),
-    Rule("python/README.md", ("scripts/prove/test-headline", PLAIN_WORDS)),
+    Rule("python/README.md", ("scripts/prove/test-headline",)),
     Rule("python/pyproject.toml", (HOUSE, "scripts/test-pages module", SCRIPTS)),
     Rule("python/naplps_pages/player/*", (HOUSE, "scripts/test-pages commands", "scripts/packages/test-browser")),
     Rule("python/naplps_pages/*", (HOUSE, "scripts/test-pages commands")),
     Rule("python/naplps/*", (HOUSE, "scripts/test-pages module")),
     Rule("python/*", (HOUSE,)),
-    Rule("scripts/README.md", ("scripts/prove/test-headline", PLAIN_WORDS)),
+    Rule("scripts/README.md", ("scripts/prove/test-headline",)),
     Rule("scripts/*", (SCRIPTS, "scripts/prove/test-headline")),
     Rule("*.md", (
-        "scripts/prove/test-headline", PLAIN_WORDS, "scripts/test/test-examples", "scripts/test/test-ways",
+        "scripts/prove/test-headline", "scripts/test/test-examples", "scripts/test/test-ways",
         "scripts/test-pages commands", SAID_ONCE,
     )),
-    Rule("docs/*", ("scripts/prove/test-headline", PLAIN_WORDS, "scripts/test/test-examples")),
+    Rule("docs/*", ("scripts/prove/test-headline", "scripts/test/test-examples")),
 )
 WORD = re.compile(r"[\w-]+(?:\.[\w-]+)*")
 # Words that say too little to name a file.
@@ -173,7 +173,7 @@ def rule_of(path: str) -> Rule:
     for rule in RULES:
         if fnmatchcase(path, rule.pattern):
             return rule
-    return Rule("*", (SCRIPTS, PLAIN_WORDS))
+    return Rule("*", (SCRIPTS,))
 
 
 def tests_of(path: str) -> List[str]:
