@@ -84,7 +84,7 @@ class Guesser:
         return GuessedPage(before + lines[same:], len(before), passed, end)
 
     def _pass(self, answer: Refusal) -> bool:
-        """Takes the refused code for bytes without effect; whether that changed any."""
+        """Gives the refused code no effect, and returns whether that changed any byte."""
         self.asked += len(self.data)
         if answer.fault in ENDS or self.asked > MOST_ASKED:
             return False

@@ -114,7 +114,7 @@ TOO_MUCH_IN_LINE = "{word} is too much: the line is {line}"
 CIRCLE_LEAVES = "the circle leaves the unit screen at its left or its right"
 LONG_FRACTION = "a fraction has {most} digits at most"
 UNITS_BESIDE_FRACTION = ("expected {what}, not {text}: {other} beside it is a fraction, and a number without a point "
-                         "is one of units")
+                         "counts units")
 TEXTURES_OF_ONE_KIND = "{name} can't be joined to another of its kind: the names are {names}"
 EXPECTED = "expected {what}, not {text}"
 EXPECTED_HERE = "expected {what} here"

@@ -15,7 +15,7 @@ FEWEST_WORDS = 5
 WORD = re.compile(r"[\"'(\[`*_]*[A-Za-z][a-z'-]*[\"')\]`*_.,:;!?]*")
 # Where a sentence ends, and the next one begins.
 BORDER = re.compile(r"(?<=[.!?:])[)\"'*]*\s+(?=[\"'(\[`*]*[A-Z0-9`])")
-ENTRY = re.compile(r"\s*(?:[-*]|\d+\.)\s+")
+ENTRY = re.compile(r"^\s*(?:[-*]|\d+\.)\s+")
 FENCE = re.compile(r"\s*```")
 COMMENT = re.compile(r"\s*(?:///|//!|//|--)(?:\s+(.*)|$)")
 ROFF = re.compile(r"^\.(?:Bd|Ed|Bl|El|Pp|Sh|Ss|It|Dd|Dt|Os|Nd|\\\").*")
@@ -141,7 +141,7 @@ def of_explanations(text: str) -> Iterator[Lines]:
     """The explanations of refusals: the words after the name of each field."""
     block: Lines = []
     for number, line in enumerate([*text.split("\n"), ""], 1):
-        found = re.match(r"(?:([a-z]+):)?\s*(.*)", line)
+        found = re.match(r"(?:([a-z ]+):)?\s*(.*)", line)
         if block and (not found or found[1] or not found[2]):
             yield block
             block = []

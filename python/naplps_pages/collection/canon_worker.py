@@ -1,4 +1,4 @@
-"""The process of a worker that makes a value of the list of each page and treated copy that a store has."""
+"""The process of a worker that computes a value from the list of each page and treated copy in a store."""
 import sqlite3
 from typing import Any, Callable, Iterator, List, NamedTuple, Optional, Sequence, Tuple, Union
 

@@ -97,7 +97,7 @@ def _read(file: File, descriptor: int, before: os.stat_result, held: int, now: i
 
 
 def change(before: os.stat_result, after: os.stat_result) -> Optional[str]:
-    """What is another file now, or has changed; None where nothing has."""
+    """How a file differs from before: another one, or changed; None if it is the same."""
     if (before.st_dev, before.st_ino) == (after.st_dev, after.st_ino) and after.st_size > before.st_size:
         return GREW
     same = (before.st_mtime_ns == after.st_mtime_ns and before.st_ctime_ns == after.st_ctime_ns

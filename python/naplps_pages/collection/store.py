@@ -28,7 +28,7 @@ NO_DATABASE = "file is not a database"
 NO_STORE = "isn't a store: `{0} scan FOLDER --into STORE` makes one, and `{0} check` says what this file is"
 # What others than the owner may do with a file.
 OF_OTHERS = 0o077
-# How long is waited at once for who reads it, in seconds.
+# How many seconds one wait for readers takes.
 TURN = 0.1
 
 
@@ -82,7 +82,7 @@ def open_unchanged(path: str) -> sqlite3.Connection:
 
 
 def attach(connection: sqlite3.Connection, path: str, name: str) -> None:
-    """Gives another store, which is only read, to a connection by this name."""
+    """Attaches another store to a connection, by this name and only to be read."""
     connection.execute(f"ATTACH ? AS {name}", (address(path, "ro"),))
 
 

@@ -8,7 +8,7 @@ from . import (
 # By what pages are equal.
 BY = ("list", "picture")
 STORES = Argument("stores", "STORE", "a file that `scan` made, or several, as those of the parts of a scan", "+")
-WHAT = Option("--by", "what is equal in a group: list, which is the default, or picture: pages that look alike at "
+WHAT = Option("--by", "what is equal in a group: list, the default; or picture, for pages that look alike at "
               "their end, though their lists differ", "WHAT", str, default=BY[0], choices=BY)
 # What is put into groups, or among them, besides pages that differ.
 WITH = ("copies", "treated", "guesses")

@@ -22,7 +22,7 @@ MARK = re.compile(r"@([A-Z]+)@")
 
 
 class Document:
-    """A page with its style and script, which alone may act in it."""
+    """A page with its style and script, the only ones that may act in it."""
 
     def __init__(self, facts: Facts, groups: List[GroupSummary], source: str) -> None:
         """`source` names the script of where the files, groups and drawings come from."""
