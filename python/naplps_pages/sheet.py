@@ -49,7 +49,7 @@ class ContactSheet:
         above = WIDTH - HEIGHT if tile.drawn and is_tall(tile.drawn.paper) else 0
         box = f"0 {-above} {WIDTH} {HEIGHT + above}"
         markup = (f'<svg width="{WIDE}" height="{HIGH}" viewBox="{box}" role="img">{told}</svg>'
-                  + _line(1, "#111111", tile.name) + _line(2, "#555555", tile.answer))
+                  + _line(1, "#111111", _end_of(tile.name)) + _line(2, "#555555", tile.answer))
         self.size += len(markup.encode("utf-8")) + 64
         self.tiles.append(markup)
 
@@ -87,6 +87,17 @@ def _without(why: str) -> str:
 def _line(number: int, colour: str, text: str) -> str:
     """A line of text below a picture."""
     return '<text y="%d" font-size="%d" fill="%s">%s</text>' % (HIGH + number * LINE, FONT, colour, escaped(_cut(text)))
+
+
+def _end_of(name: str) -> str:
+    """A name that is short enough: of a long one the file's own, and as many of the folders before it as there is room
+    for.
+    """
+    folders = name.split("/")
+    for number in range(1, len(folders)):
+        if len(name) > MOST_SHOWN:
+            name = "/".join(["..", *folders[number:]])
+    return name if len(name) <= MOST_SHOWN else folders[-1]
 
 
 def _cut(text: str) -> str:

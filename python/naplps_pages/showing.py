@@ -77,7 +77,10 @@ def _sheet(session: Session, path: str) -> int:
         if _is_shown(session, page, heard):
             said = session.treated or (answer.line if isinstance(answer, (Accepted, Refusal)) else "")
             told = _with_guess(session, page, heard)
-            drawn = None if told.entries is None else drawing.drawn(told.entries, "", told.guess, sheet.prefix())
+            # (a black picture would look as a page that is black)
+            is_empty = isinstance(answer, Refusal) and not _listed(heard).lines and not told.guess
+            drawn = None if told.entries is None or is_empty else drawing.drawn(
+                told.entries, "", told.guess, sheet.prefix())
             said += "; then a guess" if told.guess else ""
             told_below = said if drawn or isinstance(answer, Refusal) else TOO_MUCH_COMES
             sheet.add(Tile(session.title(page), told_below, drawn))

@@ -148,3 +148,22 @@ def test_where_librsvg_fails_there_is_a_message(run, tmp_path, monkeypatch, text
         said = run(["look", page, "--png", "--seconds", "8", *words])
         assert said.returncode == 3 and said.stdout == b"" and told in said.stderr.decode(), said
         assert not os.path.exists(sheet) and b"Traceback" not in said.stderr
+
+
+def test_a_page_refused_before_anything_is_drawn_is_no_black_page(run, tmp_path):
+    names = [file(tmp_path, name, data)
+             for name, data in (("cut", b"\x1b"), ("some", POINT + b"\x1b"), ("blank", b""))]
+    run(["look", *map(os.path.basename, names), "-o", "sheet.svg"], cwd=str(tmp_path))
+    for (told, picture), fill in zip(tiles(read(tmp_path / "sheet.svg")), ("#2b3238", "#000000", "#000000")):
+        assert picture.find(SVG + "rect").attrib["fill"] == fill, told
+
+
+def test_names_without_a_common_folder_are_shown_from_their_ends(run, tmp_path):
+    names = ("a/one.nap", "archive of the year/disk 1/folder/page.nap", "b/" + "long " * 9 + ".nap")
+    for name in names:
+        os.makedirs(tmp_path / os.path.dirname(name))
+        file(tmp_path, name, POINT)
+    run(["look", *names, str(tmp_path / "a/one.nap"), "-o", "sheet.svg"], cwd=str(tmp_path))
+    found = [told[0] for told, _ in tiles(read(tmp_path / "sheet.svg"))]
+    assert found[:3] == ["a/one.nap", "../disk 1/folder/page.nap", "long long long .. long long .nap"]
+    assert found[3].startswith("../") and found[3].endswith("/a/one.nap") and max(map(len, found)) <= 32

@@ -32,6 +32,7 @@ class Player {
     const button = (word, label, action) => node("button", {type: "button", "aria-label": label, title: label,
       onclick: action}, word);
     this.playing = button("Play", "play", () => this.toggle());
+    this.playing.classList.add("playing");
     this.slider = node("input", {type: "range", min: 0, step: 1, className: "time", "aria-label": "time",
       oninput: () => this.seek(this.slider.value / 1000)});
     this.speed = node("select", {"aria-label": "speed", onchange: () => this.setSpeed(Number(this.speed.value))},
@@ -48,19 +49,23 @@ class Player {
     this.box.tabIndex = -1;
     this.box.replaceChildren(...this.data.notes.map((note) => node("p", {className: "fault"}, note)),
       node("div", {className: "picture"}, this.canvas,
-        node("div", {className: "controls"}, this.playing, this.slider),
-        node("div", {className: "controls"}, node("div", {className: "steps"}, ...this.steps(button)), this.speed,
-          this.view, node("label", {}, this.blinking, " blinking"),
-          node("label", {}, this.flashing, " fast flashes too")),
+        node("div", {className: "controls"}, this.playing,
+          button("|◀", "to the start", () => this.stop(this.line.start)), this.slider,
+          button("▶|", "to the end", () => this.stop(this.line.whole))),
+        node("div", {className: "controls"}, node("div", {className: "steps"}, ...this.steps(button)),
+          node("label", {}, "Speed", this.speed), node("label", {}, "View", this.view),
+          node("label", {title: "what blinks on a terminal blinks here"}, this.blinking, " blinking"),
+          node("label", {title: "also what flashes more than three times in a second"}, this.flashing,
+            " fast flashes too")),
         this.told, ...this.words(), this.keys()),
       node("div", {className: "beside"}, this.codes.box, this.about));
   }
 
   steps(button) {
-    return [button("|◀", "to the start", () => this.stop(this.line.start)),
-      button("◀", "one entry back", () => this.stepEntry(-1)), button("▶", "one entry on", () => this.stepEntry(1)),
-      button("◂", "one byte back", () => this.stepByte(-1)), button("▸", "one byte on", () => this.stepByte(1)),
-      button("▶|", "to the end", () => this.stop(this.line.whole))];
+    return [button("◀ entry", "one entry back", () => this.stepEntry(-1)),
+      button("entry ▶", "one entry on", () => this.stepEntry(1)),
+      button("◀ byte", "one byte back", () => this.stepByte(-1)),
+      button("byte ▶", "one byte on", () => this.stepByte(1))];
   }
 
   keys() {
@@ -151,7 +156,7 @@ class Player {
     this.isPlaying = isPlaying;
     this.last = 0;
     this.playing.textContent = isPlaying ? "Stop" : "Play";
-    this.playing.setAttribute("aria-label", isPlaying ? "stop" : "play");
+    this.playing.ariaLabel = this.playing.title = isPlaying ? "stop" : "play";
     this.told.setAttribute("aria-live", isPlaying ? "off" : "polite");
   }
 
