@@ -52,7 +52,7 @@ def words(by: Random) -> str:
 
 
 class Sheet(NamedTuple):
-    """A page: shapes, each of a word, points and the rest of its line, and runs of text between them."""
+    """A page: shapes, each with its word, its points and the rest of its line, and the texts between them."""
 
     parts: Tuple[object, ...]
 

@@ -17,7 +17,7 @@ from .stopping import Stopping
 from .store import StoreFailed, fold, keep_log, keep_private, open_to_read, open_to_write, schema_of
 
 NOT_KEPT = "what is found out for this isn't kept, as the store can't be written now: %s"
-EARLIER = "it is one of a schema before, and the next scan makes it one of now"
+EARLIER = "it has an earlier schema, which the next scan renews"
 STOPPED = "stopped; what was found out is kept, and the same command goes on"
 STOPPED_ALL = "stopped"
 # How long is waited at the end for who reads the store, in seconds.

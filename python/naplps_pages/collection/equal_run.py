@@ -24,7 +24,7 @@ from .verify import verified
 ONE_PICTURE_STORE = "pictures are compared in one store: merge makes one of several"
 ONE_STORE = "treated copies are joined in one store: merge makes one of several"
 UNTRIED = "of %s no treatments are known: a scan with --cures tries them"
-UNKNOWN = "of treated copies of %s it isn't known what they draw: a scan with --cures finds out"
+UNKNOWN = "for treated copies of %s it isn't known what they draw: a scan with --cures finds out"
 
 
 def _program(given: Namespace, tool: str, stores: List[str]) -> Client:

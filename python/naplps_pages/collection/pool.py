@@ -20,9 +20,9 @@ MAIN = "naplps_pages.collection.worker_process"
 # The number of chunks of a worker at a time, so that it needn't wait for the next. They fit into its socket's buffer,
 # so nobody waits to be read while he waits to be read himself.
 MAX_IN_FLIGHT, BUFFER = 3, 1 << 18
-# How long is waited for a message at once, and for a worker to end.
+# How long one wait for a message takes, and the wait for a worker to end.
 POLL_SECONDS, GRACE = 0.25, 2.0
-# The number of workers in a row that never said anything which is a fault of the tool's own.
+# After so many workers in a row that never answer, the tool itself is at fault.
 MAX_FAILED_STARTS = 3
 # The greatest number of workers.
 MAX_PROCESSES = 512

@@ -6,8 +6,7 @@ from naplps.names import shown
 from ..console import COMPLETE, FAILED, tell
 from . import CSV, JSON, NULL, ON_STORES, STORE, Argument, Command, Given, OneOf, Part
 
-WORDS = Argument("words", "WORD", "a word, which stands for all that begin so; or words between quotes, in their order",
-                 "+")
+WORDS = Argument("words", "WORD", "the beginning of a word; or words between quotes, in their order", "+")
 
 
 def _parts() -> List[Part]:
