@@ -14,8 +14,7 @@ from naplps.version import VERSION
 
 from . import TOOL, messages
 from .carve_state import CarveState
-from .collection.progress import Progress
-from .collection.stopping import Stopping
+from .collection.progress import Progress, Stopping
 from .console import FAILED, REFUSED, NotWritten, tell
 from .json_lines import dumps
 from .new_files import made_folder, put_inside, require_free

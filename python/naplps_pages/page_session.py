@@ -189,5 +189,5 @@ def _is_store(pages: List[str]) -> bool:
     """Whether there is one name, and it is that of a store."""
     if len(pages) != 1:
         return False
-    from .collection.header import is_store as has_header
+    from .collection.store_files import is_store as has_header
     return has_header(pages[0])

@@ -34,7 +34,7 @@ class Page:
 
 def is_store(page: Page) -> bool:
     """Whether the bytes are those of a store of this tool."""
-    from .collection.header import HEADER, MAGIC, begins_store  # (what few need, the others don't wait for)
+    from .collection.store_files import HEADER, MAGIC, begins_store  # (what few need, the others don't wait for)
     if page.data is not None:
         return page.data.startswith(MAGIC) and begins_store(page.data)
     assert page.file

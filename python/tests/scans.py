@@ -9,7 +9,7 @@ from typing import NamedTuple, Optional
 
 from conftest import COMMAND, bare
 from naplps_pages.collection import schemas, tables
-from naplps_pages.collection.part import keep_part, read_part
+from naplps_pages.collection.kept import keep_part, read_part
 from naplps_pages.collection.schemas import Answered, File, Terms
 from naplps_pages.collection.store import open_to_write
 from naplps_pages.collection.writer import Writer

@@ -10,8 +10,9 @@ import sys
 import pytest
 
 from forked import forked, require_told
-from naplps_pages.collection.beside import ENDINGS, INDEX, JOURNAL, LOCK, LOG, MADE, require_own
-from naplps_pages.collection.lock import Busy, Lock, is_held
+from naplps_pages.collection.store_files import (
+    ENDINGS, INDEX, JOURNAL, LOCK, LOG, MADE, Busy, Lock, is_held, require_own,
+)
 from naplps_pages.collection.store import open_to_write
 from stores import archive, copied, words_of
 

@@ -12,7 +12,7 @@ import pytest
 
 from conftest import COMMAND, TOP
 from naplps_pages import commands
-from naplps_pages.collection import canon_tables, store, tables, word_index
+from naplps_pages.collection import canon_tables, store, tables, texts
 from samples import has
 from scans import tree
 
@@ -68,7 +68,7 @@ def test_the_names_of_the_pages(archive):
 
 def test_the_tables_of_the_store(tmp_path):
     connection = store.open_to_write(str(tmp_path / "pages.db"))
-    assert word_index.make(connection)
+    assert texts.make(connection)
     for table in canon_tables.CANON_TABLES:
         table.make(connection)
     found = {name: [row[1] for row in connection.execute("PRAGMA table_info(%s)" % name)] for name, in
@@ -76,8 +76,8 @@ def test_the_tables_of_the_store(tmp_path):
     columns = [row[1] for row in connection.execute("PRAGMA table_info(listing)")]
     connection.close()
     told = dict(re.findall(r"^\| `(\w+)` \| (.*) \|$", STORE, re.MULTILINE))
-    assert set(told) == set(found) - set(word_index.SHADOWS)
-    assert all(f"`{name}`" in STORE for name in word_index.SHADOWS)
+    assert set(told) == set(found) - set(texts.SHADOWS)
+    assert all(f"`{name}`" in STORE for name in texts.SHADOWS)
     for name, row in told.items():
         if name != "meta":
             assert re.findall(r"`(\w+)`", row) == found[name], name
@@ -127,7 +127,7 @@ def test_changes_in_git(archive):
     assert "\n+BELL\n" in said and "\n-CHAR primary 48 " in said and "refused 6 LeftOut CAN at 1" in said
 
 
-@pytest.mark.skipif(not word_index.has_fts5(), reason="SQLite has no FTS5")
+@pytest.mark.skipif(not texts.has_fts5(), reason="SQLite has no FTS5")
 def test_metadata_of_datasette(archive):
     with open(os.path.join(TOP, "examples", "datasette.json"), encoding="utf-8") as file:
         (it,) = json.load(file)["databases"].values()
@@ -136,7 +136,7 @@ def test_metadata_of_datasette(archive):
     columns = {name: {row[1] for row in connection.execute("PRAGMA table_info(%s)" % name)} for name in it["tables"]}
     listing, texts = it["tables"]["listing"], it["tables"]["texts"]
     assert {*listing["facets"], listing["sort"]} <= columns["listing"] and texts["fts_pk"] in columns["texts"]
-    assert texts["fts_table"] == word_index.NAME
+    assert texts["fts_table"] == texts.NAME
     found = connection.execute(it["queries"]["find"]["sql"], {"words": "hello"}).fetchall()
     connection.close()
     assert [(os.path.basename(name), first) for name, first in found] == [("hello.nap", "Hello world!")]

@@ -14,9 +14,9 @@ from conftest import COMMAND
 from naplps.client import Client
 from naplps.names import shown
 from naplps.version import VERSION
-from naplps_pages.collection import verify
+from naplps_pages.collection import equal_run
 from naplps_pages.collection.equal import Group, Spelling
-from naplps_pages.collection.places import Place
+from naplps_pages.collection.folders import Place
 from naplps_pages.collection.progress import Counting, Progress, duration
 from naplps_pages.new_files import put
 from samples import OUTSIDE, POINT, SPELLED, with_parity
@@ -187,12 +187,13 @@ def test_verify_trusts_no_hash(run, store, pages):
 
 
 def test_pages_of_one_hash_and_other_bytes(fake, pages, monkeypatch):
-    monkeypatch.setattr(verify, "hashed", lambda data: b"hash")
+    monkeypatch.setattr(equal_run, "hashed", lambda data: b"hash")
     spellings = [Spelling(hashlib.sha256(FILES[name]).digest(),
                           [Place(os.fsencode(pages), name.encode(), len(FILES[name]))]) for name in ("a point", "cut")]
     told = []
     program = Client(fake(FAKE))
-    left = verify.verified(program, Group(b"hash", "2", 1, 11, spellings), lambda name, why: told.append((name, why)))
+    left = equal_run.verified(program, Group(b"hash", "2", 1, 11, spellings),
+                              lambda name, why: told.append((name, why)))
     program.close()
     assert (left.spellings, told) == (spellings[:1], [
         (pages + "/cut", "its canonical bytes differ from those of %s/a point, though the hash is the same" % pages)])

@@ -11,9 +11,8 @@ import pytest
 
 from conftest import COMMAND, bare
 from naplps_pages.cli import main
-from naplps_pages.collection.cluster import address_of
+from naplps_pages.collection.cluster import address_of, alike, difference
 from naplps_pages.collection.pool import ClusterFailed
-from naplps_pages.collection.remote import alike, difference
 from naplps_pages.collection.tables import hashed
 from naplps_pages.packs.naming import inside
 from packers import pack
@@ -255,8 +254,8 @@ def test_a_worker_that_is_silent_is_named_and_left_out(monkeypatch, capfd, fake,
     program = fake(slow(0.001))
     first = cluster.worker()
     cluster.worker()
-    monkeypatch.setattr("naplps_pages.collection.cluster_watch.SILENT", 25.0)
-    monkeypatch.setattr("naplps_pages.collection.cluster_watch.LOOK", 0.5)
+    monkeypatch.setattr("naplps_pages.collection.cluster.SILENT", 25.0)
+    monkeypatch.setattr("naplps_pages.collection.cluster.LOOK", 0.5)
     monkeypatch.setattr("naplps_pages.collection.cluster.MOST_FILES", 200)
     monkeypatch.setenv("NAPLPS", program)
 
@@ -355,8 +354,8 @@ def test_a_worker_that_is_silent_before_the_scan_begins(monkeypatch, capfd, napl
     """The scheduler has a connection with a worker that it has asked before; one to a new worker can't be made."""
     top = tree(os.path.join(str(tmp_path), "pages"), {"%02d" % at: b"page %d" % at for at in range(60)})
     silent = cluster.worker()
-    monkeypatch.setattr("naplps_pages.collection.cluster_watch.SILENT", 25.0)
-    monkeypatch.setattr("naplps_pages.collection.cluster_watch.LOOK", 0.5)
+    monkeypatch.setattr("naplps_pages.collection.cluster.SILENT", 25.0)
+    monkeypatch.setattr("naplps_pages.collection.cluster.LOOK", 0.5)
     monkeypatch.setenv("NAPLPS", naplps)
     if known:
         assert main(bare(["scan", top, "--into", store + ".first", "--on", cluster.file]), COMMAND) == 0

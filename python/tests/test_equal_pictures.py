@@ -14,10 +14,10 @@ import naplps
 from conftest import file
 from naplps.dots import measure
 from naplps.limits import USUAL_BUDGET
-from naplps_pages.collection import canon_pass
-from naplps_pages.collection.lock import Lock
-from naplps_pages.collection.picture_table import PICTURES
-from naplps_pages.collection.stopping import Stopping
+from naplps_pages.collection import canon_filling
+from naplps_pages.collection.store_files import Lock
+from naplps_pages.collection.canon_tables import PICTURES
+from naplps_pages.collection.progress import Stopping
 from naplps_pages.collection.store import open_to_write
 from naplps_pages.collection.rows import WorkerOptions
 from samples import BOMB, OUTSIDE
@@ -222,15 +222,15 @@ def test_hashes_that_others_made(run, store, tmp_path):
 
 
 def test_one_that_is_stopped_goes_on(run, naplps, store, monkeypatch):
-    monkeypatch.setattr(canon_pass, "MOST_FILES", 2)
+    monkeypatch.setattr(canon_filling, "MOST_FILES", 2)
     connection = open_to_write(store)
     PICTURES.make(connection)
     how = WorkerOptions(naplps, USUAL_BUDGET, 20.0, 0)
-    first = canon_pass.CanonPass(PICTURES, connection, store, how, 1)
+    first = canon_filling.CanonPass(PICTURES, connection, store, how, 1)
     assert first.run(StopsSoon(first)) == 0 and first.total == PAGES - 2
     done = len(kept(store))
     assert 0 < done < first.total
-    second = canon_pass.CanonPass(PICTURES, connection, store, how, 1)
+    second = canon_filling.CanonPass(PICTURES, connection, store, how, 1)
     assert second.total == first.total - done and second.run(Stopping()) == 0 and len(kept(store)) == first.total
     connection.close()
 

@@ -9,7 +9,7 @@ from random import Random
 
 import pytest
 
-from naplps_pages.collection import equal_treated
+from naplps_pages.collection import equal
 from naplps_pages.collection.store import open_to_read
 from old_files import in_eight_bits, midst
 from pictures import picture
@@ -140,8 +140,8 @@ def test_a_copy_that_is_another_now(run, store, pages):
 
 def test_nothing_is_searched_row_by_row(store):
     connection = open_to_read(store)
-    list(equal_treated.guesses(connection, True))
-    for words in (equal_treated.JOINED.format("within"), equal_treated.OTHERS, equal_treated.MEMBERS):
+    list(equal.guesses(connection, True))
+    for words in (equal.JOINED.format("within"), equal.OTHERS, equal.TREATED_MEMBERS):
         plan = [row[3] for row in connection.execute("EXPLAIN QUERY PLAN " + words.replace(
             "CREATE TEMP TABLE joined AS ", ""))]
         assert sum(row.startswith("SCAN") for row in plan) == 1, plan

@@ -12,7 +12,7 @@ from naplps.answers import Accepted, Nonsense, Refusal, read_line
 from naplps_pages import unexpected
 from naplps_pages.cli import main
 from naplps_pages.collection import tables
-from naplps_pages.collection.pack_reader import PackScan
+from naplps_pages.collection.file_reader import PackScan
 from naplps_pages.collection.rows import FolderFiles
 from naplps_pages.collection.schemas import Terms
 from naplps_pages.collection.store import open_to_write

@@ -10,7 +10,7 @@ import sys
 import pytest
 
 from conftest import PACKAGES, TOP
-from naplps_pages.collection import scan, word_index
+from naplps_pages.collection import scan, texts
 from naplps_pages.collection.store import StoreFailed, open_to_write
 from samples import OUTSIDE, with_parity
 from scans import rows, tree
@@ -30,7 +30,7 @@ FILES = {"news.nap": page((0.1, 0.2, "SCORES"), (0.1, 0.6, "ICE HOCKEY TODAY")),
          "sub/menu.nap": page((0.1, 0.5, "MENU")), "copy.nap": page((0.1, 0.5, "MENU")),
          "refused.nap": page((0.1, 0.5, "HOCKEY NEWS")) + OUTSIDE,
          "parity.nap": with_parity(page((0.1, 0.5, "HOCKEY BY PARITY"))), "empty.nap": b"", "a\nb.nap": b"hockey\r\n"}
-NEEDS_FTS5 = pytest.mark.skipif(not word_index.has_fts5(), reason="SQLite has no FTS5")
+NEEDS_FTS5 = pytest.mark.skipif(not texts.has_fts5(), reason="SQLite has no FTS5")
 
 
 @pytest.fixture
@@ -138,7 +138,7 @@ def test_without_the_index_the_same_is_found(run, store):
 @NEEDS_FTS5
 def test_that_there_is_no_fts5_is_told(store, monkeypatch, capsys):
     connection = open_to_write(store)
-    monkeypatch.setattr(word_index, "has_fts5", lambda: False)
+    monkeypatch.setattr(texts, "has_fts5", lambda: False)
     with pytest.raises(StoreFailed, match="has an index of words, and SQLite has no FTS5 here to write it"):
         scan._keep_words(connection, store)
     connection.execute("DROP TABLE words")

@@ -17,10 +17,10 @@ import near_box
 from conftest import file
 from lines import line_of
 from naplps.limits import USUAL_BUDGET
-from naplps_pages.collection import canon_pass
-from naplps_pages.collection.lock import Lock
-from naplps_pages.collection.near_table import NEAR_KEYS
-from naplps_pages.collection.stopping import Stopping
+from naplps_pages.collection import canon_filling
+from naplps_pages.collection.store_files import Lock
+from naplps_pages.collection.canon_tables import NEAR_KEYS
+from naplps_pages.collection.progress import Stopping
 from naplps_pages.collection.store import open_to_write
 from naplps_pages.collection.rows import WorkerOptions
 from naplps_pages.near_keys import FORM, LEAST_ENTRIES
@@ -322,18 +322,18 @@ def test_keys_that_others_made(run, store, tmp_path):
 
 
 def test_one_that_is_stopped_goes_on(run, naplps, tmp_path, monkeypatch):
-    monkeypatch.setattr(canon_pass, "MOST_FILES", 4)
+    monkeypatch.setattr(canon_filling, "MOST_FILES", 4)
     pages = near_box.write(str(tmp_path / "box"), 60).pages
     store = str(tmp_path / "box.db")
     assert run(["scan", str(tmp_path / "box"), "--into", store]).returncode == 0
     connection = open_to_write(store)
     NEAR_KEYS.make(connection)
     how = WorkerOptions(naplps, USUAL_BUDGET, 20.0, 0)
-    first = canon_pass.CanonPass(NEAR_KEYS, connection, store, how, 1)
+    first = canon_filling.CanonPass(NEAR_KEYS, connection, store, how, 1)
     assert first.run(StopsSoon(first)) == 0 and first.total == len(set(pages.values()))
     kept = len(keys(store))
     assert 0 < kept < 60
-    second = canon_pass.CanonPass(NEAR_KEYS, connection, store, how, 1)
+    second = canon_filling.CanonPass(NEAR_KEYS, connection, store, how, 1)
     assert second.total == first.total - kept and second.run(Stopping()) == 0 and len(keys(store)) == first.total
     connection.close()
 

@@ -7,7 +7,7 @@ import pytest
 from hypothesis import given
 from hypothesis import strategies as st
 
-from naplps_pages.collection.part import Part, below, read_part
+from naplps_pages.collection.kept import Part, below, read_part
 from samples import MACRO, OUTSIDE, POINT, POINT_AND_BELL, SPELLED, with_parity
 from scans import FAKE, every_table, rows, table, tree
 

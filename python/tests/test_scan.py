@@ -9,7 +9,7 @@ import pytest
 
 from conftest import COMMAND, TOP
 from naplps_pages.collection import tables
-from naplps_pages.collection.lock import Lock
+from naplps_pages.collection.store_files import Lock
 from samples import MACRO, OUTSIDE, POINT, POINT_AND_BELL, SPELLED, with_parity
 from scans import FAKE, FileRow, is_sound, rows, statuses, table, tree
 

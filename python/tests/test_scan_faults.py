@@ -10,12 +10,10 @@ import pytest
 from conftest import COMMAND, PACKAGES
 from naplps_pages import interpreter
 from naplps_pages.collection import tables
-from naplps_pages.collection.header import APPLICATION
-from naplps_pages.collection.lock import Lock, is_held
+from naplps_pages.collection.store_files import APPLICATION, Lock, is_held
 from naplps_pages.collection.pool import NoWorkers, Pool
-from naplps_pages.collection.rows import FolderFiles
+from naplps_pages.collection.rows import FolderFiles, WorkerOptions
 from naplps_pages.collection.store import keep_log
-from naplps_pages.collection.rows import WorkerOptions
 from naplps_pages.collection.worker import Worker
 from samples import OUTSIDE, POINT
 from scans import (

@@ -11,11 +11,9 @@ import pytest
 from forked import begun, ended, forked, require_told
 from naplps_pages.collection import tables
 from naplps_pages.collection.folders import identity_of
-from naplps_pages.collection.pack_state import MOST_BROKEN
-from naplps_pages.collection.rows import FolderFiles
+from naplps_pages.collection.search import MOST_BROKEN, hidden, walk
+from naplps_pages.collection.rows import FolderFiles, WorkerOptions
 from naplps_pages.collection.store import open_to_read
-from naplps_pages.collection.walk import hidden, walk
-from naplps_pages.collection.rows import WorkerOptions
 from naplps_pages.collection.worker import Worker
 from packers import entry, pack, written, zip_of
 from samples import OUTSIDE, POINT, SPELLED

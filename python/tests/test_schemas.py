@@ -7,7 +7,7 @@ import sqlite3
 
 import pytest
 
-from naplps_pages.collection import schemas, tables, word_index
+from naplps_pages.collection import schemas, tables, texts
 from naplps_pages.collection.canon_tables import CANON_TABLES
 from naplps_pages.collection.kinds import NotAStore
 from naplps_pages.collection.store import StoreFailed, open_to_read, open_to_write, open_unchanged
@@ -208,12 +208,12 @@ def test_a_merge_takes_both_schemas(old, store, run, tmp_path, pages):
 
 def test_the_index_of_words(store, tmp_path, run):
     connection = open_to_write(store)
-    assert word_index.make(connection) and word_index.make(connection)
+    assert texts.make(connection) and texts.make(connection)
     page, terms = connection.execute("SELECT id, terms FROM pages WHERE kind = ?", (tables.TEXT,)).fetchone()
     for text in ("h\u00e9llo world", "good day"):
-        word_index.forget(connection, page)
+        texts.forget(connection, page)
         connection.execute("INSERT OR REPLACE INTO texts VALUES(?, ?, 0, ?, ?, NULL)", (page, terms, text, text[:4]))
-        word_index.note(connection, page)
+        texts.note(connection, page)
         found = [connection.execute("SELECT rowid FROM words WHERE words MATCH ?", (word,)).fetchall()
                  for word in ("hello", "WORLD", "day")]
         assert found == ([[(page,)], [(page,)], []] if "world" in text else [[], [], [(page,)]])
@@ -229,7 +229,7 @@ def test_the_index_of_words(store, tmp_path, run):
 
 def test_an_index_of_words_that_is_another(store):
     connection = open_to_write(store)
-    word_index.make(connection)
+    texts.make(connection)
     connection.close()
     for words, why in (("DROP TABLE words_idx", "no table words_idx"),
                        ("DROP TABLE words_config; CREATE TABLE words_config(k PRIMARY KEY, v, w)",

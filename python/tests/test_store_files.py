@@ -6,8 +6,8 @@ import sqlite3
 
 import pytest
 
-from naplps_pages.collection.header import is_store
-from naplps_pages.collection.places import Place
+from naplps_pages.collection.store_files import is_store
+from naplps_pages.collection.folders import Place
 from naplps_pages.collection.session import Names
 from naplps_pages.collection.store import open_to_read
 from naplps_pages.commands import ALONE

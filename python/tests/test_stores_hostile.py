@@ -7,7 +7,7 @@ import struct
 import pytest
 
 from forked import forked, require_told
-from naplps_pages.collection import refused, schemas, tables, word_index
+from naplps_pages.collection import every_file, schemas, tables, texts
 from naplps_pages.collection.schemas import Answered
 from naplps_pages.collection.store import StoreFailed, open_to_read, open_to_write, open_unchanged
 from naplps_pages.report.questions import Questions
@@ -172,7 +172,7 @@ def test_a_row_of_a_schema_that_lies_is_refused(made, words):
         assert said.status == 3 and said.err.startswith(b"naplps-pages: bad.db: "), (command, said)
 
 
-@pytest.mark.parametrize("shadow", [*word_index.SHADOWS, "texts"])
+@pytest.mark.parametrize("shadow", [*texts.SHADOWS, "texts"])
 def test_an_index_of_what_keeps_the_words_is_refused(indexed, shadow):
     column = {"words_data": "block", "words_idx": "term", "words_docsize": "sz", "words_config": "v", "texts": "text"}
     indexed.change("CREATE INDEX evil ON %s((length(%s)))" % (shadow, column[shadow]))
@@ -352,8 +352,8 @@ def test_as_many_reasons_as_pages_take_no_longer_than_one(tmp_path):
         tables.hashed(b"%d" % at), tables.REFUSED, number=10, left_out="X%d" % at, place=1, fault="Outside"))
         for at in range(30_000)])
     connection = open_to_read(store)
-    assert sum(1 for _ in refused.members(connection, None)) == 30_000
-    plan = connection.execute("EXPLAIN QUERY PLAN " + refused.MEMBERS).fetchall()
+    assert sum(1 for _ in every_file.refused_files(connection, None)) == 30_000
+    plan = connection.execute("EXPLAIN QUERY PLAN " + every_file.MEMBERS).fetchall()
     assert not [row for row in plan if row[3].startswith("SCAN")]
 
 
@@ -381,7 +381,7 @@ INDEXES = [
 @pytest.fixture(scope="module")
 def indexed(tmp_path_factory, naplps):
     """A folder with a store that has words."""
-    if not word_index.has_fts5():
+    if not texts.has_fts5():
         pytest.skip("SQLite has no FTS5")
     folder = str(tmp_path_factory.mktemp("words"))
     made = Made(folder, archive(folder), naplps)

@@ -16,7 +16,7 @@ import pytest
 
 from forked import begun, counted, ended, forked, require_told, rounds
 from naplps_pages.collection import schemas
-from naplps_pages.collection.beside import ENDINGS
+from naplps_pages.collection.store_files import ENDINGS
 from packers import written
 from stores import COMMANDS, archive, clean, copied, words_of
 from test_beside_stores import KINDS, hashes, taken_away

@@ -1,12 +1,12 @@
 """Folders that are odd: deeper than a path may be, in themselves, with names of every kind."""
 import os
 
-from naplps_pages.collection import folders, tables, walk
+from naplps_pages.collection import folders, search, tables
 from naplps_pages.collection.search import apart
 from samples import POINT, SPELLED
 from scans import rows, tree
 
-NOTHING = walk.Hidden(None, frozenset())
+NOTHING = search.Hidden(None, frozenset())
 DEEP = 40
 NAME = b"d" * 250
 
@@ -50,7 +50,7 @@ def test_a_folder_that_is_too_deep_is_a_row(run, tmp_path, monkeypatch):
     try:
         said = run(["scan", top, "--into", store])
         longest = max((each for each, in rows(store, "SELECT path FROM folders WHERE state = 0")), key=len)
-        assert walk.MOST_PATH - 251 < len(longest) <= walk.MOST_PATH == 65536
+        assert search.MOST_PATH - 251 < len(longest) <= search.MOST_PATH == 65536
         assert said.stdout == (
             b"1 file: 1 accepted (1 page), 0 refused; 0 known, 1 page asked about; 1 folder unreadable\n")
         assert said.stderr.decode() == "naplps-pages: %s: its path is longer than 65536 bytes\n" % os.fsdecode(
@@ -90,16 +90,16 @@ def test_a_folder_that_is_in_itself(tmp_path, monkeypatch):
     of_top = os.stat(str(tmp_path)).st_ino
     of_b = os.stat(os.path.join(str(tmp_path), "a", "b")).st_ino
     # (as a file system may show it that has the top folder once more below itself)
-    monkeypatch.setattr(walk, "_identity", lambda status: (0, of_top if status.st_ino == of_b else status.st_ino))
+    monkeypatch.setattr(search, "_identity", lambda status: (0, of_top if status.st_ino == of_b else status.st_ino))
     found = [(each.path[len(str(tmp_path)):], each.state, each.why) for each in
-             walk.walk(os.fsencode(tmp_path), NOTHING)]
+             search.walk(os.fsencode(tmp_path), NOTHING)]
     assert found == [(b"", tables.READ, None), (b"/a", tables.READ, None),
                      (b"/a/b", tables.UNREADABLE, "it is in itself"), (b"/c", tables.READ, None)]
 
 
 def test_the_order_of_names(tmp_path):
     tree(tmp_path, {b"b/2": b"", b"b/\xff": b"", "b/ü": b"", b"a": b"", b"c/x/y": b"", b"c/x-y": b"", b"B": b""})
-    found = [(each.path[len(str(tmp_path)):], each.names) for each in walk.walk(os.fsencode(tmp_path), NOTHING)]
+    found = [(each.path[len(str(tmp_path)):], each.names) for each in search.walk(os.fsencode(tmp_path), NOTHING)]
     assert found == [
         (b"", (b"B", b"a")), (b"/b", (b"2", "ü".encode(), b"\xff")), (b"/c", (b"x-y",)), (b"/c/x", (b"y",))]
 

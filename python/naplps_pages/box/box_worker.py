@@ -11,11 +11,9 @@ from naplps.treating.search import Cure
 from .. import curing
 from ..collection import tables
 from ..collection.file_reader import Seen
-from ..collection.known_hashes import KnownHashes
+from ..collection.worker import KnownHashes, Knows, PieceMaker, Worker, serve
 from ..collection.rows import Piece, WorkerOptions
 from ..collection.schemas import Answered, Cured
-from ..collection.worker import Knows, Worker
-from ..collection.worker_process import PieceMaker, serve
 from ..listing import PLACES
 from ..page_finder import CarvedPage, all_pages
 from ..report.limits import HELD_PLAYER

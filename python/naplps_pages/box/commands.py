@@ -16,10 +16,9 @@ from naplps.version import VERSION
 
 from ..collection import every_file, tables
 from ..collection.every_file import FileFacts
-from ..collection.file_reader import Seen
+from ..collection.file_reader import Otherwise, Seen, read
 from ..collection.folders import absolute
-from ..collection.kept_options import refused_by
-from ..collection.page_reader import Otherwise, read
+from ..collection.kept import refused_by
 from ..collection.pool import processors
 from ..collection.rows import AskAgain, WorkerOptions
 from ..collection.schemas import File

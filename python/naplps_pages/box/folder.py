@@ -13,7 +13,7 @@ from naplps.version import VERSION
 
 from .. import TOOL, messages
 from ..collection.folders import reason
-from ..collection.lock import Busy, Lock
+from ..collection.store_files import Busy, Lock
 from ..console import NotWritten
 from ..new_files import make_folder, put_inside
 

@@ -11,9 +11,8 @@ from naplps.names import shown
 
 from .. import file_kinds
 from ..collection.every_file import FileFacts
-from ..collection.file_reader import FLAGS, change, marks
+from ..collection.file_reader import FLAGS, NOT_AS_SCANNED, change, marks
 from ..collection.folders import opened, reason
-from ..collection.page_reader import CHANGED
 from ..collection.progress import Progress
 from ..page_finder import PageFinder
 from .box_worker import part_of
@@ -43,10 +42,10 @@ def carve(file: FileFacts, program: Client) -> KeptPage:
         with open(descriptor, "rb", buffering=0) as source:
             before = os.fstat(descriptor)
             if (file.size, file.mtime_ns) != marks(before)[:2]:
-                raise NotCarved(CHANGED)
+                raise NotCarved(NOT_AS_SCANNED)
             kept = _searched(source, before.st_size, program, file.at_path.path)
             if change(before, os.fstat(descriptor)):
-                raise NotCarved(CHANGED)
+                raise NotCarved(NOT_AS_SCANNED)
             return kept
     except OSError as error:
         raise NotCarved(reason(error)) from None

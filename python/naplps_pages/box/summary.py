@@ -5,9 +5,8 @@ from typing import List
 from naplps.names import shown
 
 from ..collection import equal, tables
-from ..collection.counts import UNKNOWN, WORDS
+from ..collection.status import UNKNOWN, WORDS, Status
 from ..collection.printing import numbered
-from ..collection.status import Status
 from ..report import groups as of_groups
 from .making import Totals
 from .folder import CANONICAL, CAPTURES, CARVED, CUT, READABLE, REPORT, TABLE, BoxFolder

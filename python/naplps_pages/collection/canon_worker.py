@@ -1,4 +1,6 @@
-"""The process of a worker that computes a value from the list of each page and treated copy in a store."""
+"""The process of a worker that computes a value from the list of each page and treated copy in a store: the keys by
+which almost equal ones are found, or the hash of its picture.
+"""
 import sqlite3
 from typing import Any, Callable, Iterator, List, NamedTuple, Optional, Sequence, Tuple, Union
 
@@ -11,12 +13,12 @@ from naplps.treating.search import find
 from ..source import Page
 from . import tables
 from .kinds import Count, Hash, Name, Path, one
-from .page_reader import Otherwise, read
-from .places import Place
+from .file_reader import Otherwise, read
+from .folders import Place
 from .rows import Chunk, Piece, WorkerOptions
 from .schemas import Answered, CanonValues, File
 from .store import reader
-from .worker_process import PieceMaker, serve
+from .worker import PieceMaker, serve
 
 # The number of pages that are asked about together, and of their entries.
 MOST_AHEAD, MOST_ENTRIES = 32, 50_000
@@ -146,9 +148,30 @@ class ValueMaker:
         self.connection.close()
 
 
-def values_by(descriptor: int, value_of: Callable[[bytes], CanonValues]) -> None:
-    """Works until the connection ends, and makes what this makes of the lines of a list."""
-    def maker(first: Sequence[Any], beat: Callable[[], None]) -> PieceMaker:
-        how, store = first
-        return ValueMaker(how, store, beat, value_of)
-    serve(descriptor, maker)
+def _keys(listed: bytes) -> CanonValues:
+    from ..nearness import keys_of
+    keys = keys_of(listed)
+    return (keys.start, *keys)
+
+
+def _picture(listed: bytes) -> CanonValues:
+    """The hash of a picture; none of a page that paints too much."""
+    from naplps.dots import raster
+    from naplps.reading import lines_in
+    from naplps.reading import read as read_lines
+    painted = raster(read_lines(lines_in(listed)))
+    return (bytes.fromhex(painted.hash()) if painted.drawn == painted.total else None,)
+
+
+# What makes the values of a table of the lines of a list, by the option of that. (Each imports what takes long.)
+VALUES_OF = {"near": _keys, "pictures": _picture}
+
+
+def main(descriptor: int) -> None:
+    """Works until the connection ends."""
+    serve(descriptor, _maker)
+
+
+def _maker(first: Sequence[Any], beat: Callable[[], None]) -> PieceMaker:
+    how, store, option = first
+    return ValueMaker(how, store, beat, VALUES_OF[option])

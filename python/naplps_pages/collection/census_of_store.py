@@ -15,8 +15,8 @@ from ..census import EIGHTH_BIT, Census, Row, stops
 from ..console import SOME_LACK
 from ..page_session import Session
 from .kinds import Count, Hash, Name, PageState, Path, RefusalNumber, Text, checked
-from .page_reader import Otherwise, read
-from .places import Place
+from .file_reader import Otherwise, read
+from .folders import Place
 from .progress import Progress
 from .store import kept, open_to_read
 

@@ -1,4 +1,8 @@
-"""Workers of Dask's distributed: each chunk is a task, which starts a process on the machine where it runs."""
+"""Workers of Dask's distributed: each chunk is a task, which starts a process on the machine where it runs.
+
+The process, of which this module is the main one too, gets what to do by standard input, and its rows go out again.
+"""
+import hashlib
 import importlib
 import json
 import logging
@@ -8,24 +12,307 @@ import pickle
 import site
 import subprocess
 import sys
+import threading
 import time
 from queue import Empty, SimpleQueue
-from typing import Any, Dict, Iterator, List, Optional, Set, cast
+from typing import AbstractSet, Any, Callable, Dict, FrozenSet, Iterator, List, NamedTuple, Optional, Set, Tuple, cast
 
 from naplps.names import shown
 
 from ..console import tell
-from ..interpreter import interpreter
-from . import cluster_watch
-from .cluster_check import answers
-from .cluster_watch import Watch
-from .folders import reason
+from ..interpreter import FOLDER, interpreter
+from ..packs.naming import pack_of
+from .folders import Replaced, join, opened_again, reason
 from .pool import ClusterFailed, Task, Workers, count, ending, halves
-from .remote import Alike, Done, Given
-from .rows import Chunk, Piece, WorkerOptions
-from .unread import UnreadFiles, is_here
+from .rows import Chunk, FolderFiles, Piece, WorkerOptions
+from .schemas import File
+from .tables import UNREADABLE, VANISHED
+from .worker import Worker, limit_memory
 
-WORDS = interpreter("naplps_pages.collection.remote")
+# So often it is looked which workers have been silent, and one that is for so long gets nothing any more, in seconds.
+LOOK, SILENT = 5.0, 60.0
+
+
+class Watch:
+    """Which workers there are, as the scheduler says, and which have been silent for long."""
+
+    def __init__(self, client: Any) -> None:
+        self.client = client
+        self.live: FrozenSet[str] = frozenset()
+        self.silent: Set[str] = set()
+        self.found: List[str] = []
+        self.seen: Dict[str, Tuple[object, float]] = {}
+        self.looked = 0.0
+
+    def look(self) -> bool:
+        """Looks now and then; whether it did. `found` has the workers that have become silent, until they are named."""
+        now = time.monotonic()
+        if now - self.looked < LOOK:
+            return False
+        self.looked = now
+        try:
+            workers = self.client.scheduler_info()["workers"]
+        except Exception:  # pylint: disable=broad-except
+            return False  # the scheduler is about to go
+        for worker, it in workers.items():
+            last, since = self.seen.get(worker, (None, now))
+            if last != it.get("last_seen"):
+                self.seen[worker] = it.get("last_seen"), now
+                self.silent.discard(worker)
+            elif now - since > SILENT and worker not in self.silent:
+                self.found.append(worker)
+                self.silent.add(worker)
+        self.live = frozenset(workers) - self.silent
+        return True
+
+    def now(self) -> FrozenSet[str]:
+        """The workers that there are now."""
+        self.looked = 0.0
+        self.look()
+        return self.live
+
+    def keys_of(self, worker: str) -> Set[str]:
+        """The keys of the tasks that a worker has."""
+        try:
+            return set(self.client.processing([worker]).get(worker, ()))
+        except Exception:  # pylint: disable=broad-except
+            return set()
+
+    def worker_of(self, future: Any) -> str:
+        """Which worker has the result of a task; nothing where that isn't known."""
+        try:
+            return next((str(each) for some in self.client.who_has([future]).values() for each in some), "")
+        except Exception:  # pylint: disable=broad-except
+            return ""
+
+
+# How long is waited at once, and before one that couldn't be reached is asked again, in seconds.
+POLL_SECONDS, PAUSE = 0.25, 2.0
+
+
+def answers(watch: Watch, words: List[str], given: Dict[str, Any], look: Callable[[], None]) -> Dict[str, Any]:
+    """What a process of these words said on each worker, by its address, or how it failed.
+
+    `look` is called now and then, and has `watch` look. One that becomes silent is asked no more, and isn't among the
+    answers. One that can't be reached is asked again until it is known to be silent, or for twice that time.
+    """
+    said: Dict[str, Any] = {}
+    end = time.monotonic() + 2 * SILENT
+    while True:
+        wanted = watch.now() - set(said)
+        if not wanted:
+            return {worker: each for worker, each in said.items() if worker not in watch.silent}
+        for worker, each in _asked(watch, words, given, look, wanted).items():
+            if not _is_unreached(each) or time.monotonic() > end:
+                said[worker] = each
+        _pause(PAUSE if wanted - set(said) else 0.0, look)
+
+
+def _is_unreached(said: object) -> bool:
+    """Whether an answer is that there was no connection. (What the system says of a program has a number.)"""
+    return isinstance(said, OSError) and said.errno is None
+
+
+def _pause(seconds: float, look: Callable[[], None]) -> None:
+    end = time.monotonic() + seconds
+    while time.monotonic() < end:
+        look()
+        time.sleep(POLL_SECONDS)
+
+
+def _asked(watch: Watch, words: List[str], given: Dict[str, Any], look: Callable[[], None],
+           workers: AbstractSet[str]) -> Dict[str, Any]:
+    """What these workers say; nothing as soon as one of them is silent. Raises what the client does."""
+    done: "SimpleQueue[Any]" = SimpleQueue()
+
+    def asks() -> None:
+        try:
+            done.put(watch.client.run(subprocess.run, words, workers=sorted(workers), on_error="return", **given))
+        except BaseException as error:  # pylint: disable=broad-except
+            done.put(error)
+    # (a call that waits for a silent worker has no end of its own)
+    threading.Thread(target=asks, daemon=True).start()
+    while True:
+        try:
+            said = done.get(timeout=POLL_SECONDS)
+        except Empty:
+            look()
+            if workers & watch.silent:
+                return {}
+            continue
+        if isinstance(said, BaseException):
+            raise said
+        return dict(said)
+
+
+NOT_THERE = "it isn't there on the workers"
+
+
+def is_here(names: FolderFiles) -> bool:
+    """Whether a folder is here what it was when the scan met it, so that it is another one elsewhere."""
+    pack = pack_of(names.path)
+    try:
+        os.close(opened_again(names.path if pack is None else os.path.dirname(pack), names.identity))
+    except (OSError, Replaced):
+        return False
+    return True
+
+
+class UnreadFiles:
+    """The files of a chunk that a worker couldn't read: true if there are any."""
+
+    def __init__(self, chunk: Chunk, pieces: List[Piece]) -> None:
+        self.folders: Dict[int, FolderFiles] = {names.folder: names for names in chunk}
+        self.pieces = pieces
+        self.found: Set[Tuple[int, bytes]] = {
+            (file.folder, file.name) for files, _ in pieces for file in files if self._is_unread(file)}
+
+    def __bool__(self) -> bool:
+        return bool(self.found)
+
+    def _is_unread(self, file: File) -> bool:
+        """Whether it is a file, or a pack as a whole, that couldn't be opened. (A member that is damaged was read.)"""
+        is_pack = pack_of(self.folders[file.folder].path) is not None
+        return file.state in (UNREADABLE, VANISHED) and file.mtime_ns is None and is_pack == (not file.name)
+
+    def _key(self, names: FolderFiles, name: bytes) -> Tuple[int, bytes]:
+        """What the row of a name in a chunk is known by: that of a pack has none."""
+        return names.folder, name if pack_of(names.path) is None else b""
+
+    @property
+    def chunk(self) -> Chunk:
+        """These files."""
+        some = (names._replace(names=tuple(
+            name for name in names.names if self._key(names, name) in self.found))
+            for names in self.folders.values())
+        return tuple(names for names in some if names.names)
+
+    @property
+    def others(self) -> List[Piece]:
+        """The rows of the other files."""
+        return [(tuple(file for file in files if (file.folder, file.name) not in self.found), answers)
+                for files, answers in self.pieces]
+
+    @property
+    def final(self) -> List[Piece]:
+        """All rows, where nobody else can be asked: a file that is here hasn't vanished."""
+        return [(tuple(map(self._final, files)), answers) for files, answers in self.pieces]
+
+    def _final(self, file: File) -> File:
+        names = self.folders[file.folder]
+        if file.state == VANISHED and is_here(names) and os.path.lexists(join(names.path, file.name)):
+            return file._replace(state=UNREADABLE, why=NOT_THERE)
+        return file
+
+
+# The module and the tool, which stand in one folder.
+PACKAGES = ("naplps", "naplps_pages")
+# The number of members of a pack that are read at a time, since their rows are held until all are there.
+MOST_MEMBERS = 20_000
+PIECE = 1 << 20
+
+
+class Alike(NamedTuple):
+    """What has to be the same on all machines: hashes of the program and of this package, and numbers of folders."""
+
+    program: bytes
+    package: bytes
+    roots: Tuple[Tuple[bytes, int], ...]
+
+
+class Given(NamedTuple):
+    """What is to be done; an empty chunk asks only whether all is the same."""
+
+    how: WorkerOptions
+    alike: Alike
+    chunk: Chunk
+
+
+class Done(NamedTuple):
+    """What came of it: what differs here, or the rows, what is left of a pack, and which folders are others here."""
+
+    differs: Optional[str]
+    pieces: List[Piece]
+    left: Chunk
+    others: Chunk = ()
+
+
+def main() -> None:
+    """Does what is given, once."""
+    limit_memory()
+    given = pickle.load(sys.stdin.buffer)
+    differs = difference(given.how.program, given.alike)
+    done = Done(differs, [], ()) if differs else _worked(given)
+    sys.stdout.buffer.write(pickle.dumps(done))
+
+
+def _worked(given: Given) -> Done:
+    parent = os.getppid()
+
+    def beat() -> None:
+        if os.getppid() != parent:
+            sys.exit(1)  # nobody waits for it any more
+    worker = Worker(given.how, lambda hashes: set(), beat, MOST_MEMBERS, elsewhere=True)
+    try:
+        pieces = [piece for piece in worker.pieces(given.chunk) if piece[0]]
+        return Done(None, pieces, worker.left, tuple(worker.others))
+    finally:
+        worker.close()
+
+
+def alike(program_hash: bytes, roots: List[bytes]) -> Alike:
+    """What has to be the same, as it is here. Folders that aren't here are left out."""
+    return Alike(program_hash, _hash_of_package(), tuple(_numbered(roots)))
+
+
+def _numbered(roots: List[bytes]) -> Iterator[Tuple[bytes, int]]:
+    for root in roots:
+        try:
+            yield root, os.stat(root).st_ino
+        except OSError:
+            continue
+
+
+def difference(program: str, wanted: Alike) -> Optional[str]:
+    """What is another thing here, or isn't here; None where all is the same."""
+    try:
+        if _hash_of_file(program) != wanted.program:
+            return f"{program} is another program there"
+    except OSError as error:
+        return f"{program}: {reason(error)}"
+    if _hash_of_package() != wanted.package:
+        return f"{os.path.join(FOLDER, PACKAGES[-1])} is another version there"
+    for root, number in wanted.roots:
+        try:
+            if os.stat(root).st_ino != number:
+                return f"{os.fsdecode(root)} is another folder there"
+        except OSError as error:
+            return f"{os.fsdecode(root)}: {reason(error)}"
+    return None
+
+
+def _hash_of_file(path: str) -> bytes:
+    hashed = hashlib.sha256()
+    with open(path, "rb") as file:
+        for piece in iter(lambda: file.read(PIECE), b""):
+            hashed.update(piece)
+    return hashed.digest()
+
+
+def _hash_of_package() -> bytes:
+    """The hash of all sources of the tool and of the module, by their names."""
+    hashed = hashlib.sha256()
+    for package in PACKAGES:
+        for folder, below, names in os.walk(os.path.join(FOLDER, package)):
+            below.sort()
+            for name in sorted(names):
+                if name.endswith(".py"):
+                    path = os.path.join(folder, name)
+                    hashed.update(os.fsencode(os.path.relpath(path, FOLDER)) + b"\0" + _hash_of_file(path))
+    return hashed.digest()
+
+
+WORDS = interpreter("naplps_pages.collection.cluster")
 # The number of chunks that are out at a time.
 MAX_IN_FLIGHT = 64
 # How long is waited for the scheduler; for a first worker; for a result; and for the end, in seconds.
@@ -162,7 +449,7 @@ class Cluster(Workers):
     def _name_silent(self, what: str) -> None:
         while self.watch.found:
             worker = self.watch.found.pop()
-            tell(f"{worker}: this worker has been silent for {cluster_watch.SILENT:.0f} s: {what}")
+            tell(f"{worker}: this worker has been silent for {SILENT:.0f} s: {what}")
 
     def send(self, task: Task) -> None:
         """Sends a chunk to one of its workers, or to any that isn't silent."""

@@ -10,15 +10,13 @@ from naplps.client import Client
 from naplps.names import Members, shown
 
 from ..new_files import made_folder, make_folders, put_inside
-from .equal_over import most_budget
-from .folders import reason
+from .equal_run import OTHER_HASH, most_budget
+from .folders import Place, reason
 from .kinds import Count, Hash, Name, Path
-from .page_reader import Otherwise, read
-from .places import Place
+from .file_reader import Otherwise, read
 from .printing import NAME, ErrorReporter, Printer, named, shown_as
 from .store import kept, open_to_read
 from .tables import hashed
-from .verify import OTHER_HASH
 
 COLUMNS = ["canonical", "status", "path", "reason", *NAME]
 PIECE = 1 << 20

@@ -1,17 +1,24 @@
-"""The command equal: groups of pages that draw the same."""
+"""Groups of pages that draw the same, treated copies among them, and of pages that look alike at their end.
+
+By themselves all copies stand in groups of their own. Where they are wanted among others, a copy that was treated
+around its page stands beside pages that are read as they are. One that was treated within is a guess: it stands in
+groups of guesses alone, of which it is told how many other files draw the same.
+"""
 import sqlite3
 from itertools import groupby
 from operator import attrgetter
-from typing import Iterable, Iterator, List, NamedTuple, Optional, Tuple
+from typing import Iterable, Iterator, List, NamedTuple, Optional, Sequence, Tuple
 
+from naplps.limits import MOST_LISTED
 from naplps.names import Members, shown
 from naplps.treating.treatments import graded
 
+from .canon_tables import PICTURES
+from .folders import Place
 from .kinds import Count, GradeNumber, Hash, Name, Path, Text
-from .places import Place
 from .printing import NAME, Printer, named, numbered, shown_as
 from .store import kept
-from .tables import GRADES, WITHIN
+from .tables import ACCEPTED, AROUND, GRADES, REFUSED, WITHIN
 
 COLUMNS = ["canonical", "spellings", "files", "entries", "spelling", "hash", *NAME]
 OF_TREATED = ["treatments", "grade", "copy", "others"]
@@ -171,3 +178,181 @@ def _object(group: Group) -> Members:
     if group.is_guess:
         members["others"] = group.others
     return {**members, "spellings": spellings}
+
+
+# Treated copies of one grade, whose canonical hashes are found at once.
+TREATED = ("""CREATE TEMP TABLE {0} AS SELECT c.canon AS canon, t.form AS form, c.page AS page, c.entries AS entries,
+    c.canon_size AS canon_size, c.treatments AS treatments, c.grade AS grade, c.copy AS copy FROM cures c
+    CROSS JOIN pages p ON p.id = c.page AND p.terms = c.terms CROSS JOIN terms t ON t.id = c.terms
+    WHERE c.canon IS NOT NULL AND c.grade = ?""", "CREATE INDEX temp.{0}_by_canon ON {0}(canon, page)")
+# Canonical hashes that several pages have, of which one is treated at least; and those of sources in several files.
+AMONG_THEM = "SELECT canon FROM {0} GROUP BY canon HAVING count(*) > 1"
+WITH_PAGES = " UNION SELECT c.canon FROM {0} c WHERE EXISTS(SELECT 1 FROM pages p WHERE p.canon = c.canon)"
+WITH_AROUND = " UNION SELECT c.canon FROM within c WHERE EXISTS(SELECT 1 FROM around o WHERE o.canon = c.canon)"
+OF_COPIES = """ UNION SELECT c.canon FROM {0} c
+    WHERE (SELECT count(*) FROM (SELECT 1 FROM present f WHERE f.page = c.page LIMIT 2)) > 1"""
+JOINED = "CREATE TEMP TABLE joined AS SELECT c.* FROM several s CROSS JOIN {0} c ON c.canon = s.canon"
+OTHERS = """INSERT INTO joined SELECT p.canon, t.form, p.id, p.entries, p.canon_size, NULL, NULL, NULL FROM several s
+    CROSS JOIN pages p ON p.canon = s.canon CROSS JOIN terms t ON t.id = p.terms"""
+# How many files are read as they are, and draw the same; and how many other files draw the same as guesses.
+ALIKE_PAGES = """(SELECT count(*) FROM pages p CROSS JOIN terms t ON t.id = p.terms CROSS JOIN present f
+    ON f.page = p.id WHERE p.canon = j.canon AND t.form = j.form)"""
+ALIKE = ALIKE_PAGES + """ + (SELECT count(*) FROM around c
+    CROSS JOIN present f ON f.page = c.page WHERE c.canon = j.canon AND c.form = j.form)"""
+TREATED_GROUPS = """CREATE TEMP TABLE found AS SELECT j.canon AS canon, j.form AS form,
+    count(DISTINCT j.page) AS spellings,
+    count(*) AS files, {} AS others FROM joined j CROSS JOIN present f ON f.page = j.page
+    GROUP BY 1, 2 HAVING {}"""
+TREATED_MEMBERS = """SELECT g.canon, g.form, j.entries, j.canon_size, p.own, d.path, f.name, f.at,
+    j.treatments, j.grade, j.copy, g.others FROM found g CROSS JOIN joined j ON j.canon = g.canon AND j.form = g.form
+    CROSS JOIN pages p ON p.id = j.page CROSS JOIN present f ON f.page = p.id CROSS JOIN folders d ON d.id = f.folder
+    ORDER BY g.spellings DESC, g.files DESC, g.canon, g.form, j.grade IS NOT NULL, p.own, d.path, f.name"""
+TREATED_LEAST = ("count(DISTINCT j.page) > 1", "count(*) > 1")
+TREATED_TABLES = ("around", "within", "readable", "several", "joined", "found", "kept")
+UNTRIED = f"""SELECT (SELECT count(*) FROM pages p WHERE p.state = {REFUSED} AND NOT EXISTS(SELECT 1 FROM cures c
+    WHERE c.page = p.id AND c.terms = p.terms)),
+    (SELECT count(*) FROM cures WHERE treatments IS NOT NULL AND grade IS NULL)"""
+
+
+def treated_groups(connection: sqlite3.Connection, copies: bool) -> Iterator[Group]:
+    """The groups in which copies that were treated around their pages stand beside others, those of most first."""
+    _begin(connection)
+    several = SEVERAL + " UNION " + AMONG_THEM + WITH_PAGES + (COPIES + OF_COPIES if copies else "")
+    _join(connection, "around", several)
+    connection.execute(OTHERS)
+    return _grouped(connection, "0", TREATED_LEAST[copies])
+
+
+def guesses(connection: sqlite3.Connection, copies: bool) -> Iterator[Group]:
+    """The groups of copies that were treated within their pages, and of such a copy with which others draw the same."""
+    _begin(connection)
+    _join(connection, "within", AMONG_THEM + WITH_PAGES + WITH_AROUND + (OF_COPIES if copies else ""))
+    return _grouped(connection, ALIKE, f"{TREATED_LEAST[copies]} OR others > 0")
+
+
+def apart(connection: sqlite3.Connection, copies: bool) -> Iterator[Group]:
+    """The groups of treated copies alone, and of such a copy with which untreated pages draw the same."""
+    _begin(connection)
+    connection.execute("CREATE TEMP TABLE readable AS SELECT * FROM around UNION ALL SELECT * FROM within")
+    connection.execute("CREATE INDEX temp.readable_by_canon ON readable(canon, page)")
+    _join(connection, "readable", AMONG_THEM + WITH_PAGES + (OF_COPIES if copies else ""))
+    for group in _grouped(connection, ALIKE_PAGES, f"{TREATED_LEAST[copies]} OR others > 0"):
+        yield group._replace(is_apart=True)
+
+
+def untried(connection: sqlite3.Connection) -> Tuple[int, int]:
+    """How many refused pages had no treatments tried; and how many treated copies have an unknown canonical hash."""
+    pages, unknown = connection.execute(UNTRIED).fetchone()
+    return int(pages), int(unknown)
+
+
+def _begin(connection: sqlite3.Connection) -> None:
+    """Finds the treated copies."""
+    for name in TREATED_TABLES:
+        connection.execute(f"DROP TABLE IF EXISTS temp.{name}")
+    for grade, name in ((AROUND, "around"), (WITHIN, "within")):
+        connection.execute(TREATED[0].format(name), (grade,))
+        connection.execute(TREATED[1].format(name))
+
+
+def _join(connection: sqlite3.Connection, name: str, several: str) -> None:
+    """Takes the treated copies of a grade that have one of these canonical hashes."""
+    connection.execute("CREATE TEMP TABLE several AS " + several.format(name))
+    connection.execute(JOINED.format(name))
+
+
+def _grouped(connection: sqlite3.Connection, others: str, least: str) -> Iterator[Group]:
+    connection.execute("CREATE INDEX temp.joined_by_canon ON joined(canon, form, page)")
+    connection.execute(TREATED_GROUPS.format(others, least))
+    return grouped(kept(connection, TREATED_MEMBERS, EqualFile))
+
+
+PICTURE_COLUMNS = ["picture", "lists", "files", "list", "canonical", "entries", "hash", *NAME]
+# Pictures that pages have whose lists differ, by hash and form of these. (CROSS JOIN says in which order SQLite goes.)
+PICTURE_GROUPS = f"""CREATE TEMP TABLE found AS SELECT k.picture AS picture, t.form AS form,
+    count(DISTINCT k.canon) AS lists, count(*) AS files FROM pictures k
+    CROSS JOIN pages p ON p.canon = k.canon AND p.state = {ACCEPTED}
+    CROSS JOIN terms t ON t.id = p.terms CROSS JOIN present f ON f.page = p.id
+    WHERE k.form = {PICTURES.form} AND k.picture IN (SELECT picture FROM pictures WHERE form = {PICTURES.form}
+    GROUP BY picture HAVING count(*) > 1) GROUP BY 1, 2 HAVING lists > 1"""
+PICTURE_INDEX = "CREATE INDEX temp.found_by_picture ON found(picture, form)"
+PICTURE_MEMBERS = f"""SELECT k.canon, g.form, p.entries, p.canon_size, p.own, d.path, f.name, f.at, NULL, NULL, NULL, 0,
+    g.picture FROM pictures k
+    CROSS JOIN found g ON g.picture = k.picture CROSS JOIN pages p ON p.canon = k.canon AND p.state = {ACCEPTED}
+    CROSS JOIN terms t ON t.id = p.terms AND t.form = g.form CROSS JOIN present f ON f.page = p.id
+    CROSS JOIN folders d ON d.id = f.folder WHERE k.form = {PICTURES.form}
+    ORDER BY g.lists DESC, g.files DESC, g.picture, g.form, k.canon, p.own, d.path, f.name"""
+# Pages without a picture: they have too many entries, or paint too much.
+WITHOUT_PICTURE = f"""SELECT d.path, f.name, f.at, p.entries FROM pages p CROSS JOIN present f ON f.page = p.id
+    CROSS JOIN folders d ON d.id = f.folder WHERE p.state = {ACCEPTED} AND (p.entries > {MOST_LISTED} OR EXISTS(
+    SELECT 1 FROM pictures k WHERE k.canon = p.canon AND k.form = {PICTURES.form} AND k.picture IS NULL))
+    ORDER BY d.path, f.name"""
+LISTED, PAINTED = f"it has no picture: more than {MOST_LISTED} entries", "it has no picture: it paints too much"
+
+
+class UnpaintedFile(NamedTuple):
+    """A file whose page has no picture, and how many entries that has."""
+
+    folder: Path
+    name: Name
+    at: Optional[Count]
+    entries: Count
+
+
+class PictureGroup(NamedTuple):
+    """A picture by its hash, and its pages by their lists, of each of which the spellings draw the same."""
+
+    picture: bytes
+    lists: Sequence[Group]
+
+    @property
+    def files(self) -> int:
+        """How many files it has."""
+        return sum(each.files for each in self.lists)
+
+
+def picture_groups(connection: sqlite3.Connection) -> Iterator[PictureGroup]:
+    """The groups of a store whose pictures are known, those of most lists first."""
+    connection.execute(PICTURE_GROUPS)
+    connection.execute(PICTURE_INDEX)
+    for (picture, _), files in groupby(kept(connection, PICTURE_MEMBERS, EqualFile), attrgetter("picture", "form")):
+        yield PictureGroup(picture, list(grouped(files)))
+
+
+def without_picture(connection: sqlite3.Connection) -> Iterator[Tuple[str, str]]:
+    """The files whose pages have no picture, and why."""
+    connection.execute("DROP TABLE IF EXISTS temp.kept")
+    for file in kept(connection, WITHOUT_PICTURE, UnpaintedFile):
+        yield Place(file.folder, file.name, file.at).path, LISTED if file.entries > MOST_LISTED else PAINTED
+    connection.execute("DROP TABLE temp.kept")
+
+
+def show_pictures(printer: Printer, group: PictureGroup) -> None:
+    """Prints a group."""
+    if printer.form == "json":
+        printer.object({"picture": group.picture.hex(), "form": PICTURES.form, "lists": list(map(_list, group.lists))})
+        return
+    if printer.form == "text":
+        printer.line("%s, %s: picture %s" % (
+            numbered(len(group.lists), "list"), numbered(group.files, "file"), group.picture.hex()))
+    for number, some in enumerate(group.lists, 1):
+        for own, place in _files(some):
+            if printer.form == "text":
+                printer.line(f"  {number}: {shown(place.path)}")
+            elif printer.form == "csv":
+                printer.row({"picture": group.picture.hex(), "lists": len(group.lists), "files": group.files,
+                             "list": number, "canonical": some.canon.hex(), "entries": some.entries, "hash": own.hex(),
+                             **shown_as(place)})
+            else:
+                printer.name(place)
+    if printer.form == "null":
+        printer.end()
+
+
+def _files(some: Group) -> List[Tuple[bytes, Place]]:
+    return [(spelling.own, place) for spelling in some.spellings for place in spelling.places]
+
+
+def _list(some: Group) -> Members:
+    return {"canonical": some.canon.hex(), "canonical_bytes": some.length, "entries": some.entries, "spellings": [
+        {"hash": each.own.hex(), "files": [named(place) for place in each.places]} for each in some.spellings]}

@@ -1,13 +1,23 @@
-"""Looks at one file, safely: no link is followed, nothing is waited for, and what changes meanwhile is told."""
+"""Looks at files, safely, and at packs: no link is followed, nothing is waited for, and what changes meanwhile is told.
+
+The bytes of a page are read again where they still are those that were scanned.
+"""
 import hashlib
 import os
 import stat
 import time
-from typing import Callable, List, NamedTuple, Optional, Tuple
+from typing import IO, Callable, Iterator, List, NamedTuple, Optional, Tuple
 
-from .folders import is_gone, reason
+from naplps.limits import MOST_PAGE
+
+from ..packs.member import Member, PackLimits
+from ..packs.naming import pack_of
+from ..packs.reading import PACKS, NoMember, open_file, open_pack
+from ..source import Page
+from .folders import Place, Replaced, is_gone, opened, reason
+from .rows import FolderFiles
 from .schemas import File
-from .tables import CHANGED, MOST_NUMBER, NOT_A_FILE, READ, TOO_LONG, UNREADABLE, VANISHED
+from .tables import CHANGED, MOST_NUMBER, NOT_A_FILE, READ, TOO_LONG, UNREADABLE, VANISHED, hashed
 
 FLAGS = os.O_RDONLY | os.O_NOFOLLOW | os.O_NONBLOCK | os.O_CLOEXEC | os.O_NOCTTY
 PIECE = 1 << 20
@@ -128,3 +138,123 @@ def _unread(folder: int, name: bytes, error: OSError, before: Optional[os.stat_r
         return File(folder, name, VANISHED, "it vanished while it was looked at")
     size = before.st_size if before else None
     return File(folder, name, UNREADABLE, reason(error), size)
+
+
+REPLACED = "another folder took the place of its own while it was scanned"
+
+
+class _From(NamedTuple):
+    """From where on a pack is read; when that began, and which marks it had then; and what is wrong with it so far."""
+
+    at: int
+    began: int
+    marks: Marks
+    why: Optional[str] = None
+
+    @property
+    def told(self) -> bytes:
+        """This as a name in a chunk."""
+        return b"%d %d %d %d %d %d " % (self.at, self.began, *self.marks) + (self.why or "").encode("utf-8")
+
+
+def _from(told: bytes) -> Optional[_From]:
+    """The same again; nothing where a pack is read from its start."""
+    if not told:
+        return None
+    *numbers, why = told.split(b" ", 6)
+    at, began, size, mtime_ns, ctime_ns, inode = map(int, numbers)
+    return _From(at, began, (size, mtime_ns, ctime_ns, inode), why.decode("utf-8") or None)
+
+
+class PackScan:
+    """One reading of a pack, or of a number of its members.
+
+    After the members `own` is the row of the pack itself; but where more are left, `left` says so in place of it.
+    """
+
+    def __init__(self, names: FolderFiles, limits: PackLimits, members: Optional[int] = None,
+                 elsewhere: bool = False) -> None:
+        self.folder, path, (told,), self.identity = names
+        self.path, self.elsewhere = pack_of(path) or b"", elsewhere
+        self.limits, self.most_members, self.start = limits, members, _from(told)
+        self.own = File(self.folder, b"", READ)
+        self.left: Optional[bytes] = None
+
+    def members(self) -> Iterator[Seen]:
+        """The members, as files."""
+        try:
+            with open_file(self.path, self.identity, self.elsewhere) as file:
+                yield from self._members(file)
+        except Replaced:
+            self.own, self.left = File(self.folder, b"", CHANGED, REPLACED), None
+        except OSError as error:
+            state, why = VANISHED, "it vanished while it was looked at"
+            if not is_gone(error):
+                state, why = UNREADABLE, reason(error)
+            self.own, self.left = File(self.folder, b"", state, why), None
+
+    def _members(self, file: IO[bytes]) -> Iterator[Seen]:
+        before = os.fstat(file.fileno())
+        start = self.start or _From(0, time.time_ns(), marks(before))
+        if start.marks != marks(before):
+            self.own = self.own._replace(state=CHANGED, why=OTHER)
+            return
+        pack = open_pack(file, self.path, self.limits)
+        for number, member in enumerate(pack.members(start.at), 1):
+            yield self._seen(member)
+            if number == self.most_members:
+                self.left = start._replace(at=pack.next, why=start.why or pack.why).told
+                return
+        changed = change(before, os.fstat(file.fileno()))
+        if changed:
+            self.own = self.own._replace(state=CHANGED, why=changed)
+        else:
+            why = start.why or pack.why
+            state = UNREADABLE if why else READ
+            self.own = with_marks(before, self.own._replace(state=state, why=why), start.began)
+
+    def _seen(self, member: Member) -> Seen:
+        own = None if member.data is None else hashed(member.data)
+        return Seen(File(self.folder, member.name, member.state, member.why, member.size, None, None, member.at, own),
+                    member.data)
+
+
+NOT_AS_SCANNED = "it isn't as it was when it was scanned"
+
+
+class Otherwise(Exception):
+    """The file can't be read, or isn't the page any more, with the reason."""
+
+
+def read(place: Place, own: bytes) -> Page:
+    """The page at the place, whose bytes have this hash. Raises Otherwise."""
+    pack = pack_of(place.folder)
+    if pack is not None:
+        return _member(pack, place, own)
+    try:
+        at = opened(place.folder, follow=True)
+    except OSError as error:
+        raise Otherwise(reason(error)) from None
+    try:
+        seen = look(0, at, place.name, place.at or 0, MOST_PAGE)  # (nothing is read of one that is longer now)
+    finally:
+        os.close(at)
+    file: Optional[IO[bytes]] = None
+    if seen.descriptor is not None:
+        file = open(seen.descriptor, "rb", buffering=0)
+    if seen.file.state != READ or seen.file.own != own:
+        if file:
+            file.close()
+        raise Otherwise(NOT_AS_SCANNED if seen.file.state in (READ, TOO_LONG) else seen.file.why or NOT_AS_SCANNED)
+    return Page(place.path, seen.data, file)
+
+
+def _member(pack: bytes, place: Place, own: bytes) -> Page:
+    """The page in a pack, whose bytes have this hash. Raises Otherwise."""
+    try:
+        data = PACKS.read(pack, place.name, place.at)
+    except NoMember as error:
+        raise Otherwise(str(error)) from None
+    if hashed(data) != own:
+        raise Otherwise(NOT_AS_SCANNED)
+    return Page(place.path, data)

@@ -5,9 +5,9 @@ from typing import Iterator, List, NamedTuple, Optional
 from naplps.names import Members, shown
 
 from ..page_words import Phrase, lines_with, match_of
-from . import tables, word_index
+from . import tables, texts
 from .kinds import Hash, Name, Path, TextLines, TextSource, checked
-from .places import Place
+from .folders import Place
 from .printing import NAME, Printer, named, shown_as
 
 COLUMNS = [*NAME, "hash", "source", "line"]
@@ -50,13 +50,13 @@ def has_texts(connection: sqlite3.Connection) -> bool:
 
 def has_index(connection: sqlite3.Connection) -> bool:
     """Whether a store has an index of words that can be asked here."""
-    return word_index.is_there(connection) and word_index.has_fts5()
+    return texts.is_there(connection) and texts.has_fts5()
 
 
 def found(connection: sqlite3.Connection, parts: List[Phrase]) -> Iterator[FoundPage]:
     """The files whose pages have all of what is looked for, in the order of their names."""
     indexed = has_index(connection)
-    with word_index.used():
+    with texts.used():
         rows = connection.execute(WITH_INDEX if indexed else WITHOUT, (match_of(parts),))
         for row in checked(rows, FoundText):
             lines = lines_with(row.text, parts)

@@ -1,4 +1,4 @@
-"""Folders by their descriptors: paths may be longer than the system takes at once."""
+"""Folders by their descriptors, since paths may be longer than the system takes at once; and where pages are."""
 import errno
 import os
 from typing import Iterator, NamedTuple, Optional
@@ -112,3 +112,16 @@ def reason(error: OSError) -> str:
 def is_gone(error: OSError) -> bool:
     """Whether there is nothing of that name any more."""
     return error.errno in (errno.ENOENT, errno.ENOTDIR)
+
+
+class Place(NamedTuple):
+    """A file, by its folder and its name, and how long it was; or a member of a pack, and where it began there."""
+
+    folder: bytes
+    name: bytes
+    at: Optional[int] = None
+
+    @property
+    def path(self) -> str:
+        """Its path."""
+        return os.fsdecode(join(self.folder, self.name))

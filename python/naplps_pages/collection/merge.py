@@ -1,23 +1,282 @@
-"""The command merge: several stores into a new one, which is put in its place whole, or not at all."""
+"""The command merge: several stores, of which no two have the same file, into a new one, which is put in its place
+whole, or not at all.
+"""
+import heapq
 import os
 import sqlite3
 import sys
-from typing import List, Optional, Sequence
+from itertools import groupby
+from operator import attrgetter
+from typing import Callable, Dict, Iterable, Iterator, List, NamedTuple, Optional, Sequence, Tuple
 
+from naplps.answers import Accepted, Refusal
 from naplps.names import shown
 
 from ..console import NotWritten, Output, tell
-from .beside import INDEX, JOURNAL, LOG, MADE, place, require_own
-from .counts import Counts
-from .differing import differing
-from .folders import reason
-from .joining import Joining
-from .lock import Busy, Lock
+from . import schemas, tables, texts
+from .canon_tables import CANON_TABLES
+from .folders import join, reason
+from .kinds import Count, Hash, Name, PageState, Path, RefusalNumber, Text, columns
 from .printing import numbered
-from .progress import Progress
+from .progress import Progress, Stopping
+from .schemas import Answered, Cured, Fault, File, Folder, PageText, Root, StoredRun, Terms, listed, marks, taken_over
 from .sources import Source, Sources, lacking, require_apart
-from .stopping import Stopping
-from .store import StoreFailed, keep_private, open_to_write, path_of
+from .status import Counts, counted
+from .store import StoreFailed, attach, keep_private, open_to_write, path_of
+from .store_files import INDEX, JOURNAL, LOG, MADE, Busy, Lock, place, require_own
+from .tables import NO_ANSWER, UNREADABLE
+
+OWN = "SELECT own, ?, id FROM pages ORDER BY own"
+STORED_ANSWER = f"""SELECT t.version, t.budget, p.state, p.number, p.left_out, p.place, p.entries, p.canon, p.canon_size
+    FROM pages p JOIN terms t ON t.id = p.terms WHERE p.id = ? AND p.state <> {tables.NO_ANSWER}"""
+# The first file that has a page, and the name of a refusal.
+NAME = f"""SELECT d.path, f.name FROM files f JOIN folders d ON d.id = f.folder
+    WHERE f.page = ? AND f.state = {tables.READ} LIMIT 1"""
+# Between two looks whether to stop.
+PAGES_BETWEEN = 4096
+FAULT = "SELECT name FROM faults WHERE number = ?"
+
+
+class PageNumber(NamedTuple):
+    """A page by its hash; and a store, by its place among the sources, with the number of the page there."""
+
+    own: Hash
+    store: Count
+    page: Count
+
+
+class AnswerUnder(NamedTuple):
+    """An answer, and what it depends on."""
+
+    version: Text
+    budget: Count
+    state: PageState
+    number: Optional[RefusalNumber]
+    left_out: Optional[Text]
+    place: Optional[Count]
+    entries: Optional[Count]
+    canon: Optional[Hash]
+    canon_size: Optional[Count]
+
+
+class FaultName(NamedTuple):
+    """The name of a refusal."""
+
+    name: Text
+
+
+class FileName(NamedTuple):
+    """A file, by its folder and its name."""
+
+    folder: Path
+    name: Name
+
+
+class StoredAnswer(NamedTuple):
+    """What a store says of a page, which has a number there."""
+
+    source: Source
+    page: int
+    answer: AnswerUnder
+
+    @property
+    def told(self) -> str:
+        """This for people, after the store and a file."""
+        answer = self.answer
+        if answer.entries is not None and answer.canon is not None:
+            said = f"{Accepted(answer.entries).line}, canonical {answer.canon.hex()}"
+        else:
+            fault = next((row.name for row in self.source.rows(FAULT, FaultName, (answer.number,))), "")
+            said = Refusal(answer.number or 0, fault, answer.left_out, answer.place or 0).line
+        names = [shown(os.fsdecode(join(*row))) for row in self.source.rows(NAME, FileName, (self.page,))]
+        return ": ".join([shown(self.source.path), *names, said])
+
+
+def differing(sources: Sequence[Source], progress: Progress,
+              stops: Callable[[], bool]) -> Iterator[Tuple[StoredAnswer, StoredAnswer]]:
+    """Two answers to the same bytes that aren't the same. The hashes of all stores are merged as they are read."""
+    runs = (source.rows(OWN, PageNumber, (at,)) for at, source in enumerate(sources))
+    for number, (_, group) in enumerate(groupby(progress.through(heapq.merge(*runs)), attrgetter("own"))):
+        some = list(group)
+        if len(some) > 1:
+            yield from _compared(sources, some)
+        if number % PAGES_BETWEEN == 0 and stops():
+            return
+
+
+def _compared(sources: Sequence[Source], some: List[PageNumber]) -> Iterator[Tuple[StoredAnswer, StoredAnswer]]:
+    first: Dict[Tuple[str, int], StoredAnswer] = {}
+    for _, at, page in some:
+        for row in sources[at].rows(STORED_ANSWER, AnswerUnder, (page,)):
+            answer = StoredAnswer(sources[at], page, row)
+            other = first.setdefault((row.version, row.budget), answer)
+            if other.answer != answer.answer:
+                yield other, answer
+
+
+# What isn't known of a page counts less than what is. A later answer counts more than an earlier one, and any more than
+# none. Under the same terms all are the same. (By +, SQLite sorts the rows by runs that it writes, and needn't jump in
+# their table.)
+ANSWER = listed(Answered, "terms", "run")
+PAGES = f"""INSERT INTO main.pages({ANSWER}) SELECT {{pages}}, {{terms}}, {{run}} FROM part.pages
+    WHERE true ORDER BY +own ON CONFLICT(own) DO UPDATE SET {taken_over(ANSWER)}
+    WHERE excluded.state <> {NO_ANSWER} AND (excluded.terms <> terms OR holds IS NULL) OR state = {NO_ANSWER}"""
+# The numbers of its pages and of its folders here.
+NUMBERED = ("CREATE TEMP TABLE page(old INTEGER PRIMARY KEY, number INTEGER NOT NULL)",
+            "CREATE TEMP TABLE place(number INTEGER PRIMARY KEY, old INTEGER NOT NULL)")
+PAGE = """INSERT INTO temp.page SELECT p.id, m.id FROM (SELECT own, id FROM part.pages ORDER BY own) p
+    CROSS JOIN main.pages m ON m.own = p.own ORDER BY p.id"""
+PLACE = "INSERT INTO temp.place SELECT m.id, p.id FROM part.folders p CROSS JOIN main.folders m ON m.path = p.path"
+# (of what a page hasn't under the terms that count for it nothing is taken)
+COUNTS = "excluded.terms = (SELECT p.terms FROM main.pages p WHERE p.id = page)"
+CURES = f"""INSERT INTO main.cures(page, terms, {listed(Cured)}) SELECT n.number, {{terms}}, {{cures}}
+    FROM part.cures c CROSS JOIN temp.page n ON n.old = c.page
+    WHERE true ON CONFLICT(page) DO UPDATE SET {taken_over("terms, " + listed(Cured))}
+    WHERE {COUNTS} AND (excluded.terms <> terms OR grade IS NULL)"""
+TEXTS = f"""INSERT INTO main.texts(page, terms, {listed(PageText)}) SELECT n.number, {{terms}}, {listed(PageText)}
+    FROM part.texts t CROSS JOIN temp.page n ON n.old = t.page WHERE true ON CONFLICT(page) DO UPDATE
+    SET {taken_over("terms, " + listed(PageText))} WHERE {COUNTS}"""
+# What one store says of a folder counts more than what another does, in this order: unreadable, read, vanished, gone.
+IS_MORE = f"(excluded.state = {UNREADABLE} OR excluded.state < state AND state <> {UNREADABLE})"
+FOLDERS = f"""INSERT INTO main.folders({listed(Folder, "run")}) SELECT {listed(Folder)}, {{run}} FROM part.folders
+    WHERE true ORDER BY id ON CONFLICT(path) DO UPDATE SET
+    state = CASE WHEN {IS_MORE} THEN excluded.state ELSE state END,
+    why = CASE WHEN {IS_MORE} THEN excluded.why ELSE why END, run = max(run, excluded.run)"""
+OF_FILE = ", ".join(f"f.{column.name}" for column in columns(File) if column.name != "folder")
+FILES = f"""INSERT INTO main.files({listed(File, "page", "run")}) SELECT d.number, {OF_FILE}, n.number, {{run}}
+    FROM temp.place d CROSS JOIN part.files f ON f.folder = d.old LEFT JOIN temp.page n ON n.old = f.page
+    ORDER BY d.number, f.name"""
+FAULTS = f"INSERT OR REPLACE INTO main.faults({listed(Fault)}) SELECT {listed(Fault)} FROM part.faults"
+STEPS = (*NUMBERED, FAULTS, PAGES, PAGE, CURES, FOLDERS, PLACE, FILES, TEXTS)
+LAST_STEPS = ("DROP TABLE temp.page", "DROP TABLE temp.place")
+ROOT = f"""INSERT INTO roots({listed(Root)}) VALUES({marks(Root)}) ON CONFLICT(run, path) DO UPDATE
+    SET why = coalesce(why, excluded.why)"""
+# (the other options are those of the schema before too)
+KEEP = "INSERT OR IGNORE INTO main.meta SELECT key, 1 FROM part.meta WHERE key = ?"
+
+
+class RunNumber(NamedTuple):
+    """The number of a run or of terms, and which terms these are."""
+
+    id: Count
+    terms: Count
+
+
+class Joining:
+    """Joins sources, of which later ones count more, in the tables of a new store."""
+
+    def __init__(self, connection: sqlite3.Connection, sources: Sequence[Source]) -> None:
+        self.connection, self.sources = connection, sources
+        self.terms: List[Dict[int, int]] = []
+        self.runs: List[Dict[int, int]] = []
+
+    def join(self, finished: bool) -> Counts:
+        """Joins them; what they come to. `finished` says that nothing lacks. Raises StoreFailed or sqlite3.Error."""
+        self.connection.execute("BEGIN")
+        self.terms = [self._terms(source) for source in self.sources]
+        self._runs(finished)
+        self._roots()
+        self.connection.execute("COMMIT")
+        for source, terms, runs in zip(self.sources, self.terms, self.runs):
+            self._rows(source, terms, runs)
+        if any(source.has_words for source in self.sources):
+            texts.make(self.connection)
+        self.connection.executescript(schemas.INDICES)
+        return self._counts()
+
+    def _terms(self, source: Source) -> Dict[int, int]:
+        """The terms of a source; their numbers here."""
+        numbers: Dict[int, int] = {}
+        some = source.rows(f"SELECT {listed(Terms)} FROM terms ORDER BY id", Terms)
+        for number, terms in zip(source.rows("SELECT id, id FROM terms ORDER BY id", RunNumber), some):
+            self.connection.execute(f"INSERT INTO terms({listed(Terms)}) VALUES({marks(Terms)}) ON CONFLICT DO NOTHING",
+                                    terms)
+            numbers[number.id], = self.connection.execute(
+                "SELECT id FROM terms WHERE program_hash = ? AND form = ? AND budget = ?",
+                (terms.program_hash, terms.form, terms.budget)).fetchone()
+        return numbers
+
+    def _runs(self, finished: bool) -> None:
+        """The runs: those under the same terms are one here, and the one that began last is the last."""
+        found: Dict[int, List[StoredRun]] = {}
+        for source, terms in zip(self.sources, self.terms):
+            last = {terms[run.terms]: run for run in source.rows(
+                f"SELECT {listed(StoredRun)} FROM runs ORDER BY id", StoredRun)}
+            for each, run in last.items():
+                found.setdefault(each, []).append(run)
+        numbers: Dict[int, int] = {}
+        for each, runs in sorted(found.items(), key=lambda some: max(run.began for run in some[1])):
+            latest = max(runs, key=lambda run: run.began)
+            numbers[each] = len(numbers) + 1
+            self.connection.execute(
+                "INSERT INTO runs(id, began, ended, tool, program, terms) VALUES(?, ?, ?, ?, ?, ?)",
+                (numbers[each], min(run.began for run in runs), _all_ended(run.ended for run in runs), latest.tool,
+                 latest.program, each))
+        ended = _all_ended(source.ended for source in self.sources) if finished else None
+        self.connection.execute("UPDATE runs SET ended = ? WHERE id = ?", (ended, len(numbers)))
+        self.runs = [{run.id: numbers[terms[run.terms]]
+                      for run in source.rows("SELECT id, terms FROM runs", RunNumber)}
+                     for source, terms in zip(self.sources, self.terms)]
+
+    def _roots(self) -> None:
+        for source, runs in zip(self.sources, self.runs):
+            roots = source.rows(f"SELECT {listed(Root)} FROM roots ORDER BY run", Root)
+            last = {(runs[root.run], root.path): root._replace(run=runs[root.run]) for root in roots}
+            self.connection.executemany(ROOT, last.values())
+
+    def _rows(self, source: Source, terms: Dict[int, int], runs: Dict[int, int]) -> None:
+        """The pages, the folders and the files of a source."""
+        attach(self.connection, source.path, "part")
+        try:
+            self.connection.execute("BEGIN")
+            is_earlier = source.schema == schemas.EARLIER
+            pages, cures = (_columns(row, table if is_earlier else "") for row, table in (
+                (Answered, "pages"), (Cured, "cures")))
+            for option in schemas.OPTIONS:
+                self.connection.execute(schemas.keep(option, "part"))
+            for table in CANON_TABLES:
+                self.connection.execute(KEEP, (table.option,))
+                table.join(self.connection)
+            for step in (*STEPS, *LAST_STEPS):
+                self.connection.execute(step.format(terms=_as("terms", terms), run=_as("run", runs), pages=pages,
+                                                    cures=cures))
+            self.connection.execute("COMMIT")
+        except sqlite3.DatabaseError as error:
+            if type(error) is sqlite3.DatabaseError:  # of what is read; what is written has others
+                raise StoreFailed(source.path, str(error)) from None
+            raise
+        self.connection.execute("DETACH part")
+
+    def _counts(self) -> Counts:
+        """What each of the runs came to, which is noted, and all of them together."""
+        total = Counts({}, {}, 0, 0)
+        for run, ended in self.connection.execute("SELECT id, ended FROM runs").fetchall():
+            counts = counted(self.connection, run)
+            total = total.plus(counts)
+            if ended is not None:
+                self.connection.execute("UPDATE runs SET files = ?, asked = ? WHERE id = ?",
+                                        (counts.met, counts.asked, run))
+        return total
+
+
+def _columns(row: type, earlier: str) -> str:
+    """The columns of a row; of a table of the schema before, if it is one, as they are by the rules of now."""
+    others = schemas.unknown(earlier)
+    return ", ".join(others.get(column.name, column.name) for column in columns(row))
+
+
+def _as(column: str, numbers: Dict[int, int]) -> str:
+    """What gives the numbers here in place of those of a store, in SQL."""
+    usual = max(numbers.values(), default=0)
+    others = ["WHEN %d THEN %d" % each for each in numbers.items() if each[1] != usual]
+    return f"CASE {column} {' '.join(others)} ELSE {usual} END" if others else str(usual)
+
+
+def _all_ended(ends: Iterable[Optional[str]]) -> Optional[str]:
+    """When the last of them ended, if all did."""
+    some = list(ends)
+    return None if None in some else max(each for each in some if each is not None)
+
 
 # No log is needed: what isn't whole is thrown away.
 FAST = "PRAGMA journal_mode = OFF; PRAGMA synchronous = OFF;"

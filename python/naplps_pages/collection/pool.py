@@ -16,7 +16,7 @@ from .rows import ALIVE, DONE, FAILED, MOST_AHEAD, Chunk, Piece, WorkerOptions, 
 from .schemas import File
 from .tables import UNREADABLE
 
-MAIN = "naplps_pages.collection.worker_process"
+MAIN = "naplps_pages.collection.worker"
 # The number of chunks of a worker at a time, so that it needn't wait for the next. They fit into its socket's buffer,
 # so nobody waits to be read while he waits to be read himself.
 MAX_IN_FLIGHT, BUFFER = 3, 1 << 18

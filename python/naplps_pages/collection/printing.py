@@ -6,7 +6,7 @@ from typing import IO, List, Optional, Sequence
 from naplps.names import Members, as_json, printable, shown
 
 from ..console import COMPLETE, SOME_LACK, Output, tell
-from .places import Place
+from .folders import Place
 
 FORMS = ("text", "json", "csv", "null")
 END = b"\0"

@@ -19,24 +19,18 @@ from naplps.program import version
 from ..console import COMPLETE, FAILED, SOME_LACK, Output, tell
 from ..packs.member import NO_FILE, SEVERAL
 from ..unexpected import Unexpected
-from . import tables, word_index
-from .beside import LOG
+from . import tables, texts
+from .store_files import LOG, Busy, Lock
 from .canon_tables import CANON_TABLES
-from .counts import counted
+from .status import counted
 from .folders import absolute, is_gone, join, reason
-from .kept_options import KEEPS_TO, keep
-from .lock import Busy, Lock
-from .part import Part, keep_part
-from .pack_state import MOST_BROKEN, broken
+from .kept import KEEPS_TO, Part, keep, keep_part
+from .search import MOST_BROKEN, Scope, Search, apart, broken, hidden
 from .pool import MAIN, ClusterFailed, NoWorkers, Pool, Workers, WorkersFailed
-from .progress import Counting, Progress
+from .progress import Counting, Progress, Stopping
 from .rows import Chunk, FolderFiles, Piece, WorkerOptions
-from .schemas import Answered, File
-from .schemas import INDICES, Terms
-from .search import Scope, Search, apart
-from .stopping import Stopping
+from .schemas import INDICES, Answered, File, Terms
 from .store import StoreFailed, fold, keep_log, keep_private, open_to_write
-from .walk import hidden
 from .writer import Writer
 
 # A worker that is silent for so long, beside the time of two answers, hangs.
@@ -131,8 +125,7 @@ def scanned(options: ScanOptions) -> "Union[ScanRun, int]":
                 tell(f"{shown(os.fsdecode(root))}: {why}")
             return SOME_LACK  # (a store of nothing is of no use)
         if options.on is not None:
-            from .cluster import Cluster  # (what few scans need, the others don't wait for)
-            from .remote import alike
+            from .cluster import Cluster, alike  # (what few scans need, the others don't wait for)
             cluster = Cluster(options.on, options.how, alike(terms.program_hash, roots))
         with Stopping() as stopping, Lock(options.store):
             run = _scan_or_stop(options, terms, stopping, roots, cluster)
@@ -223,9 +216,9 @@ def _scan(options: ScanOptions, terms: Terms, stopping: Stopping, roots: List[by
 
 def _keep_words(connection: sqlite3.Connection, store: str) -> None:
     """Makes the index of words, if it isn't there. Raises StoreFailed where it can't be kept as it has to be."""
-    if word_index.make(connection):
+    if texts.make(connection):
         return
-    if word_index.is_there(connection):
+    if texts.is_there(connection):
         raise StoreFailed(store, "has an index of words, and SQLite has no FTS5 here to write it")
     tell(f"{shown(store)}: SQLite has no FTS5 here: texts are kept without an index, and found more slowly")
 
@@ -299,7 +292,7 @@ class ScanRun:
         options, connection = self.options, self.writer.connection
         for table in CANON_TABLES if self.line else ():
             if getattr(options.how.wanted, table.option) and self.stopping.number is None:
-                from .canon_pass import CanonPass
+                from .canon_filling import CanonPass
                 table.make(connection)
                 values = CanonPass(table, connection, options.store, options.how, options.processes)
                 self.status = max(self.status, values.run(self.stopping))

@@ -30,7 +30,7 @@ class Terms(NamedTuple):
     budget: Count
 
 
-class Run(NamedTuple):
+class StoredRun(NamedTuple):
     """A scan: a row of `runs`."""
 
     began: Text
@@ -131,7 +131,7 @@ class Answered(NamedTuple):
     values: Optional[CanonValues] = None
 
 
-class Table(NamedTuple):
+class StoreTable(NamedTuple):
     """A table: its name and columns, and the rest of its words; and what else holds of each of its rows."""
 
     name: str
@@ -191,25 +191,25 @@ OF_TERMS, OF_RUN = Column("terms", COUNT, False, "REFERENCES terms"), Column("ru
 HAS_TERMS, HAS_RUN = "terms IN (SELECT id FROM terms)", "run IN (SELECT id FROM runs)"
 META = "CREATE TABLE meta(key TEXT PRIMARY KEY, value) WITHOUT ROWID"
 _ANSWER = columns(Answered)
-TABLES: Dict[str, Table] = {table.name: table for table in (
-    Table("terms", (ID, *columns(Terms)), "UNIQUE(program_hash, form, budget)"),
-    Table("runs", (ID, *columns(Run)), rule=HAS_TERMS),
-    Table("roots", columns(Root), "PRIMARY KEY(run, path)", False, HAS_RUN),
-    Table("folders", (ID, *columns(Folder), OF_RUN), rule=HAS_RUN),
-    Table("pages", (ID, *(each for each in _ANSWER if each.schema == 1), OF_TERMS, OF_RUN,
+TABLES: Dict[str, StoreTable] = {table.name: table for table in (
+    StoreTable("terms", (ID, *columns(Terms)), "UNIQUE(program_hash, form, budget)"),
+    StoreTable("runs", (ID, *columns(StoredRun)), rule=HAS_TERMS),
+    StoreTable("roots", columns(Root), "PRIMARY KEY(run, path)", False, HAS_RUN),
+    StoreTable("folders", (ID, *columns(Folder), OF_RUN), rule=HAS_RUN),
+    StoreTable("pages", (ID, *(each for each in _ANSWER if each.schema == 1), OF_TERMS, OF_RUN,
                     *(each for each in _ANSWER if each.schema > 1)), rule=f"""{HAS_TERMS} AND {HAS_RUN} AND CASE state
         WHEN {ACCEPTED} THEN entries IS NOT NULL AND canon IS NOT NULL AND canon_size IS NOT NULL AND number IS NULL
         AND looks_like IS NULL AND (kind IS NULL OR kind < {CAPTURE}) AND (holds IS NULL OR holds = 0)
         WHEN {REFUSED} THEN number IS NOT NULL AND place IS NOT NULL AND canon IS NULL
         AND (kind IS NULL AND (holds IS NULL OR holds = 0) OR kind IS {CAPTURE} AND holds >= 2)
         ELSE canon IS NULL AND number IS NULL AND kind IS NULL AND looks_like IS NULL END"""),
-    Table("faults", columns(Fault)),
-    Table("cures", (OF_PAGE, OF_TERMS, *columns(Cured)), rule=f"""{HAS_TERMS} AND (grade IS NULL
+    StoreTable("faults", columns(Fault)),
+    StoreTable("cures", (OF_PAGE, OF_TERMS, *columns(Cured)), rule=f"""{HAS_TERMS} AND (grade IS NULL
         OR treatments IS NOT NULL AND entries IS NOT NULL AND copy IS NOT NULL)
         AND (canon IS NULL OR grade IS NOT NULL AND canon_size IS NOT NULL)"""),
-    Table("files", (*columns(File), Column("page", COUNT, True, "REFERENCES pages"), OF_RUN),
+    StoreTable("files", (*columns(File), Column("page", COUNT, True, "REFERENCES pages"), OF_RUN),
           "PRIMARY KEY(folder, name)", False, HAS_RUN),
-    Table("texts", (OF_PAGE, OF_TERMS, *columns(PageText)),
+    StoreTable("texts", (OF_PAGE, OF_TERMS, *columns(PageText)),
           rule=f"{HAS_TERMS} AND page IN (SELECT id FROM pages)"))}
 # They are built after a first scan, which is faster.
 INDEXED = {"pages_by_canon": "pages(canon) WHERE canon IS NOT NULL",
@@ -297,7 +297,7 @@ def as_now() -> Iterator[Tuple[str, str]]:
             yield name, f"SELECT {', '.join(some)} FROM main.{name}"
 
 
-def require_right(connection: sqlite3.Connection, optional: Sequence[Table] = ()) -> None:
+def require_right(connection: sqlite3.Connection, optional: Sequence[StoreTable] = ()) -> None:
     """Looks at each value of a store, which needn't have the optional tables. Raises NotAStore."""
     names = {name for name, in connection.execute("SELECT name FROM main.sqlite_master")}
     for table in (*TABLES.values(), *(table for table in optional if table.name in names)):

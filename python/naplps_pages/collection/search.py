@@ -1,20 +1,237 @@
-"""Searches folders for files that a worker has to look at: those that the store doesn't know as they are."""
+"""Searches folders for files that a worker has to look at: those that the store doesn't know as they are.
+
+Folders are walked in the order of their names, and links aren't followed.
+"""
 import os
 import sqlite3
 import stat
-from typing import Callable, Dict, Iterable, Iterator, List, Mapping, NamedTuple, Optional, Tuple
+from typing import Callable, Dict, FrozenSet, Iterable, Iterator, List, Mapping, NamedTuple, Optional, Tuple
 
 from ..packs.member import NO_FILE
 from ..packs.naming import inside, is_pack, pack_of
 from .file_reader import Marks, marks
-from .folders import FolderIdentity, identity_of, is_within, join, opened, reason
-from .kinds import Count, FileState, Flag, Name, Number, checked
-from .pack_state import PackState, settled
-from .part import Part, below
+from .folders import FolderIdentity, identity_of, is_gone, is_within, join, opened, reason
+from .kept import Part, below
+from .kinds import Count, FileState, Flag, Name, Number, Path, Text, checked, one
 from .rows import AskAgain, Chunk, FolderFiles
-from .tables import GONE, READ, SETTLED, UNREADABLE
-from .walk import Hidden, Listing, walk
+from .store_files import ENDINGS
+from .tables import GONE, READ, SETTLED, TOO_LONG, UNREADABLE, VANISHED
 from .writer import Writer
+
+# Each row of a folder has its whole path, so a deep one would cost the square of its depth.
+MOST_PATH = 64 << 10
+LONG_PATH = f"its path is longer than {MOST_PATH} bytes"
+# A folder by its device and its number.
+Identity = Tuple[int, int]
+
+
+class Listing(NamedTuple):
+    """A folder: what in it is no folder, by name, packs apart; and the descriptor, open until the next is asked for."""
+
+    path: bytes
+    state: int
+    why: Optional[str] = None
+    names: Tuple[bytes, ...] = ()
+    has_below: bool = False
+    descriptor: int = -1
+    packs: Tuple[bytes, ...] = ()
+    identity: Optional[FolderIdentity] = None
+
+
+class Hidden(NamedTuple):
+    """Files that aren't met: those of the store, in its folder."""
+
+    folder: Optional[Identity]
+    names: FrozenSet[bytes]
+
+    def has(self, folder: bytes, name: bytes) -> bool:
+        """Whether it is one of them that has this name in a folder."""
+        try:
+            return name in self.names and _identity(os.stat(folder)) == self.folder
+        except OSError:
+            return False
+
+
+class _Above(NamedTuple):
+    """The folders in which one stands."""
+
+    identity: Identity
+    above: Optional["_Above"]
+
+
+def hidden(store: str) -> Hidden:
+    """The files of a store."""
+    path = os.path.realpath(os.fsencode(store))
+    name = os.path.basename(path)
+    names = frozenset(name + os.fsencode(ending) for ending in ("", *ENDINGS))
+    try:
+        return Hidden(_identity(os.stat(os.path.dirname(path))), names)
+    except OSError:
+        return Hidden(None, names)
+
+
+def _identity(status: os.stat_result) -> Identity:
+    return status.st_dev, status.st_ino
+
+
+def walk(root: bytes, hides: Hidden) -> Iterator[Listing]:
+    """The folder and those below it."""
+    stack: List[Tuple[bytes, Optional[_Above]]] = [(root, None)]
+    while stack:
+        path, above = stack.pop()
+        try:
+            descriptor = opened(path, follow=above is None)
+        except OSError as error:
+            yield _unread(path, error, above is None)
+            continue
+        try:
+            here = _Above(_identity(os.fstat(descriptor)), above)
+            if _holds_itself(here):
+                yield Listing(path, UNREADABLE, "it is in itself")
+                continue
+            names, packs, below = _listed(descriptor, hides if here.identity == hides.folder else None)
+            which = identity_of(descriptor, above is None)
+            yield Listing(path, READ, None, tuple(names), bool(below), descriptor, tuple(packs), which)
+            for each in reversed([join(path, name) for name in below]):
+                if len(each) <= MOST_PATH:
+                    stack.append((each, here))
+                else:
+                    yield Listing(each, UNREADABLE, LONG_PATH)
+        except OSError as error:
+            yield _unread(path, error, above is None)
+        finally:
+            os.close(descriptor)
+
+
+def _listed(descriptor: int, hides: Optional[Hidden]) -> Tuple[List[bytes], List[bytes], List[bytes]]:
+    """The names in a folder, those of the packs and those of the folders in it, sorted."""
+    names: List[bytes] = []
+    packs: List[bytes] = []
+    below: List[bytes] = []
+    with os.scandir(descriptor) as entries:
+        for entry in entries:
+            name = os.fsencode(entry.name)
+            if _is_folder(entry):
+                below.append(name)
+            elif not hides or name not in hides.names:
+                (packs if is_pack(name) and _is_file(entry) else names).append(name)
+    for each in (names, packs, below):
+        each.sort()
+    return names, packs, below
+
+
+def _is_folder(entry: "os.DirEntry[str]") -> bool:
+    try:
+        return entry.is_dir(follow_symlinks=False)
+    except OSError:
+        return False
+
+
+def _is_file(entry: "os.DirEntry[str]") -> bool:
+    try:
+        return entry.is_file(follow_symlinks=False)
+    except OSError:
+        return False
+
+
+def _holds_itself(here: _Above) -> bool:
+    """Whether a folder stands in itself, as some file systems show it."""
+    above = here.above
+    while above:
+        if above.identity == here.identity:
+            return True
+        above = above.above
+    return False
+
+
+def _unread(path: bytes, error: OSError, is_root: bool) -> Listing:
+    if is_gone(error) and not is_root:
+        return Listing(path, VANISHED, "it vanished while it was looked at")
+    return Listing(path, UNREADABLE, reason(error))
+
+
+# A pack as it was read, to its end or as far as it can be.
+PACK = f"""SELECT size, mtime_ns, ctime_ns, inode, state, coalesce(why, '') FROM files WHERE folder = ? AND name = x''
+    AND state IN ({READ}, {UNREADABLE})"""
+# How many members it has, how many of these have to be asked about again, and how many couldn't be read.
+MEMBERS = f"""SELECT count(*), total(NOT CASE f.state WHEN {READ} THEN coalesce({SETTLED}, 0)
+    WHEN {TOO_LONG} THEN f.size > :most ELSE 1 END), total(f.state = {UNREADABLE})
+    FROM files f LEFT JOIN pages p ON p.id = f.page
+    WHERE f.folder = :folder AND f.name <> x'' AND f.state <> {GONE}"""
+# The number of members of a pack that couldn't be read which are told one by one.
+MOST_BROKEN = 20
+UNREAD = f"""SELECT name, coalesce(why, '') FROM files WHERE folder = ? AND name <> x'' AND state = {UNREADABLE}
+    ORDER BY name LIMIT {MOST_BROKEN}"""
+BROKEN = f"""SELECT d.path, (SELECT count(*) FROM files f WHERE f.folder = d.id AND f.name <> x''
+    AND f.state = {UNREADABLE}) FROM folders d WHERE d.id = ?"""
+MORE = f"%d of its members couldn't be read, of which {MOST_BROKEN} are named; `files` names all"
+
+
+class KnownPack(NamedTuple):
+    """A pack as it was read."""
+
+    size: Optional[Count]
+    mtime_ns: Optional[Number]
+    ctime_ns: Optional[Number]
+    inode: Optional[Count]
+    state: FileState
+    why: Text
+
+    @property
+    def marks(self) -> Tuple[Optional[int], ...]:
+        """By what it is known again."""
+        return self.size, self.mtime_ns, self.ctime_ns, self.inode
+
+
+class UnreadMember(NamedTuple):
+    """A member that couldn't be read, and why."""
+
+    name: Name
+    why: Text
+
+
+class BrokenPack(NamedTuple):
+    """A pack by its path, and how many of its members couldn't be read."""
+
+    path: Path
+    members: Count
+
+
+class PackState(NamedTuple):
+    """How many members a known pack has; and which of them couldn't be read, and why, with the pack itself.
+
+    If there are more than `MOST_BROKEN`, these are the first, and that there are more.
+    """
+
+    members: int
+    unread: List[UnreadMember]
+
+
+def settled(connection: sqlite3.Connection, folder: int, marks: Optional[Marks],
+            asked: Mapping[str, object], most: int) -> Optional[PackState]:
+    """What is known of a pack with these marks; None where it has to be read.
+
+    Its answers have to be on the terms that are asked for, with treatments and texts if these are, and of all members
+    that have no more than `most` bytes.
+    """
+    pack = one(connection.execute(PACK, (folder,)).fetchone(), KnownPack)
+    if pack is None or marks is None or pack.marks != marks:
+        return None
+    values: Dict[str, object] = {**asked, "most": most, "folder": folder}
+    members, unsettled, unread = connection.execute(MEMBERS, values).fetchone()
+    if unsettled:
+        return None
+    some = list(checked(connection.execute(UNREAD, (folder,)), UnreadMember)) if unread else []
+    some += [UnreadMember(b"", pack.why)] if pack.state == UNREADABLE else []
+    some += [UnreadMember(b"", MORE % unread)] if unread > MOST_BROKEN else []
+    return PackState(members, some)
+
+
+def broken(connection: sqlite3.Connection, folder: int) -> Tuple[bytes, str]:
+    """A pack by its path, and how many of its members couldn't be read."""
+    pack = next(checked(connection.execute(BROKEN, (folder,)), BrokenPack))
+    return join(pack.path, b""), MORE % pack.members
+
 
 # The number of rows of the store that are looked at together.
 ROWS = 1000
@@ -139,7 +356,7 @@ class Search:
         self.writer.is_no_folder(root)
         folder, name = os.path.split(os.path.realpath(root))
         if (self.scope.part is None or self.scope.part.takes(b"")) and not self.scope.hides.has(folder, name):
-            yield self.writer.folder_of(folder), folder, iter((name,)), _identity(folder)
+            yield self.writer.folder_of(folder), folder, iter((name,)), _identity_at(folder)
 
     def _packs(self, root: bytes, listing: Listing) -> Iterator[Found]:
         """The packs in a folder."""
@@ -214,7 +431,7 @@ class Search:
             return False
 
 
-def _identity(path: bytes) -> Optional[FolderIdentity]:
+def _identity_at(path: bytes) -> Optional[FolderIdentity]:
     """Which folder this path leads to; none where it can't be opened, as the worker will find."""
     try:
         descriptor = opened(path)

@@ -7,11 +7,11 @@ from typing import Dict, Iterator, List, NamedTuple, Optional, Sequence, Tuple, 
 
 from naplps.names import shown
 
-from . import word_index
+from . import texts
 from .canon_tables import CANON_TABLES
 from .kinds import Count, Path, Row, Text, checked
-from .lock import is_held
-from .part import Part, RootPath, kept_part
+from .store_files import is_held
+from .kept import Part, RootPath, kept_part
 from .schemas import require_right
 from .store import StoreFailed, open_unchanged, schema_of
 
@@ -120,7 +120,7 @@ def _opened(path: str, cache: int) -> Source:
         source.connection.execute(f"PRAGMA cache_size = {-cache}")
         source.connection.execute("BEGIN")  # (so it stays as it is now, though a scan may be at work)
         source.part = kept_part(source.connection)
-        source.schema, source.has_words = schema_of(source.connection), word_index.is_there(source.connection)
+        source.schema, source.has_words = schema_of(source.connection), texts.is_there(source.connection)
         source.roots = [root.path for root in source.rows("SELECT DISTINCT path FROM roots ORDER BY path", RootPath)]
         for run in source.rows(LAST, RunTimes):
             source.began, source.ended = run.began, run.ended

@@ -1,20 +1,21 @@
-"""The store of a collection: one SQLite file, written by one process and read by many."""
+"""The store of a collection: an SQLite file, written by one process and read by many; and commands that run on it."""
 import os
 import sqlite3
 import stat
 import time
 from typing import Callable, Iterator, Optional, Set, Type
 
+from naplps.faults import NoProgram
 from naplps.names import printable, shown
 from naplps.version import VERSION
 
 from .. import TOOL
-from . import canon_tables, schemas, tables, word_index
-from .beside import LOG, foreign, place
-from .header import APPLICATION
+from ..console import FAILED, NotWritten, tell
+from ..unexpected import Unexpected, told
+from . import canon_tables, schemas, tables, texts
+from .canon_tables import NEAR_KEYS
 from .kinds import Row, checked
-from .lock import is_held
-from .near_table import NEAR_KEYS
+from .store_files import APPLICATION, LOG, foreign, is_held, place
 
 # A reader may hold a store that has only a rollback journal so long, in seconds.
 PATIENCE = 60
@@ -200,7 +201,7 @@ def _check_tables(path: str, connection: sqlite3.Connection, schema: int) -> Non
     """
     wanted = schemas.own(schema)
     found = set()
-    optional = {**word_index.OWN, **canon_tables.OWN}
+    optional = {**texts.OWN, **canon_tables.OWN}
     tables_of_own = {name for kind, name in wanted if kind == "table"} | set(optional)
     for kind, name, table, words in connection.execute("SELECT type, name, tbl_name, sql FROM main.sqlite_master"):
         own = wanted.get((kind, name)) or optional.get(name)
@@ -209,8 +210,8 @@ def _check_tables(path: str, connection: sqlite3.Connection, schema: int) -> Non
         if own is not None and words != own:
             raise StoreFailed(path, OTHERWISE % (TOOL, kind, name))
         found.add((kind, name))
-    has_words = any(("table", name) in found for name in word_index.OWN)
-    for name in [*(name for kind, name in wanted if kind == "table"), *(word_index.OWN if has_words else ())]:
+    has_words = any(("table", name) in found for name in texts.OWN)
+    for name in [*(name for kind, name in wanted if kind == "table"), *(texts.OWN if has_words else ())]:
         if ("table", name) not in found:
             raise StoreFailed(path, LACKS % (TOOL, name))
 
@@ -325,3 +326,16 @@ def log_of(connection: sqlite3.Connection) -> int:
         return os.lstat(place(path, LOG)).st_size
     except OSError:
         return 0
+
+
+def run(named: str, work: Callable[[], int]) -> int:
+    """Runs the work of a command on the store of this name; the status."""
+    try:
+        return work()
+    except (NoProgram, NotWritten, StoreFailed, Unexpected) as error:
+        tell(str(error))
+    except BrokenPipeError:
+        raise
+    except Exception as error:  # pylint: disable=broad-except
+        tell("%s: %s" % (shown(named), str(error) if isinstance(error, sqlite3.Error) else told(error)))
+    return FAILED

@@ -1,7 +1,18 @@
-"""What a worker does: looks at files, and asks about those whose bytes aren't known."""
+"""What a worker does: looks at files, and asks about those whose bytes the store doesn't know. Its process takes chunks
+from a connection, and sends what comes of them in pieces.
+"""
 import os
+import resource
+import signal
+import sqlite3
+import sys
+import time
 from collections import OrderedDict
-from typing import Callable, Dict, Iterable, Iterator, List, NamedTuple, Optional, Set, Tuple, Union
+from multiprocessing.connection import Connection
+from types import FrameType
+from typing import (
+    Any, Callable, Dict, Iterable, Iterator, List, NamedTuple, Optional, Protocol, Sequence, Set, Tuple, Union,
+)
 
 from naplps.answers import Accepted, Answer, HashedAnswer, Refusal, Unanswered
 from naplps.client import Client
@@ -16,12 +27,41 @@ from ..packs.member import PackLimits
 from ..packs.naming import pack_of
 from ..source import Page
 from . import tables, texts
-from .file_reader import OTHER, Seen, change, look
+from .file_reader import OTHER, REPLACED, PackScan, Seen, change, look
 from .folders import Replaced, is_gone, opened_again, reason
-from .pack_reader import REPLACED, PackScan
-from .rows import MOST_AHEAD, Chunk, FolderFiles, Piece, WorkerOptions
+from .rows import ALIVE, DONE, FAILED, MOST_AHEAD, AskAgain, Chunk, FolderFiles, Piece, WorkerOptions, plain
 from .schemas import Answered, Cured, File, PageText
-from .tables import CHANGED, UNREADABLE, VANISHED
+from .store import reader
+from .tables import CHANGED, DESCRIBED, HAS_TEXT, NO_ANSWER, REFUSED, TRIED, UNREADABLE, VANISHED
+
+# An answer counts under the same terms; one of this run alone, where there was none, or all is asked again; and, if
+# treatments are asked for, of a refused page with what they came to; and if texts are, with one.
+KNOWN = f"""SELECT 1 FROM pages p WHERE own = :own AND terms = :terms
+    AND (run = :run OR state <> {NO_ANSWER} AND NOT :again AND {DESCRIBED})
+    AND (state <> {REFUSED} OR NOT :cures OR {TRIED}) AND (state = {NO_ANSWER} OR NOT :words OR {HAS_TEXT})"""
+
+
+class KnownHashes:
+    """Looks for hashes in a store that another process writes. Where it can't be read, nothing is known."""
+
+    def __init__(self, store: Optional[str], terms: int, run: int, wanted: AskAgain) -> None:
+        self.store = store
+        self.values: Dict[str, object] = {"terms": terms, "run": run, **wanted._asdict()}
+        self.connection: Optional[sqlite3.Connection] = None
+
+    def __call__(self, hashes: List[bytes]) -> Set[bytes]:
+        """Those of the hashes that need no question."""
+        if self.store is None:
+            return set()
+        try:
+            if self.connection is None:
+                self.connection = reader(self.store)
+            ask = self.connection.execute
+            return {own for own in hashes if ask(KNOWN, dict(self.values, own=own)).fetchone()}
+        except sqlite3.Error:
+            self.store = None
+            return set()
+
 
 # The number of bytes of requests that are written ahead.
 MOST_BYTES = 1 << 20
@@ -256,3 +296,98 @@ def _without(names: FolderFiles, error: Union[OSError, Replaced]) -> Iterator[Fi
     else:
         state, why = (VANISHED, "its folder vanished") if is_gone(error) else (UNREADABLE, reason(error))
     return (File(names.folder, name, state, why) for name in names.names)
+
+
+# A worker that needs more memory than this is at fault.
+MOST_MEMORY = 1 << 30
+# It shows that it is at work so often, in seconds, while it has nothing to send.
+BEAT = 1.0
+
+
+class PieceMaker(Protocol):
+    """What a process does: turns chunks into pieces, until it is closed."""
+
+    def pieces(self, chunk: Chunk) -> Iterator[Piece]:
+        """What comes of a chunk."""
+
+    def close(self) -> None:
+        """Ends what it has started."""
+
+
+class ScanConnection:
+    """The connection to the scan."""
+
+    def __init__(self, connection: Connection) -> None:
+        self.connection = connection
+        self.last = 0.0
+
+    def send(self, what: str, value: object = None) -> None:
+        """Sends a message."""
+        self.connection.send((what, value))
+        self.last = time.monotonic()
+
+    def beat(self) -> None:
+        """Shows that the worker is at work, now and then."""
+        if time.monotonic() - self.last > BEAT:
+            self.send(ALIVE)
+
+
+def main(descriptor: int) -> None:
+    """Works until the connection ends."""
+    serve(descriptor, _worker)
+
+
+def _worker(first: Sequence[Any], beat: Callable[[], None]) -> PieceMaker:
+    how, store, terms, run = first
+    return Worker(how, KnownHashes(store, terms, run, how.wanted), beat)
+
+
+def serve(descriptor: int, made: Callable[[Sequence[Any], Callable[[], None]], PieceMaker]) -> None:
+    """Works until the connection ends, by what is made of the first message."""
+    signal.signal(signal.SIGTERM, _end)
+    limit_memory()
+    line = ScanConnection(Connection(descriptor))
+    worker: Optional[PieceMaker] = None
+    try:
+        line.send(ALIVE)
+        worker = made(line.connection.recv(), line.beat)
+        while True:
+            _work(line, worker)
+    except (EOFError, ConnectionError):
+        pass  # the scan has ended
+    except Exception as error:  # pylint: disable=broad-except
+        _tell(line, error)
+    finally:
+        if worker:
+            worker.close()
+
+
+def limit_memory() -> None:
+    """Limits the memory of this process."""
+    hard = resource.getrlimit(resource.RLIMIT_AS)[1]
+    most = MOST_MEMORY if hard == resource.RLIM_INFINITY else min(MOST_MEMORY, hard)
+    try:
+        resource.setrlimit(resource.RLIMIT_AS, (most, hard))
+    except (OSError, ValueError):
+        pass  # the system has no such limit
+
+
+def _work(line: ScanConnection, worker: PieceMaker) -> None:
+    chunk = line.connection.recv()
+    for files, answers in worker.pieces(chunk):
+        if files:
+            line.send("piece", plain((files, answers)))
+    line.send(DONE)
+
+
+def _tell(line: ScanConnection, error: Exception) -> None:
+    said = str(error)
+    try:
+        line.send(FAILED, type(error).__name__ + (": " + said if said else ""))
+    except OSError:
+        pass
+    sys.exit(1)
+
+
+def _end(number: int, _: Optional[FrameType]) -> None:
+    sys.exit(128 + number)

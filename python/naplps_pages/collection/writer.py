@@ -9,7 +9,7 @@ from naplps.version import VERSION
 from .. import TOOL
 from ..packs.member import SEVERAL
 from ..packs.naming import pack_of
-from . import texts, word_index
+from . import texts
 from .folders import is_within, join
 from .rows import Piece
 from .schemas import Answered, Cured, Fault, File, Folder, Root, Terms, listed, marks, taken_over
@@ -59,7 +59,7 @@ class Writer:
         self.packs: Set[int] = set()
         self.unpacked: List[int] = []
         self.current: Optional[Tuple[object, ...]] = None
-        self.has_words = word_index.is_there(connection)
+        self.has_words = texts.is_there(connection)
         self.began = time.monotonic()
         self._begin()
         self.terms = self._terms(terms)

@@ -32,7 +32,7 @@ def _check(given: Given) -> None:
 
 def _of_store(given: Given, client: "Client", _: "Optional[Earlier]") -> int:
     from ..collection.convert import convert
-    from ..collection.store_run import run
+    from ..collection.store import run
     if given.into is None:
         given.parser.error("a store needs --into FOLDER")
     return run(given.pages[0], lambda: convert(client, given.pages[0], given.into, given.form))

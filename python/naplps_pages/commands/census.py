@@ -17,8 +17,8 @@ def _parts() -> List[Part]:
 
 def _of_store(given: Given, client: "Client", _: "Optional[Earlier]") -> int:
     from ..collection.census_of_store import census
-    from ..collection.equal_over import most_budget
-    from ..collection.store_run import run
+    from ..collection.equal_run import most_budget
+    from ..collection.store import run
     from ..page_session import Session
 
     def on_store() -> int:

@@ -15,7 +15,7 @@ def _run(given: Given, tool: str) -> int:
     from naplps.limits import Limits
     from naplps.program import find
     from ..collection.convert import convert
-    from ..collection.store_run import run
+    from ..collection.store import run
 
     def on_store() -> int:
         program = Client(find(tool), limits=Limits(seconds=given.seconds))

@@ -37,7 +37,7 @@ def _check(given: Given) -> None:
 
 def _run(given: Given, tool: str) -> int:
     from ..collection.equal_run import equal, equal_by_picture
-    from ..collection.store_run import run
+    from ..collection.store import run
     return run(given.stores[0], lambda: equal_by_picture(given, tool) if given.by == "picture" else equal(given, tool))
 
 

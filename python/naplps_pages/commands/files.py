@@ -41,7 +41,7 @@ def _renewed(words: List[str]) -> Optional[Tuple[List[str], str]]:
 
 
 def _run(given: Given, _: str) -> int:
-    from ..collection.store_run import run
+    from ..collection.store import run
     if given.form == "text" and given.kind is None and given.each_refused is None:
         show = _show_refused if given.refused or given.reason else _show_status
         return run(given.store, lambda: show(given))

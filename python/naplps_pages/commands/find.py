@@ -14,7 +14,7 @@ def _parts() -> List[Part]:
 
 
 def _run(given: Given, _: str) -> int:
-    from ..collection.store_run import run
+    from ..collection.store import run
     from ..page_words import NoWords
 
     def found() -> int:

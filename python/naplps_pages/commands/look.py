@@ -71,8 +71,7 @@ def _check_dots(given: Given, asked: str) -> None:
 
 
 def _of_store(given: Given, client: "Client", after: "Optional[Earlier]") -> int:
-    from ..collection.looking import LookSession
-    from ..collection.session import ANSWERED, on_files
+    from ..collection.session import ANSWERED, LookSession, on_files
     from ..showing import look
     given.sheet = given.sheet or given.output_file
     if given.into is None and given.sheet is None:

@@ -27,7 +27,7 @@ def _renewed(words: List[str]) -> Optional[Tuple[List[str], str]]:
 
 def _run(given: Given, _: str) -> int:
     from ..collection.merge import merge
-    from ..collection.store_run import run
+    from ..collection.store import run
     return run(given.into, lambda: COMPLETE if merge(given.into, given.parts, given.unfinished) else SOME_LACK)
 
 

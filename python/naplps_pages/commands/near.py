@@ -16,11 +16,11 @@ def _parts() -> List[Part]:
 
 
 def _of_store(given: Given, client: "Client", _: "Optional[Earlier]") -> int:
-    from ..collection.equal_over import most_budget
-    from ..collection.near_of_store import near
+    from ..collection.equal_run import most_budget
+    from ..collection.near import near
     from ..collection.pool import processors
     from ..collection.rows import WorkerOptions
-    from ..collection.store_run import run
+    from ..collection.store import run
     store = given.pages[0]
     return run(store, lambda: near(store, WorkerOptions(client.path, most_budget([store]), given.seconds, 0),
                                    given.processes or processors(), given.json))

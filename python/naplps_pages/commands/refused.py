@@ -14,19 +14,20 @@ def _parts() -> List[Part]:
 
 
 def _run(given: Given, _: str) -> int:
-    from ..collection.store_run import run
+    from ..collection.store import run
     return run(given.store, lambda: show(given))
 
 
 def show(given: Given) -> int:
     """Prints the refused files of a store, by the reason; the status."""
-    from ..collection import refused
+    from ..collection import every_file
     from ..collection.printing import Printer
     from ..collection.store import open_to_read
     from ..refusals import Reason
     connection = open_to_read(given.store)
-    printer = Printer(given.form, refused.COLUMNS)
-    refused.show(printer, refused.members(connection, given.reason or (given.number and Reason(given.number))))
+    printer = Printer(given.form, every_file.REFUSED_COLUMNS)
+    wanted = given.reason or (given.number and Reason(given.number))
+    every_file.show_refused(printer, every_file.refused_files(connection, wanted))
     printer.flush()
     return COMPLETE
 

@@ -10,7 +10,7 @@ from . import (
 )
 
 if TYPE_CHECKING:
-    from ..collection.part import Part as ScanPart
+    from ..collection.kept import Part as ScanPart
 
 FOLDERS = Argument("folders", "FOLDER", "a folder of pages, a pack of them, which is a tar, tar.gz or zip file, or a "
                    "page", "+")
@@ -26,7 +26,7 @@ PICTURES = Option("--pictures", "keep the hash of the picture of each page, for 
 
 def part(text: str) -> "ScanPart":
     """The part of a scan that is named K/N."""
-    from ..collection.part import MOST_PARTS, read_part
+    from ..collection.kept import MOST_PARTS, read_part
     try:
         return read_part(text)
     except ValueError:
@@ -43,13 +43,13 @@ def _parts() -> List[Part]:
 
 
 def _run(given: Given, tool: str) -> int:
-    from ..collection.store_run import run
+    from ..collection.store import run
     return run(given.into, lambda: _scan(given, tool))
 
 
 def _scan(given: Given, tool: str) -> int:
     from naplps.program import find
-    from ..collection.kept_options import refused_by
+    from ..collection.kept import refused_by
     from ..collection.pool import processors
     from ..collection.rows import AskAgain, WorkerOptions
     from ..collection.scan import ScanOptions, scan

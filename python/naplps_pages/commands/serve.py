@@ -14,7 +14,7 @@ def _parts() -> List[Part]:
 
 
 def _run(given: Given, tool: str) -> int:
-    from ..collection.store_run import run
+    from ..collection.store import run
     return run(given.store, lambda: _serve(given, tool))
 
 

@@ -10,7 +10,7 @@ def _parts() -> List[Part]:
 
 
 def _run(given: Given, _: str) -> int:
-    from ..collection.store_run import run
+    from ..collection.store import run
     return run(given.store, lambda: show(given))
 
 

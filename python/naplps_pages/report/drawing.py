@@ -10,8 +10,8 @@ from naplps.screen_text import lines_of
 from naplps.treating.search import find
 from naplps.treating.treatments import graded
 
-from ..collection.page_reader import Otherwise, read
-from ..collection.places import Place
+from ..collection.file_reader import Otherwise, read
+from ..collection.folders import Place
 from ..collection.tables import hashed
 from ..folding import MOST_IN_ROW, FoldedRow, folded
 from ..listing import Listed, listed, listed_of_few

@@ -5,10 +5,9 @@ from typing import Dict, List, NamedTuple, Optional, Tuple
 from naplps.treating.treatments import graded
 
 from .. import refusals
-from ..collection import refused, tables
-from ..collection.counts import UNKNOWN
+from ..collection import every_file, tables
+from ..collection.status import LACK, LACKING, UNKNOWN, LastRun, status
 from ..collection.kinds import Count, RefusalNumber, Text, checked
-from ..collection.status import LACK, LACKING, LastRun, status
 from . import groups as of_groups
 from . import store_words
 from .choices import Choices
@@ -98,7 +97,7 @@ def _lacking(connection: sqlite3.Connection) -> List[Tuple[str, int]]:
 
 def _reasons(connection: sqlite3.Connection) -> List[ReasonRow]:
     connection.execute("DROP TABLE IF EXISTS temp.reasons")
-    connection.execute(refused.REASONS.format(""))
+    connection.execute(every_file.REASONS.format(""))
     known = refusals.load()
     readable: Dict[Tuple[int, str], List[Tuple[str, int]]] = {}
     for some in checked(connection.execute(READABLE), ReadableFiles):

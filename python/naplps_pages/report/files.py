@@ -7,7 +7,7 @@ from ..collection import tables
 from ..collection.kinds import (
     Count, FileState, Flag, GradeNumber, Hash, Name, PageKind, PageState, Path, RefusalNumber, Text, checked,
 )
-from ..collection.places import Place
+from ..collection.folders import Place
 
 # A file, its page, and on which terms that was asked about. (Files that are gone aren't shown.)
 COLUMNS = f"""d.id, d.path, f.name, f.state, f.why, f.size, p.id, p.own, p.state, p.number, n.name, p.left_out, p.place,

@@ -2,7 +2,7 @@
 import sqlite3
 from typing import List, NamedTuple, Tuple
 
-from ..collection import equal, equal_treated
+from ..collection import equal
 from ..collection.kinds import Count, Hash, Text, checked
 
 # The readable copies of refused pages.
@@ -12,7 +12,7 @@ COPIES = ("""CREATE TEMP TABLE copies AS SELECT c.canon AS canon, t.form AS form
           "CREATE INDEX temp.copies_by_canon ON copies(canon, page)")
 SEVERAL = "CREATE TEMP TABLE several AS " + equal.SEVERAL + equal.COPIES + "".join(
     each.format("copies") for each in (
-        " UNION " + equal_treated.AMONG_THEM, equal_treated.WITH_PAGES, equal_treated.OF_COPIES))
+        " UNION " + equal.AMONG_THEM, equal.WITH_PAGES, equal.OF_COPIES))
 MEMBERS = """SELECT p.canon AS canon, t.form AS form, p.id AS page, p.entries AS entries, p.canon_size AS canon_size,
     0 AS is_copy FROM several s CROSS JOIN pages p ON p.canon = s.canon CROSS JOIN terms t ON t.id = p.terms
     CROSS JOIN present f ON f.page = p.id

@@ -3,8 +3,8 @@ import sqlite3
 from collections import defaultdict
 from typing import Dict, List, NamedTuple, Tuple
 
-from ..collection.near_table import NEAR_KEYS
-from ..collection.near_groups import NearGroups
+from ..collection.canon_tables import NEAR_KEYS
+from ..collection.near import NearGroups
 from ..near_pages import words_of
 from ..nearness import WORDS, Beginning, Difference, ListedPage, difference
 from .files import ReportFile

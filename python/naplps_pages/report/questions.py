@@ -5,7 +5,7 @@ from typing import Dict, List, NamedTuple, Optional, Set, Tuple
 from naplps.treating.treatments import graded
 
 from .. import messages
-from ..collection import tables, word_index
+from ..collection import tables, texts
 from ..collection.kinds import Count, Name, Path, checked, one
 from ..collection.store import open_to_read
 from ..packs.naming import MOST_NAME
@@ -174,7 +174,7 @@ class Questions:
         conditions, values = self._conditions(words)
         self.found = ()
         self.connection.execute("DROP TABLE IF EXISTS temp.hits")
-        with word_index.used():
+        with texts.used():
             self.connection.execute(self._hits(words, " AND ".join(conditions)), values)
         self.found = named
 

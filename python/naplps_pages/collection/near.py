@@ -1,19 +1,25 @@
-"""Pages of a store that are almost equal, by the keys of their lists."""
+"""The command near on a store: pages that are almost equal, by keys of their lists, which are made where they lack."""
 import sqlite3
+import sys
 from itertools import groupby
 from operator import attrgetter
 from typing import Dict, Iterator, List, NamedTuple, Optional, Sequence
 
 from naplps.treating.treatments import graded
 
+from .. import messages
+from ..console import FAILED, Output, tell
 from ..near_keys import FORM, PREFIX
+from ..near_pages import show
 from ..nearness import (
     COLOURS, MOST_ENTRIES, PLACES, WORDS, Beginning, Difference, ListedPage, PageName, beginnings, difference,
     numbers_of,
 )
-from .canon_table import WITH_COPIES
+from .canon_filling import CanonFilling
+from .canon_tables import NEAR_KEYS, WITH_COPIES
+from .folders import Place
 from .kinds import Hash, ListKey, ListWords, Name, Path, PrefixKeys, Text, checked
-from .places import Place
+from .rows import WorkerOptions
 
 FIND = ("DROP TABLE IF EXISTS temp.named", "DROP TABLE IF EXISTS temp.compared",
         f"CREATE TEMP TABLE named AS {WITH_COPIES}", "CREATE INDEX temp.named_by_canon ON named(canon)",
@@ -110,3 +116,24 @@ class NearGroups:
                 PageName(Place(row.folder, row.name).path, graded(row.treatments) if row.treatments else "")
                 for row in rows]
         return names
+
+
+def near(store: str, how: WorkerOptions, processes: int, as_objects: bool) -> int:
+    """Prints what is near in a store; the status. Raises StoreFailed or sqlite3.Error."""
+    it = CanonFilling(NEAR_KEYS, store, lambda: how, processes).filled()
+    if it is None:
+        return FAILED
+    _print(it.connection, as_objects)
+    return it.status
+
+
+def _print(connection: sqlite3.Connection, as_objects: bool) -> None:
+    output = Output(sys.stdout.buffer)
+    found = NearGroups(connection)
+    for each in found.differences():
+        show(output, each, as_objects)
+    for one in found.beginnings():
+        show(output, one, as_objects)
+    output.flush()
+    if not found.is_whole:
+        tell(messages.NOT_ALL_BEGINNINGS)
