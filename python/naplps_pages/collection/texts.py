@@ -8,9 +8,6 @@ import sqlite3
 from contextlib import contextmanager
 from typing import Dict, Iterable, Iterator, List, Tuple
 
-from naplps.answers import Answer, Unanswered
-from naplps.limits import MOST_LISTED
-
 from .schemas import PageText, listed, marks
 
 NAME = "words"
@@ -83,22 +80,8 @@ def note(connection: sqlite3.Connection, page: int) -> None:
                        "WHERE page = ? AND text IS NOT NULL", (page,))
 
 
-TOO_MANY = "it has too many entries for its text"
-TOO_LONG = "it is too long for its text"
 OF_PAGE = "SELECT id FROM pages WHERE own = ?"
 TEXT = f"INSERT OR REPLACE INTO texts(page, terms, {listed(PageText)}) VALUES({marks(PageText, 2)})"
-
-
-def said(source: int, answer: Answer) -> PageText:
-    """The text that an answer to `list` or `places` has."""
-    from naplps.screen_text import lines_of  # (who writes rows alone doesn't wait for it)
-    from ..page_words import MOST_TEXT, first_words
-    if isinstance(answer, Unanswered):
-        return PageText(source, why=answer.reason)
-    if answer.body.count(b"\n") > MOST_LISTED:
-        return PageText(source, why=TOO_MANY)
-    text = "\n".join(lines_of(answer.body.decode("ascii")))[:MOST_TEXT]
-    return PageText(source, text, first_words(text))
 
 
 def write(connection: sqlite3.Connection, terms: int, rows: Iterable[Tuple[bytes, PageText]], has_index: bool) -> None:

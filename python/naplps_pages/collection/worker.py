@@ -17,6 +17,7 @@ from typing import (
 from naplps.answers import Accepted, Answer, HashedAnswer, Refusal, Unanswered
 from naplps.client import Client
 from naplps.limits import MODEST, MOST_LISTED, MOST_PAGE, Limits
+from naplps.screen_text import lines_of
 from naplps.treating.borders import clears_again, pages_in
 from naplps.treating.search import Cure, TreatmentSearch
 
@@ -25,8 +26,9 @@ from ..census import stop_of
 from ..notes import is_note
 from ..packs.member import PackLimits
 from ..packs.naming import pack_of
+from ..page_words import MOST_TEXT, first_words
 from ..source import Page
-from . import tables, texts
+from . import tables
 from .file_reader import OTHER, REPLACED, PackScan, Seen, change, look
 from .folders import Replaced, is_gone, opened_again, reason
 from .rows import ALIVE, DONE, FAILED, MOST_AHEAD, AskAgain, Chunk, FolderFiles, Piece, WorkerOptions, plain
@@ -68,6 +70,8 @@ MOST_BYTES = 1 << 20
 # The number of latest answers that are remembered.
 MOST_REMEMBERED = 4096
 TOO_LONG_TO_CURE = "it is too long for treatments"
+TOO_MANY_FOR_TEXT = "it has too many entries for its text"
+TOO_LONG_FOR_TEXT = "it is too long for its text"
 OTHERWISE = "the program answers otherwise when it is asked for its canonical bytes"
 NUMBERS = {name: number for number, name in enumerate(tables.KINDS)}
 # Bytes of codes without which a page is text, or has no macro.
@@ -179,11 +183,11 @@ class Worker:
     def _said(self, answered: Answered, data: bytes, copy: Optional[bytes]) -> PageText:
         """The text of a page: its own, that before its refusal, or that of its treated copy."""
         if answered.state == tables.REFUSED and copy is None:
-            return texts.said(tables.BEFORE, self._ask("places", data))
+            return _text(tables.BEFORE, self._ask("places", data))
         source, data = (tables.WHOLE, data) if copy is None else (tables.TREATED, copy)
         if (answered.entries or 0) > MOST_LISTED:
-            return PageText(source, why=texts.TOO_MANY)
-        return texts.said(source, self._ask("list", data))
+            return PageText(source, why=TOO_MANY_FOR_TEXT)
+        return _text(source, self._ask("list", data))
 
     def _row(self, own: bytes, data: bytes, said: HashedAnswer) -> Answered:
         """The row of an answer to these bytes. (It is made for each page, so the usual one has the shortest way.)"""
@@ -239,7 +243,7 @@ class Worker:
             answered = answered._replace(cured=Cured(why=TOO_LONG_TO_CURE))
         if self.how.wanted.words and answered.state != tables.NO_ANSWER:
             source = tables.BEFORE if answered.state == tables.REFUSED else tables.WHOLE
-            answered = answered._replace(said=PageText(source, why=texts.TOO_LONG))
+            answered = answered._replace(said=PageText(source, why=TOO_LONG_FOR_TEXT))
         self._remember([own])
         return (seen.file,), (answered,)
 
@@ -274,6 +278,16 @@ class Worker:
         """Ends the programs."""
         self.ahead.close()
         self.program.close()
+
+
+def _text(source: int, answer: Answer) -> PageText:
+    """The text that an answer to `list` or `places` has."""
+    if isinstance(answer, Unanswered):
+        return PageText(source, why=answer.reason)
+    if answer.body.count(b"\n") > MOST_LISTED:
+        return PageText(source, why=TOO_MANY_FOR_TEXT)
+    text = "\n".join(lines_of(answer.body.decode("ascii")))[:MOST_TEXT]
+    return PageText(source, text, first_words(text))
 
 
 def row(own: bytes, said: HashedAnswer, it: Described) -> Answered:
