@@ -270,7 +270,7 @@ def with_type(block, letter):
 
 
 def test_names_of_the_forms_of_tar(at):
-    """Where GNU tar's own form has times, that of POSIX has the front of a name."""
+    """Where GNU tar's own form has times, that of POSIX has the beginning of a name."""
     posix = tarfile.TarInfo("front/" * 18 + "name").tobuf(tarfile.USTAR_FORMAT)
     gnu = bytearray(header("name", 0))
     gnu[345:357] = b"13700000000\0"

@@ -60,7 +60,7 @@ class Workers(ABC):
         self.retried: Set[Chunk] = set()
 
     def run(self, chunks: Iterator[Chunk]) -> Iterator[Optional[Piece]]:
-        """What comes of the chunks, which are taken as they are needed; nothing, now and then, while none comes.
+        """Yields what comes of the chunks, which are taken as needed, and now and then None while nothing comes.
 
         A chunk of nothing says that the next may take a while to be found. Raises WorkersFailed.
         """
