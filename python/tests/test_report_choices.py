@@ -175,7 +175,8 @@ def test_a_page_without_a_sketch_says_how_to_see_it(browser, naplps, store):
     browser.until(OPEN)
     said = ("This report has no sketch of it. To see it: naplps-pages look 'a page.nap' -o page.svg or "
             "naplps-pages serve STORE")
-    assert said in browser.run(SHOWN)
+    told = browser.run(SHOWN)
+    assert said in told and "Text begins MENU" in told
 
 
 def test_a_page_that_is_not_played_says_how_to_play_it(browser, naplps, store):
@@ -208,7 +209,9 @@ def test_a_capture_is_named_and_says_what_cuts_it(browser, naplps, tmp_path, ser
 
 def test_the_top_says_how_many_pages_can_be_played():
     some = [(0, Drawing(played="{}")), (1, Drawing()), (2, Drawing(played="{}"))]
-    assert making._told_held(some, 5000) == "3 of 5,000 sketches are in this file; 2 of these pages can be played."
+    told = "3 of 5,000 sketches are in this file; 2 of these pages can be played. naplps-pages serve shows the others too."
+    assert making._told_held(some, 5000) == told
+    assert making._told_held(some, 3) == "3 of 3 sketches are in this file; 2 of these pages can be played."
     assert making._told_held(some[:1], 1) == "1 of 1 sketches are in this file."
 
 

@@ -31,6 +31,8 @@ from .table import Table
 # A page that is to be drawn, and a drawing, with the number of their file.
 Task = Tuple[int, WantedDrawing]
 Numbered = Tuple[int, Drawing]
+# Where pages are that have no sketch in the file.
+OTHERS_SERVED = "naplps-pages serve shows the others too."
 # So each report begins.
 BEGINNING = b'<!doctype html>\n<html lang="en">\n<head>\n<meta charset="utf-8">\n<meta http-equiv="Content-Security-'
 
@@ -135,10 +137,12 @@ def _read(connection: sqlite3.Connection) -> Tuple[List[groups.GroupSummary], Ta
 
 
 def _told_held(drawings: List[Numbered], pictures: int) -> str:
-    """How many sketches there are, and how many of their pages can be played, where that isn't all."""
+    """How many sketches there are, how many of their pages can be played, and what shows the others."""
     told = f"{len(drawings):,} of {pictures:,} sketches are in this file"
     played = sum(1 for _, each in drawings if each.played)
-    return f"{told}." if played == len(drawings) else f"{told}; {played:,} of these pages can be played."
+    if played < len(drawings):
+        told += f"; {played:,} of these pages can be played"
+    return f"{told}." if len(drawings) == pictures else f"{told}. {OTHERS_SERVED}"
 
 
 def _tasks(table: Table, numbers: List[int]) -> List[Task]:

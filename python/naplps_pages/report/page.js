@@ -57,6 +57,7 @@ class PageView {
     return [this.pictures(file, drawing), this.ways(file, drawing),
       facts([["Answer", file.answer], ["Kind", this.kind(file)], ["Bytes", number(file.size)],
         [file.refusal ? "Place of the refusal" : "Entries", number(file.entries)],
+        ["Text begins", drawing.text ? "" : file.says || ""],
         ["Hash", file.hash ? make("code", {}, file.hash) : ""]]),
       ...(file.refusal ? this.reasons(file) : []), ...(file.equal ? this.equal(file.equal) : []),
       ...(file.near.length ? this.near(file) : []),
