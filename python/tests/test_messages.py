@@ -16,7 +16,7 @@ MESSAGES = {name: text for name, text in vars(messages).items() if name.isupper(
 # What a message is given to, besides an exception that is raised.
 TELLING = ("tell", "tell_line", "complain", "error", "Unanswered", "ArgumentTypeError")
 # Where messages still stand in the code that tells them.
-ELSEWHERE = ("__main__.py", "cli.py", "collection", "commands", "source.py")
+ELSEWHERE = ("__main__.py", "cli.py", "commands", "source.py")
 
 
 def parsed(path):

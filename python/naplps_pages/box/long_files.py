@@ -9,9 +9,9 @@ from typing import IO, Optional
 from naplps.client import Client
 from naplps.names import shown
 
-from .. import file_kinds
+from .. import file_kinds, messages
 from ..collection.every_file import FileFacts
-from ..collection.file_reader import FLAGS, NOT_AS_SCANNED, change, marks
+from ..collection.file_reader import FLAGS, change, marks
 from ..collection.folders import opened, reason
 from ..collection.progress import Progress
 from ..page_finder import PageFinder
@@ -42,10 +42,10 @@ def carve(file: FileFacts, program: Client) -> KeptPage:
         with open(descriptor, "rb", buffering=0) as source:
             before = os.fstat(descriptor)
             if (file.size, file.mtime_ns) != marks(before)[:2]:
-                raise NotCarved(NOT_AS_SCANNED)
+                raise NotCarved(messages.NOT_AS_SCANNED)
             kept = _searched(source, before.st_size, program, file.at_path.path)
             if change(before, os.fstat(descriptor)):
-                raise NotCarved(NOT_AS_SCANNED)
+                raise NotCarved(messages.NOT_AS_SCANNED)
             return kept
     except OSError as error:
         raise NotCarved(reason(error)) from None

@@ -9,6 +9,7 @@ from typing import Callable, Iterator, List, NamedTuple, Optional, Sequence, Tup
 
 from naplps.names import shown
 
+from .. import messages
 from ..console import COMPLETE, SOME_LACK, tell
 from .canon_tables import CanonTable
 from .folders import join, reason
@@ -109,10 +110,6 @@ class CanonPass:
         self.written = time.monotonic()
 
 
-NOT_KEPT = "what is found out for this isn't kept, as the store can't be written now: %s"
-EARLIER = "it has an earlier schema, which the next scan renews"
-STOPPED = "stopped; what was found out is kept, and the same command goes on"
-STOPPED_ALL = "stopped"
 # How long is waited at the end for who reads the store, in seconds.
 READERS = 5.0
 
@@ -148,10 +145,10 @@ class CanonFilling(NamedTuple):
             status = self._keep()
             connection = open_to_read(self.store)
         except NotWritable as why:
-            tell(f"{shown(self.store)}: {NOT_KEPT % why}")
+            tell(messages.VALUES_NOT_KEPT.format(path=shown(self.store), reason=why))
             connection = open_to_read(self.store)
             self.table.make_aside(connection)
-            status = self._fill(connection, STOPPED_ALL)
+            status = self._fill(connection, messages.STOPPED_ALL)
         return None if status is None else Filled(connection, status)
 
     def _fill(self, connection: sqlite3.Connection, told: str) -> Optional[int]:
@@ -173,12 +170,12 @@ class CanonFilling(NamedTuple):
             with Lock(self.store):
                 connection = self._opened()
                 try:
-                    return self._fill(connection, STOPPED)
+                    return self._fill(connection, messages.STOPPED)
                 finally:
                     fold(connection, READERS)
                     connection.close()
         except Busy as busy:
-            raise NotWritable(f"another scan is at work on it: {busy}") from None
+            raise NotWritable(messages.SCAN_AT_WORK.format(reason=busy)) from None
         except OSError as error:
             raise NotWritable(reason(error)) from None
 
@@ -188,9 +185,9 @@ class CanonFilling(NamedTuple):
         schema = schema_of(looked)
         looked.close()
         if schema != SCHEMA:
-            raise NotWritable(EARLIER)
+            raise NotWritable(messages.EARLIER_SCHEMA)
         if not os.access(self.store, os.W_OK):
-            raise NotWritable("it may not be written")
+            raise NotWritable(messages.NOT_WRITABLE)
         connection: Optional[sqlite3.Connection] = None
         try:
             connection = open_to_write(self.store)

@@ -10,6 +10,7 @@ from naplps.faults import NotALine
 from naplps.limits import MODEST
 from naplps.treating.search import find
 
+from .. import messages
 from ..source import Page
 from . import tables
 from .kinds import Count, Hash, Name, Path, one
@@ -22,9 +23,6 @@ from .worker import PieceMaker, serve
 
 # The number of pages that are asked about together, and of their entries.
 MOST_AHEAD, MOST_ENTRIES = 32, 50_000
-OTHER_COPY = "the treatments make another copy than in the scan"
-OTHER_ANSWER = "the program answers otherwise than in the scan"
-GONE = "it isn't in the store any more"
 FILE = f"""SELECT d.path, f.name, {tables.AT}, p.own, p.place, coalesce(c.entries, p.entries),
     coalesce(p.canon, c.canon), c.copy FROM files f
     CROSS JOIN folders d ON d.id = f.folder CROSS JOIN pages p ON p.id = f.page
@@ -79,7 +77,7 @@ class ValueMaker:
             found = one(self.connection.execute(FILE, (folder, name)).fetchone(), Wanted)
         except sqlite3.Error as error:
             return File(folder, name, tables.UNREADABLE, str(error))
-        return found or File(folder, name, tables.UNREADABLE, GONE)
+        return found or File(folder, name, tables.UNREADABLE, messages.NOT_IN_STORE)
 
     def _piece(self, folder: int, window: Sequence[Union[Wanted, File]]) -> Piece:
         """The files of a window, and the values of those of which there are any."""
@@ -120,7 +118,7 @@ class ValueMaker:
             return page if page.data is None else page.data
         cure = find(self._ask, page.data, it.refused_at or 0)
         if cure is None or tables.hashed(cure.data) != it.copy:
-            raise Otherwise(OTHER_COPY)
+            raise Otherwise(messages.OTHER_COPY)
         return cure.data
 
     def _ask_of(self, page: Page) -> Answer:
@@ -140,7 +138,7 @@ class ValueMaker:
                 return self.value_of(told.body)
             except NotALine:
                 told = Nonsense().answer
-        return told.reason if isinstance(told, Unanswered) else OTHER_ANSWER
+        return told.reason if isinstance(told, Unanswered) else messages.OTHER_ANSWER
 
     def close(self) -> None:
         """Ends the program."""

@@ -19,6 +19,7 @@ from typing import AbstractSet, Any, Callable, Dict, FrozenSet, Iterator, List, 
 
 from naplps.names import shown
 
+from .. import messages
 from ..console import tell
 from ..interpreter import FOLDER, interpreter
 from ..packs.naming import pack_of
@@ -319,7 +320,6 @@ MAX_IN_FLIGHT = 64
 CONNECT, JOIN, FETCH, END = 10, 30, 5, 3
 # After so long without a result it is looked whether there are workers.
 SILENCE = 20.0
-NOT_INSTALLED = "Dask's distributed isn't there for %s (Debian: apt-get install python3-distributed)"
 
 
 class ClusterLost(ClusterFailed):
@@ -336,7 +336,7 @@ def address_of(where: str) -> str:
     except OSError as error:
         raise ClusterFailed(f"{shown(where)}: {reason(error)}") from None
     except (ValueError, KeyError, TypeError):
-        raise ClusterFailed(f"{shown(where)}: it is no file of a scheduler") from None
+        raise ClusterFailed(messages.NO_SCHEDULER_FILE.format(path=shown(where))) from None
 
 
 def _distributed() -> Any:
@@ -346,7 +346,7 @@ def _distributed() -> Any:
     try:
         library = importlib.import_module("distributed")
     except ImportError:
-        raise ClusterFailed(NOT_INSTALLED % sys.executable) from None
+        raise ClusterFailed(messages.NO_DISTRIBUTED.format(python=sys.executable)) from None
     logging.disable(logging.CRITICAL)  # (what matters is told here)
     return library
 
@@ -365,7 +365,7 @@ class Cluster(Workers):
         try:
             self.client = library.Client(self.address, timeout=CONNECT, set_as_default=False, name="naplps-pages")
         except (OSError, ValueError, TypeError) as error:
-            raise ClusterFailed(f"{self.address}: no scheduler answers: {_first_line(error)}") from None
+            raise ClusterFailed(messages.NO_SCHEDULER.format(address=self.address, reason=_first_line(error))) from None
         self.sent: Dict[Any, Task] = {}
         self.done: "SimpleQueue[Any]" = SimpleQueue()
         self.watch = Watch(self.client)
@@ -385,9 +385,10 @@ class Cluster(Workers):
         except ClusterFailed:
             raise
         except Exception as error:  # pylint: disable=broad-except
-            raise ClusterFailed(f"{self.address}: no worker answers: {_first_line(error)}") from None
+            raise ClusterFailed(messages.WORKERS_FAILED.format(
+                address=self.address, reason=_first_line(error))) from None
         if not said:
-            raise ClusterFailed(f"{self.address}: no worker answers")
+            raise ClusterFailed(messages.NO_WORKER_ANSWERS.format(address=self.address))
         faults = [f"{worker}: {fault}" for worker, fault in sorted(
             (worker, _fault(each)) for worker, each in said.items()) if fault]
         if faults:
@@ -424,7 +425,7 @@ class Cluster(Workers):
     def _look(self) -> None:
         """Raises ClusterLost where the scheduler has gone."""
         if self.client.status != "running":
-            raise ClusterLost(f"{self.address}: the scheduler isn't there any more")
+            raise ClusterLost(messages.SCHEDULER_GONE.format(address=self.address))
 
     def _wait(self) -> None:
         """Tells, once, that nothing comes since there are no workers."""
@@ -437,19 +438,19 @@ class Cluster(Workers):
         except Exception:  # pylint: disable=broad-except
             return  # it is about to go
         if not workers:
-            tell(f"{self.address}: there are no workers any more; the scan waits for some")
+            tell(messages.NO_WORKERS_LEFT.format(address=self.address))
             self.received_at = math.inf
 
     def _look_before(self) -> None:
         """Names the workers that are silent before anything is given out. Raises ClusterLost."""
         self._look()
         self.watch.look()
-        self._name_silent("it gets nothing")
+        self._name_silent(messages.GETS_NOTHING)
 
     def _name_silent(self, what: str) -> None:
         while self.watch.found:
             worker = self.watch.found.pop()
-            tell(f"{worker}: this worker has been silent for {SILENT:.0f} s: {what}")
+            tell(messages.SILENT_WORKER.format(worker=worker, seconds=SILENT, what=what))
 
     def send(self, task: Task) -> None:
         """Sends a chunk to one of its workers, or to any that isn't silent."""
@@ -463,7 +464,7 @@ class Cluster(Workers):
         """Gives what a worker has that is silent, or has gone, to others. It is named."""
         if not self.watch.look():
             return
-        self._name_silent("what it has is given to others")
+        self._name_silent(messages.GIVEN_TO_OTHERS)
         for worker in self.watch.silent:  # (the scheduler may still give it what it took from another)
             self._send_again(self.watch.keys_of(worker))
         gone = [future for future, task in self.sent.items() if task.workers and not task.workers & self.watch.live]
@@ -502,9 +503,9 @@ class Cluster(Workers):
         """What a worker has read. What it couldn't read another is asked for, if there is one."""
         others = next(filter(is_here, done.others), None)
         if done.differs or others:
-            raise ClusterFailed("%s: %s" % (self.watch.worker_of(future) or f"a worker of {self.address}",
-                                            done.differs or f"{shown(os.fsdecode(cast(Any, others).path))} is another "
-                                                            "folder there, or isn't there"))
+            worker = self.watch.worker_of(future) or messages.A_WORKER.format(address=self.address)
+            differs = done.differs or messages.OTHER_FOLDER.format(path=shown(os.fsdecode(cast(Any, others).path)))
+            raise ClusterFailed(f"{worker}: {differs}")
         if done.left:
             self.retry.append(Task(done.left))
         unread = UnreadFiles(task.chunk, done.pieces)
@@ -516,7 +517,7 @@ class Cluster(Workers):
         left = self.watch.now() - tried
         if worker and worker not in self.told:
             self.told.add(worker)
-            tell(f"{worker}: some files can't be read there" + ("; another worker is asked" if left else ""))
+            tell(messages.UNREAD_BUT_ASKED.format(worker=worker) if left else messages.UNREAD_BY.format(worker=worker))
         if left and worker:
             self.retry.append(Task(unread.chunk, tried, left))
             yield from unread.others

@@ -9,8 +9,9 @@ from naplps.answers import Accepted, Answer, Unanswered
 from naplps.client import Client
 from naplps.names import Members, shown
 
+from .. import messages
 from ..new_files import made_folder, make_folders, put_inside
-from .equal_run import OTHER_HASH, most_budget
+from .equal_run import most_budget
 from .folders import Place, reason
 from .kinds import Count, Hash, Name, Path
 from .file_reader import Otherwise, read
@@ -90,7 +91,7 @@ class Conversion:
             why = answer.reason if isinstance(answer, Unanswered) else answer.line
             return ConvertedRow(canon, NOT_MADE, path, place, why)
         if hashed(answer.body) != canon:
-            return ConvertedRow(canon, NOT_MADE, path, place, OTHER_HASH)
+            return ConvertedRow(canon, NOT_MADE, path, place, messages.OTHER_HASH)
         make_folders(self.into, os.path.join(canon.hex()[:2], ""))
         put_inside(path, answer.body)
         return ConvertedRow(canon, WRITTEN, path, place)

@@ -13,6 +13,7 @@ from naplps.limits import MOST_LISTED
 from naplps.names import Members, shown
 from naplps.treating.treatments import graded
 
+from .. import messages
 from .canon_tables import PICTURES
 from .folders import Place
 from .kinds import Count, GradeNumber, Hash, Name, Path, Text
@@ -287,7 +288,6 @@ WITHOUT_PICTURE = f"""SELECT d.path, f.name, f.at, p.entries FROM pages p CROSS 
     CROSS JOIN folders d ON d.id = f.folder WHERE p.state = {ACCEPTED} AND (p.entries > {MOST_LISTED} OR EXISTS(
     SELECT 1 FROM pictures k WHERE k.canon = p.canon AND k.form = {PICTURES.form} AND k.picture IS NULL))
     ORDER BY d.path, f.name"""
-LISTED, PAINTED = f"it has no picture: more than {MOST_LISTED} entries", "it has no picture: it paints too much"
 
 
 class UnpaintedFile(NamedTuple):
@@ -323,7 +323,8 @@ def without_picture(connection: sqlite3.Connection) -> Iterator[Tuple[str, str]]
     """The files whose pages have no picture, and why."""
     connection.execute("DROP TABLE IF EXISTS temp.kept")
     for file in kept(connection, WITHOUT_PICTURE, UnpaintedFile):
-        yield Place(file.folder, file.name, file.at).path, LISTED if file.entries > MOST_LISTED else PAINTED
+        yield Place(file.folder, file.name, file.at).path, (
+            messages.LONG_TO_PAINT.format(most=MOST_LISTED) if file.entries > MOST_LISTED else messages.PAINTS_TOO_MUCH)
     connection.execute("DROP TABLE temp.kept")
 
 

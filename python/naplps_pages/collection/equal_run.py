@@ -18,6 +18,7 @@ from naplps.names import shown
 from naplps.program import find as find_program
 from naplps.treating.search import find
 
+from .. import messages
 from ..console import FAILED, tell
 from ..source import Page
 from . import equal as groups_of
@@ -151,7 +152,7 @@ def groups(paths: Sequence[str], copies: bool, complain: Callable[[str, str], No
         try:
             yield from grouped(_Over(work, sources, copies).files())
         except sqlite3.Error as error:
-            raise StoreFailed(f"temporary files of {shown(paths[0])} and others", str(error)) from None
+            raise StoreFailed(messages.TEMPORARY_FILES.format(path=shown(paths[0])), str(error)) from None
         finally:
             work.close()
 
@@ -253,8 +254,6 @@ def _copy(rows: Iterable[Tuple[object, ...]], source: Source, table: str) -> Non
 
 # Given the path of a file and what is wrong with it.
 Tell = Callable[[str, str], None]
-OTHER_COPY = "the treatments make another copy of it than when it was scanned"
-OTHER_HASH = "its canonical bytes haven't the hash that the store has"
 
 
 def verified(program: Client, group: Group, tell: Tell) -> Group:
@@ -268,8 +267,7 @@ def verified(program: Client, group: Group, tell: Tell) -> Group:
         canon, there = found
         if first is not None and canon != first:
             for place in there.places:
-                tell(place.path, "its canonical bytes differ from those of %s, though the hash is the same" %
-                     shown(spellings[0].places[0].path))
+                tell(place.path, messages.SAME_HASH.format(other=shown(spellings[0].places[0].path)))
             continue
         first = canon
         spellings.append(there)
@@ -291,7 +289,7 @@ def _spelling(program: Client, group: Group, spelling: Spelling,
             if canon is None:
                 answer = _canon(program, page, spelling)
                 if answer is None:
-                    tell(place.path, OTHER_COPY)
+                    tell(place.path, messages.OTHER_COPY_OF_IT)
                     return None
                 if not isinstance(answer, Accepted):
                     tell(place.path, answer.reason if isinstance(answer, Unanswered) else answer.line)
@@ -303,7 +301,7 @@ def _spelling(program: Client, group: Group, spelling: Spelling,
     if canon is None:
         return None
     if hashed(canon) != group.canon:
-        tell(places[0].path, OTHER_HASH)
+        tell(places[0].path, messages.OTHER_HASH)
         return None
     return canon, spelling._replace(places=places)
 
@@ -321,10 +319,6 @@ def _canon(program: Client, page: Page, spelling: Spelling) -> Optional[Answer]:
     return program.ask("canon", cure.data)
 
 
-ONE_PICTURE_STORE = "pictures are compared in one store: merge makes one of several"
-ONE_STORE = "treated copies are joined in one store: merge makes one of several"
-UNTRIED = "of %s no treatments are known: a scan with --cures tries them"
-UNKNOWN = "for treated copies of %s it isn't known what they draw: a scan with --cures finds out"
 
 
 def _program(given: Namespace, tool: str, stores: List[str]) -> Client:
@@ -336,7 +330,7 @@ def equal_by_picture(given: Namespace, tool: str) -> int:
     """The groups of pages that look alike. What isn't known of pictures is found out first."""
     store = given.stores[0]
     if len(given.stores) > 1:
-        raise StoreFailed(given.stores[1], ONE_PICTURE_STORE)
+        raise StoreFailed(given.stores[1], messages.PICTURES_OF_ONE_STORE)
     it = CanonFilling(PICTURES, store, lambda: WorkerOptions(
         find_program(tool), most_budget([store]), given.seconds, 0), given.processes or processors()).filled()
     if it is None:
@@ -377,17 +371,24 @@ def _groups(given: Namespace, connection: Optional[sqlite3.Connection], telling:
     """The groups that are asked for. What isn't known of treated copies is told."""
     if connection is None:
         if with_treated:
-            raise StoreFailed(given.stores[1], ONE_STORE)
+            raise StoreFailed(given.stores[1], messages.COPIES_OF_ONE_STORE)
         return groups(given.stores, given.copies, telling)
     if not with_treated:
         some = groups_of.groups(connection, given.copies)
         # (a script that takes one page of each group mustn't take a copy for one)
         return itertools.chain(some, _apart(connection, given.copies)) if given.form == "text" else some
-    for number, why in zip(groups_of.untried(connection), (UNTRIED, UNKNOWN)):
-        if number:
-            tell(f"{shown(given.stores[0])}: {why % numbered(number, 'refused page')}")
+    untried, unknown = groups_of.untried(connection)
+    store = shown(given.stores[0])
+    if untried:
+        tell(messages.UNTRIED.format(path=store, pages=_refused(untried)))
+    if unknown:
+        tell(messages.UNKNOWN_COPIES.format(path=store, pages=_refused(unknown)))
     return itertools.chain(groups_of.treated_groups(connection, given.copies), (
         group for _ in range(given.guesses) for group in groups_of.guesses(connection, given.copies)))
+
+
+def _refused(number: int) -> str:
+    return numbered(number, "refused page")
 
 
 def _apart(connection: sqlite3.Connection, copies: bool) -> Iterator[groups_of.Group]:

@@ -10,6 +10,7 @@ from typing import IO, Callable, Iterator, List, NamedTuple, Optional, Tuple
 
 from naplps.limits import MOST_PAGE
 
+from .. import messages
 from ..packs.member import Member, PackLimits
 from ..packs.naming import pack_of
 from ..packs.reading import PACKS, NoMember, open_file, open_pack
@@ -219,7 +220,6 @@ class PackScan:
                     member.data)
 
 
-NOT_AS_SCANNED = "it isn't as it was when it was scanned"
 
 
 class Otherwise(Exception):
@@ -245,7 +245,8 @@ def read(place: Place, own: bytes) -> Page:
     if seen.file.state != READ or seen.file.own != own:
         if file:
             file.close()
-        raise Otherwise(NOT_AS_SCANNED if seen.file.state in (READ, TOO_LONG) else seen.file.why or NOT_AS_SCANNED)
+        why = None if seen.file.state in (READ, TOO_LONG) else seen.file.why
+        raise Otherwise(why or messages.NOT_AS_SCANNED)
     return Page(place.path, seen.data, file)
 
 
@@ -256,5 +257,5 @@ def _member(pack: bytes, place: Place, own: bytes) -> Page:
     except NoMember as error:
         raise Otherwise(str(error)) from None
     if hashed(data) != own:
-        raise Otherwise(NOT_AS_SCANNED)
+        raise Otherwise(messages.NOT_AS_SCANNED)
     return Page(place.path, data)

@@ -4,6 +4,7 @@ from typing import Iterator, List, NamedTuple, Optional
 
 from naplps.names import Members, shown
 
+from .. import messages
 from ..page_words import Phrase, lines_with, match_of
 from . import tables, texts
 from .kinds import Hash, Name, Path, TextLines, TextSource, checked
@@ -21,7 +22,6 @@ WITHOUT = FOUND.format("texts x", "x.text IS NOT NULL AND ? IS NOT NULL")
 LACK = f"""SELECT count(*) FROM pages p WHERE p.state <> {tables.NO_ANSWER} AND NOT {tables.HAS_TEXT}
     AND EXISTS(SELECT 1 FROM present f WHERE f.page = p.id)"""
 LACKING = "%s no text kept, and can't be found: a scan with --words keeps it"
-NO_TEXTS = "has no texts: `naplps-pages scan --words` keeps them"
 
 
 class FoundText(NamedTuple):
@@ -89,4 +89,4 @@ def without_text(connection: sqlite3.Connection) -> int:
 
 def why_not(connection: sqlite3.Connection) -> Optional[str]:
     """Why nothing can be found in a store, if so."""
-    return None if has_texts(connection) else NO_TEXTS
+    return None if has_texts(connection) else messages.NO_TEXTS

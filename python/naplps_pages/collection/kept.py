@@ -13,7 +13,7 @@ from typing import TYPE_CHECKING, FrozenSet, Iterable, List, NamedTuple, Optiona
 
 from naplps.names import shown
 
-from .. import TOOL
+from .. import messages
 from .canon_tables import CANON_TABLES
 from .folders import is_within, join
 from .kinds import NotAStore, Path, checked
@@ -66,7 +66,7 @@ def read_part(text: str) -> Part:
     """The part that is named K/N. Raises ValueError."""
     found = WORDS.fullmatch(text)
     if not found or not 0 <= int(found[1]) < int(found[2]) <= MOST_PARTS:
-        raise ValueError(f"not a part: {text!r}")
+        raise ValueError(messages.NO_PART.format(text=repr(text)))
     return Part(int(found[1]), int(found[2]))
 
 
@@ -76,7 +76,7 @@ def kept_part(connection: sqlite3.Connection) -> Optional[Part]:
     try:
         return read_part(str(row[0])) if row else None
     except ValueError:
-        raise NotAStore(f"isn't a store of {TOOL}: it holds no part that there is") from None
+        raise NotAStore(messages.HOLDS_NO_PART) from None
 
 
 def keep_part(connection: sqlite3.Connection, path: str, asked: Optional[Part], roots: Iterable[bytes]) -> None:
@@ -90,13 +90,13 @@ def keep_part(connection: sqlite3.Connection, path: str, asked: Optional[Part], 
         return
     kept = kept_part(connection)
     if kept != asked:
-        raise StoreFailed(path, f"holds {_named(kept)}, not {_named(asked)}: each has a store of its own")
+        raise StoreFailed(path, messages.HOLDS_OTHER.format(held=_named(kept), asked=_named(asked)))
     some = list(checked(connection.execute("SELECT DISTINCT path FROM roots"), RootPath)) if kept else []
     for before, in some:
         for root in roots:
             if root != before and (is_within(root, before) or is_within(before, root)):
-                raise StoreFailed(path, "holds part %s of %s, which isn't that of %s" % (
-                    kept, shown(os.fsdecode(before)), shown(os.fsdecode(root))))
+                raise StoreFailed(path, messages.PART_OF_OTHER.format(
+                    part=kept, held=shown(os.fsdecode(before)), asked=shown(os.fsdecode(root))))
 
 
 def _named(some: Optional[Part]) -> str:

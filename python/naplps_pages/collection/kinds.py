@@ -11,7 +11,7 @@ from typing import (
 
 from naplps.names import printable
 
-from .. import TOOL
+from .. import messages
 from ..near_keys import KEY, MOST_SAID, PREFIX
 
 Values = Tuple[Any, ...]
@@ -19,7 +19,6 @@ Row = TypeVar("Row")
 MOST_NUMBER, MOST_REFUSAL, HASH = (1 << 63) - 1, 99, 32
 # Characters of a text, and bytes of a name or a path. (One row may be told as often as there are files.)
 MOST_TEXT, MOST_PATH = 1 << 16, 1 << 17
-WRONG = "isn't a store of %s: it has %s in place of %s"
 
 
 class NotAStore(sqlite3.DatabaseError):
@@ -138,7 +137,7 @@ def checked(rows: Iterable[Values], row: Callable[..., Row]) -> Iterator[Row]:
     for values in rows:
         for value, (fits, may_lack, name) in zip(values, tests):
             if (value is not None or not may_lack) and not fits(value):
-                raise NotAStore(WRONG % (TOOL, _name_of(value), name))
+                raise NotAStore(messages.WRONG_VALUE.format(value=_name_of(value), kind=name))
         made = list(values)
         for at, column in texts:
             if at < len(made) and made[at] is not None:  # (the last fields of a row may have their defaults)

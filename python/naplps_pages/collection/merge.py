@@ -12,6 +12,7 @@ from typing import Callable, Dict, Iterable, Iterator, List, NamedTuple, Optiona
 from naplps.answers import Accepted, Refusal
 from naplps.names import shown
 
+from .. import messages
 from ..console import NotWritten, Output, tell
 from . import schemas, tables, texts
 from .canon_tables import CANON_TABLES
@@ -282,9 +283,6 @@ def _all_ended(ends: Iterable[Optional[str]]) -> Optional[str]:
 FAST = "PRAGMA journal_mode = OFF; PRAGMA synchronous = OFF;"
 # The steps of SQLite between two looks at the clock, and the number of differences that are reported one by one.
 OFTEN, MOST_TOLD = 100_000, 10
-LACKING = "isn't made; with --unfinished it is, of what is there"
-LEFT = "isn't made: what is left of another store stands there, as %s"
-DIFFERENT = "isn't made: %s with two answers under one budget and version"
 
 
 def merge(into: str, paths: Sequence[str], unfinished: bool) -> bool:
@@ -295,7 +293,7 @@ def merge(into: str, paths: Sequence[str], unfinished: bool) -> bool:
             faults = _looked(into, sources, unfinished)
             counts = _made(into, sources, not faults, stopping)
     except Busy as busy:
-        raise StoreFailed(into, f"another process is at work on it: {busy}") from None
+        raise StoreFailed(into, messages.PROCESS_AT_WORK.format(reason=busy)) from None
     except OSError as error:
         raise NotWritten(into, reason(error)) from None
     stopping.act()
@@ -309,11 +307,12 @@ def merge(into: str, paths: Sequence[str], unfinished: bool) -> bool:
 def _looked(into: str, sources: List[Source], unfinished: bool) -> int:
     """Looks whether the stores can be joined; how many faults were reported, with which that is possible."""
     if os.path.lexists(into):
-        raise NotWritten(into, "is there already, and isn't written over")
+        raise NotWritten(into, messages.IS_THERE)
     for ending in (JOURNAL, LOG, INDEX):
         require_own(into, ending)
         if os.path.lexists(place(into, ending)):
-            raise NotWritten(into, LEFT % ending)  # (SQLite would take it for that of the new one)
+            # (SQLite would take it for that of the new one)
+            raise NotWritten(into, messages.LEFT_OF_STORE.format(ending=ending))
     for source in sources:
         source.require_right()
     require_apart(sources)
@@ -321,7 +320,7 @@ def _looked(into: str, sources: List[Source], unfinished: bool) -> int:
     for path, why in faults:
         tell(f"{shown(path)}: {why}")
     if faults and not unfinished:
-        raise StoreFailed(into, LACKING)
+        raise StoreFailed(into, messages.UNFINISHED)
     return len(faults)
 
 
@@ -357,11 +356,11 @@ def _require_same(into: str, sources: List[Source], stopping: Stopping) -> None:
     try:
         for number, (one, other) in enumerate(differing(sources, progress, lambda: stopping.number is not None), 1):
             if number <= MOST_TOLD:
-                progress.tell(f"{one.told}; {other.told}, of the same bytes")
+                progress.tell(messages.ANSWERS_DIFFER.format(one=one.told, other=other.told))
     finally:
         progress.clear()
     if number:
-        raise StoreFailed(into, DIFFERENT % numbered(number, "page"))
+        raise StoreFailed(into, messages.TWO_ANSWERS.format(pages=numbered(number, "page")))
 
 
 def _joined(connection: sqlite3.Connection, sources: List[Source], finished: bool, stopping: Stopping) -> Counts:

@@ -10,7 +10,7 @@ from collections import deque
 from multiprocessing.connection import Connection, wait
 from typing import Deque, FrozenSet, Iterator, List, NamedTuple, Optional, Sequence, Set, Tuple
 
-from .. import interpreter
+from .. import interpreter, messages
 from ..packs.naming import pack_of
 from .rows import ALIVE, DONE, FAILED, MOST_AHEAD, Chunk, Piece, WorkerOptions, received
 from .schemas import File
@@ -154,7 +154,7 @@ class WorkerHandle:
             self.chunks.popleft()
             self.reported = 0
         elif what == FAILED:
-            self.reason = f"the worker that looked at it failed: {value}"
+            self.reason = messages.WORKER_FAILED.format(reason=value)
         elif what != ALIVE:
             piece = received(value)
             self.reported += _reported(self.chunks[0], piece[0])
@@ -177,7 +177,7 @@ class WorkerHandle:
         except subprocess.TimeoutExpired:
             self.process.kill()
             status = self.process.wait()
-        return self.reason or f"the worker that looked at it ended {ending(status)}"
+        return self.reason or messages.WORKER_ENDED.format(how=ending(status))
 
     def close(self) -> None:
         """Asks it to end, at once."""
@@ -232,7 +232,7 @@ class Pool(Workers):
                 yield from self._receive(worker)
             elif time.monotonic() - worker.received_at > self.patience:
                 worker.process.kill()
-                worker.reason = "the worker that looked at it hung"
+                worker.reason = messages.WORKER_HUNG
                 yield from self._replace(worker)
         if not ready:
             yield None
@@ -251,7 +251,7 @@ class Pool(Workers):
         reason = worker.how_it_ended()
         self.failed_starts = 0 if worker.has_started else self.failed_starts + 1
         if self.failed_starts >= MAX_FAILED_STARTS:
-            raise NoWorkers(f"workers can't be started: {reason}")
+            raise NoWorkers(messages.NO_WORKERS.format(reason=reason))
         worker.connection.close()
         self.workers.remove(worker)
         first, *left = [chunk for chunk in worker.left() if chunk] or [()]

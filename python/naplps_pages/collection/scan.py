@@ -16,6 +16,7 @@ from naplps.limits import MOST_PAGE, Limits
 from naplps.names import shown
 from naplps.program import version
 
+from .. import messages
 from ..console import COMPLETE, FAILED, SOME_LACK, Output, tell
 from ..packs.member import NO_FILE, SEVERAL
 from ..unexpected import Unexpected
@@ -36,12 +37,8 @@ from .writer import Writer
 # A worker that is silent for so long, beside the time of two answers, hangs.
 PATIENCE = 60.0
 FORM = re.compile(r"canonical form ([0-9A-Za-z. ]+)")
-KEPT = "what was taken is kept, and the same command goes on"
-STOPPED = "stopped; " + KEPT
-# How long is waited at the end for who reads the store, in seconds; and what is told where he reads on.
+# How long is waited at the end for who reads the store, in seconds.
 READERS = 5.0
-READ_NOW = ("is being read, so its last rows are in %s: a copy of the store needs both files, until a command on it "
-            "moves them")
 # What may go wrong beside faults of the tool.
 EXPECTED = (OSError, sqlite3.Error, WorkersFailed, StoreFailed)
 
@@ -114,7 +111,8 @@ def scanned(options: ScanOptions) -> "Union[ScanRun, int]":
     try:
         terms = terms_of(options.how)
     except (OSError, ValueError) as error:
-        tell("%s: %s" % (shown(options.how.program), reason(error) if isinstance(error, OSError) else error))
+        why = reason(error) if isinstance(error, OSError) else str(error)
+        tell(f"{shown(options.how.program)}: {why}")
         return FAILED
     cluster: Optional[Workers] = None
     try:
@@ -130,7 +128,7 @@ def scanned(options: ScanOptions) -> "Union[ScanRun, int]":
         with Stopping() as stopping, Lock(options.store):
             run = _scan_or_stop(options, terms, stopping, roots, cluster)
     except Busy as busy:
-        tell(f"{shown(options.store)}: another scan is at work on it: {busy}")
+        tell(messages.SCAN_AT_WORK_ON.format(path=shown(options.store), reason=busy))
         return FAILED
     except ClusterFailed as failed:
         tell(str(failed))
@@ -168,7 +166,7 @@ def _scan_or_stop(options: ScanOptions, terms: Terms, stopping: Stopping, roots:
     except sqlite3.OperationalError:
         if stopping.number is None:
             raise
-        tell(STOPPED)
+        tell(messages.SCAN_WAS_STOPPED)
         return None
 
 
@@ -187,8 +185,7 @@ def _scan(options: ScanOptions, terms: Terms, stopping: Stopping, roots: List[by
         if options.how.wanted.words or options.how.wanted.near:
             keep_private(connection)
         if not keep_log(connection):
-            tell("%s: its file system lets no log stand beside it; it can't be read while it is written"
-                 % shown(options.store))
+            tell(messages.NO_LOG.format(path=shown(options.store)))
         counting = Counting(roots, options.part)
         progress = Progress(sys.stderr, lambda: counting.total)
         if progress.terminal:
@@ -210,7 +207,7 @@ def _scan(options: ScanOptions, terms: Terms, stopping: Stopping, roots: List[by
         if connection.in_transaction:
             connection.execute("ROLLBACK")
         if not fold(connection, READERS, lambda: stopping.number is not None):
-            tell(f"{shown(options.store)}: {READ_NOW % shown(os.path.basename(options.store) + LOG)}")
+            tell(messages.READ_NOW.format(path=shown(options.store), log=shown(os.path.basename(options.store) + LOG)))
         connection.close()
 
 
@@ -219,8 +216,8 @@ def _keep_words(connection: sqlite3.Connection, store: str) -> None:
     if texts.make(connection):
         return
     if texts.is_there(connection):
-        raise StoreFailed(store, "has an index of words, and SQLite has no FTS5 here to write it")
-    tell(f"{shown(store)}: SQLite has no FTS5 here: texts are kept without an index, and found more slowly")
+        raise StoreFailed(store, messages.INDEX_WITHOUT_FTS5)
+    tell(messages.NO_FTS5.format(path=shown(store)))
 
 
 class ScanRun:
@@ -252,7 +249,7 @@ class ScanRun:
             if self.stopping.number is None:
                 raise
         if not self.line:
-            tell(STOPPED)
+            tell(messages.SCAN_WAS_STOPPED)
 
     def _pool(self, more: Tuple[object, ...]) -> Pool:
         """Workers of this machine."""
@@ -269,7 +266,7 @@ class ScanRun:
                     break
         except WorkersFailed as failed:
             self._write()
-            raise type(failed)(f"{failed}; {KEPT}") from None
+            raise type(failed)(messages.GOES_ON.format(reason=failed)) from None
         finally:
             workers.close()
             self.progress.clear()
@@ -297,7 +294,7 @@ class ScanRun:
                 values = CanonPass(table, connection, options.store, options.how, options.processes)
                 self.status = max(self.status, values.run(self.stopping))
                 if self.stopping.number is not None:
-                    tell(STOPPED)
+                    tell(messages.SCAN_WAS_STOPPED)
 
     @property
     def at_work(self) -> str:

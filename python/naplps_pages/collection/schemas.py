@@ -4,7 +4,7 @@ keys that these get there; and those of the schema before, and of both the view 
 import sqlite3
 from typing import Annotated, Any, Dict, Iterator, NamedTuple, Optional, Sequence, Tuple, Union
 
-from .. import TOOL
+from .. import messages
 from .kinds import (
     COUNT, Column, Count, FileState, Flag, GradeNumber, Hash, Name, NotAStore, Number, PageKind, PageState, Path,
     RefusalNumber, Sql, Text, TextLines, TextSource, columns,
@@ -302,4 +302,4 @@ def require_right(connection: sqlite3.Connection, optional: Sequence[StoreTable]
     names = {name for name, in connection.execute("SELECT name FROM main.sqlite_master")}
     for table in (*TABLES.values(), *(table for table in optional if table.name in names)):
         if connection.execute(f"SELECT 1 FROM {table.name} WHERE NOT ({table.rules()}) LIMIT 1").fetchone():
-            raise NotAStore(f"isn't a store of {TOOL}: a row of its table {table.name} isn't one of a scan")
+            raise NotAStore(messages.WRONG_ROW.format(table=table.name))

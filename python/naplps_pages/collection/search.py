@@ -7,6 +7,7 @@ import sqlite3
 import stat
 from typing import Callable, Dict, FrozenSet, Iterable, Iterator, List, Mapping, NamedTuple, Optional, Tuple
 
+from .. import messages
 from ..packs.member import NO_FILE
 from ..packs.naming import inside, is_pack, pack_of
 from .file_reader import Marks, marks
@@ -164,7 +165,6 @@ UNREAD = f"""SELECT name, coalesce(why, '') FROM files WHERE folder = ? AND name
     ORDER BY name LIMIT {MOST_BROKEN}"""
 BROKEN = f"""SELECT d.path, (SELECT count(*) FROM files f WHERE f.folder = d.id AND f.name <> x''
     AND f.state = {UNREADABLE}) FROM folders d WHERE d.id = ?"""
-MORE = f"%d of its members couldn't be read, of which {MOST_BROKEN} are named; `files` names all"
 
 
 class KnownPack(NamedTuple):
@@ -223,21 +223,21 @@ def settled(connection: sqlite3.Connection, folder: int, marks: Optional[Marks],
         return None
     some = list(checked(connection.execute(UNREAD, (folder,)), UnreadMember)) if unread else []
     some += [UnreadMember(b"", pack.why)] if pack.state == UNREADABLE else []
-    some += [UnreadMember(b"", MORE % unread)] if unread > MOST_BROKEN else []
+    if unread > MOST_BROKEN:
+        some.append(UnreadMember(b"", messages.MANY_UNREAD_MEMBERS.format(number=unread, most=MOST_BROKEN)))
     return PackState(members, some)
 
 
 def broken(connection: sqlite3.Connection, folder: int) -> Tuple[bytes, str]:
     """A pack by its path, and how many of its members couldn't be read."""
     pack = next(checked(connection.execute(BROKEN, (folder,)), BrokenPack))
-    return join(pack.path, b""), MORE % pack.members
+    return join(pack.path, b""), messages.MANY_UNREAD_MEMBERS.format(number=pack.members, most=MOST_BROKEN)
 
 
 # The number of rows of the store that are looked at together.
 ROWS = 1000
 # The number of folders, or of known files, without any other, after which a chunk of nothing comes.
 QUIET_FOLDERS, QUIET_FILES = 64, 1000
-EMPTY = "it is empty, and had files before: is it mounted? Nothing in it is marked as gone"
 KNOWN = f"""SELECT f.name, f.state, f.size, f.mtime_ns, f.ctime_ns, f.inode, f.state = {READ} AND {SETTLED}
     FROM files f LEFT JOIN pages p ON p.id = f.page WHERE f.folder = :folder AND f.name > :last
     ORDER BY f.name LIMIT {ROWS}"""
@@ -396,7 +396,7 @@ class Search:
     def _emptied(self, listing: Listing) -> Optional[str]:
         """What is told of a root that is empty, as a disk that isn't mounted is."""
         empty = not listing.names and not listing.packs and not listing.has_below
-        return EMPTY if empty and self.writer.has_below(listing.path) else None
+        return messages.EMPTY_ROOT if empty and self.writer.has_below(listing.path) else None
 
     def _unknown(self, folder: int, listing: Listing) -> Iterator[Optional[bytes]]:
         """The names in a folder that has to be looked at, and now and then none. Those that aren't there are noted."""

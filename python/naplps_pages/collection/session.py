@@ -14,7 +14,7 @@ from naplps.names import shown
 from naplps.treating.search import find
 from naplps.treating.treatments import graded
 
-from .. import console
+from .. import console, messages
 from ..console import NotWritten, tell
 from ..listing import Listed
 from ..new_files import make_folders
@@ -43,8 +43,6 @@ FILES = """SELECT d.path, f.name, f.at, p.own, p.place, p.entries, p.looks_like,
     c.terms = p.terms AND c.treatments IS NOT NULL WHERE p.state {} ORDER BY d.path, f.name"""
 ANSWERED, REFUSED_ALONE = f"<= {REFUSED}", f"= {REFUSED}"
 CAPTURES_ALONE = f"= {REFUSED} AND p.kind = {CAPTURE}"
-NO_PATH = "no file can be named after it: its name in the store isn't that of a file"
-NOT_BELOW = "no file can be named after it: it stands in no folder that was scanned"
 
 
 class StoredFile(NamedTuple):
@@ -96,15 +94,15 @@ class Names:
         """
         path = os.fsencode(place.path)
         if pack_of(place.folder) is None and b"/" in place.name:
-            raise NotWritten(place.path, NO_PATH)
+            raise NotWritten(place.path, messages.NO_FILE_NAME)
         for number, root in enumerate(self.roots):
             below = _below(path, root)
             if below is not None:
                 parts = [part for part in (*self._front(number), *below.split(b"/")) if part not in (b"", b".")]
                 if b".." in parts or not below.strip(b"/."):
-                    raise NotWritten(place.path, NO_PATH)
+                    raise NotWritten(place.path, messages.NO_FILE_NAME)
                 return os.path.join(*map(os.fsdecode, parts))
-        raise NotWritten(place.path, NOT_BELOW)
+        raise NotWritten(place.path, messages.NOT_BELOW_ROOT)
 
     def _front(self, number: int) -> List[bytes]:
         """What stands before the files of a root where there are several: its name, with a number if need be."""
@@ -168,8 +166,8 @@ class StoreSession(Session):
     def end(self, left: List[StoredFile]) -> None:
         """Tells of the files for which there was no room."""
         if left:
-            self.complain(self.store, "a sheet has %d pages at most: %s in it" % (
-                MOST_PAGES, numbered(len(left), "file isn't", "files aren't")))
+            files = numbered(len(left), "file isn't", "files aren't")
+            self.complain(self.store, messages.SHEET_FULL.format(most=MOST_PAGES, files=files))
 
     def _read(self, _name: str, _seconds: float) -> Page:
         """The page of the file that is at work. Raises Unread."""

@@ -7,6 +7,7 @@ from typing import Dict, Iterator, List, NamedTuple, Optional, Sequence, Tuple, 
 
 from naplps.names import shown
 
+from .. import messages
 from . import texts
 from .canon_tables import CANON_TABLES
 from .kinds import Count, Path, Row, Text, checked
@@ -152,7 +153,7 @@ def require_apart(sources: Sequence[Source]) -> None:
 
 
 def _same(one: Source, other: Source, root: bytes) -> StoreFailed:
-    return StoreFailed(other.path, f"may hold the same files as {shown(one.path)}, of {shown(os.fsdecode(root))}")
+    return StoreFailed(other.path, messages.SAME_FILES.format(other=shown(one.path), root=shown(os.fsdecode(root))))
 
 
 def _above(path: bytes) -> Iterator[bytes]:
@@ -169,12 +170,11 @@ def lacking(sources: Sequence[Source]) -> Iterator[Tuple[str, str]]:
     parts: Dict[Tuple[bytes, int], Dict[int, str]] = {}
     for source in sources:
         if not source.began:
-            yield source.path, "nothing was scanned into it"
+            yield source.path, messages.NOTHING_SCANNED
         elif source.ended is None:
-            yield source.path, "isn't finished: its scan %s" % (
-                "is at work" if is_held(source.path) else "was stopped, and the same command goes on")
+            yield source.path, messages.SCAN_GOES_ON if is_held(source.path) else messages.SCAN_STOPPED
         for root, why in source.unread:
-            yield source.path, f"isn't finished: its scan couldn't read {shown(os.fsdecode(root))}: {why}"
+            yield source.path, messages.ROOT_UNREAD.format(root=shown(os.fsdecode(root)), reason=why)
         for root in source.roots if source.part else ():
             assert source.part
             parts.setdefault((root, source.part.of), {})[source.part.number] = source.path

@@ -9,7 +9,7 @@ from naplps.faults import NoProgram
 from naplps.names import printable, shown
 from naplps.version import VERSION
 
-from .. import TOOL
+from .. import TOOL, messages
 from ..console import FAILED, NotWritten, tell
 from ..unexpected import Unexpected, told
 from . import canon_tables, schemas, tables, texts
@@ -19,14 +19,11 @@ from .store_files import APPLICATION, LOG, foreign, is_held, place
 
 # A reader may hold a store that has only a rollback journal so long, in seconds.
 PATIENCE = 60
-FOREIGN, OTHERWISE, LACKS = ("isn't a store of %s: " + each for each in (
-    "it has a %s of something else: %s", "its %s %s isn't that of a store", "it has no table %s"))
 PLAIN = frozenset(b"/-._~0123456789ABCDEFGHIJKLMNOPQRSTUVWXYZabcdefghijklmnopqrstuvwxyz")
 # What is held of the file, in KiB; and how long its log becomes, in pages.
 CACHE, LOG_PAGES = 32 << 10, 8000
-# What SQLite says of a file that is no database, and what is said of it here.
+# What SQLite says of a file that is no database.
 NO_DATABASE = "file is not a database"
-NO_STORE = "isn't a store: `{0} scan FOLDER --into STORE` makes one, and `{0} check` says what this file is"
 # What others than the owner may do with a file.
 OF_OTHERS = 0o077
 # How many seconds one wait for readers takes.
@@ -121,7 +118,7 @@ def _look(path: str) -> None:
     """Raises StoreFailed where there is no such file, with the system's reason, or where a foreign one is beside it."""
     try:
         if not stat.S_ISREG(os.stat(path).st_mode):
-            raise StoreFailed(path, "isn't a file")
+            raise StoreFailed(path, messages.NOT_A_FILE)
         os.close(os.open(path, os.O_RDONLY | os.O_NONBLOCK | os.O_CLOEXEC))
     except OSError as error:
         raise StoreFailed(path, error.strerror or str(error)) from None
@@ -175,11 +172,11 @@ def _checked(path: str, mode: str) -> sqlite3.Connection:
         return connection
     except UnicodeDecodeError:  # (SQLite says what is wrong with a schema in the schema's own words)
         connection.close()
-        raise StoreFailed(path, LACKS % (TOOL, "that can be read")) from None
+        raise StoreFailed(path, messages.LACKS_READABLE_TABLE) from None
     except sqlite3.DatabaseError as error:
         connection.close()
         if str(error) == NO_DATABASE:
-            raise StoreFailed(path, NO_STORE.format(TOOL)) from None
+            raise StoreFailed(path, messages.NOT_A_STORE) from None
         raise
     except BaseException:
         connection.close()
@@ -206,14 +203,14 @@ def _check_tables(path: str, connection: sqlite3.Connection, schema: int) -> Non
     for kind, name, table, words in connection.execute("SELECT type, name, tbl_name, sql FROM main.sqlite_master"):
         own = wanted.get((kind, name)) or optional.get(name)
         if own is None and not _is_apart(kind, table, words, tables_of_own):
-            raise StoreFailed(path, FOREIGN % (TOOL, kind, name))
+            raise StoreFailed(path, messages.FOREIGN_TABLE.format(kind=kind, name=name))
         if own is not None and words != own:
-            raise StoreFailed(path, OTHERWISE % (TOOL, kind, name))
+            raise StoreFailed(path, messages.OTHER_TABLE.format(kind=kind, name=name))
         found.add((kind, name))
     has_words = any(("table", name) in found for name in texts.OWN)
     for name in [*(name for kind, name in wanted if kind == "table"), *(texts.OWN if has_words else ())]:
         if ("table", name) not in found:
-            raise StoreFailed(path, LACKS % (TOOL, name))
+            raise StoreFailed(path, messages.LACKS_TABLE.format(table=name))
 
 
 def _is_apart(kind: str, table: str, words: Optional[str], own: Set[str]) -> bool:
@@ -236,15 +233,15 @@ def schema_of(connection: sqlite3.Connection) -> int:
 def _check(path: str, connection: sqlite3.Connection) -> int:
     """The schema of the file. Raises StoreFailed where it isn't a store that this tool knows."""
     if connection.execute("PRAGMA application_id").fetchone()[0] != APPLICATION:
-        raise StoreFailed(path, f"is a database of something else, and no store of {TOOL}")
+        raise StoreFailed(path, messages.OTHER_DATABASE)
     schema = connection.execute("SELECT value FROM meta WHERE key = 'schema'").fetchone()
     if schema is None or str(schema[0]) not in map(str, (schemas.EARLIER, schemas.SCHEMA)):
-        raise StoreFailed(path, "is a store of schema %s, and this tool knows schemas %d and %d" % (
-            schema[0] if schema else "unknown", schemas.EARLIER, schemas.SCHEMA))
+        raise StoreFailed(path, messages.OTHER_SCHEMA.format(
+            schema=schema[0] if schema else "unknown", earlier=schemas.EARLIER, known=schemas.SCHEMA))
     made = connection.execute("SELECT value FROM meta WHERE key = 'hash'").fetchone()
     if made != (tables.HASH,):
-        raise StoreFailed(path, "is a store of hashes by %s, and this tool knows %s" % (
-            made[0] if made else "nothing", tables.HASH))
+        raise StoreFailed(path, messages.OTHER_HASHES.format(
+            hash=made[0] if made else "nothing", known=tables.HASH))
     return int(schema[0])
 
 
@@ -337,5 +334,6 @@ def run(named: str, work: Callable[[], int]) -> int:
     except BrokenPipeError:
         raise
     except Exception as error:  # pylint: disable=broad-except
-        tell("%s: %s" % (shown(named), str(error) if isinstance(error, sqlite3.Error) else told(error)))
+        why = str(error) if isinstance(error, sqlite3.Error) else told(error)
+        tell(f"{shown(named)}: {why}")
     return FAILED

@@ -12,6 +12,8 @@ import time
 from types import TracebackType
 from typing import Optional, Type
 
+from .. import messages
+
 # 'NAPL', the number of this tool among the applications of SQLite.
 APPLICATION = 0x4E41504C
 # The header of a database of SQLite, up to the number of the application, and where that stands.
@@ -43,8 +45,6 @@ BEGINS_JOURNAL = bytes.fromhex("D9D505F920A163D7")
 LOG_VERSION = 3007000
 BEGINS_LOG = tuple(bytes((0x37, 0x7F, 0x06, last)) + LOG_VERSION.to_bytes(4, "big") for last in (0x82, 0x83))
 NUMBER = re.compile(rb"[0-9]{1,20}\n?")
-NOT_OWN = "what stands beside it, as %s, is no file of its own"
-ANOTHER = f"its journal, {JOURNAL}, isn't that of a store: it names another file"
 
 
 class NotOwn(OSError):
@@ -75,7 +75,7 @@ def require_own(store: str, ending: str) -> None:
     path = place(store, ending)
     try:
         if not _is_plain(os.lstat(path), store, ending):
-            raise NotOwn(NOT_OWN % ending)
+            raise NotOwn(messages.NOT_ITS_OWN.format(ending=ending))
         descriptor = os.open(path, FLAGS)
     except FileNotFoundError:
         return
@@ -89,11 +89,11 @@ def require_own_file(descriptor: int, store: str, ending: str) -> None:
     """Looks whether an open file is the store's own. Raises OSError, of it NotOwn."""
     status = os.fstat(descriptor)
     if not _is_plain(status, store, ending) or not _begins_own(os.pread(descriptor, HEADER, 0), ending):
-        raise NotOwn(NOT_OWN % ending)
+        raise NotOwn(messages.NOT_ITS_OWN.format(ending=ending))
     if ending == JOURNAL:
         length = len(BEGINS_JOURNAL)
         if os.pread(descriptor, length, max(0, status.st_size - length)) == BEGINS_JOURNAL and status.st_size > length:
-            raise NotOwn(ANOTHER)
+            raise NotOwn(messages.JOURNAL_OF_OTHER.format(ending=JOURNAL))
 
 
 def _is_plain(status: os.stat_result, store: str, ending: str) -> bool:

@@ -8,6 +8,7 @@ import sqlite3
 from contextlib import contextmanager
 from typing import Dict, Iterable, Iterator, List, Tuple
 
+from .. import messages
 from .schemas import PageText, listed, marks
 
 NAME = "words"
@@ -22,7 +23,6 @@ SHADOWS = {
 OWN: Dict[str, str] = {NAME: WORDS, **SHADOWS}
 # What SQLite says of it, beside that the file is malformed.
 OF_FTS5 = f"fts5|: {NAME}$|^constraint failed$"
-DAMAGED = "its index of words is damaged (%s): a merge of it alone makes a store with a new one"
 
 
 def has_fts5() -> bool:
@@ -44,7 +44,7 @@ def used() -> Iterator[None]:
         yield
     except sqlite3.DatabaseError as error:
         if type(error) is sqlite3.DatabaseError or re.search(OF_FTS5, str(error)):
-            raise sqlite3.DatabaseError(DAMAGED % error) from None
+            raise sqlite3.DatabaseError(messages.INDEX_DAMAGED.format(reason=error)) from None
         raise
 
 
