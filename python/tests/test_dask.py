@@ -256,7 +256,7 @@ def test_a_worker_that_is_silent_is_named_and_left_out(monkeypatch, capfd, fake,
     cluster.worker()
     monkeypatch.setattr("naplps_pages.collection.cluster.SILENT", 25.0)
     monkeypatch.setattr("naplps_pages.collection.cluster.LOOK", 0.5)
-    monkeypatch.setattr("naplps_pages.collection.cluster.MOST_FILES", 200)
+    monkeypatch.setattr("naplps_pages.collection.cluster.Cluster.max_files", 200)
     monkeypatch.setenv("NAPLPS", program)
 
     def stops():
