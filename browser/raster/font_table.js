@@ -1,4 +1,4 @@
-// The font of the raster, as it looks: the same as in python/naplps/font_table.py, which says what it is.
+// The font of the raster, as it looks: the same as in python/naplps/letters.py, which says what it is.
 
 const SIGNS = [
   "space   !       \"       #       $       %       &       '       (       )       *       +",

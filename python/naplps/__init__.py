@@ -20,19 +20,18 @@ import importlib
 from typing import TYPE_CHECKING, List
 
 if TYPE_CHECKING:
-    from .checker import Checker
+    from .backends import Backend, Data
     from .dots import Raster, raster
     from .entry import (
-        ONE, Arc, Bell, Blink, BlinkEnd, BlinkMark, Char, Clear, Colour, Cursor, DefEnd, Entry, Field, GlyphStart,
-        Line, Look, Map, MaskStart, Pen, Point, Poly, Position, Rect, Reset, TextMove, Texture, ToEol, Wait,
+        ONE, Arc, Bell, Blink, BlinkEnd, BlinkMark, Char, Clear, Colour, Cursor, DefEnd, Entry, Field, GlyphStart, Line,
+        Look, Map, MaskStart, Pen, Point, Poly, Position, Rect, Reset, TextMove, Texture, ToEol, Wait,
     )
     from .faults import Error, NeedsLibrary, NoAnswer, NoMemory, NotMade, Refused, Unavailable, WrongLibrary
     from .limits import MOST_BUDGET, USUAL_BUDGET
-    from .making import make
     from .pages import (
-        Places, backend, canon, canon_form1, check, entries, is_plain, lines, places, svg, text, treatments,
+        Checker, Places, backend, canon, canon_form1, check, entries, is_plain, lines, make, places, svg, text,
+        treatments,
     )
-    from .protocols import Backend, Data
     from .treating.changes import Change, Edit
     from .treating.search import Cure
     from .version import __version__
@@ -47,17 +46,17 @@ __all__ = [
 ]
 # Where the names stand. A module is imported once the first of them is asked for, as few programs need them all.
 _NAMES = {
-    "checker": ("Checker",), "dots": ("Raster", "raster"),
+    "backends": ("Backend", "Data"), "dots": ("Raster", "raster"),
     "entry": (
         "ONE", "Arc", "Bell", "Blink", "BlinkEnd", "BlinkMark", "Char", "Clear", "Colour", "Cursor", "DefEnd", "Entry",
         "Field", "GlyphStart", "Line", "Look", "Map", "MaskStart", "Pen", "Point", "Poly", "Position", "Rect", "Reset",
         "TextMove", "Texture", "ToEol", "Wait"),
     "faults": ("Error", "NeedsLibrary", "NoAnswer", "NoMemory", "NotMade", "Refused", "Unavailable", "WrongLibrary"),
-    "limits": ("MOST_BUDGET", "USUAL_BUDGET"), "making": ("make",),
+    "limits": ("MOST_BUDGET", "USUAL_BUDGET"),
     "pages": (
-        "Places", "backend", "canon", "canon_form1", "check", "entries", "is_plain", "lines", "places", "svg", "text",
-        "treatments"),
-    "protocols": ("Backend", "Data"), "treating.changes": ("Change", "Edit"), "treating.search": ("Cure",),
+        "Checker", "Places", "backend", "canon", "canon_form1", "check", "entries", "is_plain", "lines", "make",
+        "places", "svg", "text", "treatments"),
+    "treating.changes": ("Change", "Edit"), "treating.search": ("Cure",),
     "version": ("__version__",)}
 _MODULES = {name: module for module, names in _NAMES.items() for name in names}
 

@@ -1,12 +1,8 @@
-"""The entries of a page: a class for each kind, with the numbers that its line in `naplps list` has.
-
-A position is a pair, x and y, in steps of which ONE are the side of the unit screen. A displacement or a size is such
-a pair too, and may be negative. Colours have 16 bits each of green, red and blue, in this order. docs/PROFILE.md says
-what each kind is, and what its parts mean. `kind` is the first word of the line, and `str(entry)` is the line, without
-its end: of every entry whose parts are in their ranges, the one that `naplps list` prints and `naplps make` takes.
-"""
+"""A class for each kind of entry, and its JSON."""
 from dataclasses import dataclass
-from typing import ClassVar, Iterable, Optional, Tuple, Union
+from typing import Callable, ClassVar, Dict, Iterable, Optional, Tuple, Union
+
+from .names import Members
 
 Position = Tuple[int, int]
 # "start", where nothing has set it yet; "after", where nobody knows, as after text; or a position.
@@ -400,3 +396,61 @@ class DefEnd:
 
 Entry = Union[Point, Line, Arc, Rect, Poly, Char, TextMove, ToEol, Map, Blink, BlinkEnd, BlinkMark, Wait, Bell, Cursor,
               Field, Reset, Clear, GlyphStart, MaskStart, DefEnd]
+
+
+def members_of(it: Entry, place: Optional[int]) -> Members:
+    """The members of an entry: kind and place, its own parts, and what it holds."""
+    members: Members = {"kind": it.kind, "place": place, **_own(it)}
+    for name, write in _HELD.items():
+        if hasattr(it, name):
+            members[name] = write(getattr(it, name))
+    return members
+
+
+def _own(it: Entry) -> Members:
+    """The parts of its own."""
+    if isinstance(it, Char):
+        return {"set": it.set, "character": it.code}
+    if isinstance(it, TextMove):
+        return {"move": it.move, "bytes": list(it.bytes)}
+    if isinstance(it, Map):
+        return {"address": it.address, "value": list(it.value)}
+    if isinstance(it, Blink):
+        return {"address": it.address, "on": it.on, "off": it.off, "delay": it.delay}
+    if isinstance(it, Wait):
+        return {"tenths": it.tenths}
+    if isinstance(it, Reset):
+        return {"words": [it.first, it.second]}
+    if isinstance(it, GlyphStart):
+        return {"character": it.code}
+    if isinstance(it, MaskStart):
+        return {"mask": it.mask}
+    if isinstance(it, Cursor):
+        return {"cursor": it.state}
+    return {"points": [list(each) for each in it.points]} if hasattr(it, "points") else {}
+
+
+def _pen_members(pen: Pen) -> Members:
+    return {"at": pen, "point": None} if isinstance(pen, str) else {"at": "point", "point": list(pen)}
+
+
+def _colour_members(colour: Colour) -> Members:
+    direct = colour.kind == "direct"
+    return {"kind": colour.kind, "value": list(colour.parts) if direct else None,
+            "addresses": [] if direct else list(colour.parts)}
+
+
+def _texture_members(texture: Texture) -> Members:
+    return {"word": texture.word, "mask": list(texture.mask) if texture.mask else None}
+
+
+def _look_members(look: Look) -> Members:
+    named = isinstance(look.size, str)
+    return {"words": [look.first, look.second], "size": look.size if named else "given",
+            "given": None if named else list(look.size), "reverse": look.reverse, "underline": look.underline,
+            "wrap": look.wrap, "scroll": look.scroll}
+
+
+# What entries hold, in the order of JSON.
+_HELD: Dict[str, Callable[..., object]] = {
+    "pel": list, "colour": _colour_members, "texture": _texture_members, "pen": _pen_members, "text": _look_members}

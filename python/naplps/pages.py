@@ -1,16 +1,98 @@
-"""What the module tells of a page that is in memory."""
-from typing import List, NamedTuple, Optional, Tuple
+"""The functions on a page, and a page that comes in pieces."""
+import contextlib
+import threading
+from typing import Iterable, Iterator, List, NamedTuple, Optional, Tuple, Union, get_args
 
 from . import drawing
 from .answers import Accepted, Answer, Refusal
-from .backends import found
+from .backends import Backend, Data, Pieces, Reply, found, taken
 from .entry import Entry
 from .faults import NoAnswer, NotALine, Refused
 from .limits import MOST_LISTED, USUAL_BUDGET, budget_of
-from .page_text import lines_of
-from .protocols import Backend, Data, Reply, taken
 from .reading import placed, read_line
+from .screen_text import text_lines
 from .treating.search import Cure, find
+
+
+class Checker:
+    """Counts the entries of a page that comes in pieces, which may be of any lengths.
+
+        checker = naplps.Checker()
+        for piece in pieces:
+            checker.feed(piece)
+        print(checker.finish())
+
+    Over the library none of the bytes is kept; over the program all are, until `finish`. Threads may use it one after
+    another: a call raises RuntimeError, and does nothing else, while another thread is in one.
+    """
+
+    def __init__(self, budget: int = USUAL_BUDGET) -> None:
+        self._lock = threading.Lock()
+        self._pieces: Optional[Pieces] = found().begin(budget_of(budget), self._lock)
+
+    def feed(self, data: Data) -> None:
+        """Takes the next piece. Raises Refused as soon as the page is refused; over the program, only `finish` does.
+
+        After a refusal it raises it again. Raises ValueError after the end.
+        """
+        piece = taken(data)
+        with self._alone():
+            _entries_of(self._begun().feed(piece))
+
+    def finish(self) -> int:
+        """How many entries the page has: what `check` answers to all pieces joined. Raises Refused.
+
+        Raises ValueError after the end.
+        """
+        with self._alone():
+            pieces, self._pieces = self._begun(), None
+            return _entries_of(pieces.finish())
+
+    @contextlib.contextmanager
+    def _alone(self) -> Iterator[None]:
+        """Keeps other threads out. Raises RuntimeError where one is in already: its piece has no place in an order."""
+        if not self._lock.acquire(blocking=False):
+            raise RuntimeError("another thread is in this Checker")
+        try:
+            yield
+        finally:
+            self._lock.release()
+
+    def _begun(self) -> Pieces:
+        if self._pieces is None:
+            raise ValueError("the page has ended")
+        return self._pieces
+
+
+def _entries_of(told: Reply) -> int:
+    refused: Optional[Refused] = told.refused
+    if refused is not None:
+        raise refused
+    return told.entries
+
+
+LF = "\n"
+ENTRY_CLASSES: Tuple[type, ...] = get_args(Entry)
+
+
+def make(lines: Iterable[Union[str, Entry]]) -> bytes:
+    """The canonical stream of these entries: each is one, or its line as `naplps list` prints it, without its end.
+
+    Raises NotMade for lines that make none; TypeError for one text in place of its lines, which `splitlines` gives, and
+    for a line that is neither a str nor an entry; and ValueError for a line with a line end in it.
+    """
+    if isinstance(lines, (str, bytes, bytearray, memoryview)):
+        raise TypeError("the lines of a page are one by one, as text.splitlines() gives them")
+    whole: List[str] = []
+    for number, line in enumerate(lines, 1):
+        if not isinstance(line, (str, *ENTRY_CLASSES)):
+            raise TypeError(f"line {number} is no str and no entry, but {type(line).__name__}")
+        text = str(line)
+        if LF in text:
+            raise ValueError(f"line {number} has a line end in it")
+        whole.append(text + LF)
+    # (a lone surrogate is no character of a line, whatever its bytes)
+    return found().make("".join(whole).encode("utf-8", "surrogatepass"))
 
 
 class Places(NamedTuple):
@@ -83,7 +165,7 @@ def svg(data: Data, budget: int = USUAL_BUDGET) -> str:
 
 def text(data: Data, budget: int = USUAL_BUDGET) -> str:
     """The text of a page: its lines, with a line end between them. Raises Refused."""
-    return "\n".join(lines_of(entries(data, budget)))
+    return "\n".join(text_lines(entries(data, budget)))
 
 
 def treatments(data: Data, budget: int = USUAL_BUDGET) -> Optional[Cure]:

@@ -2,7 +2,7 @@
 from typing import Iterable
 
 from naplps.answers import Accepted, Answer, Refusal, Unanswered
-from naplps.entry_json import members_of
+from naplps.entry import members_of
 from naplps.names import shown
 from naplps.reading import lines_in, read_line
 

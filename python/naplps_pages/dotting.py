@@ -1,8 +1,7 @@
 """The command look with --dots or --animate: the raster of a page as PNG, still or over time."""
 from naplps.answers import Refusal
 from naplps.dots import raster
-from naplps.dots.frames import apng, moving
-from naplps.dots.png import png
+from naplps.dots.frames import apng, moving, png
 from naplps.names import shown
 
 from . import messages

@@ -9,7 +9,7 @@ from typing import Callable, Iterator, List, NamedTuple, Optional, Protocol
 
 from naplps.answers import Accepted, Answer, Refusal, Unanswered
 from naplps.treating import LEADING_ON
-from naplps.treating.page_codes import DEFINED, SEPARATING, SHAPE, UNREAD, PageCode, PageCodes
+from naplps.treating.borders import DEFINED, SEPARATING, SHAPE, UNREAD, PageCode, PageCodes
 
 # The number of bytes for each byte of the source that the program is given, and of entries that a page has at least;
 # so many of these for each shape.

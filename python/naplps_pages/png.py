@@ -2,7 +2,7 @@
 import os
 import subprocess
 
-from naplps.surroundings import for_child, on_path
+from naplps.program import for_child, on_path
 
 from . import messages
 

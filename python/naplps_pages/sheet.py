@@ -3,10 +3,8 @@ import math
 from typing import List, NamedTuple, Optional
 
 from naplps.drawing import Drawn
-from naplps.drawing.document import is_tall, picture
-from naplps.drawing.elements import escaped
 from naplps.drawing.measure import HEIGHT, WIDTH
-from naplps.drawing.paper import AROUND, MOST_BYTES, MOST_WEIGHT
+from naplps.drawing.paper import AROUND, MOST_BYTES, MOST_WEIGHT, escaped, is_tall, picture
 
 # The greatest number of pages of a sheet, which has as much to draw as one sketch may have.
 MOST_PAGES = 1000

@@ -3,7 +3,7 @@ from random import Random
 from typing import List
 
 import naplps as nap
-from naplps.page_state import PageState
+from naplps.writer import PageState
 
 NAMES = {(65535, 65535, 65535): "white", (0, 0, 0): "black", (0, 65535, 0): "red", (65535, 65535, 0): "yellow"}
 

@@ -3,7 +3,7 @@ from random import Random
 from typing import List
 
 import naplps as nap
-from naplps.page_state import PageState
+from naplps.writer import PageState
 
 ONE = nap.ONE
 COORDINATES, STEPS = (0, 1, ONE // 2, ONE - 1), (-ONE, -1, 0, 1, ONE - 1)

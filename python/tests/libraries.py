@@ -6,7 +6,7 @@ import subprocess
 import pytest
 
 from conftest import TOP
-from naplps.library_backend import SONAME
+from naplps.backends import SONAME
 
 # (tests set the variable)
 NAMED = os.environ.get("NAPLPS_LIBRARY") or os.path.join(TOP, "out")

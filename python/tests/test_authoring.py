@@ -10,7 +10,7 @@ import authored
 import entries
 from lines import line_of
 from naplps import letters
-from naplps.page_text import lines_of
+from naplps.screen_text import text_lines
 from naplps.reading import read
 from naplps_pages.authoring.translating import MOST_MISTAKES, misfit, translate
 
@@ -196,7 +196,7 @@ def test_every_letter_is_written_and_read_again():
     for sign in signs:
         text = sign.replace("\\", "\\\\").replace('"', '\\"')
         whole = unicodedata.normalize("NFC", sign)
-        assert lines_of(read(made(f'TEXT "x{text}x"'))) == [f"x{whole}x"]
+        assert text_lines(read(made(f'TEXT "x{text}x"'))) == [f"x{whole}x"]
 
 
 @given(CHANCE, st.integers(0, 30))

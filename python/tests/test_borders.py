@@ -9,8 +9,7 @@ from hypothesis import strategies as st
 
 import gallery
 from conftest import TOP
-from naplps.treating.borders import clears_again, content, draws, outside, pages_in, pieces, text_length, tokens
-from naplps.treating.page_codes import codes
+from naplps.treating.borders import clears_again, codes, content, draws, outside, pages_in, pieces, text_length, tokens
 from old_files import in_eight_bits
 from samples import MACRO, POINT, with_parity
 from spelled import logo

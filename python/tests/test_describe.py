@@ -17,8 +17,8 @@ from conftest import file
 from libraries import library_path
 from naplps import backends, letters
 from naplps.drawing.description import MOST_SHORT, colour_name, describe, place_name
-from naplps.drawing.elements import escaped
-from naplps.library_backend import LibraryBackend
+from naplps.drawing.paper import escaped
+from naplps.backends import LibraryBackend
 from naplps.limits import MOST_LISTED
 from naplps.reading import read
 from naplps_pages.nearness import keys_of
@@ -49,7 +49,7 @@ def text(pen, words, size="normal"):
 
 
 # An accent is counted by the sign that it is alone, also where it is on a letter.
-ALONE = {mark: letters.ALONE[code] for code, mark in letters.MARKS.items()}
+ALONE = {mark: letters.ALONE[code] for code, mark in letters.COMBINING_MARKS.items()}
 
 
 def signs_of(entries):

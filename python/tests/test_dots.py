@@ -5,8 +5,7 @@ import zlib
 
 import naplps as nap
 from conftest import TOP
-from naplps.dots.frames import moving
-from naplps.dots.png import png, stored
+from naplps.dots.frames import moving, png, stored
 from naplps.reading import read_line
 
 GALLERY = os.path.join(TOP, "examples", "gallery")

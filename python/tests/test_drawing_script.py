@@ -13,7 +13,7 @@ from conftest import HERE, TOP
 from entries import legal_list
 from gallery import pages
 from naplps.drawing import draw
-from naplps.entry_json import members_of
+from naplps.entry import members_of
 from naplps.faults import NotALine
 from naplps.reading import read_line
 from samples import needs_node

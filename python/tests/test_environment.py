@@ -12,9 +12,10 @@ import pytest
 import naplps as nap
 from conftest import TOP, file
 from libraries import library_path, made_up
-from naplps import backends, surroundings
+from naplps import backends
+from naplps import program as surroundings
 from naplps.client import Client
-from naplps.library_backend import SONAME
+from naplps.backends import SONAME
 from samples import POINT
 from scans import tree
 

@@ -12,7 +12,7 @@ import pytest
 
 import naplps
 from conftest import file
-from naplps.dots import measure
+from naplps.dots import surface
 from naplps.limits import USUAL_BUDGET
 from naplps_pages.collection import canon_filling
 from naplps_pages.collection.store_files import Lock
@@ -102,7 +102,7 @@ def alike(run, store, *words):
 
 
 def test_the_form_is_that_of_the_raster():
-    assert PICTURES.form == measure.FORM == 1
+    assert PICTURES.form == surface.FORM == 1
 
 
 def test_groups_of_pages_that_look_alike(run, store, box):

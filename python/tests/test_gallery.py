@@ -9,7 +9,7 @@ import gallery
 from conftest import COMMAND
 from gallery import AUTHORED, FOLDER, PRINTED, SPELLED, stored
 from naplps import backends
-from naplps.program_backend import ProgramBackend
+from naplps.backends import ProgramBackend
 from samples import has
 
 PAGES = gallery.NAMES

@@ -198,7 +198,7 @@ def test_the_manual_page_names_each_member_of_json():
         text = source.read()
     section = text[text.index(".Sh JSON"):text.index(".Sh ENVIRONMENT")]
     names = set()
-    for path in (os.path.join(TOOL, "schema.py"), os.path.join(MODULE, "entry_json.py")):
+    for path in (os.path.join(TOOL, "schema.py"), os.path.join(MODULE, "entry.py")):
         with open(path, encoding="utf-8") as source:
             names.update(re.findall(r"\"(\w+)\":|\b(\w+)=None|\[\"(\w+)\"\] =", source.read()))
     assert len(names) > 30

@@ -5,9 +5,8 @@ from hypothesis import strategies as st
 
 from naplps import drawing
 from naplps.drawing import paper
-from naplps.drawing.letter_lines import letters_behind
 from naplps.drawing.walk import Guess
-from naplps.drawing.writing import Writing
+from naplps.drawing.writing import Writing, letters_behind
 from timelines import timeline
 
 LOOK, OTHER = "colour=own-start text=0,0/normal/----", "colour=front:1048576 text=0,0/double/----"

@@ -16,9 +16,8 @@ from lines import line_of
 from naplps import backends
 from naplps.answers import NONSENSE, Accepted, Unanswered, WrongLine
 from naplps.client import Client
-from naplps.library_backend import LibraryBackend
+from naplps.backends import LibraryBackend, ProgramBackend
 from naplps.limits import MOST_PAGE
-from naplps.program_backend import ProgramBackend
 from naplps.reading import read_line
 from samples import POINT, POINT_LINE
 from strategies import pages

@@ -18,8 +18,7 @@ from lines import line_of
 from naplps import backends
 from naplps.answers import Accepted
 from naplps.client import Client
-from naplps.library_backend import FIRST, LibraryBackend
-from naplps.program_backend import ProgramBackend
+from naplps.backends import FIRST, LibraryBackend, ProgramBackend
 from samples import MACRO, OUTSIDE, POINT, POINT_AND_BELL, POINT_LINE, SPELLED
 from strategies import pages
 

@@ -7,8 +7,7 @@ import naplps as nap
 from conftest import file
 from libraries import library_path, made_up
 from naplps import backends
-from naplps.library_backend import SONAME, LibraryBackend
-from naplps.program_backend import ProgramBackend
+from naplps.backends import SONAME, LibraryBackend, ProgramBackend
 from samples import OUTSIDE, POINT
 from test_client import BATCH
 

@@ -8,10 +8,9 @@ import naplps as nap
 from conftest import TOP, file
 from libraries import library_path
 from naplps import backends
-from naplps.entry_json import members_of
-from naplps.library_backend import LibraryBackend
+from naplps.entry import members_of
+from naplps.backends import LibraryBackend, ProgramBackend
 from naplps.limits import MOST_LISTED
-from naplps.program_backend import ProgramBackend
 from naplps.reading import read_line
 from naplps.writer import blocks, star
 from samples import BOMB, OUTSIDE, POINT, with_parity

@@ -10,8 +10,7 @@ import naplps as nap
 from conftest import PACKAGES
 from libraries import SLOW, library_path, made_up
 from naplps import backends
-from naplps.library_backend import LibraryBackend
-from naplps.program_backend import ProgramBackend
+from naplps.backends import LibraryBackend, ProgramBackend
 from samples import POINT
 
 BUSY = "another thread is in this Checker"

@@ -7,10 +7,8 @@ from hypothesis import Phase, given, settings
 from hypothesis import strategies as st
 
 from naplps import drawing
-from naplps.drawing.curves import Cubic, Round, Straight
-from naplps.drawing.measure import HEIGHT, WIDTH
-from naplps.drawing.pels import Pel, pel
-from naplps.drawing.sweeps import dashed, sweep
+from naplps.drawing.curves import Cubic, Round, Straight, dashed, sweep
+from naplps.drawing.measure import HEIGHT, WIDTH, Pel, pel
 from naplps.entry import ONE
 from paths import area, bezier, holds, hull, polygons
 from test_sketch import elements, harmless

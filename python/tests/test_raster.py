@@ -9,11 +9,11 @@ from random import Random
 import naplps as nap
 import pytest
 import slow_raster as slow
-from naplps import font, letters
-from naplps.dots import cell_dots, raster, shapes
-from naplps.dots.measure import Grid, Painted
+from naplps import letters
+from naplps.dots import characters, raster, shapes
+from naplps.dots.surface import Grid, Painted
 from naplps.dots.shapes import PAGE, Scale
-from naplps.dots.text_cursor import DOT, PART, SIZES
+from naplps.dots.characters import DOT, PART, SIZES
 from naplps.reading import read_line
 from pictures import picture
 
@@ -109,7 +109,7 @@ def cells(chance):
     for wide, high in [*SIZES.values(), *given, (6 * DOT, 10 * DOT), (12 * DOT, 15 * DOT)]:
         for rotation in range(4):
             x, y = (chance.choice((chance.randrange(256) * DOT, chance.randrange(256 * DOT))) for _ in "xy")
-            yield cell_dots.Placed(x, y, wide, high, rotation)
+            yield characters.Placed(x, y, wide, high, rotation)
 
 
 ALL = [("primary", code) for code in range(0x20, 0x80)] + [("supplementary", code) for code in range(0x20, 0x80)]
@@ -120,18 +120,18 @@ def test_letters_as_the_document_has_them():
     for cell in cells(chance):
         every = SHAPES >= 5000
         for name, code in ALL if every else chance.sample(ALL, 12):
-            rows = font.rows_of(letters.letter(name, code))
-            found = dots_of(cell_dots.letter(cell, rows, screen))
+            rows = letters.rows_of(letters.letter(name, code))
+            found = dots_of(characters.letter(cell, rows, screen))
             assert found == slow.letter(tuple(cell), texts(rows)), (cell, name, code)
-        assert dots_of(cell_dots.underline(cell, screen)) == slow.underline(tuple(cell)), cell
-        assert dots_of(cell_dots.whole(cell, screen)) == set(slow.cell_dots(tuple(cell))), cell
+        assert dots_of(characters.underline(cell, screen)) == slow.underline(tuple(cell)), cell
+        assert dots_of(characters.whole(cell, screen)) == set(slow.cell_dots(tuple(cell))), cell
         for code in range(0x20, 0x80) if every else chance.sample(range(0x20, 0x80), 6):
             for apart in (False, True):
-                found = dots_of(cell_dots.mosaic(cell, code, apart, screen))
+                found = dots_of(characters.mosaic(cell, code, apart, screen))
                 assert found == slow.mosaic(tuple(cell), code, apart), (cell, code, apart)
         rows = tuple(chance.getrandbits(16) for _ in range(11))
         told = [format(row, "016b").replace("1", "#").replace("0", ".") for row in rows]
-        assert dots_of(cell_dots.glyph(cell, rows, 16, screen)) == slow.glyph(tuple(cell), told), cell
+        assert dots_of(characters.glyph(cell, rows, 16, screen)) == slow.glyph(tuple(cell), told), cell
 
 
 def spans_of(dots):
@@ -157,13 +157,13 @@ def paint_slowly(monkeypatch):
     monkeypatch.setattr(shapes, "polyline", lambda points: slow.arc(list(points)))
     monkeypatch.setattr(shapes, "inside", lambda points, grid: spans_of(slow.polygon(list(points), *grid)))
     monkeypatch.setattr(shapes, "filled_box", lambda a, b, grid: spans_of(slow.rectangle(a, b, *grid)))
-    monkeypatch.setattr(cell_dots, "letter", lambda cell, rows, grid: spans_of(
+    monkeypatch.setattr(characters, "letter", lambda cell, rows, grid: spans_of(
         slow.letter(tuple(cell), texts(rows), *grid)).spans)
-    monkeypatch.setattr(cell_dots, "mosaic", lambda cell, code, apart, grid: spans_of(
+    monkeypatch.setattr(characters, "mosaic", lambda cell, code, apart, grid: spans_of(
         slow.mosaic(tuple(cell), code, apart, *grid)).spans)
-    monkeypatch.setattr(cell_dots, "whole", lambda cell, grid: spans_of(slow.cell_dots(tuple(cell), *grid)).spans)
-    monkeypatch.setattr(cell_dots, "underline", lambda cell, grid: spans_of(slow.underline(tuple(cell), *grid)).spans)
-    monkeypatch.setattr(cell_dots, "glyph", lambda cell, rows, wide, grid: spans_of(slow.glyph(
+    monkeypatch.setattr(characters, "whole", lambda cell, grid: spans_of(slow.cell_dots(tuple(cell), *grid)).spans)
+    monkeypatch.setattr(characters, "underline", lambda cell, grid: spans_of(slow.underline(tuple(cell), *grid)).spans)
+    monkeypatch.setattr(characters, "glyph", lambda cell, rows, wide, grid: spans_of(slow.glyph(
         tuple(cell), [format(row, "0%db" % wide).replace("1", "#").replace("0", ".") for row in rows], *grid)).spans)
 
 

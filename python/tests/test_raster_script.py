@@ -15,7 +15,7 @@ import pytest
 from conftest import HERE
 from entries import legal_list
 from gallery import pages
-from naplps import font_table
+from naplps import letters
 from naplps.dots import shapes
 from naplps.dots.walk import DotWalk
 from naplps.reading import read_line
@@ -104,4 +104,4 @@ def test_both_have_one_font():
     for name in ("SIGNS", "MARKS"):
         told = text[text.index(f"const {name} = [") + len(f"const {name} = "):]
         lines = json.loads(told[:told.index("\n];")].rstrip(",") + "]")
-        assert lines == getattr(font_table, name).strip("\n").split("\n"), name
+        assert lines == getattr(letters, name).strip("\n").split("\n"), name

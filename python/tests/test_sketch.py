@@ -10,7 +10,7 @@ from hypothesis import strategies as st
 from naplps import drawing, letters
 from naplps.answers import Accepted
 from naplps.client import Client
-from naplps.drawing import arcs
+from naplps.drawing import curves
 from naplps.drawing.cells import SIZES
 from naplps.drawing.colours import FIRST
 from naplps.drawing.measure import WIDTH, on_page
@@ -86,7 +86,7 @@ def ends_of(path):
 @settings(max_examples=400, deadline=None)
 def test_each_point_of_an_arc_is_on_it(points, filled):
     places = on_page(points)
-    path = arcs.path(places, filled)
+    path = curves.path(places, filled)
     on = ends_of(path)
     for place in places:
         assert min(math.dist(place, each) for each in on) < 0.01
@@ -97,7 +97,7 @@ def test_each_point_of_an_arc_is_on_it(points, filled):
 @settings(max_examples=400, deadline=None)
 def test_an_arc_of_three_points_is_of_their_circle(points):
     places = on_page(points)
-    path = arcs.path(places, False)
+    path = curves.path(places, False)
     for (x, y), (radius, large, sweep, a, b) in _arcs(path):
         assert math.dist((x, y), (a, b)) <= 2 * radius + 0.05
     sweeps = {sweep for _, (_, _, sweep, _, _) in _arcs(path)}

@@ -15,7 +15,7 @@ import naplps as nap
 from conftest import TOP
 from libraries import library_path
 from naplps import backends
-from naplps.library_backend import LibraryBackend
+from naplps.backends import LibraryBackend
 from naplps.limits import MOST_BUDGET, MOST_LISTED, USUAL_BUDGET
 from naplps_pages.authoring.translating import translate
 from naplps_pages.authoring.writing import source_lines

@@ -1,6 +1,6 @@
 """The text of pages."""
 from conftest import file
-from naplps.page_text import lines_of
+from naplps.screen_text import text_lines
 from naplps.reading import read
 from samples import OUTSIDE
 from stream_writer import StreamWriter
@@ -9,7 +9,7 @@ HAND = "colour=own-start text=0,0/normal/----"
 
 
 def lines(*rows):
-    return lines_of(read(row + " " + HAND for row in rows))
+    return text_lines(read(row + " " + HAND for row in rows))
 
 
 def test_lines_are_those_of_the_screen_from_top_to_bottom(run, tmp_path):
@@ -27,7 +27,7 @@ def test_what_isnt_a_letter_is_left_out_or_named():
 
 def test_text_inside_a_glyph_isnt_text():
     rows = ["GLYPH 21", "CHAR primary 41 pen=start " + HAND, "END", "CHAR primary 42 pen=start " + HAND]
-    assert lines_of(read(rows)) == ["B"]
+    assert text_lines(read(rows)) == ["B"]
 
 
 def test_of_a_refused_page_the_text_before(run, tmp_path):

@@ -6,7 +6,7 @@ from hypothesis import given, settings
 from hypothesis import strategies as st
 
 from naplps import drawing
-from naplps.dots.text_cursor import SIDE
+from naplps.dots.characters import SIDE
 from naplps.dots.walk import DotWalk
 from naplps.drawing.colours import Palette
 from naplps.drawing.measure import HEIGHT, WIDTH

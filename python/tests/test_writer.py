@@ -3,7 +3,7 @@ import pytest
 
 import naplps as nap
 from naplps import backends
-from naplps.program_backend import ProgramBackend
+from naplps.backends import ProgramBackend
 from naplps.writer import PageWriter, blocks, star
 
 

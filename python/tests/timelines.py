@@ -7,9 +7,8 @@ from typing import Dict, List, Optional
 
 from naplps.entry import Blink, BlinkEnd, BlinkMark, Entry, Map, Wait
 from naplps.drawing.colours import BLACK, FIRST, Palette, direct
-from naplps.drawing.elements import Element
 from naplps.drawing.measure import HEIGHT, WIDTH
-from naplps.drawing.paper import AROUND, MOST_BYTES, Cost, Full, LetterCells, Paper
+from naplps.drawing.paper import AROUND, MOST_BYTES, Cost, Element, Full, LetterCells, Paper
 from naplps.drawing.walk import ENDS, Lines, Walk, entries_of
 from naplps.drawing.weight import Weight
 

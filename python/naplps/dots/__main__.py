@@ -7,8 +7,7 @@ import sys
 from ..faults import NotALine
 from ..reading import read_line
 from . import raster
-from .inks import DIRECT, MARK
-from .measure import ACROSS
+from .surface import ACROSS, DIRECT, MARK
 
 
 def main() -> None:

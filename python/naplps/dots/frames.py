@@ -1,12 +1,53 @@
-"""A page over time, as a picture that moves: what each byte on the line, each wait and each blink makes of its dots."""
+"""Rasters as PNG: one picture, or frames over time."""
 import struct
-from typing import Dict, List, NamedTuple, Optional, Sequence, Tuple
+import zlib
+from typing import Dict, Iterator, List, NamedTuple, Optional, Sequence, Tuple
 
 from ..entry import Blink, Entry, Wait
-from .inks import MARK, colour_of
-from .measure import ACROSS, UP
-from .png import MAGIC, chunk, header, scanlines, stored
+from .surface import ACROSS, MARK, UP, colour_of
 from .walk import DotWalk
+
+MAGIC = b"\x89PNG\r\n\x1a\n"
+STORED = 65535
+
+
+def chunk(name: bytes, body: bytes) -> bytes:
+    """A chunk of a PNG file."""
+    return struct.pack(">I", len(body)) + name + body + struct.pack(">I", zlib.crc32(name + body))
+
+
+def stored(data: bytes) -> bytes:
+    """Bytes as a stream of zlib, in blocks that are stored as they are."""
+    blocks: List[bytes] = [b"\x78\x01"]
+    for at in range(0, max(len(data), 1), STORED):
+        block = data[at:at + STORED]
+        blocks.append(struct.pack("<BHH", at + STORED >= len(data), len(block), len(block) ^ 0xFFFF) + block)
+    return b"".join(blocks) + struct.pack(">I", zlib.adler32(data))
+
+
+def header(wide: int, high: int) -> bytes:
+    """The first chunk of a picture in eight bits each of red, green and blue."""
+    return chunk(b"IHDR", struct.pack(">IIBBBBB", wide, high, 8, 2, 0, 0, 0))
+
+
+def scanlines(rows: Sequence[Sequence[int]], scale: int) -> Iterator[bytes]:
+    """Rows of colours as PNG has them, each dot as a square of `scale` pixels."""
+    known = {}
+    for row in rows:
+        line = bytearray(1)
+        for colour in row:
+            if colour not in known:
+                known[colour] = colour.to_bytes(3, "big") * scale
+            line += known[colour]
+        yield bytes(line) * scale
+
+
+def png(rows: Sequence[Sequence[int]], scale: int = 1) -> bytes:
+    """A picture with these rows of colours, from the top down, as red * 65536 + green * 256 + blue."""
+    body = stored(b"".join(scanlines(rows, scale)))
+    head = header(len(rows[0]) * scale, len(rows) * scale)
+    return MAGIC + head + chunk(b"IDAT", body) + chunk(b"IEND", b"")
+
 
 # The most frames, and pictures that are compared for them; how often a picture is taken while a page comes, in
 # milliseconds, and how long its end is shown.

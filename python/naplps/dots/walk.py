@@ -1,18 +1,21 @@
-"""The walk over a page's entries that paints them."""
-from typing import Dict, Iterator, List, NamedTuple, Optional, Sequence, Tuple, Union
+"""The raster of a page, which a walk over its entries paints."""
+import hashlib
+import struct
+import sys
+from array import array
+from typing import Dict, Iterable, Iterator, List, NamedTuple, Optional, Sequence, Tuple, Union
 
 from ..entry import (
     Arc, Blink, BlinkEnd, BlinkMark, Char, Clear, Colour, DefEnd, Entry, Field, GlyphStart, Line, Map, MaskStart, Point,
     Poly, Rect, Reset, TextMove, ToEol,
 )
-from ..font import Rows, rows_of
-from . import cell_dots, inks, shapes, textures
-from .canvas import Canvas, Pattern
-from .inks import BLACK, MARK
-from .measure import MOST_COUNTED, OF_ENTRY, SCREEN, Grid, Painted
+from ..letters import Rows, rows_of
+from . import characters, shapes, surface
+from .characters import DOT, CursorPlace, DotWriting, Sign
 from .shapes import PAGE, Scale, Shape
-from .text_cursor import DOT, CursorPlace
-from .writing import Sign, DotWriting
+from .surface import (
+    ACROSS, BLACK, DIRECT, FORM, MARK, MOST_COUNTED, OF_ENTRY, SCREEN, UP, Canvas, Grid, Painted, Pattern, colour_of,
+)
 
 SHAPES = (Point, Line, Rect, Poly, Arc)
 # RESET's codes for the screen: cleared to black, or to the colour in use.
@@ -97,12 +100,12 @@ class DefinitionPainter(Painter):
         grid = self.scale.grid
         rows = BOX if sign.set == "drcs" else sign.rows
         if sign.set == "mosaic":
-            spans = cell_dots.mosaic(sign.at, sign.code, sign.text.underline, grid)
+            spans = characters.mosaic(sign.at, sign.code, sign.text.underline, grid)
         else:
-            spans = cell_dots.letter(sign.at, rows, grid)
+            spans = characters.letter(sign.at, rows, grid)
         self.canvas.paint(Painted(spans, sign.counted), DRAWN)
         if sign.text.underline and sign.set in ("primary", "supplementary"):
-            self.canvas.paint(Painted(cell_dots.underline(sign.at, grid), 0), DRAWN)
+            self.canvas.paint(Painted(characters.underline(sign.at, grid), 0), DRAWN)
 
     def picture(self, body: Body, most: int) -> Picture:
         """The picture of a glyph or a mask; no entry is painted once so much was counted."""
@@ -133,13 +136,13 @@ class PagePainter(Painter):
 
     def shape(self, entry: Shape) -> None:
         """Paints a shape, with its texture."""
-        front, canvas = inks.front(entry.colour) | self.mark, self.canvas
+        front, canvas = surface.front(entry.colour) | self.mark, self.canvas
         it = shapes.painted(entry, self.scale)
         pattern = self._pattern(entry) if shapes.is_filled(entry) else None
         if pattern is None:
             canvas.paint(it, front)
         else:
-            behind = inks.back(entry.colour)
+            behind = surface.back(entry.colour)
             if behind is not None:
                 canvas.paint(it._replace(counted=0), behind | self.mark)
             canvas.paint(it, front, pattern)
@@ -149,13 +152,13 @@ class PagePainter(Painter):
     def _pattern(self, entry: Shape) -> Optional[Pattern]:
         """The pattern of an area; None where it is solid."""
         assert not isinstance(entry, Point)
-        which, grid = textures.kind(entry.texture), textures.tile(entry.texture.mask)
-        if which == textures.SOLID:
+        which, grid = surface.kind(entry.texture), surface.tile(entry.texture.mask)
+        if which == surface.SOLID:
             return None
-        if which < textures.FIRST_MASK:
-            return textures.lines(which, grid)
-        body = self.masks.get("ABCD"[which - textures.FIRST_MASK])
-        return textures.HALF_TONE if body is None else textures.masked(self._picture(body, grid).drawn, grid)
+        if which < surface.FIRST_MASK:
+            return surface.lines(which, grid)
+        body = self.masks.get("ABCD"[which - surface.FIRST_MASK])
+        return surface.HALF_TONE if body is None else surface.masked(self._picture(body, grid).drawn, grid)
 
     def _picture(self, body: Body, grid: Grid) -> Picture:
         """The picture of a glyph or a mask, which counts whenever it is used."""
@@ -169,24 +172,24 @@ class PagePainter(Painter):
 
     def put(self, sign: Sign) -> None:
         """Paints a character in its cell."""
-        front, behind = inks.front(sign.colour), inks.back(sign.colour)
+        front, behind = surface.front(sign.colour), surface.back(sign.colour)
         if sign.text.reverse:
             front, behind = BLACK if behind is None else behind, front
         canvas, grid = self.canvas, self.scale.grid
         canvas.counted += sign.counted
         if behind is not None:
-            canvas.paint(Painted(cell_dots.whole(sign.at, grid), 0), behind | self.mark)
+            canvas.paint(Painted(characters.whole(sign.at, grid), 0), behind | self.mark)
         body = self.glyphs.get(sign.code) if sign.set == "drcs" else None
         if body is not None:
             self._glyph(sign, body, front | self.mark)
             return
         if sign.set == "mosaic":
-            spans = cell_dots.mosaic(sign.at, sign.code, sign.text.underline, grid)
+            spans = characters.mosaic(sign.at, sign.code, sign.text.underline, grid)
         else:
-            spans = cell_dots.letter(sign.at, BOX if sign.set == "drcs" else sign.rows, grid)
+            spans = characters.letter(sign.at, BOX if sign.set == "drcs" else sign.rows, grid)
         canvas.paint(Painted(spans, 0), front | self.mark)
         if sign.text.underline and sign.set in ("primary", "supplementary"):
-            canvas.paint(Painted(cell_dots.underline(sign.at, grid), 0), front | self.mark)
+            canvas.paint(Painted(characters.underline(sign.at, grid), 0), front | self.mark)
 
     def _glyph(self, sign: Sign, body: Body, ink: int) -> None:
         """Paints a glyph, whose dots are about those of its cell."""
@@ -194,7 +197,7 @@ class PagePainter(Painter):
         picture = self._picture(body, grid)
         for rows, each in ((picture.drawn, ink), (picture.edge, BLACK | self.mark)):
             if any(rows):
-                spans = cell_dots.glyph(sign.at, rows, grid.wide, self.scale.grid)
+                spans = characters.glyph(sign.at, rows, grid.wide, self.scale.grid)
                 self.canvas.paint(Painted(spans, 0), each)
 
 
@@ -253,11 +256,11 @@ class DotWalk:
     def _changes(self, entry: Entry) -> bool:
         """Whether an entry changes the colours of what stands, or whether what comes blinks."""
         if isinstance(entry, Map):
-            self.colour_map[entry.address] = inks.rgb(entry.value)
+            self.colour_map[entry.address] = surface.rgb(entry.value)
         elif isinstance(entry, Blink):
-            self.blinks[inks.front(entry.colour)] = entry
+            self.blinks[surface.front(entry.colour)] = entry
         elif isinstance(entry, BlinkEnd):
-            self.blinks.pop(inks.front(entry.colour), None)
+            self.blinks.pop(surface.front(entry.colour), None)
         elif isinstance(entry, BlinkMark):
             self.page.mark = MARK if entry.on else 0
         else:
@@ -269,7 +272,7 @@ class DotWalk:
         if screen in TO_BLACK:
             self.page.canvas.fill(BLACK)
         elif screen in TO_COLOUR:
-            self.page.canvas.fill(inks.front(self.colour) | self.page.mark)
+            self.page.canvas.fill(surface.front(self.colour) | self.page.mark)
 
     def _end(self) -> None:
         definition, self.definition = self.definition, None
@@ -282,3 +285,55 @@ class DotWalk:
             self.page.glyphs[definition.code] = body
         else:
             self.page.masks[definition.mask] = body
+
+
+class Raster(NamedTuple):
+    """The dots of a page and its colour map.
+
+    `inks` has 51,200 numbers, row by row from the lowest, each row from left to right: the address of a colour of the
+    map, from 0 to 2**24 - 1, or 2**24 + red * 65536 + green * 256 + blue; and 2**25 more where BLINK START holds.
+    `colour_map` has the colours that the page gave to addresses, as red * 65536 + green * 256 + blue. `drawn` of its
+    `total` entries were painted: fewer where that would have been too much.
+    """
+
+    inks: "array[int]"
+    colour_map: Dict[int, int]
+    drawn: int
+    total: int
+
+    def ink(self, x: int, y: int) -> int:
+        """The ink of a dot, counted from the lower left one, which is 0, 0."""
+        return self.inks[y * ACROSS + x]
+
+    def colours(self) -> Dict[int, int]:
+        """The colour of each ink that a dot has, as red * 65536 + green * 256 + blue, where nothing blinks."""
+        return {ink: colour_of(ink, self.colour_map) for ink in sorted(set(self.inks))}
+
+    def hash(self) -> str:
+        """The hash of the picture, as 64 hexadecimal digits: pages with the same one look the same in this form."""
+        return hashlib.sha256(self.hashed()).hexdigest()
+
+    def hashed(self) -> bytes:
+        """What the hash is made of, as docs/RASTER.md has it."""
+        bare = array("I", [ink & ~MARK for ink in self.inks])
+        if sys.byteorder == "little":
+            bare.byteswap()
+        pairs = [(ink, colour_of(ink, self.colour_map)) for ink in sorted({ink & ~MARK for ink in self.inks})
+                 if not ink & DIRECT]
+        told = b"".join(struct.pack(">II", ink, colour) for ink, colour in pairs)
+        return struct.pack(">I", FORM) + bare.tobytes() + told
+
+    def rows(self) -> List["array[int]"]:
+        """The rows of inks from the top of the screen down."""
+        return [self.inks[at:at + ACROSS] for at in range((UP - 1) * ACROSS, -1, -ACROSS)]
+
+
+def raster(entries: Iterable[Entry]) -> Raster:
+    """The raster of a page with these entries, as docs/RASTER.md has it. It ends before the entry with which that would
+    paint too much."""
+    known: Sequence[Entry] = list(entries)
+    walk = DotWalk(known)
+    drawn = 0
+    for number in walk.steps():
+        drawn = number + 1
+    return Raster(walk.page.canvas.inks, walk.colour_map, drawn, len(known))

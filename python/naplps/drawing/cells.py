@@ -1,9 +1,10 @@
-"""Cells of characters, and where the next one stands."""
+"""Cells of characters, and how wide words are, which WORD WRAP moves."""
 from dataclasses import dataclass
-from typing import NamedTuple, Optional, Tuple
+from typing import Callable, NamedTuple, Optional, Tuple
 
-from ..entry import ONE, Look, Pen, Position, TextMove
-from ..font import COLUMNS
+from .. import letters
+from ..entry import ONE, Char, Entry, Look, Pen, Position, TextMove
+from ..letters import COLUMNS, columns_of
 from .measure import HEIGHT, THIN, WIDTH
 
 # Width and height of a cell, as parts of the side of the unit screen.
@@ -173,3 +174,37 @@ class TextCursor:
             self.x = self.field[0] + column * size.wide
             self.y = self.field[3] - (row + 1) * size.high
             self.scrolled = False
+
+
+BLANK = 0x20
+
+
+def is_blank(entry: Char) -> bool:
+    """Whether a character is a blank, after which another word begins."""
+    return entry.code == BLANK and entry.set in ("primary", "supplementary")
+
+
+class WordWidths:
+    """Looks ahead from the first character of a word, by the entries with these numbers; None where one is none."""
+
+    def __init__(self, character_at: Callable[[int], Optional[Char]]) -> None:
+        self.character_at = character_at
+
+    def width(self, number: int, most: float) -> float:
+        """The width of the word that this entry begins, in sides of the unit screen; of a long one, above `most`."""
+        width = total = 0.0
+        at, entry = number, self.character_at(number)
+        while entry is not None and total <= most and _goes_on(entry, at > number):
+            size = cell(entry.text)
+            if not letters.is_accent(entry.set, entry.code):
+                total = width + size.wide
+                width += size.advance(columns_of(entry.set, entry.code) if size.by_letters else 0)
+            at += 1
+            entry = self.character_at(at)
+        return total
+
+
+def _goes_on(entry: Entry, is_later: bool) -> bool:
+    """Whether a character is one of the word."""
+    return (isinstance(entry, Char) and entry.text.wrap and not is_blank(entry) and cell(entry.text).path == RIGHT
+            and (entry.pen == "after" or not is_later))

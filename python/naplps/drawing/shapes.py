@@ -1,15 +1,12 @@
-"""Points, lines, rectangles, polygons and arcs."""
+"""Lines, rectangles, polygons and mosaics."""
 from functools import lru_cache
-from typing import Any, Callable, Dict, List, NamedTuple, Sequence, Tuple
+from typing import Any, Callable, Dict, Iterator, List, NamedTuple, Sequence, Tuple
 
 from ..entry import ONE, Arc, Line, Point, Poly, Position, Rect
-from . import arcs
-from .curves import Piece, Straight
-from .elements import Element
-from .measure import Place, in_glyph, num, on_page
-from .paper import Paper
-from .pels import pel
-from .sweeps import dashed, least_of_dashes, sweep
+from . import curves
+from .curves import Piece, Straight, dashed, least_of_dashes, sweep
+from .measure import Place, in_glyph, num, on_page, pel
+from .paper import Element, Paper
 from .textures import Stroked, SvgAttributes, dashes_of
 from .weight import Extent, Weight, box, extent, of_line
 
@@ -74,15 +71,15 @@ class Shapes:
             self.paper.note("an arc of more than three points is drawn as a smooth curve through them")
         places = self._places(entry.points)
         if _is_swept(entry):
-            self._sweep(entry, arcs.pieces(places))
+            self._sweep(entry, curves.pieces(places))
             return
-        style = self.looks.of(entry, arcs.extent(places))
-        self.paper.put(Element("path", {"d": arcs.path(places, entry.filled), **style.attributes}), style.weight)
+        style = self.looks.of(entry, curves.extent(places))
+        self.paper.put(Element("path", {"d": curves.path(places, entry.filled), **style.attributes}), style.weight)
 
     def _sweep(self, entry: Stroked, pieces: Sequence[Piece]) -> None:
         """A line or an outline: what the pel's rectangle sweeps."""
         dot, dashes = pel(entry.pel, self.looks.thin()), dashes_of(entry)
-        if dashes and not arcs.is_large(pieces):
+        if dashes and not curves.is_large(pieces):
             self.paper.require(least_of_dashes(pieces, dot, dashes))
             pieces = list(dashed(pieces, dot, dashes))
         swept = sweep(pieces, dot)
@@ -114,3 +111,44 @@ def _is_swept(entry: Stroked) -> bool:
 def _around(places: Sequence[Place]) -> List[Piece]:
     """The edges of an area with these corners."""
     return list(map(Straight, places, [*places[1:], places[0]]))
+
+
+# Bits of a mosaic's code, left and right, by rows from the top.
+ROWS = ((1, 2), (4, 8), (16, 64))
+# How much of a block is left out around it where blocks stand apart.
+GAP = 0.15
+
+
+def number_of_blocks(code: int) -> int:
+    """How many blocks a mosaic has."""
+    return sum(1 for row in ROWS for bit in row if code & bit)
+
+
+def blocks(codes: Sequence[int], box: Tuple[float, float, float, float], apart: bool) -> str:
+    """The path of mosaics, the first of which has its lower left corner here and is so wide and so high.
+
+    Blocks that touch in a row are one rectangle, and all sides are where those of their neighbours are.
+    """
+    x, y, wide, high = box
+    across, down = wide / 2, high / 3
+    gap = GAP / 2 if apart else 0.0
+    path = ""
+    for number, bits in enumerate(ROWS):
+        top, foot = num(y - high + (number + gap) * down), num(y - high + (number + 1 - gap) * down)
+        for first, end in _parts([code & bit != 0 for code in codes for bit in bits], apart):
+            left = num(x + (first + gap) * across)
+            path += f"M{left} {top}H{num(x + (end - gap) * across)}V{foot}H{left}Z"
+    return path
+
+
+def _parts(row: Sequence[bool], apart: bool) -> Iterator[Tuple[int, int]]:
+    """The first block and the one after the last of each part of a row."""
+    at = 0
+    while at < len(row):
+        first = at
+        while at < len(row) and row[at] and (at == first or not apart):
+            at += 1
+        if at > first:
+            yield first, at
+        else:
+            at += 1

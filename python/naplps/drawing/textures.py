@@ -4,9 +4,8 @@ from typing import Dict, List, NamedTuple, Optional, Tuple, Union
 
 from ..entry import Arc, Line, Point, Poly, Rect, Texture
 from .colours import BLACK, Palette
-from .elements import Element
 from .measure import THIN, THIN_IN_GLYPH, WIDTH, fine, length, num
-from .paper import Definition, Paper
+from .paper import Definition, Element, Paper
 from .weight import PATTERNED, TILE, Extent, Weight, filled, outlined
 
 Area = Union[Arc, Poly, Rect]

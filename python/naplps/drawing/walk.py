@@ -8,14 +8,12 @@ from ..entry import (
     Reset, TextMove, ToEol, Wait,
 )
 from ..reading import Entries, read_line
-from .cells import Saved
+from .cells import Saved, WordWidths
 from .colours import BLACK, Palette
 from .description import describe
-from .document import Captions, document
-from .paper import Full, Paper
+from .paper import Captions, Full, Paper, document
 from .shapes import Shapes
 from .textures import SvgAttributes
-from .word_widths import WordWidths
 from .writing import Writing
 
 Lines = Union[Sequence[str], Entries]

@@ -1,19 +1,38 @@
-"""Characters: letters in runs, mosaics, and the page's own glyphs."""
+"""Characters of the drawing, and letters of one look that are read together."""
 from dataclasses import dataclass
 from typing import List, NamedTuple, Optional, Sequence, Tuple
 
 from .. import letters
 from ..entry import Char, Colour, Look, Pen, TextMove, ToEol
-from ..font import COLUMNS, WRITTEN, columns_of
+from ..letters import COLUMNS, WRITTEN, columns_of
 from . import weight
-from .cells import RIGHT, Cell, TextCursor, cell
+from .cells import RIGHT, Cell, TextCursor, WordWidths, cell, is_blank
 from .colours import BLACK, Palette
-from .elements import Element
-from .letter_lines import letters_behind
 from .measure import HEIGHT, WIDTH, fine, num
-from .mosaics import blocks, number_of_blocks
-from .paper import LetterCells, Paper
-from .word_widths import WordWidths, is_blank
+from .paper import Element, LetterCells, Paper
+from .shapes import blocks, number_of_blocks
+
+PEN, AFTER = " pen=", " pen=after"
+# Signs by what their lines begin with, all of which are of one length.
+SIGNS = {"CHAR primary %02x" % code: chr(code) for code in range(0x20, 0x7F)}
+FRONT = len("CHAR primary 20")
+
+
+def letters_behind(lines: Sequence[str], number: int, end: int) -> List[str]:
+    """The letters of the lines from this one on, up to `end`, that differ in nothing but themselves from the character
+    in the line before, each after the last."""
+    before = lines[number - 1]
+    rest = AFTER + before[before.find(" ", before.find(PEN) + 1):]
+    signs: List[str] = []
+    while number < end:
+        line = lines[number]
+        sign = SIGNS.get(line[:FRONT])
+        if sign is None or line[FRONT:] != rest:
+            break
+        signs.append(sign)
+        number += 1
+    return signs
+
 
 # The width of a letter of DejaVu Sans Mono as part of its size; other fonts are stretched to it where viewers can.
 ADVANCE = 0.602

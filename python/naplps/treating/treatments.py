@@ -1,13 +1,57 @@
-"""Named treatments of bytes that aren't read as a page: each takes away or rewrites something, and tells what."""
+"""The treatments, that which takes a SAUCE record away among them."""
 import re
+from dataclasses import dataclass
 from itertools import islice
 from typing import Callable, Dict, Iterator, List, NamedTuple, Optional, Tuple
 
-from . import LEADING_ON, eight_bit, sauce
+from ..names import shown
+from . import LEADING_ON, eight_bit
 from .borders import (
     BEGINS, CLEAR, END_OF_BODY, content, draws, is_read, is_uniform, outside, pieces, text_length, tokens,
 )
 from .changes import AROUND, EIGHTH, ODD, PLAIN, WITHIN, Change, Edit, NotSure, Treated
+
+RECORD, LINE = 128, 64
+MARK, COMMENTS = b"SAUCE00", b"COMNT"
+# The fields that are told, by their offsets and lengths.
+FIELDS = {"title": (7, 35), "author": (42, 20), "group": (62, 20), "date": (82, 8)}
+NUMBER_OF_LINES = 104
+
+
+@dataclass(frozen=True)
+class Sauce:
+    """How many bytes at the end the record has, with its comments and the 1A before it; and what its fields say.
+
+    `said` has the bytes of the fields and of the comments.
+    """
+
+    length: int
+    fields: Dict[str, str]
+    said: Tuple[bytes, ...] = ()
+
+
+def find(data: bytes) -> Optional[Sauce]:
+    """The record at the end of a file, if there is one."""
+    record = data[-RECORD:]
+    if len(record) < RECORD or not record.startswith(MARK):
+        return None
+    length = RECORD
+    texts = tuple(record[at:at + size] for at, size in FIELDS.values())
+    lines = record[NUMBER_OF_LINES]
+    comments = length + len(COMMENTS) + LINE * lines
+    if lines and len(data) >= comments and data.startswith(COMMENTS, len(data) - comments):
+        length = comments
+        texts += (data[-comments + len(COMMENTS):-RECORD],)
+    if data[-length - 1:-length] == b"\x1a":
+        length += 1
+    said = {name: _said(record[at:at + size]) for name, (at, size) in FIELDS.items()}
+    return Sauce(length, {name: text for name, text in said.items() if text}, texts)
+
+
+def _said(field: bytes) -> str:
+    """What a field says, on one line."""
+    return shown(field.split(b"\0")[0].rstrip(b" ").decode("cp437"))
+
 
 # How many bytes after a refusal may belong to a header, and how many starts of a page are tried among them.
 MOST_HEADER = 4096
@@ -163,7 +207,7 @@ def _starts(data: bytes, begin: int) -> Iterator[int]:
 
 def record(data: bytes, place: int) -> Iterator[Change]:
     """Cuts a SAUCE record off the end, with its comments and the 1A before it, and tells what it says."""
-    found = sauce.find(data)
+    found = find(data)
     if found and not any(map(draws, found.said)):
         said = ", ".join("%s %r" % each for each in found.fields.items())
         yield Change("sauce", AROUND, "%d bytes at the end: SAUCE%s" % (found.length, said and ", " + said),

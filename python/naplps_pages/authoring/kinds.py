@@ -6,7 +6,7 @@ from naplps.entry import (
     ONE, Arc, Bell, Blink, BlinkEnd, BlinkMark, Char, Clear, Cursor, DefEnd, Entry, Field, GlyphStart, Line, Map,
     MaskStart, Point, Poly, Position, Rect, Reset, TextMove, ToEol, Wait,
 )
-from naplps.page_state import Attributes
+from naplps.writer import Attributes
 
 from .. import messages
 from . import values

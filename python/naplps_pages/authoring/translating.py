@@ -6,7 +6,7 @@ from typing import Any, Callable, Dict, Iterator, List, NamedTuple, Optional, Tu
 
 from naplps import letters
 from naplps.entry import Char, Colour, Entry, Pen, Position
-from naplps.page_state import HELD, Attributes, PageState
+from naplps.writer import HELD, Attributes, PageState
 
 from .. import messages
 from . import values

@@ -6,7 +6,7 @@ from naplps import letters
 from naplps.entry import (
     Arc, Blink, Char, Entry, Field, GlyphStart, Line, Map, MaskStart, Point, Poly, Rect, Reset, TextMove, ToEol,
 )
-from naplps.page_state import HELD, Attributes
+from naplps.writer import HELD, Attributes
 
 from . import spelling
 from .translating import Translator
