@@ -13,7 +13,8 @@ FILES = {
     "page.nap": POINT, "copy.nap": POINT, "spelled.nap": SPELLED, "words.nap": b"Harbour lights",
     "refused.nap": POINT + b"\x0e\x24", "tail.nap": POINT + b"\x1a", "parity.nap": with_parity(b"Harbour master"),
     "cut.nap": POINT[:3], "left-out.nap": b"\x18" + POINT, "note.txt": b"A note of the year.\r\nAnd a second line.\r\n",
-    "blank.nap": b" ", "empty.nap": b"", "picture.gif": b"GIF89a" + bytes(40), "many.nap": b"\x1b\x22\x46".join([POINT] * 3),
+    "blank.nap": b" ", "empty.nap": b"", "picture.gif": b"GIF89a" + bytes(40),
+    "many.nap": b"\x1b\x22\x46".join([POINT] * 3),
 }
 PAGES = ("page.nap", "spelled.nap", "words.nap", "refused.nap", "tail.nap", "cut.nap", "note.txt")
 STORE = "x.db"

@@ -138,7 +138,8 @@ def with_program(tmp_path, monkeypatch, text):
 
 
 @pytest.mark.parametrize("text, told", [
-    ("", messages.NO_RSVG_CONVERT.format(program=PROGRAM)), ("#!/bin/sh\necho no luck >&2\nexit 1\n", "rsvg-convert failed: no luck"),
+    ("", messages.NO_RSVG_CONVERT.format(program=PROGRAM)),
+    ("#!/bin/sh\necho no luck >&2\nexit 1\n", "rsvg-convert failed: no luck"),
     ("#!/bin/sh\nexit 0\n", "rsvg-convert failed: "),
     ("#!/bin/sh\nexec sleep 600\n", "rsvg-convert didn't end in 8 s")])
 def test_where_librsvg_fails_there_is_a_message(run, tmp_path, monkeypatch, text, told):
