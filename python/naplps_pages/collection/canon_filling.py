@@ -18,7 +18,7 @@ from .pool import NoWorkers, Pool
 from .progress import Progress, Stopping
 from .rows import Chunk, FolderFiles, WorkerOptions
 from .schemas import SCHEMA, CanonValues, File
-from .store import StoreFailed, fold, keep_log, keep_private, open_to_read, open_to_write, schema_of
+from .store import StoreFailed, checkpoint, keep_log, keep_private, open_to_read, open_to_write, schema_of
 from .store_files import Busy, Lock
 from .tables import READ
 
@@ -172,7 +172,7 @@ class CanonFilling(NamedTuple):
                 try:
                     return self._fill(connection, messages.STOPPED)
                 finally:
-                    fold(connection, READERS)
+                    checkpoint(connection, READERS)
                     connection.close()
         except Busy as busy:
             raise NotWritable(messages.SCAN_AT_WORK.format(reason=busy)) from None

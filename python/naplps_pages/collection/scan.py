@@ -31,7 +31,7 @@ from .pool import MAIN, ClusterFailed, NoWorkers, Pool, Workers, WorkersFailed
 from .progress import Counting, Progress, Stopping
 from .rows import Chunk, FolderFiles, Piece, WorkerOptions
 from .schemas import INDICES, Answered, File, Terms
-from .store import StoreFailed, fold, keep_log, keep_private, open_to_write
+from .store import StoreFailed, checkpoint, keep_log, keep_private, open_to_write
 from .writer import Writer
 
 # A worker that is silent for so long, beside the time of two answers, hangs.
@@ -206,7 +206,7 @@ def _scan(options: ScanOptions, terms: Terms, stopping: Stopping, roots: List[by
     finally:
         if connection.in_transaction:
             connection.execute("ROLLBACK")
-        if not fold(connection, READERS, lambda: stopping.number is not None):
+        if not checkpoint(connection, READERS, lambda: stopping.number is not None):
             tell(messages.READ_NOW.format(path=shown(options.store), log=shown(os.path.basename(options.store) + LOG)))
         connection.close()
 

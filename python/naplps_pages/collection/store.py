@@ -63,7 +63,7 @@ def open_to_read(path: str) -> sqlite3.Connection:
     connection = _checked(path, "rw")
     connection.execute(f"PRAGMA cache_size = {-CACHE}")
     if connection.execute("PRAGMA journal_mode").fetchone() == ("wal",) and not is_held(path):
-        _fold_again(connection)
+        _checkpoint_again(connection)
     if not show_present(connection):
         connection.execute("CREATE TEMP TABLE found AS SELECT * FROM pages")
         connection.execute("DROP VIEW IF EXISTS temp.pages")
@@ -284,7 +284,7 @@ def keep_log(connection: sqlite3.Connection) -> bool:
     return bool(mode == "wal")
 
 
-def fold(connection: sqlite3.Connection, seconds: float = 0, stops: Callable[[], bool] = lambda: False) -> bool:
+def checkpoint(connection: sqlite3.Connection, seconds: float = 0, stops: Callable[[], bool] = lambda: False) -> bool:
     """Makes the store one file again, that can be copied and be read where nothing can be written.
 
     So long is waited for who reads it, unless it is to stop. False where he hinders that, so that rows stay in its log.
@@ -301,10 +301,10 @@ def fold(connection: sqlite3.Connection, seconds: float = 0, stops: Callable[[],
     return True
 
 
-def _fold_again(connection: sqlite3.Connection) -> None:
+def _checkpoint_again(connection: sqlite3.Connection) -> None:
     """Does what the last scan couldn't, since the store was read as it ended; if it still is, the next will."""
     try:
-        fold(connection)
+        checkpoint(connection)
     except sqlite3.Error:
         pass  # as where nothing can be written
     connection.execute(f"PRAGMA busy_timeout = {PATIENCE * 1000}")
