@@ -222,7 +222,7 @@ def test_hashes_that_others_made(run, store, tmp_path):
 
 
 def test_one_that_is_stopped_goes_on(run, naplps, store, monkeypatch):
-    monkeypatch.setattr(canon_filling, "MOST_FILES", 2)
+    monkeypatch.setattr(canon_filling, "MAX_FILES", 2)
     connection = open_to_write(store)
     PICTURES.make(connection)
     how = WorkerOptions(naplps, USUAL_BUDGET, 20.0, 0)

@@ -322,7 +322,7 @@ def test_keys_that_others_made(run, store, tmp_path):
 
 
 def test_one_that_is_stopped_goes_on(run, naplps, tmp_path, monkeypatch):
-    monkeypatch.setattr(canon_filling, "MOST_FILES", 4)
+    monkeypatch.setattr(canon_filling, "MAX_FILES", 4)
     pages = near_box.write(str(tmp_path / "box"), 60).pages
     store = str(tmp_path / "box.db")
     assert run(["scan", str(tmp_path / "box"), "--into", store]).returncode == 0

@@ -11,7 +11,7 @@ import pytest
 from forked import begun, ended, forked, require_told
 from naplps_pages.collection import tables
 from naplps_pages.collection.folders import identity_of
-from naplps_pages.collection.search import MOST_BROKEN, hidden, walk
+from naplps_pages.collection.search import MAX_BROKEN, hidden, walk
 from naplps_pages.collection.rows import FolderFiles, WorkerOptions
 from naplps_pages.collection.store import open_to_read
 from naplps_pages.collection.worker import Worker
@@ -118,15 +118,15 @@ def test_of_the_broken_members_of_a_pack_the_first_are_named(run, tmp_path, stor
     folder = os.path.join(str(tmp_path), "packs")
     os.mkdir(folder)
     few, many = (written(os.path.join(folder, name), broken_zip(number)) for name, number in (
-        ("few.zip", MOST_BROKEN), ("many.zip", 500)))
+        ("few.zip", MAX_BROKEN), ("many.zip", 500)))
     wanted = ["naplps-pages: %s!%04d: it is encrypted" % (path, at) for path in (few, many)
-              for at in range(MOST_BROKEN)]
+              for at in range(MAX_BROKEN)]
     wanted.append("naplps-pages: %s: 500 of its members couldn't be read, of which 20 are named; `files` names all"
                   % many)
     for _ in range(2):
         said = run(["scan", folder, "--into", store])
         assert sorted(said.stderr.decode().splitlines()) == sorted(wanted) and said.returncode == 1
-    assert run(["files", store, "--kind", "any"]).stdout.count(b": it is encrypted") == 500 + MOST_BROKEN
+    assert run(["files", store, "--kind", "any"]).stdout.count(b": it is encrypted") == 500 + MAX_BROKEN
 
 
 def held(store):

@@ -50,7 +50,7 @@ def test_a_folder_that_is_too_deep_is_a_row(run, tmp_path, monkeypatch):
     try:
         said = run(["scan", top, "--into", store])
         longest = max((each for each, in rows(store, "SELECT path FROM folders WHERE state = 0")), key=len)
-        assert search.MOST_PATH - 251 < len(longest) <= search.MOST_PATH == 65536
+        assert search.MAX_PATH - 251 < len(longest) <= search.MAX_PATH == 65536
         assert said.stdout == (
             b"1 file: 1 accepted (1 page), 0 refused; 0 known, 1 page asked about; 1 folder unreadable\n")
         assert said.stderr.decode() == "naplps-pages: %s: its path is longer than 65536 bytes\n" % os.fsdecode(

@@ -26,7 +26,7 @@ from .tables import READ
 PATIENCE = 60.0
 WORKER = "naplps_pages.collection.canon_worker"
 # The number of files of a chunk, and of rows, or the seconds, with which these are written.
-MOST_FILES, STEP, SECONDS = 64, 1000, 2.0
+MAX_FILES, STEP, SECONDS = 64, 1000, 2.0
 WANTED = "SELECT folder, name FROM wanted ORDER BY folder, name"
 
 
@@ -81,10 +81,10 @@ class CanonPass:
         names: List[bytes] = []
         count = last = 0
         for folder, name in list(checked(self.connection.execute(WANTED), FileWithoutValue)):
-            if names and (folder != last or count >= MOST_FILES):
+            if names and (folder != last or count >= MAX_FILES):
                 held.append(FolderFiles(last, b"", tuple(names)))
                 names = []
-            if count >= MOST_FILES:
+            if count >= MAX_FILES:
                 yield tuple(held)
                 held, count = [], 0
             names.append(name)

@@ -22,7 +22,7 @@ from .store import reader
 from .worker import PieceMaker, serve
 
 # The number of pages that are asked about together, and of their entries.
-MOST_AHEAD, MOST_ENTRIES = 32, 50_000
+MAX_AHEAD, MAX_ENTRIES = 32, 50_000
 FILE = f"""SELECT d.path, f.name, {tables.AT}, p.own, p.place, coalesce(c.entries, p.entries),
     coalesce(p.canon, c.canon), c.copy FROM files f
     CROSS JOIN folders d ON d.id = f.folder CROSS JOIN pages p ON p.id = f.page
@@ -67,7 +67,7 @@ class ValueMaker:
                 it = self._looked_up(names.folder, name)
                 window.append(it)
                 entries += it.entries if isinstance(it, Wanted) else 0
-                if len(window) >= MOST_AHEAD or entries >= MOST_ENTRIES:
+                if len(window) >= MAX_AHEAD or entries >= MAX_ENTRIES:
                     yield self._piece(names.folder, window)
                     window, entries = [], 0
             yield self._piece(names.folder, window)

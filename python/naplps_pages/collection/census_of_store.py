@@ -21,7 +21,7 @@ from .progress import Progress
 from .store import kept, open_to_read
 
 # The greatest number of refused pages that are read on.
-MOST_READ = 100_000
+MAX_READ = 100_000
 STATES = "SELECT p.state, count(*) FROM pages p WHERE EXISTS(SELECT 1 FROM present f WHERE f.page = p.id) GROUP BY 1"
 # What a census calls the states of pages.
 MEMBERS = ("accepted", "refused", "without")
@@ -35,7 +35,7 @@ OTHERS = """SELECT count(*) FROM pages p WHERE p.number IS NOT NULL AND p.looks_
 PAGES = f"""SELECT p.own, p.number, coalesce(n.name, ''), p.left_out, p.place, {NAME}, d.path, f.name, f.at FROM pages p
     CROSS JOIN present f ON f.page = p.id CROSS JOIN folders d ON d.id = f.folder LEFT JOIN faults n
     ON n.number = p.number WHERE p.number IS NOT NULL AND coalesce(p.looks_like, '') = '' GROUP BY p.id
-    ORDER BY d.path, f.name LIMIT {MOST_READ}"""
+    ORDER BY d.path, f.name LIMIT {MAX_READ}"""
 
 
 class StateCount(NamedTuple):
@@ -70,7 +70,7 @@ def census(session: Session) -> int:
     """Prints the census of the store that a session names; the status."""
     connection = open_to_read(session.names[0])
     found = exact(connection)
-    progress = Progress(sys.stderr, lambda: min(found.refused, MOST_READ), what="refused pages")
+    progress = Progress(sys.stderr, lambda: min(found.refused, MAX_READ), what="refused pages")
     for path, why in read_on(connection, found, progress):
         progress.tell(f"{shown(path)}: {why}")
         session.fail(SOME_LACK)

@@ -209,7 +209,7 @@ class UnreadFiles:
 # The module and the tool, which stand in one folder.
 PACKAGES = ("naplps", "naplps_pages")
 # The number of members of a pack that are read at a time, since their rows are held until all are there.
-MOST_MEMBERS = 20_000
+MAX_MEMBERS = 20_000
 PIECE = 1 << 20
 
 
@@ -253,7 +253,7 @@ def _worked(given: Given) -> Done:
     def beat() -> None:
         if os.getppid() != parent:
             sys.exit(1)  # nobody waits for it any more
-    worker = Worker(given.how, lambda hashes: set(), beat, MOST_MEMBERS, elsewhere=True)
+    worker = Worker(given.how, lambda hashes: set(), beat, MAX_MEMBERS, elsewhere=True)
     try:
         pieces = [piece for piece in worker.pieces(given.chunk) if piece[0]]
         return Done(None, pieces, worker.left, tuple(worker.others))

@@ -18,7 +18,7 @@ from ..source import Page
 from .folders import Place, Replaced, is_gone, opened, reason
 from .rows import FolderFiles
 from .schemas import File
-from .tables import CHANGED, MOST_NUMBER, NOT_A_FILE, READ, TOO_LONG, UNREADABLE, VANISHED, hashed
+from .tables import CHANGED, MAX_NUMBER, NOT_A_FILE, READ, TOO_LONG, UNREADABLE, VANISHED, hashed
 
 FLAGS = os.O_RDONLY | os.O_NOFOLLOW | os.O_NONBLOCK | os.O_CLOEXEC | os.O_NOCTTY
 PIECE = 1 << 20
@@ -130,7 +130,7 @@ def marks(status: os.stat_result) -> Marks:
 
 def _kept(number: int) -> int:
     """The number as it is kept: that of a file may have a bit more, and far times too."""
-    return number if -MOST_NUMBER <= number <= MOST_NUMBER else number & MOST_NUMBER
+    return number if -MAX_NUMBER <= number <= MAX_NUMBER else number & MAX_NUMBER
 
 
 def _unread(folder: int, name: bytes, error: OSError, before: Optional[os.stat_result] = None) -> File:

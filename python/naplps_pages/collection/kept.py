@@ -23,7 +23,7 @@ from .store import StoreFailed
 if TYPE_CHECKING:
     from .rows import AskAgain
 
-MOST_PARTS = 1_000_000
+MAX_PARTS = 1_000_000
 WORDS = re.compile(r"([0-9]{1,7})/([0-9]{1,7})")
 
 
@@ -65,7 +65,7 @@ def below(root: bytes, path: bytes) -> bytes:
 def read_part(text: str) -> Part:
     """The part that is named K/N. Raises ValueError."""
     found = WORDS.fullmatch(text)
-    if not found or not 0 <= int(found[1]) < int(found[2]) <= MOST_PARTS:
+    if not found or not 0 <= int(found[1]) < int(found[2]) <= MAX_PARTS:
         raise ValueError(messages.NO_PART.format(text=repr(text)))
     return Part(int(found[1]), int(found[2]))
 

@@ -16,9 +16,9 @@ from ..near_keys import KEY, MOST_SAID, PREFIX
 
 Values = Tuple[Any, ...]
 Row = TypeVar("Row")
-MOST_NUMBER, MOST_REFUSAL, HASH = (1 << 63) - 1, 99, 32
+MAX_NUMBER, MAX_REFUSAL, HASH = (1 << 63) - 1, 99, 32
 # Characters of a text, and bytes of a name or a path. (One row may be told as often as there are files.)
-MOST_TEXT, MOST_PATH = 1 << 16, 1 << 17
+MAX_TEXT, MAX_PATH = 1 << 16, 1 << 17
 
 
 class NotAStore(sqlite3.DatabaseError):
@@ -73,17 +73,17 @@ def _text(name: str, most: int) -> Kind:
     return Kind(name, "TEXT", lambda value: type(value) is str and len(value) <= most, f"length({{0}}) <= {most}")
 
 
-NUMBER = _whole(-MOST_NUMBER - 1, MOST_NUMBER, "a number")
-COUNT = _whole(0, MOST_NUMBER, "a number from 0")
-REFUSAL = _whole(1, MOST_REFUSAL, "the number of a refusal")
+NUMBER = _whole(-MAX_NUMBER - 1, MAX_NUMBER, "a number")
+COUNT = _whole(0, MAX_NUMBER, "a number from 0")
+REFUSAL = _whole(1, MAX_REFUSAL, "the number of a refusal")
 FILE_STATE, PAGE_STATE = _whole(0, 6, "the state of a file"), _whole(0, 2, "the state of a page")
 PAGE_KIND, GRADE = _whole(0, 3, "the kind of a page"), _whole(0, 1, "the grade of treatments")
 SOURCE, FLAG = _whole(0, 2, "whose text it is"), _whole(0, 1, "a flag")
 # A text of one line, and one of several.
-TEXT, LINES = _text("a text", MOST_TEXT), _text("a text", MOST_TEXT)
+TEXT, LINES = _text("a text", MAX_TEXT), _text("a text", MAX_TEXT)
 HASHES = Kind("a hash", "BLOB", lambda value: type(value) is bytes and len(value) == HASH, f"length({{0}}) = {HASH}")
-NAME = Kind("a name", "BLOB", lambda value: type(value) is bytes and len(value) <= MOST_PATH and b"\0" not in value,
-            f"length({{0}}) <= {MOST_PATH} AND instr({{0}}, x'00') = 0")
+NAME = Kind("a name", "BLOB", lambda value: type(value) is bytes and len(value) <= MAX_PATH and b"\0" not in value,
+            f"length({{0}}) <= {MAX_PATH} AND instr({{0}}, x'00') = 0")
 PATH = Kind("a path", "BLOB", lambda value: NAME.fits(value) and value.startswith(b"/"),
             NAME.rule + " AND substr({0}, 1, 1) = x'2F'")
 # The keys of lists: of what is left of one, and of its first entries, for one number of these or for each.
@@ -160,5 +160,5 @@ def _name_of(value: Any) -> str:
     if isinstance(value, (int, float)):
         return f"the number {value}"
     if isinstance(value, str):
-        return "a text" if len(value) <= MOST_TEXT else f"a text of {len(value)} characters"
+        return "a text" if len(value) <= MAX_TEXT else f"a text of {len(value)} characters"
     return "nothing" if value is None else f"{len(value)} bytes"

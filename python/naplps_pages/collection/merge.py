@@ -282,7 +282,7 @@ def _all_ended(ends: Iterable[Optional[str]]) -> Optional[str]:
 # No log is needed: what isn't whole is thrown away.
 FAST = "PRAGMA journal_mode = OFF; PRAGMA synchronous = OFF;"
 # The steps of SQLite between two looks at the clock, and the number of differences that are reported one by one.
-OFTEN, MOST_TOLD = 100_000, 10
+OFTEN, MAX_TOLD = 100_000, 10
 
 
 def merge(into: str, paths: Sequence[str], unfinished: bool) -> bool:
@@ -355,7 +355,7 @@ def _require_same(into: str, sources: List[Source], stopping: Stopping) -> None:
     number = 0
     try:
         for number, (one, other) in enumerate(differing(sources, progress, lambda: stopping.number is not None), 1):
-            if number <= MOST_TOLD:
+            if number <= MAX_TOLD:
                 progress.tell(messages.ANSWERS_DIFFER.format(one=one.told, other=other.told))
     finally:
         progress.clear()

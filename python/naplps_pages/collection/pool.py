@@ -12,7 +12,7 @@ from typing import Deque, FrozenSet, Iterator, List, NamedTuple, Optional, Seque
 
 from .. import interpreter, messages
 from ..packs.naming import pack_of
-from .rows import ALIVE, DONE, FAILED, MOST_AHEAD, Chunk, Piece, WorkerOptions, received
+from .rows import ALIVE, DONE, FAILED, MAX_AHEAD, Chunk, Piece, WorkerOptions, received
 from .schemas import File
 from .tables import UNREADABLE
 
@@ -256,7 +256,7 @@ class Pool(Workers):
         self.workers.remove(worker)
         first, *left = [chunk for chunk in worker.left() if chunk] or [()]
         if count(first) > 1:
-            left[:0] = [each for each in (*_singles(first, MOST_AHEAD), _behind(first, MOST_AHEAD)) if each]
+            left[:0] = [each for each in (*_singles(first, MAX_AHEAD), _behind(first, MAX_AHEAD)) if each]
         self.retry.extendleft(map(Task, reversed(left)))
         if count(first) == 1:
             yield from self.lost(first, reason)

@@ -5,7 +5,7 @@ from .folders import FolderIdentity
 from .schemas import Answered, Cured, File, PageText
 
 # The number of requests that a worker writes ahead; and what it sends beside pieces.
-MOST_AHEAD = 64
+MAX_AHEAD = 64
 DONE, ALIVE, FAILED = "done", "alive", "failed"
 
 

@@ -26,7 +26,7 @@ from .canon_tables import CANON_TABLES
 from .status import counted
 from .folders import absolute, is_gone, join, reason
 from .kept import KEEPS_TO, Part, keep, keep_part
-from .search import MOST_BROKEN, Scope, Search, apart, broken, hidden
+from .search import MAX_BROKEN, Scope, Search, apart, broken, hidden
 from .pool import MAIN, ClusterFailed, NoWorkers, Pool, Workers, WorkersFailed
 from .progress import Counting, Progress, Stopping
 from .rows import Chunk, FolderFiles, Piece, WorkerOptions
@@ -324,7 +324,7 @@ class ScanRun:
         self.status = SOME_LACK
         if name and folder in self.writer.packs:
             self.broken[folder] += 1
-            if self.broken[folder] > MOST_BROKEN:
+            if self.broken[folder] > MAX_BROKEN:
                 return
         path, = self.writer.connection.execute("SELECT path FROM folders WHERE id = ?", (folder,)).fetchone()
         self._complain(join(path, name), why)
@@ -340,7 +340,7 @@ class ScanRun:
         for folder, name in writer.doubles():
             self._complain_of(folder, name, SEVERAL)
         for folder, number in self.broken.items():
-            if number > MOST_BROKEN:
+            if number > MAX_BROKEN:
                 self._complain(*broken(writer.connection, folder))
         writer.sweep(self.search.whole)
         writer.connection.executescript(INDICES)

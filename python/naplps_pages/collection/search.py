@@ -20,8 +20,8 @@ from .tables import GONE, READ, SETTLED, TOO_LONG, UNREADABLE, VANISHED
 from .writer import Writer
 
 # Each row of a folder has its whole path, so a deep one would cost the square of its depth.
-MOST_PATH = 64 << 10
-LONG_PATH = f"its path is longer than {MOST_PATH} bytes"
+MAX_PATH = 64 << 10
+LONG_PATH = f"its path is longer than {MAX_PATH} bytes"
 # A folder by its device and its number.
 Identity = Tuple[int, int]
 
@@ -94,7 +94,7 @@ def walk(root: bytes, hides: Hidden) -> Iterator[Listing]:
             which = identity_of(descriptor, above is None)
             yield Listing(path, READ, None, tuple(names), bool(below), descriptor, tuple(packs), which)
             for each in reversed([join(path, name) for name in below]):
-                if len(each) <= MOST_PATH:
+                if len(each) <= MAX_PATH:
                     stack.append((each, here))
                 else:
                     yield Listing(each, UNREADABLE, LONG_PATH)
@@ -160,9 +160,9 @@ MEMBERS = f"""SELECT count(*), total(NOT CASE f.state WHEN {READ} THEN coalesce(
     FROM files f LEFT JOIN pages p ON p.id = f.page
     WHERE f.folder = :folder AND f.name <> x'' AND f.state <> {GONE}"""
 # The number of members of a pack that couldn't be read which are told one by one.
-MOST_BROKEN = 20
+MAX_BROKEN = 20
 UNREAD = f"""SELECT name, coalesce(why, '') FROM files WHERE folder = ? AND name <> x'' AND state = {UNREADABLE}
-    ORDER BY name LIMIT {MOST_BROKEN}"""
+    ORDER BY name LIMIT {MAX_BROKEN}"""
 BROKEN = f"""SELECT d.path, (SELECT count(*) FROM files f WHERE f.folder = d.id AND f.name <> x''
     AND f.state = {UNREADABLE}) FROM folders d WHERE d.id = ?"""
 
@@ -200,7 +200,7 @@ class BrokenPack(NamedTuple):
 class PackState(NamedTuple):
     """How many members a known pack has; and which of them couldn't be read, and why, with the pack itself.
 
-    If there are more than `MOST_BROKEN`, these are the first, and that there are more.
+    If there are more than `MAX_BROKEN`, these are the first, and that there are more.
     """
 
     members: int
@@ -223,15 +223,15 @@ def settled(connection: sqlite3.Connection, folder: int, marks: Optional[Marks],
         return None
     some = list(checked(connection.execute(UNREAD, (folder,)), UnreadMember)) if unread else []
     some += [UnreadMember(b"", pack.why)] if pack.state == UNREADABLE else []
-    if unread > MOST_BROKEN:
-        some.append(UnreadMember(b"", messages.MANY_UNREAD_MEMBERS.format(number=unread, most=MOST_BROKEN)))
+    if unread > MAX_BROKEN:
+        some.append(UnreadMember(b"", messages.MANY_UNREAD_MEMBERS.format(number=unread, most=MAX_BROKEN)))
     return PackState(members, some)
 
 
 def broken(connection: sqlite3.Connection, folder: int) -> Tuple[bytes, str]:
     """A pack by its path, and how many of its members couldn't be read."""
     pack = next(checked(connection.execute(BROKEN, (folder,)), BrokenPack))
-    return join(pack.path, b""), messages.MANY_UNREAD_MEMBERS.format(number=pack.members, most=MOST_BROKEN)
+    return join(pack.path, b""), messages.MANY_UNREAD_MEMBERS.format(number=pack.members, most=MAX_BROKEN)
 
 
 # The number of rows of the store that are looked at together.

@@ -21,7 +21,7 @@ CACHE, LEAST = 64 << 10, 64
 # Files that are open beside those of stores; and how many a store has.
 OTHERS, EACH = 64, 3
 # The greatest number of lacking parts that are told by their numbers.
-MOST_LISTED = 5
+MAX_LISTED = 5
 LAST = "SELECT id, began, ended FROM runs ORDER BY id DESC LIMIT 1"
 UNREAD = "SELECT path, why FROM roots WHERE run = ? AND why IS NOT NULL ORDER BY path"
 
@@ -186,5 +186,5 @@ def lacking(sources: Sequence[Source]) -> Iterator[Tuple[str, str]]:
 
 
 def _listed(missing: List[str]) -> str:
-    more = f" and {len(missing) - MOST_LISTED} more" if len(missing) > MOST_LISTED else ""
-    return ("part " if len(missing) == 1 else "parts ") + ", ".join(missing[:MOST_LISTED]) + more
+    more = f" and {len(missing) - MAX_LISTED} more" if len(missing) > MAX_LISTED else ""
+    return ("part " if len(missing) == 1 else "parts ") + ", ".join(missing[:MAX_LISTED]) + more

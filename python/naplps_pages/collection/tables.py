@@ -3,7 +3,7 @@
 HASH = "sha256"
 
 # A whole number that is kept has 64 bits with the sign.
-MOST_NUMBER = (1 << 63) - 1
+MAX_NUMBER = (1 << 63) - 1
 
 # The states of a file, and of a page.
 READ, UNREADABLE, VANISHED, TOO_LONG, NOT_A_FILE, CHANGED, GONE = range(7)

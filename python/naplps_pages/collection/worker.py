@@ -31,7 +31,7 @@ from ..source import Page
 from . import tables
 from .file_reader import OTHER, REPLACED, PackScan, Seen, change, look
 from .folders import Replaced, is_gone, opened_again, reason
-from .rows import ALIVE, DONE, FAILED, MOST_AHEAD, AskAgain, Chunk, FolderFiles, Piece, WorkerOptions, plain
+from .rows import ALIVE, DONE, FAILED, MAX_AHEAD, AskAgain, Chunk, FolderFiles, Piece, WorkerOptions, plain
 from .schemas import Answered, Cured, File, PageText
 from .store import reader
 from .tables import CHANGED, DESCRIBED, HAS_TEXT, NO_ANSWER, REFUSED, TRIED, UNREADABLE, VANISHED
@@ -66,9 +66,9 @@ class KnownHashes:
 
 
 # The number of bytes of requests that are written ahead.
-MOST_BYTES = 1 << 20
+MAX_BYTES = 1 << 20
 # The number of latest answers that are remembered.
-MOST_REMEMBERED = 4096
+MAX_REMEMBERED = 4096
 TOO_LONG_TO_CURE = "it is too long for treatments"
 TOO_MANY_FOR_TEXT = "it has too many entries for its text"
 TOO_LONG_FOR_TEXT = "it is too long for its text"
@@ -157,7 +157,7 @@ class Worker:
                 continue
             window.append(seen)
             length += len(seen.data or b"")
-            if len(window) >= MOST_AHEAD or length >= MOST_BYTES:
+            if len(window) >= MAX_AHEAD or length >= MAX_BYTES:
                 yield self._answered(window)
                 window, length = [], 0
         yield self._answered(window)
@@ -223,7 +223,7 @@ class Worker:
 
     def _remember(self, asked: Iterable[bytes]) -> None:
         self.asked.update(dict.fromkeys(asked))
-        while len(self.asked) > MOST_REMEMBERED:
+        while len(self.asked) > MAX_REMEMBERED:
             self.asked.popitem(last=False)
 
     def _alone(self, seen: Seen) -> Piece:
@@ -313,7 +313,7 @@ def _without(names: FolderFiles, error: Union[OSError, Replaced]) -> Iterator[Fi
 
 
 # A worker that needs more memory than this is at fault.
-MOST_MEMORY = 1 << 30
+MAX_MEMORY = 1 << 30
 # It shows that it is at work so often, in seconds, while it has nothing to send.
 BEAT = 1.0
 
@@ -379,7 +379,7 @@ def serve(descriptor: int, made: Callable[[Sequence[Any], Callable[[], None]], P
 def limit_memory() -> None:
     """Limits the memory of this process."""
     hard = resource.getrlimit(resource.RLIMIT_AS)[1]
-    most = MOST_MEMORY if hard == resource.RLIM_INFINITY else min(MOST_MEMORY, hard)
+    most = MAX_MEMORY if hard == resource.RLIM_INFINITY else min(MAX_MEMORY, hard)
     try:
         resource.setrlimit(resource.RLIMIT_AS, (most, hard))
     except (OSError, ValueError):

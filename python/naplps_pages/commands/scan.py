@@ -26,12 +26,12 @@ PICTURES = Option("--pictures", "keep the hash of the picture of each page, for 
 
 def part(text: str) -> "ScanPart":
     """The part of a scan that is named K/N."""
-    from ..collection.kept import MOST_PARTS, read_part
+    from ..collection.kept import MAX_PARTS, read_part
     try:
         return read_part(text)
     except ValueError:
         raise ArgumentTypeError(
-            f"a part K/N, where N is from 1 to {MOST_PARTS} and K from 0 to N - 1, not {text!r}") from None
+            f"a part K/N, where N is from 1 to {MAX_PARTS} and K from 0 to N - 1, not {text!r}") from None
 
 
 ONE_PART = Option("--part", "take only one of N parts of the files, the first of which is 0/N", "K/N", part)

@@ -2,7 +2,7 @@
 from typing import Callable, NamedTuple, Optional
 
 from .. import messages
-from ..collection.tables import MOST_NUMBER, NOT_A_FILE, READ, TOO_LONG, UNREADABLE
+from ..collection.tables import MAX_NUMBER, NOT_A_FILE, READ, TOO_LONG, UNREADABLE
 from .naming import is_pack
 
 
@@ -44,11 +44,11 @@ def passed_over(name: bytes, why: Optional[str], size: int, at: int, most: int) 
     """The member, if it isn't to be read: for a reason of its own, since it is a pack, or since it is too long."""
     if why is not None:
         return Member(name, UNREADABLE, why, None, at)
-    kept = size if size <= MOST_NUMBER else None
+    kept = size if size <= MAX_NUMBER else None
     if is_pack(name):
         return Member(name, UNREADABLE, messages.PACK_IN_PACK, kept, at)
     if size > most:
-        said = messages.BYTES.format(number=size) if kept is not None else messages.MORE_BYTES.format(most=MOST_NUMBER)
+        said = messages.BYTES.format(number=size) if kept is not None else messages.MORE_BYTES.format(most=MAX_NUMBER)
         return Member(name, TOO_LONG, said, kept, at)
     return None
 

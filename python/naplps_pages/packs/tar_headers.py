@@ -3,7 +3,7 @@ import re
 from dataclasses import dataclass
 from typing import Callable, Iterator, NamedTuple, Optional, Tuple
 
-from ..collection.tables import MOST_NUMBER
+from ..collection.tables import MAX_NUMBER
 from .streams import Stream
 
 BLOCK = 512
@@ -161,7 +161,7 @@ def _decimal(digits: bytes) -> int:
 
 def _kept(number: int) -> int:
     """The number, if a file may have so many bytes. Raises BadHeader."""
-    if number > MOST_NUMBER:
+    if number > MAX_NUMBER:
         raise BadHeader
     return number
 
