@@ -8,11 +8,10 @@ from naplps.reading import lines_in, read_line
 
 from . import messages
 from .console import tell
-from .json_lines import AT_ONCE, pieces_of
 from .listing import Row, command_of, rows_of
 from .new_files import made_folder, put_inside
 from .page_session import Session
-from .schema import answered
+from .schema import AT_ONCE, answered, pieces_of
 from .source import Page
 
 

@@ -8,8 +8,8 @@ from naplps.names import Members, printable
 
 from .codes import Code, Cutter
 from .file_kinds import described
-from .json_lines import dumps
 from .page_session import Session
+from .schema import dumps
 from .source import Page
 
 # The number of bytes of a page that are read after its refusal, those of macros counted too.

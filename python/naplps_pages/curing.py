@@ -14,10 +14,9 @@ from naplps.treating.search import Cure, TreatmentSearch
 from naplps.version import VERSION
 
 from . import TOOL, messages
-from .json_lines import dumps
 from .new_files import made_folder, put_inside, require_free
 from .page_session import Session
-from .schema import answered
+from .schema import answered, dumps
 from .source import Page
 
 WARNING = ("The copy is another page. That it is equal to the original, or draws what was meant there, isn't claimed; "

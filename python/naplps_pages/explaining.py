@@ -8,12 +8,11 @@ from naplps.answers import Accepted, Refusal, Unanswered
 from naplps.limits import MOST_LISTED
 from naplps.names import quoted, shown
 
-from .cases import case_of
 from .codes import Code, cut
 from .folding import MOST_IN_ROW, folded, goes_on
 from .listing import Row as Placed
 from .page_session import Session
-from .refusals import PAGE, text_of
+from .refusals import PAGE, case_of, text_of
 from .source import Page
 
 IN_ROW = 8

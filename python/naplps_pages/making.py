@@ -7,8 +7,8 @@ from naplps.limits import MOST_LISTED
 from naplps.names import printable, shown
 
 from . import messages
-from .authoring.mistakes import Mistake, quoted
 from .authoring.translating import MOST_MISTAKES, Translation, misfit, translate
+from .authoring.values import Mistake, quoted
 from .authoring.writing import source_lines
 from .console import REFUSED, tell, tell_line
 from .new_files import made_folder, put, put_inside

@@ -9,9 +9,9 @@ from naplps.treating.treatments import graded
 
 from . import messages
 from .console import Output, tell
-from .json_lines import dumps
 from .nearness import WORDS, Beginning, Difference, ListedPage, NearPages, PageName
 from .page_session import Session
+from .schema import dumps
 from .source import Page
 
 SAME_WORDS, NO_OTHERS = "(the same words, in another order)", "(no others)"

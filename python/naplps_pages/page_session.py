@@ -16,8 +16,7 @@ from .console import ACCEPTED, FAILED, REFUSED, NotWritten, Output, OutputLost, 
 from .source import Page, Unread, is_store, read
 
 if TYPE_CHECKING:
-    from .earlier import Earlier, Heard
-    from .listing import Listed
+    from .listing import Earlier, Heard, Listed
 
 # The options that a session has.
 OPTIONS = ("json", "into", "full", "past", "png", "sheet", "look", "output_file", "html", "least", "dots", "animate",
@@ -59,7 +58,7 @@ class Session:
     def earlier(self) -> "Earlier":
         """The pages that come before, if there are any."""
         if self.after is None:
-            from .earlier import Earlier  # (what few need, the others don't wait for)
+            from .listing import Earlier  # (what few need, the others don't wait for)
             self.after = Earlier()
         return self.after
 
@@ -107,7 +106,7 @@ class Session:
 
     def heard(self, page: Page) -> "Heard":
         """The answer to a page with its entries, after the earlier pages if there are any."""
-        from .earlier import heard
+        from .listing import heard
         return heard(self.program, self.earlier, page)
 
     def answer_to(self, page: Page) -> Answer:
@@ -116,7 +115,7 @@ class Session:
 
     def print_answer(self, page: Page, answer: Answer, **more: object) -> None:
         """Prints an answer as JSON."""
-        from .json_lines import dumps
+        from .schema import dumps
         from .schema import answered
         self.output.line(dumps({**answered(page.name, answer), **more}))
 
@@ -151,7 +150,7 @@ class Session:
         """Tells of a page of which there is nothing to say."""
         self.complain(name, reason)
         if self.json:
-            from .json_lines import dumps
+            from .schema import dumps
             from .schema import answered, unread
             members = answered(name, Unanswered(reason)) if was_read else unread(name, reason)
             self.output.line(dumps({**members, **dict.fromkeys(more)}))
@@ -171,7 +170,7 @@ def on_pages(given: Namespace, tool: str, work: Callable[[Session], int], limits
         after: Optional["Earlier"] = None
         is_of_store = on_store is not None and _is_store(given.pages)
         if getattr(given, "after", None):
-            from .earlier import read_earlier
+            from .listing import read_earlier
             after = read_earlier(given.after, given.seconds)
         if on_store is not None and is_of_store:
             return on_store(given, client, after)

@@ -8,11 +8,10 @@ from naplps.names import shown
 
 from . import messages
 from .console import tell
-from .earlier import Earlier, Heard
+from .listing import Earlier, Heard
 from .new_files import put
 from .page_session import Session
-from .player.document import html
-from .player.played import can_be_played, played
+from .player.played import can_be_played, html, played
 from .source import Page
 
 TITLE = "%s, as it came down the line"

@@ -1,12 +1,14 @@
-"""What each refusal means and what can be done: read from refusals.txt, which the manual page's text is made of too.
-
-A refusal has a text of its own, and so have each code that is left out and each common case.
-"""
+"""What refusals mean, and common cases of them."""
 import os
 import re
 from dataclasses import dataclass
 from functools import lru_cache
 from typing import Dict, List, NamedTuple, Optional, Tuple
+
+from naplps.answers import Refusal
+from naplps.treating.borders import pages_in
+from naplps.treating.changes import EIGHTH, ODD
+from naplps.treating.treatments import MOST_BEHIND_END, MOST_FRONT, leading
 
 FILE = os.path.join(os.path.dirname(os.path.abspath(__file__)), "refusals.txt")
 HEAD = re.compile(r"(\d+) (\w+)(?: ([A-Z0-9-]+))?(?:, ([a-z ]+))?")
@@ -90,3 +92,40 @@ def _refusal(block: str) -> RefusalText:
     return RefusalText(int(found[1]), found[2], found[3] or "", found[4] or "", fields["means"],
                    fields.get("may come from", ""), fields.get("do", ""), fields.get("command", ""),
                    tuple(fields.get("treatments", "").split()))
+
+
+def case_of(data: bytes, answer: Refusal) -> str:
+    """The name of the case, or nothing."""
+    if answer.fault == "EighthBit":
+        bits = data.translate(EIGHTH).count(1)
+        return "mark" if bits == len(data) else "parity" if has_parity(data) else ""
+    if answer.code == "SDC" and pages_in(data):
+        return "several pages"
+    if answer.code == "SDC" and len(data) - answer.place <= MOST_BEHIND_END + 1:
+        return "at the end"
+    if answer.fault == "BadEscape" or answer.code in ("CAN", "NSR"):
+        return _of_leading_codes(data, answer)
+    return ""
+
+
+def _of_leading_codes(data: bytes, answer: Refusal) -> str:
+    if pages_in(data):
+        return "several pages"
+    return "at the front" if _is_in_front(data, answer.place) else ""
+
+
+def has_parity(data: bytes) -> bool:
+    """Whether all bytes have one parity, and some of them the eighth bit, but not all."""
+    bits = data.translate(EIGHTH).count(1)
+    return 0 < bits < len(data) and data.translate(ODD).count(1) in (0, len(data))
+
+
+def _is_in_front(data: bytes, place: int) -> bool:
+    """Whether the byte at the place belongs to the codes that can be cut off the front."""
+    at = 0
+    while at <= place and at < MOST_FRONT:
+        found = leading(data, at)
+        if found is None:
+            return False
+        at += found[1]
+    return at > place

@@ -10,9 +10,8 @@ from naplps.screen_text import lines_of
 
 from . import messages, png
 from .console import FAILED, tell
-from .earlier import Heard
 from .guessing import Guesser
-from .listing import Listed
+from .listing import Heard, Listed
 from .new_files import made_folder, put, put_inside
 from .page_session import Session
 from .sheet import ContactSheet, Tile

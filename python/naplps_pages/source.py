@@ -1,13 +1,57 @@
-"""One page: a file, or standard input."""
+"""One page: a file, standard input, or a pipe that has a name and is waited for so long, and no longer."""
 import errno
 import os
+import select
 import stat
 import sys
 import tempfile
+import time
 from dataclasses import dataclass
-from typing import IO, List, Optional, cast
+from types import TracebackType
+from typing import IO, List, Optional, Type, cast
 
 from naplps.limits import MOST_PAGE
+
+from . import messages
+
+
+class Late(OSError):
+    """It didn't end in time."""
+
+
+class Pipe:
+    """Reads a pipe until all who write to it have closed it, for a number of seconds. Raises OSError."""
+
+    def __init__(self, name: str, seconds: float) -> None:
+        self.seconds, self.end = seconds, time.monotonic() + seconds
+        # (without O_NONBLOCK this would wait for somebody who writes)
+        self.descriptor = os.open(name, os.O_RDONLY | os.O_NONBLOCK | os.O_CLOEXEC | os.O_NOCTTY)
+        self.poll = select.poll()
+        self.poll.register(self.descriptor, select.POLLIN)
+
+    def __enter__(self) -> "Pipe":
+        return self
+
+    def __exit__(self, kind: Optional[Type[BaseException]], error: Optional[BaseException],
+                 trace: Optional[TracebackType]) -> None:
+        os.close(self.descriptor)
+
+    def read(self, most: int) -> bytes:
+        """Some bytes, and nothing at the end. Raises Late."""
+        while True:
+            left = self.end - time.monotonic()
+            ready = self.poll.poll(max(0, left) * 1000)
+            if not ready or left <= 0:
+                raise Late(messages.LATE_PIPE.format(seconds=self.seconds))
+            try:
+                return os.read(self.descriptor, most)
+            except BlockingIOError:
+                continue
+
+    def seekable(self) -> bool:
+        """As of files."""
+        return False
+
 
 PIECE = 1 << 20
 # So much of a pipe is put into a temporary file: what the program takes at most.
@@ -63,7 +107,6 @@ def read(name: str, seconds: float) -> Page:
         if kind in DEVICES:
             raise Unread(DEVICES[kind])  # (to open it might do something, and some have no end)
         if kind == stat.S_IFIFO and not _is_unnamed(name):
-            from .pipe import Pipe
             with Pipe(name, seconds) as pipe:
                 return _gathered(name, cast(IO[bytes], pipe))
         with open(name, "rb", buffering=0) as file:

@@ -13,10 +13,9 @@ from naplps.version import VERSION
 
 from . import TOOL, file_kinds, messages
 from .console import FAILED, REFUSED
-from .json_lines import dumps
 from .new_files import make_folder, put_inside, require_free
 from .page_session import Session
-from .schema import answered
+from .schema import answered, dumps
 from .source import Page
 
 # A capture of more pages isn't cut.

@@ -8,8 +8,7 @@ from hypothesis import given
 from hypothesis import strategies as st
 
 from conftest import PACKAGES, file
-from naplps_pages.authoring.scanning import MOST_LINE
-from naplps_pages.authoring.translating import MOST_BYTES, MOST_MISTAKES, translate
+from naplps_pages.authoring.translating import MOST_BYTES, MOST_LINE, MOST_MISTAKES, translate
 
 MILLION = 1_000_000
 WORDS = ("LINE", "TEXT", "SET", "MAP", "0,0", "0.5,0.5", "colour=", "red", "#", "#1b4f72", '"', "\\", "=", ",", "/",

@@ -12,7 +12,7 @@ from conftest import COMMAND, file
 from naplps import Char
 from naplps.reading import read_line
 from naplps_pages.census import Census
-from naplps_pages.json_lines import AT_ONCE, dumps, pieces_of
+from naplps_pages.schema import AT_ONCE, dumps, pieces_of
 from samples import MACRO, has
 
 MOST_MIB = 128

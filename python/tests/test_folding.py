@@ -9,7 +9,7 @@ from hypothesis import strategies as st
 
 from conftest import file
 from naplps_pages.folding import MOST_IN_ROW, folded
-from naplps_pages.report.shortening import shortened
+from naplps_pages.report.drawing import shortened
 from reports import held
 
 LOOK = "colour=own-start text=0,0/normal/----"

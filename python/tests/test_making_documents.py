@@ -12,7 +12,7 @@ import gallery
 from conftest import COMMAND, PACKAGES, TOP, file
 from naplps import letters
 from naplps.drawing.cells import SIZES
-from naplps_pages.authoring import kinds, values
+from naplps_pages.authoring import translating, values
 from samples import has
 
 EXAMPLES = os.path.join(TOP, "examples")
@@ -87,8 +87,8 @@ def test_what_is_wrong(folder):
 def test_the_tables_and_the_letters_are_whole():
     table = TEXT[TEXT.index("| Line | What"):TEXT.index("## Positions")]
     named = set(re.findall(r"`([A-Z-]+)", table)) | {"POLY-FILLED"}
-    assert set(kinds.NAMES) <= named
-    for kind in kinds.KINDS.values():
+    assert set(translating.NAMES) <= named
+    for kind in translating.KINDS.values():
         row = next(row for row in table.splitlines() if re.search("`%s[ `]" % kind.form.split()[0], row))
         assert row.split("|")[-2].strip() == ", ".join(kind.fields), kind.form
     for name in set(values.NAMED) - {"gray"}:

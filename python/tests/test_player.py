@@ -16,7 +16,6 @@ from naplps.drawing.walk import MOST_DRAWN
 from naplps.entry import ONE
 from naplps.reading import placed
 from naplps_pages.listing import listed
-from naplps_pages.player import limits
 from naplps_pages.player.played import played
 from naplps_pages.source import Page
 from players import drawn_of, how_like, like, play, want
@@ -443,7 +442,7 @@ def weather(program):
     def made(**small):
         with pytest.MonkeyPatch.context() as patched:
             for name, value in small.items():
-                patched.setattr(limits, name, value)
+                patched.setattr(f"naplps_pages.player.played.{name}", value)
             return played(page, told), len(page)
     return made
 

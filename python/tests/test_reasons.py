@@ -8,7 +8,7 @@ import pytest
 from conftest import COMMAND, file
 from naplps.answers import Refusal
 from naplps_pages import refusals
-from naplps_pages.cases import case_of
+from naplps_pages.refusals import case_of
 from samples import POINT, with_parity
 from spelled import logo
 

@@ -10,14 +10,11 @@ from conftest import file
 from naplps_pages import cli
 from naplps_pages.collection.store import open_to_read
 from naplps_pages.report import choices, making
-from naplps_pages.report.block_queue import IS_FULL, Room
-from naplps_pages.report.blocks import DrawnPage
-from naplps_pages.report.drawing import Drawing
+from naplps_pages.report.drawing import Drawing, DrawnPage, shortened
 from naplps_pages.report.limits import in_block
 from naplps_pages.report.roots import Roots
-from naplps_pages.report.shortening import shortened
-from naplps_pages.report.sketch_choice import choose
-from naplps_pages.report.sketch_workers import ENDED
+from naplps_pages.report.making import choose
+from naplps_pages.report.sketch_workers import ENDED, IS_FULL, Room
 from reports import SPELLED, collection, held, words
 from samples import OUTSIDE, POINT
 from scans import FAKE, tree
@@ -285,7 +282,7 @@ def test_progress_is_told(made, again, monkeypatch, capsys):
 
 
 def test_processes_that_draw_nothing_end_a_report_in_time(made, again, monkeypatch):
-    monkeypatch.setattr("naplps_pages.report.block_queue.MOST_STILLBORN", 2)
+    monkeypatch.setattr("naplps_pages.report.sketch_workers.MOST_STILLBORN", 2)
     made({"%02d.nap" % at: words("PAGE %d" % at) for at in range(12)})
     monkeypatch.setattr("naplps_pages.interpreter.START", "import sys; sys.exit(1)")
     why = [each for block in held(again(processes=2))[1] for each in block["why"]]

@@ -14,8 +14,7 @@ from concurrent.futures import ThreadPoolExecutor
 import pytest
 
 from conftest import COMMAND, file
-from naplps_pages.report.connections import HEAD_SECONDS
-from naplps_pages.report.server import MOST_DRAWERS
+from naplps_pages.report.server import HEAD_SECONDS, MOST_DRAWERS
 from naplps_pages.report.sketch_workers import ENDED
 from reports import SPELLED
 from samples import OUTSIDE, POINT

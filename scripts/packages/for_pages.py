@@ -14,7 +14,7 @@ from shared.layout import TOP
 sys.path.append(str(TOP / "python"))
 from naplps.version import VERSION  # noqa: E402
 from naplps_pages import file_kinds, refusals  # noqa: E402
-from naplps_pages.player import document  # noqa: E402
+from naplps_pages.player import played  # noqa: E402
 
 BROWSER, PAGE = TOP / "browser", TOP / "browser" / "page"
 PLAYER = TOP / "python" / "naplps_pages" / "player"
@@ -84,12 +84,12 @@ def player_scripts() -> Dict[Path, str]:
     """The scripts with which players draw and paint dots, by their paths."""
     head = "// Made of browser/%s by scripts/packages/browser --page.\n"
     return {PLAYER / name: head % source + joined(source, wanted) for name, source, wanted in (
-        (document.DRAWING, "playing.js", "Drawing"), (document.DOTS, "dots.js", "Dots"))}
+        (played.DRAWING, "playing.js", "Drawing"), (played.DOTS, "dots.js", "Dots"))}
 
 
 def page(module: bytes) -> str:
     """The page in which files are dropped, with this module of the library."""
-    player_style, player = document.component(draws=False)
+    player_style, player = played.component(draws=False)
     own = TOP / "python" / "naplps_pages" / "player" / "page.css"
     style = own.read_text("utf-8") + player_style + (PAGE / "page.css").read_text("utf-8")
     script = player + joined("page/page.js")

@@ -1,26 +1,63 @@
-"""The process of a worker of a box: looks at files as that of a scan does, and makes all that is kept of their pages
-while their bytes are there.
-"""
-from typing import Any, Callable, Dict, List, Optional, Sequence
+"""A worker of a scan that makes all that is kept of a page while it has its bytes, and asks no question twice."""
+import re
+from typing import Any, Callable, Dict, List, Optional, Sequence, Tuple
 
 from naplps.answers import Accepted, Answer, HashedAnswer, Refusal, Unanswered
+from naplps.client import Client
 from naplps.limits import MOST_LISTED
 from naplps.treating.borders import pieces
+from naplps.treating.changes import digest
 from naplps.treating.search import Cure
 
 from .. import curing
 from ..collection import tables
 from ..collection.file_reader import Seen
-from ..collection.worker import KnownHashes, Knows, PieceMaker, Worker, serve
 from ..collection.rows import Piece, WorkerOptions
 from ..collection.schemas import Answered, Cured
-from ..listing import PLACES
+from ..collection.worker import KnownHashes, Knows, PieceMaker, Worker, serve
+from ..listing import LIST, PLACES
 from ..page_finder import CarvedPage, all_pages
 from ..report.limits import HELD_PLAYER
 from ..splitting import MOST_PAGES, has_a_page, parts_of
-from .asked_once import AskedOnce
-from .claims import Claims
-from .kept_pages import KeptPage, KeptPart
+from .kept_pages import Claims, KeptPage, KeptPart
+
+# The number of answers that are known at once, and of bytes of these.
+MOST_KNOWN, MOST_BYTES = 100_000, 64 << 20
+PLACE = re.compile(rb"(?m)^[0-9]+ ")
+
+
+class AskedOnce:
+    """Asks a client, and knows its answers. The body of `list` is that of `places` without the places."""
+
+    def __init__(self, program: Client, beat: Callable[[], None]) -> None:
+        self.program, self.beat = program, beat
+        self.known: Dict[Tuple[str, bytes], Answer] = {}
+        self.held = 0
+
+    def ask(self, call: str, data: bytes) -> Answer:
+        """The answer to a call on some bytes."""
+        self.beat()
+        if call == LIST:
+            told = self.ask(PLACES, data)
+            if isinstance(told, Accepted):
+                return Accepted(told.entries, PLACE.sub(b"", told.body))
+            if not isinstance(told, Unanswered) or not told.too_much:
+                return told
+        key = call, digest(data)
+        if key not in self.known:
+            answer = self.program.ask(call, data)
+            self.held += len(getattr(answer, "body", b""))
+            if self.held > MOST_BYTES or len(self.known) >= MOST_KNOWN:
+                self.forget()
+                return answer
+            self.known[key] = answer
+        return self.known[key]
+
+    def forget(self) -> None:
+        """Forgets all answers."""
+        self.known.clear()
+        self.held = 0
+
 
 # A longer canonical stream isn't kept; and no more bytes of a page behind the one that it is refused at.
 MOST_CANON, MOST_BEHIND = 16 << 20, 64 << 10

@@ -14,6 +14,7 @@ from naplps.names import shown
 from naplps.program import find
 from naplps.version import VERSION
 
+from .. import messages
 from ..collection import every_file, tables
 from ..collection.every_file import FileFacts
 from ..collection.file_reader import Otherwise, Seen, read
@@ -21,13 +22,12 @@ from ..collection.folders import absolute
 from ..collection.kept import refused_by
 from ..collection.pool import processors
 from ..collection.rows import AskAgain, WorkerOptions
-from ..collection.schemas import File
 from ..collection.scan import ScanOptions, ScanRun, missing, scanned
+from ..collection.schemas import File
 from ..collection.search import apart
 from ..collection.session import Names
 from ..collection.status import status
 from ..collection.store import StoreFailed, open_to_read
-from .. import messages
 from ..console import COMPLETE, FAILED, SOME_LACK, NotWritten, Output, tell
 from ..report import making
 from ..report.limits import USUAL_SKETCHES
@@ -35,11 +35,9 @@ from ..report.sketch_workers import OBJECTS
 from ..unexpected import told
 from . import long_files, summary
 from .box_worker import BoxWorker
-from .claims import Claims
-from .kept_pages import KeptPage, KeptPages
-from .making import BoxFiles, How
 from .folder import CLAIMS, KEPT, REPORT, STORE, BoxFolder
-from .put_files import PutFiles
+from .kept_pages import Claims, KeptPage, KeptPages
+from .making import BoxFiles, How, PutFiles
 
 Given = argparse.Namespace
 

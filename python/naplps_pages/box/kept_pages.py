@@ -1,17 +1,39 @@
-"""What a box keeps of each page beside its store: enough to make all files of it without the page or the program.
-
-It is a SQLite file that one run writes. A page is in it before it is in the store.
-"""
+"""What a box keeps of each page, in a SQLite file that is written before the store; and which worker asks about it."""
 import json
 import sqlite3
 import zlib
-from typing import Iterable, List, NamedTuple, Optional, Sequence, Tuple
+from typing import Iterable, List, NamedTuple, Optional, Sequence, Set, Tuple
 
 from naplps.names import Members
 
 from .. import messages
 from ..collection.schemas import Answered, CanonValues
 from ..collection.store import StoreFailed, address
+
+MADE = "CREATE TABLE claims(own BLOB PRIMARY KEY) WITHOUT ROWID"
+CLAIM = "INSERT OR IGNORE INTO claims(own) VALUES(?)"
+# It is needed while the workers are there, and no longer.
+FAST = "PRAGMA synchronous = OFF; PRAGMA journal_mode = MEMORY;"
+
+
+class Claims:
+    """A file that all workers of a run write. Where it can't be written, each asks about what it meets."""
+
+    def __init__(self, path: str, is_new: bool = False) -> None:
+        self.connection = sqlite3.connect(path, timeout=60, isolation_level=None)
+        self.connection.executescript(FAST + (MADE if is_new else ""))
+
+    def taken(self, hashes: List[bytes]) -> Set[bytes]:
+        """Those of the hashes that nobody claimed before."""
+        ask = self.connection.execute
+        try:
+            ask("BEGIN IMMEDIATE")
+            mine = {own for own in hashes if ask(CLAIM, (own,)).rowcount}
+            ask("COMMIT")
+            return mine
+        except sqlite3.Error:
+            return set(hashes)
+
 
 # "npbx", by which the file is known again, and its form.
 APPLICATION, FORM = 0x6E706278, 1

@@ -27,7 +27,7 @@ class Printer:
 
     def object(self, members: Members) -> None:
         """An object of JSON, on a line."""
-        from ..json_lines import dumps  # (which is imported where it's needed alone, as csv is)
+        from ..schema import dumps  # (which is imported where it's needed alone, as csv is)
         self.output.line(dumps(members))
 
     def row(self, members: Members) -> None:

@@ -32,7 +32,7 @@ from .store import kept, open_to_read, run
 from .tables import CAPTURE, REFUSED, hashed
 
 if TYPE_CHECKING:
-    from ..earlier import Earlier
+    from ..listing import Earlier
 
 # The options that a session of the files of a store has.
 OPTIONS = ("json", "into", "past", "png", "sheet", "dots", "animate", "scale", "speed")

@@ -23,7 +23,7 @@ from naplps.treating.search import Cure, TreatmentSearch
 
 from .. import file_kinds
 from ..census import stop_of
-from ..notes import is_note
+from ..new_files import is_note
 from ..packs.member import PackLimits
 from ..packs.naming import pack_of
 from ..page_words import MOST_TEXT, first_words

@@ -10,7 +10,7 @@ from . import (
 
 if TYPE_CHECKING:
     from naplps.client import Client
-    from ..earlier import Earlier
+    from ..listing import Earlier
 
 NO_CANON = ("not for canon: a canonical stream begins where nothing stands, so a page after others has none; `cat` "
             "joins pages to one that has")

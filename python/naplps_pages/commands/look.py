@@ -9,7 +9,7 @@ from . import (
 
 if TYPE_CHECKING:
     from naplps.client import Client
-    from ..earlier import Earlier
+    from ..listing import Earlier
 
 FILE = Option("-o", "write the picture of the page to this file; of several pages or of a STORE one picture of all",
               "FILE", completes=FILES, to="output_file")

@@ -8,7 +8,7 @@ from . import (
 
 if TYPE_CHECKING:
     from naplps.client import Client
-    from ..earlier import Earlier
+    from ..listing import Earlier
 
 
 def _parts() -> List[Part]:

@@ -1,8 +1,12 @@
-"""What a player holds of a page, as JSON: the lines and the places of its entries, its codes and bytes. The player
-draws the lines itself."""
+"""A page as it came down the line: what a player shows when, and its document."""
 import base64
+import hashlib
 import json
+import os
+import re
+import zlib
 from dataclasses import dataclass, field
+from html import escape
 from itertools import accumulate, takewhile
 from typing import Dict, List, Sequence, Tuple
 
@@ -13,7 +17,14 @@ from naplps.reading import Entries
 
 from ..explaining import numbered
 from ..listing import Listed, Row
-from . import limits
+
+# Bytes of the page, and rows of codes.
+MOST_BYTES, MOST_CODES = 1 << 20, 50_000
+# Characters of all lines of the list: those of all that a picture may have.
+MOST_LINES = 8 << 20
+# Lines of a page in words, and characters of each.
+MOST_DESCRIBED, A_DESCRIBED = 200, 500
+
 
 # The place of an entry that came with no byte of the page; and what a longer text ends with.
 NOT_HERE, CUT = -1, " .."
@@ -44,7 +55,7 @@ def played(data: bytes, told: Listed, said: str = "", before: Sequence[str] = ()
     length = _length(data, told, own)
     codes, is_cut = _codes(data, told, own, length)
     codes.entry[:0] = [-1] * earlier
-    shown = data[:min(length, limits.MOST_BYTES)]
+    shown = data[:min(length, MOST_BYTES)]
     members = {"length": length, "before": earlier, "entries": len(every), "places": [place for place, _ in held],
                "lines": [line for _, line in held], "codes": vars(codes), "isCut": is_cut,
                "bytes": base64.b64encode(shown).decode("ascii"), "notes": [said] if said else [],
@@ -55,15 +66,15 @@ def played(data: bytes, told: Listed, said: str = "", before: Sequence[str] = ()
 def _described(lines: Sequence[str]) -> List[str]:
     """The page in words, as far as that is held."""
     described = describe(list(Entries(lines))).lines()
-    more = [CUT] if len(described) > limits.MOST_DESCRIBED else []
-    return [line if len(line) <= limits.A_DESCRIBED else line[:limits.A_DESCRIBED] + CUT
-            for line in described[:limits.MOST_DESCRIBED]] + more
+    more = [CUT] if len(described) > MOST_DESCRIBED else []
+    return [line if len(line) <= A_DESCRIBED else line[:A_DESCRIBED] + CUT
+            for line in described[:MOST_DESCRIBED]] + more
 
 
 def _so_many(rows: Sequence[Row]) -> int:
     """How many of the entries are held: no more than may be drawn, with no more characters in their lines."""
     sizes = accumulate(len(line) for _, line in rows[:MOST_DRAWN])
-    return sum(1 for _ in takewhile(lambda size: size <= limits.MOST_LINES, sizes))
+    return sum(1 for _ in takewhile(lambda size: size <= MOST_LINES, sizes))
 
 
 def _length(data: bytes, told: Listed, some: Sequence[Row]) -> int:
@@ -81,7 +92,7 @@ def _codes(data: bytes, told: Listed, some: List[Row], length: int) -> Tuple[Cod
     columns = CodeColumns(entry=[-1] * len(some))
     numbers: Dict[str, int] = {}
     rows = list(takewhile(lambda row: row.start < length, numbered(data, some, stop)))
-    shown = list(takewhile(lambda row: row.start < limits.MOST_BYTES, rows[:limits.MOST_CODES]))
+    shown = list(takewhile(lambda row: row.start < MOST_BYTES, rows[:MOST_CODES]))
     for at, row in enumerate(shown):
         for number in row.entries:
             columns.entry[number] = at
@@ -96,3 +107,37 @@ def can_be_played(told: Listed) -> bool:
     """Whether there is an answer with entries and their places."""
     known = isinstance(told.answer, (Accepted, Refusal)) and told.rows is not None
     return known and all(place is not None for place, _ in told.rows or ())
+
+
+HERE = os.path.dirname(os.path.abspath(__file__))
+# (made of browser/ by scripts/packages/browser --page)
+DRAWING, DOTS = "drawing.js", "dots.js"
+SCRIPTS = ("elements.js", DRAWING, DOTS, "drawn.js", "smooth.js", "raster.js", "moments.js", "flashes.js", "screen.js",
+           "codes.js", "player.js")
+POLICY = "default-src 'none'; script-src %s; style-src %s; base-uri 'none'; form-action 'none'"
+MARK = re.compile(r"@([A-Z]+)@")
+
+
+def html(title: str, said: str, data: str) -> str:
+    """The page, with what is said of it, and its data as JSON, which can't act."""
+    style, script = _own("page.css") + _own("player.css"), "".join(map(_own, (*SCRIPTS, "play.js")))
+    packed = base64.b64encode(zlib.compress(data.encode("ascii"), 9)).decode("ascii")
+    parts = {"POLICY": escape(POLICY % (_hash(script), _hash(style))), "STYLE": style, "SCRIPT": script,
+             "TITLE": escape(title), "SAID": escape(said), "DATA": packed}
+    return MARK.sub(lambda found: parts[found[1]], _own("play.html"))
+
+
+def component(draws: bool = True) -> Tuple[str, str]:
+    """The style and the script of a player for another document, which has `Player` then and no other name of it.
+    Without `draws` it has to get pages with their drawings."""
+    script = "".join(_own(name) for name in SCRIPTS if draws or name != DRAWING)
+    return _own("player.css"), "const Player = (() => {\n%s\nreturn Player;\n})();\n" % script
+
+
+def _own(name: str) -> str:
+    with open(os.path.join(HERE, name), encoding="utf-8") as file:
+        return file.read()
+
+
+def _hash(text: str) -> str:
+    return f"'sha256-{base64.b64encode(hashlib.sha256(text.encode('utf-8')).digest()).decode('ascii')}'"

@@ -1,11 +1,12 @@
-"""What a page shows: its sketch, its text and its list, or why there is none of them."""
+"""Drawings of a report: one page's, and blocks of them."""
+import re
 from itertools import islice
-from typing import Dict, List, NamedTuple, Optional
+from typing import Callable, Dict, List, NamedTuple, Optional, Sequence
 
 from naplps.answers import Accepted, Refusal, Unanswered, read_line
 from naplps.client import Client
-from naplps.limits import MOST_LISTED
 from naplps.faults import NotALine
+from naplps.limits import MOST_LISTED
 from naplps.screen_text import lines_of
 from naplps.treating.search import find
 from naplps.treating.treatments import graded
@@ -18,9 +19,31 @@ from ..listing import Listed, listed, listed_of_few
 from ..player.played import can_be_played, played
 from ..showing import picture
 from ..source import Page
+from .document import packed
 from .files import ReportFile
 from .limits import A_LINE, SMALL_SKETCH, SMALL_TEXT
-from .shortening import shortened
+
+QUOTED = re.compile(r'"(?:[^"\\]|\\.)*"')
+NO_BREAK = "\u00a0"
+
+
+def shortened(lines: Sequence[str]) -> List[str]:
+    """Lines of a list, where a word that stood in the same place of the last line of its kind is left out.
+
+    What stands in quotation marks is one word: its blanks are no-break spaces here.
+    """
+    last: Dict[str, List[str]] = {}
+    made = []
+    for line in lines:
+        if '"' in line:
+            line = QUOTED.sub(lambda quoted: quoted[0].replace(" ", NO_BREAK), line)
+        kind, *words = line.split(" ")
+        before = last.get(kind, [])
+        left = ["" if word == other else word for word, other in zip(words, before)]
+        made.append(" ".join([kind, *left, *words[len(before):]]))
+        last[kind] = words
+    return made
+
 
 TOO_LARGE = "its sketch is too large to be held here"
 OTHER_COPY = "the treatments make another copy than in the scan"
@@ -172,3 +195,56 @@ def wanted(file: ReportFile) -> Optional[WantedDrawing]:
         return None
     copy = TreatedCopy(file.treated, graded(file.treatments)) if file.treated and file.treatments else None
     return WantedDrawing(file.place, file.own, file.line, file.budget, copy)
+
+
+class Block(NamedTuple):
+    """Some pages, by its number among the blocks; and why those of them have no drawing that are known to have none."""
+
+    number: int
+    pages: Sequence[WantedDrawing]
+    without: Dict[int, str] = {}
+    # (whether there is room for its drawings)
+    is_counted: bool = False
+
+
+class DrawnPage(NamedTuple):
+    """The drawing of a page of a block, without what is packed of it, and how many characters it has as a whole."""
+
+    drawing: Drawing
+    characters: int
+
+
+class DrawnBlock(NamedTuple):
+    """A block, its drawings as a report holds them, and its pages."""
+
+    block: Block
+    packed: str
+    pages: List[DrawnPage]
+
+
+def draw_block(draws: Callable[[WantedDrawing], Drawing], block: Block, tell: Callable[[DrawnPage], None]) -> str:
+    """Draws the pages of a block, tells of each as it comes, and packs them."""
+    drawings: List[Drawing] = []
+    for at, it in enumerate(block.pages):
+        drawing = Drawing(why=block.without[at]) if at in block.without else draws(it)
+        drawings.append(drawing)
+        tell(_told(drawing))
+    return pack(drawings)
+
+
+def _told(drawing: Drawing) -> DrawnPage:
+    return DrawnPage(drawing._replace(sketch="", lines=[], counts=[]), drawing.characters())
+
+
+def without_drawings(block: Block, why: str) -> DrawnBlock:
+    """A block none of whose pages is drawn."""
+    drawings = [Drawing(why=why)] * len(block.pages)
+    return DrawnBlock(block, pack(drawings), list(map(_told, drawings)))
+
+
+def pack(drawings: Sequence[Drawing]) -> str:
+    """Drawings, with shortened lines, that are packed together: those that are seen at once."""
+    return packed({"sketch": [each.sketch for each in drawings],
+                   "lines": ["\n".join(each.lines) for each in drawings], "counts": [each.counts for each in drawings],
+                   "first": [each.first for each in drawings],
+                   "entries": [each.entries for each in drawings], "why": [each.why for each in drawings]})

@@ -1,31 +1,112 @@
-"""Makes a report: one HTML file."""
+"""Makes a report, as one HTML file: which pages have a sketch, and how all is packed."""
 import os
 import sqlite3
 import sys
-from concurrent.futures import ThreadPoolExecutor
-from itertools import chain
-from typing import List, NamedTuple, Tuple
+from concurrent.futures import Future, ThreadPoolExecutor
+from itertools import chain, zip_longest
+from typing import Callable, Dict, Iterable, Iterator, List, NamedTuple, Sequence, Tuple, TypeVar
 
 from .. import messages
 from ..collection import tables
 from ..collection.progress import Progress
 from ..console import NotWritten
 from ..new_files import put, replace
-from . import groups, sketch_choice
-from .block_queue import BlockQueue, Room
-from .blocks import Block, DrawnBlock
-from .document import Document, data_of
-from .drawing import Drawing, DrawingLimits, WantedDrawing, wanted
+from . import groups
+from .document import Document, data_of, packed, packed_json
+from .drawing import Block, Drawing, DrawingLimits, DrawnBlock, WantedDrawing, wanted
 from .facts import load_facts, told_refusals
 from .files import COUNT
 from .limits import (
     A_PLAYED_BLOCK, HELD_LINES, HELD_PLAYER, HELD_SKETCH, HELD_TEXT, MOST_FILES, MOST_HELD, MOST_PLAYED, MOST_SKETCHES,
     SOME_TEXTS, in_block,
 )
-from .packing import Packing
 from .roots import load as load_roots
-from .sketch_workers import DrawingOptions
-from .table import Table
+from .sketch_workers import BlockQueue, DrawingOptions, Room
+from .table import NONE, Table
+
+It = TypeVar("It")
+
+
+class Packing:
+    """Packs by a number of threads."""
+
+    def __init__(self, threads: int) -> None:
+        self.pool = ThreadPoolExecutor(max(1, threads))
+
+    def __enter__(self) -> "Packing":
+        return self
+
+    def __exit__(self, *_: object) -> None:
+        self.pool.shutdown(cancel_futures=True)
+
+    def table(self, value: object) -> "Future[str]":
+        """The table, as it will be packed."""
+        return self.pool.submit(packed, value)
+
+    def texts(self, some: Sequence[str]) -> List[str]:
+        """Texts, a number of them together."""
+        return self._parts(packed, some, SOME_TEXTS)
+
+    def played(self, some: Sequence[str]) -> List[str]:
+        """What players have, as JSON, a number of them together."""
+        return self._parts(lambda part: packed_json("[%s]" % ",".join(part)), some, A_PLAYED_BLOCK)
+
+    def _parts(self, pack: Callable[[Sequence[It]], str], some: Sequence[It], size: int) -> List[str]:
+        return list(self.pool.map(pack, (some[at:at + size] for at in range(0, len(some), size))))
+
+
+# Tenths of the sketches for groups of equal pages and for refused pages; what they leave goes to the others.
+GROUPS, REFUSED = 6, 3
+
+
+def choose(table: Table, most: int) -> List[int]:
+    """The numbers of a number of files: one for each page, or for each group of equal pages."""
+    groups, refused, others = _groups(table), _refused(table), _others(table)
+    first = groups[:most * GROUPS // 10] + refused[:most * REFUSED // 10]
+    taken = set(first)
+    left = [number for number in chain(groups, refused) if number not in taken] if len(first) < most else []
+    rest = chain(others[:most - len(first)], left)
+    return _first(chain(first, rest), most)
+
+
+def _first(numbers: Iterable[int], most: int) -> List[int]:
+    return [number for number, _ in zip(numbers, range(most))]
+
+
+def _groups(table: Table) -> List[int]:
+    """A file of each group, in the order of the groups."""
+    found = [NONE] * len(table.groups)
+    for number, group in enumerate(table.in_group):
+        if group != NONE and found[group] == NONE:
+            found[group] = number
+    return [number for number in found if number != NONE]
+
+
+def _refused(table: Table) -> List[int]:
+    """A file of each refused page: the first of each reason, then the second of each, and so on."""
+    seen = set()
+    reasons: Dict[str, List[int]] = {}
+    for number, file in enumerate(table.files):
+        if file.answer == tables.REFUSED and file.page not in seen:
+            seen.add(file.page)
+            reasons.setdefault(file.told, []).append(number)
+    return list(_in_turn(reasons.values()))
+
+
+def _in_turn(lists: Iterable[List[int]]) -> Iterator[int]:
+    for some in zip_longest(*lists):
+        yield from (number for number in some if number is not None)
+
+
+def _others(table: Table) -> List[int]:
+    """The accepted files that have no equal."""
+    return [number for number, file in enumerate(table.files)
+            if file.answer == tables.ACCEPTED and table.in_group[number] == NONE]
+
+
+def number_of_pictures(table: Table) -> int:
+    """How many sketches all pages together have."""
+    return len(_groups(table)) + len(_refused(table)) + len(_others(table))
 
 
 # A page that is to be drawn, and a drawing, with the number of their file.
@@ -100,10 +181,10 @@ def make(connection: sqlite3.Connection, options: ReportOptions) -> ReportTotals
         connection.execute("BEGIN")
         try:
             some, table = _read(connection)
-            pictures = sketch_choice.pictures(table)
+            pictures = number_of_pictures(table)
             if options.all and pictures > MOST_SKETCHES:
                 raise TooLarge(messages.MANY_SKETCHES.format(number=pictures))
-            tasks = _tasks(table, sketch_choice.choose(table, MOST_SKETCHES if options.all else options.sketches))
+            tasks = _tasks(table, choose(table, MOST_SKETCHES if options.all else options.sketches))
             queue.begin(_blocks(tasks))
             facts = load_facts(connection, options.store, some)
         finally:

@@ -1,19 +1,22 @@
-"""Processes that draw pages, one after another, or blocks of them."""
+"""Processes that draw pages: workers, the queue of blocks for a report, and the desk of a served one."""
 import gc
 import resource
 import signal
 import subprocess
 import sys
-from multiprocessing.connection import Connection, Pipe
+import threading
+from collections import deque
+from multiprocessing.connection import Connection, Pipe, wait
 from types import FrameType
-from typing import Callable, NamedTuple, Optional, Union
+from typing import Callable, Deque, Dict, Iterable, Iterator, List, NamedTuple, Optional, Sequence, Union
 
 from naplps.client import Client
 from naplps.limits import MODEST
 
 from .. import interpreter
-from .blocks import Block, draw_block
-from .drawing import Drawing, DrawingLimits, WantedDrawing, draw
+from .drawing import (
+    Block, Drawing, DrawingLimits, DrawnBlock, DrawnPage, WantedDrawing, draw, draw_block, without_drawings,
+)
 
 # A process that draws needs less memory than this.
 MOST_MEMORY = 1 << 30
@@ -119,3 +122,202 @@ def _drawer(program: Client, how: DrawingOptions) -> Callable[[WantedDrawing], D
 
 def _end(number: int, _: Optional[FrameType]) -> None:
     sys.exit(128 + number)
+
+
+# The number of processes in a row that may draw nothing without a fault of the pages.
+MOST_STILLBORN = 10
+IS_FULL = "the report has no room for more; `naplps-pages serve` shows it"
+
+
+class Room:
+    """How many characters of drawings a report still takes."""
+
+    def __init__(self, characters: int) -> None:
+        self.characters = characters
+
+    def take(self, pages: Sequence[DrawnPage]) -> Dict[int, str]:
+        """Takes those that there is room for, one after another; the places of the others, with the reason."""
+        others: Dict[int, str] = {}
+        for at, page in enumerate(pages):
+            if page.characters > self.characters:
+                others[at] = IS_FULL
+            else:
+                self.characters -= page.characters
+        return others
+
+
+class Share:
+    """A process, the block that it has, and the pages of it that it has drawn."""
+
+    def __init__(self, how: DrawingOptions) -> None:
+        self.worker = SketchWorker(how)
+        self.block: Optional[Block] = None
+        self.pages: List[DrawnPage] = []
+        self.has_drawn = False
+
+    def give(self, block: Block) -> None:
+        """Gives it a block, where it has none. (So it takes all of it before it tells anything.)"""
+        self.block, self.pages = block, []
+        self.worker.give(block)
+
+    def hear(self, block: Block) -> Optional[DrawnBlock]:
+        """Hears of a page of its block, or of the block; that, once it is drawn. Raises EOFError where it ended."""
+        told = self.worker.told()
+        if isinstance(told, DrawnPage):
+            self.has_drawn |= len(self.pages) not in block.without
+            self.pages.append(told)
+            return None
+        pages, self.block, self.pages = self.pages, None, []
+        return DrawnBlock(block, str(told), pages)
+
+    def left(self, block: Block) -> Block:
+        """Its block, where it has ended: the page that it was at has no drawing then."""
+        behind = [at for at in range(len(self.pages), len(block.pages)) if at not in block.without]
+        lost = behind[:1] or range(len(block.pages))  # (all of them where it ended as it packed them)
+        return block._replace(without={**dict.fromkeys(lost, ENDED), **block.without})
+
+
+class BlockQueue:
+    """Blocks that wait for one of some processes. These begin at once, and are ended when the queue is left."""
+
+    def __init__(self, how: DrawingOptions, processes: int, room: Room) -> None:
+        self.how, self.room = how, room
+        self.shares = [Share(how) for _ in range(max(1, processes))]
+        self.waiting: Deque[Block] = deque()
+        self.done = self.stillborn = 0
+
+    def __enter__(self) -> "BlockQueue":
+        return self
+
+    def __exit__(self, *_: object) -> None:
+        for share in self.shares:
+            share.worker.end()
+        for share in self.shares:
+            share.worker.close()
+
+    def begin(self, blocks: Iterable[Block]) -> None:
+        """Takes the blocks, and gives each process the first that it has to draw."""
+        self.waiting.extend(blocks)
+        self._give()
+
+    def drawn(self, tell: Callable[[int], None]) -> Iterator[DrawnBlock]:
+        """The blocks as they come; `tell` is called with the number of pages that were drawn, again and again.
+
+        A page that ends a process has no drawing, and neither has one that there is no room for.
+        """
+        while any(share.block for share in self.shares):
+            ready = wait([share.worker.connection for share in self.shares if share.block])
+            for share in [each for each in self.shares if each.worker.connection in ready]:
+                yield from self._heard(share)
+                self._give()
+            tell(self.done + sum(len(each.pages) for each in self.shares))
+
+    def _give(self) -> None:
+        for share in self.shares:
+            if self.waiting and share.block is None:
+                share.give(self.waiting.popleft())
+
+    def _heard(self, share: Share) -> Iterator[DrawnBlock]:
+        assert share.block
+        try:
+            made = share.hear(share.block)
+        except EOFError:
+            yield from self._ended(share, share.block)
+            return
+        self.stillborn = 0 if share.has_drawn else self.stillborn
+        if made and self._has_room(made):
+            self.done += len(made.pages)
+            yield made
+
+    def _has_room(self, made: DrawnBlock) -> bool:
+        """Whether there is room for all of a block; what there isn't room for is left out when it is drawn again."""
+        block = made.block
+        others = {} if block.is_counted else self.room.take(made.pages)
+        if others:
+            self.waiting.appendleft(block._replace(without={**block.without, **others}, is_counted=True))
+        return not others
+
+    def _ended(self, share: Share, block: Block) -> Iterator[DrawnBlock]:
+        """Another process continues in place of one that has ended. Where none draws anything, all is lost."""
+        self.shares.remove(share)
+        share.worker.close()
+        self.waiting.appendleft(share.left(block))
+        self.stillborn += not share.has_drawn
+        if self.stillborn <= MOST_STILLBORN:
+            self.shares.append(Share(self.how))
+            return
+        lost = list(self.waiting)
+        self.waiting.clear()
+        self.done += sum(len(each.pages) for each in lost)
+        yield from (without_drawings(each, ENDED) for each in lost)
+
+
+TOOK_TOO_LONG = "it isn't drawn in %g s"
+CLOSED = "the server ends"
+
+
+class Desk:
+    """Takes pages from many threads at the same time. One that takes long keeps one process alone."""
+
+    def __init__(self, how: DrawingOptions, most: int) -> None:
+        """Of the processes there are at most a number; those that there aren't start when they are needed."""
+        self.how, self.most = how, most
+        self._turns = threading.Semaphore(most)
+        self._lock = threading.Lock()
+        self._idle: List[SketchWorker] = []
+        self._all: List[SketchWorker] = []
+        self._closed = False
+
+    def begin(self) -> None:
+        """Starts the processes, so that the first pages needn't wait for that."""
+        for drawer in [self._taken() for _ in range(self.most)]:
+            if drawer:
+                self._put_back(drawer, True)
+
+    def drawing(self, it: WantedDrawing) -> Drawing:
+        """The drawing of a page, or why there is none. Its time begins when a process has it."""
+        with self._turns:
+            drawer = self._taken()
+            if drawer is None:
+                return Drawing(why=CLOSED)
+            made: Optional[Drawing] = None
+            try:
+                drawer.give(it)
+                if not drawer.has_drawn(self.how.seconds):
+                    return Drawing(why=TOOK_TOO_LONG % self.how.seconds)
+                made = drawer.drawing()
+                return made or Drawing(why=ENDED)
+            finally:
+                self._put_back(drawer, made is not None)
+
+    def _taken(self) -> Optional[SketchWorker]:
+        """A process that draws nothing yet; none once the desk is closed."""
+        with self._lock:
+            if self._closed:
+                return None
+            if self._idle:
+                return self._idle.pop()
+            drawer = SketchWorker(self.how)
+            self._all.append(drawer)
+            return drawer
+
+    def _put_back(self, drawer: SketchWorker, is_free: bool) -> None:
+        """Keeps a process for the next page, if it has drawn the last one, and else ends it."""
+        with self._lock:
+            if is_free and not self._closed:
+                self._idle.append(drawer)
+                return
+            if drawer in self._all:
+                self._all.remove(drawer)
+        drawer.close()
+
+    def close(self) -> None:
+        """Ends all processes, whatever they draw."""
+        with self._lock:
+            self._closed, some = True, self._all
+            self._all = []
+        for drawer in some:
+            if drawer in self._idle:
+                drawer.close()
+            else:
+                drawer.end()  # (a thread waits for it yet, and closes it)
