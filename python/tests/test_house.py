@@ -220,7 +220,9 @@ def test_the_manual_page_says_of_refusals_what_the_tool_says():
     some = [each for each in refusals.every() if not each.case]
     assert set(refusals.load()) == set(range(1, 23)) == {each.number for each in some}
     causes = {each: "Causes: " + each.causes if each.causes else "" for each in some}
-    done = {each: each.do.replace("Keep the page as it is.", "").strip() for each in some}
+    said = (r"\b(Keep (the|a whole) (page|file) as it is|(Otherwise|If that doesn't help,) keep it as it is|"
+            r"((If it is (damaged|cut), |Otherwise )?look|Look) for (another|a longer) copy)\. ?")
+    done = {each: re.sub(said, "", each.do).strip() for each in some}
     assert dict(manual_refusals()) == {
         each.code or each.title: each.means if each.code
         else " ".join(part for part in (each.means, causes[each], done[each]) if part) for each in some}
