@@ -134,8 +134,8 @@ def test_a_reader_that_ends_early(naplps, tmp_path, words):
 
 LITTLE = """import sys; sys.path.insert(0, %r)
 from naplps_pages import cli
-from naplps_pages.collection import equal_over
-equal_over.CACHE = 256; sys.exit(cli.main(sys.argv[1:], 'naplps-pages'))""" % PACKAGES
+from naplps_pages.collection import equal_run
+equal_run.CACHE = 256; sys.exit(cli.main(sys.argv[1:], 'naplps-pages'))""" % PACKAGES
 
 
 def test_no_room_for_temporary_files(tmp_path, small_disk):
