@@ -224,5 +224,5 @@ def test_the_manual_page_says_of_refusals_what_the_tool_says():
             r"((If it is (damaged|cut), |Otherwise )?look|Look) for (another|a longer) copy)\. ?")
     done = {each: re.sub(said, "", each.do).strip() for each in some}
     assert dict(manual_refusals()) == {
-        each.code or each.title: each.means if each.code
+        each.code or each.title: re.sub(r", EDC[234], .*", ", the same.", each.means) if each.code
         else " ".join(part for part in (each.means, causes[each], done[each]) if part) for each in some}
