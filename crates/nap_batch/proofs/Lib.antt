@@ -13,3 +13,7 @@ mod GoingLemmas
 mod ReportLemmas
 mod LawLemmas
 mod PlacingLemmas
+mod RunBounds
+mod TextBounds
+mod CodeBounds
+mod PageBounds

@@ -1,8 +1,9 @@
-use Rattle.std.specs.Prelude.{ℕ, ◌≡◌, ◌≢◌, ◌⊎◌, ◌<◌, ◌≤◌, List, [], ◌∷◌, ◌++◌, All, length, take, drop}
+use Rattle.std.specs.Prelude.{ℕ, ◌+◌, ◌*◌, ◌≡◌, ◌≢◌, ◌⊎◌, ◌<◌, ◌≤◌, List, [], ◌∷◌, ◌++◌, All, length, take, drop}
 use Rattle.nap_list.specs.declared.entry.Entry.{Entry}
 use Rattle.nap_reader.specs.declared.fault.Fault.TheVariants as fault
 use Rattle.nap_reader.specs.declared.fault.Refusal.{Refusal}
 use Rattle.nap_reader.specs.Stream.{begun, means}
+use Rattle.nap_canon.specs.Text.{text}
 use Rattle.nap_command.specs.declared.answer.Verdict.{Verdict}
 use Rattle.nap_command.specs.declared.answer.Verdict.TheVariants as verdict
 use Rattle.nap_command.specs.declared.command.Action.{Action}
@@ -82,3 +83,11 @@ pub record ArePlaces (budget : ℕ) (p at : List ℕ) : Type 0 where
 
 abbrev pub PlacesAreExact : Type 0
 PlacesAreExact = (budget : ℕ) (p : List ℕ) → (at : List ℕ) × ArePlaces budget p at
+
+-- A page has at most 21 entries for each of its bytes and each byte of its budget.
+abbrev pub EntriesAreBounded : Type 0
+EntriesAreBounded = (budget : ℕ) (p : List ℕ) → length (means budget p).entries ≤ 21 * (length p + budget)
+
+-- The canonical text of these entries has at most 190 bytes for each of these bytes, and three more.
+abbrev pub TextIsBounded : Type 0
+TextIsBounded = (budget : ℕ) (p : List ℕ) → length (text (means budget p).entries) ≤ 190 * (length p + budget) + 3

@@ -5,7 +5,7 @@ ghost use Rattle.nap_batch.specs.declared.request_front.TheConstants.{LINE_LIMIT
 ghost use Rattle.nap_batch.specs.declared.request.TheConstants.{DIGITS, PAGE_LIMIT};
 ghost use Rattle.nap_batch.specs.declared.service.TheConstants.{REQUESTS};
 ghost use Rattle.nap_batch.specs.Limits.{digits_limit, line_limit, page_limit, read_limit, requests_limit};
-ghost use Rattle.nap_batch.specs.Laws.{AnswersAreThoseOfCommands, BegunRequestsAreNone, PlacesAreExact, RequestsAreCutOneWay};
+ghost use Rattle.nap_batch.specs.Laws.{AnswersAreThoseOfCommands, BegunRequestsAreNone, EntriesAreBounded, PlacesAreExact, RequestsAreCutOneWay, TextIsBounded};
 
 /// Bytes begin with at most one complete request.
 pub fn requests_are_cut_one_way()
@@ -26,6 +26,16 @@ pub fn answers_are_those_of_commands()
 /// or the page's length. They never fall.
 pub fn places_are_exact()
     ensures { PlacesAreExact }
+{}
+
+/// A page has at most 21 entries for each of its bytes and each byte of its budget (PROFILE.md, Macros).
+pub fn entries_are_bounded()
+    ensures { EntriesAreBounded }
+{}
+
+/// The canonical text of these entries has at most 190 bytes for each of these bytes, and three more.
+pub fn text_is_bounded()
+    ensures { TextIsBounded }
 {}
 
 /// The constants have the values of the profile: 8 digits, 16,777,216 bytes of a page, 65,536 of a read, and 2^42

@@ -84,11 +84,11 @@ impl fmt::Display for CodeFault {
     fn fmt<W: fmt::Write>(&self, f: &mut fmt::Formatter<W>) -> fmt::Result {
         f.write_str(match self {
             CodeFault::EighthBit => "a byte has its eighth bit set",
-            CodeFault::BadEscape => "no such escape sequence",
-            CodeFault::ShiftAlone => "a control stands behind a single shift",
-            CodeFault::ShiftedCode => "a drawing code stands behind a single shift",
+            CodeFault::BadEscape => "unknown escape sequence",
+            CodeFault::ShiftAlone => "a control character follows a single shift",
+            CodeFault::ShiftedCode => "a drawing code follows a single shift",
             CodeFault::BadArgument => "an argument is out of range",
-            CodeFault::LeftOut(left) => return write!(f, "{left} is left out"),
+            CodeFault::LeftOut(left) => return write!(f, "{left} is not supported"),
         })
     }
 }

@@ -37,16 +37,16 @@ pub enum DrawFault {
 impl fmt::Display for DrawFault {
     fn fmt<W: fmt::Write>(&self, f: &mut fmt::Formatter<W>) -> fmt::Result {
         f.write_str(match self {
-            DrawFault::ThreeD => "three dimensions are asked for",
+            DrawFault::ThreeD => "three-dimensional coordinates are not supported",
             DrawFault::Missing => "an operand is missing",
             DrawFault::ManyColours => "more than one colour is set",
             DrawFault::Outside => "a point lies outside the unit square",
-            DrawFault::PenUnknown => "the pen's place isn't known",
-            DrawFault::NoAddress => "there is no address to set",
+            DrawFault::PenUnknown => "the position of the pen is unknown",
+            DrawFault::NoAddress => "no colour map address is selected",
             DrawFault::ManyPoints => "a shape has too many points",
             DrawFault::NothingToRepeat => "there is no character to repeat",
             DrawFault::Memory => "no memory",
-            DrawFault::Sink => "the device behind the sink failed",
+            DrawFault::Sink => "the output device failed",
         })
     }
 }

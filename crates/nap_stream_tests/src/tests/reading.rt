@@ -92,7 +92,7 @@ fn a_refusal_prints_what_is_wrong_and_where(rt: HostRuntime) -> Result<(), Fail>
         place: 7,
     };
     let text = format!(in rt.alloc(); "{refusal}")?;
-    assert_eq!(rt; text.as_str(), "CAN is left out at 7");
+    assert_eq!(rt; text.as_str(), "CAN is not supported at 7");
     Ok(())
 }
 

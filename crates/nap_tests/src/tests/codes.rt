@@ -18,10 +18,13 @@ fn a_lexer_continues_after_a_fault(rt: HostRuntime) {
 
 const FAULTS: &[(CodeFault, &str)] = &[
     (CodeFault::EighthBit, "a byte has its eighth bit set"),
-    (CodeFault::BadEscape, "no such escape sequence"),
+    (CodeFault::BadEscape, "unknown escape sequence"),
     (CodeFault::BadArgument, "an argument is out of range"),
-    (CodeFault::LeftOut(Left::Deft), "DEFT MACRO is left out"),
-    (CodeFault::LeftOut(Left::Nsr), "NSR is left out"),
+    (
+        CodeFault::LeftOut(Left::Deft),
+        "DEFT MACRO is not supported",
+    ),
+    (CodeFault::LeftOut(Left::Nsr), "NSR is not supported"),
 ];
 
 #[test]

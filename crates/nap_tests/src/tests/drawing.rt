@@ -168,7 +168,7 @@ fn works_and_their_copies(rt: HostRuntime) -> Result<(), Fail> {
 
 const FAULTS: &[(DrawFault, &str)] = &[
     (DrawFault::Missing, "an operand is missing"),
-    (DrawFault::PenUnknown, "the pen's place isn't known"),
+    (DrawFault::PenUnknown, "the position of the pen is unknown"),
     (DrawFault::Memory, "no memory"),
 ];
 
