@@ -10,7 +10,14 @@ IS_THERE = "is there already, and isn't written over"
 OTHER_BYTES_THERE = "is there already with other bytes, and isn't written over"
 IS_A_LINK = "is a link, and isn't followed"
 NO_FOLDER = "there is no such folder"
+IS_FOLDER = "it is a folder: name the files in it, or let `naplps-pages scan FOLDER --into STORE` take them"
+IS_DEVICE = "it is a device"
+IS_SOCKET = "it is a socket"
+LONG_PIPE = "it is a pipe of more than {most} bytes"
 LATE_PIPE = "it is a pipe that didn't end in {seconds:g} s"
+# Words of the command line.
+EMPTY_NAME = "the name is empty"
+NUMBER_OUTSIDE = "a number from {least} to {most}, not {text!r}"
 # Stores, and what is wrong with one.
 NOT_A_STORE = ("isn't a store: `naplps-pages scan FOLDER --into STORE` makes one, and `naplps-pages check` says what "
                "this file is")
@@ -116,6 +123,7 @@ PAINTS_TOO_MUCH = "it has no picture: it paints too much"
 NO_REFUSAL = "the number of a refusal, not {text!r}: {known}"
 NO_REASON = "a refusal or a code, not {text!r}: {known}; the codes of LeftOut are {codes}"
 # find
+NO_TEXTS_OF = "{pages} no text kept, and can't be found: a scan with --words keeps it"
 NO_TEXTS = "has no texts: `naplps-pages scan --words` keeps them"
 NO_WORD = "there is no word to look for: a word has letters or digits"
 MANY_WORDS = "more than {most} words are too many to look for"

@@ -56,8 +56,7 @@ class Pipe:
 PIECE = 1 << 20
 # So much of a pipe is put into a temporary file: what the program takes at most.
 MOST_SPOOLED = 1 << 32
-DEVICES = {stat.S_IFCHR: "it is a device", stat.S_IFBLK: "it is a device", stat.S_IFSOCK: "it is a socket"}
-A_FOLDER = "it is a folder: name the files in it, or let `naplps-pages scan FOLDER --into STORE` take them"
+DEVICES = {stat.S_IFCHR: messages.IS_DEVICE, stat.S_IFBLK: messages.IS_DEVICE, stat.S_IFSOCK: messages.IS_SOCKET}
 # (a name in a pack may be longer than one of a file)
 NO_SUCH_FILE = (errno.ENOENT, errno.ENOTDIR, errno.ENAMETOOLONG)
 
@@ -103,7 +102,7 @@ def read(name: str, seconds: float) -> Page:
             return _gathered(name, sys.stdin.buffer)
         kind = stat.S_IFMT(os.stat(name).st_mode)
         if kind == stat.S_IFDIR:
-            raise Unread(A_FOLDER)
+            raise Unread(messages.IS_FOLDER)
         if kind in DEVICES:
             raise Unread(DEVICES[kind])  # (to open it might do something, and some have no end)
         if kind == stat.S_IFIFO and not _is_unnamed(name):
@@ -170,6 +169,6 @@ def _kept(first: bytes, file: IO[bytes]) -> IO[bytes]:
         length += spool.write(piece)
         if length > MOST_SPOOLED:
             spool.close()
-            raise Unread(f"it is a pipe of more than {MOST_SPOOLED} bytes")
+            raise Unread(messages.LONG_PIPE.format(most=MOST_SPOOLED))
     spool.seek(0)
     return spool

@@ -13,7 +13,7 @@ import pytest
 
 from conftest import COMMAND, PACKAGES, TOP, file
 from naplps_pages import new_files
-from naplps_pages.source import A_FOLDER
+from naplps_pages.messages import IS_FOLDER
 from samples import BOMB, OUTSIDE, POINT, POINT_LINE
 from scans import wait_until
 
@@ -187,7 +187,7 @@ def test_help(run):
 @pytest.mark.parametrize("command", COMMANDS)
 def test_what_cant_be_read(run, tmp_path, command):
     os.mkdir(os.path.join(str(tmp_path), "folder"))
-    for name, reason in (("none", "No such file or directory"), ("folder", A_FOLDER)):
+    for name, reason in (("none", "No such file or directory"), ("folder", IS_FOLDER)):
         said = run([command, name], cwd=str(tmp_path))
         assert said.stderr.decode() == "naplps-pages: %s: %s\n" % (name, reason)
         assert (said.stdout, said.returncode) == (b"", 3)
@@ -202,7 +202,7 @@ def test_many_that_cant_be_read_leave_nothing_open(naplps, tmp_path):
                           env=dict(os.environ, NAPLPS=naplps),
                           preexec_fn=lambda: resource.setrlimit(resource.RLIMIT_NOFILE, (64, 64)))
     assert (said.stdout, said.returncode) == (b"page: accepted 1 entries\n", 3)
-    assert said.stderr.decode().count(": %s\n" % A_FOLDER) == 100
+    assert said.stderr.decode().count(": %s\n" % IS_FOLDER) == 100
 
 
 @pytest.mark.parametrize("command", COMMANDS)

@@ -15,8 +15,8 @@ FILES = [path for path in sorted(glob.glob(os.path.join(TOOL, "**", "*.py"), rec
 MESSAGES = {name: text for name, text in vars(messages).items() if name.isupper()}
 # What a message is given to, besides an exception that is raised.
 TELLING = ("tell", "tell_line", "complain", "error", "Unanswered", "ArgumentTypeError")
-# Where messages still stand in the code that tells them.
-ELSEWHERE = ("__main__.py", "cli.py", "commands", "source.py")
+# Commands have what is wrong with their words, as their help; the others tell of modules and outputs that fail.
+ELSEWHERE = ("__main__.py", "cli.py", "commands")
 
 
 def parsed(path):

@@ -21,7 +21,6 @@ WITH_INDEX = FOUND.format("words w CROSS JOIN texts x ON x.page = w.rowid", "wor
 WITHOUT = FOUND.format("texts x", "x.text IS NOT NULL AND ? IS NOT NULL")
 LACK = f"""SELECT count(*) FROM pages p WHERE p.state <> {tables.NO_ANSWER} AND NOT {tables.HAS_TEXT}
     AND EXISTS(SELECT 1 FROM present f WHERE f.page = p.id)"""
-LACKING = "%s no text kept, and can't be found: a scan with --words keeps it"
 
 
 class FoundText(NamedTuple):

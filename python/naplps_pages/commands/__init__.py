@@ -10,6 +10,8 @@ from typing import Any, Callable, Iterator, List, NamedTuple, Optional, Tuple, U
 from naplps.limits import MODEST, MOST_BUDGET, USUAL_BUDGET, Limits
 from naplps.names import shown
 
+from .. import messages
+
 Given = argparse.Namespace
 LEAST_SECONDS, MOST_SECONDS = 0.01, 1e6
 # The greatest number of processes that work, or draw.
@@ -46,14 +48,14 @@ ON_STORES = ("Status: 0, or 1 if something couldn't be read, got no answer or ha
 def name(text: str) -> str:
     """The name of a file or a folder. (The system takes an empty one for the current folder, or for nothing.)"""
     if not text:
-        raise argparse.ArgumentTypeError("the name is empty")
+        raise argparse.ArgumentTypeError(messages.EMPTY_NAME)
     return text
 
 
 def whole_number(text: str, least: int, most: int) -> int:
     """A whole number of a range."""
     if not text.isascii() or not text.isdigit() or len(text) >= 20 or not least <= int(text) <= most:
-        raise argparse.ArgumentTypeError(f"a number from {least} to {most}, not {text!r}")
+        raise argparse.ArgumentTypeError(messages.NUMBER_OUTSIDE.format(least=least, most=most, text=text))
     return int(text)
 
 

@@ -3,6 +3,7 @@ from typing import List
 
 from naplps.names import shown
 
+from .. import messages
 from ..console import COMPLETE, FAILED, tell
 from . import CSV, JSON, NULL, ON_STORES, STORE, Argument, Command, Given, OneOf, Part
 
@@ -42,7 +43,7 @@ def _find(given: Given) -> int:
     printer.flush()
     lacking = finding.without_text(connection)
     if lacking:
-        tell(f"{shown(given.store)}: {finding.LACKING % numbered(lacking, 'page has', 'pages have')}")
+        tell(f"{shown(given.store)}: {messages.NO_TEXTS_OF.format(pages=numbered(lacking, 'page has', 'pages have'))}")
     return COMPLETE
 
 

@@ -5,6 +5,7 @@ from typing import List, Optional
 
 from naplps.names import shown
 
+from .. import messages
 from ..console import COMPLETE, FAILED, SOME_LACK, Output, tell
 from . import FILES, FULL, PROCESSES, SECONDS, STORE, Command, Given, OneOf, Option, Part, number, old
 
@@ -51,7 +52,7 @@ def _report(given: Given, tool: str) -> int:
         tell(str(error))
         return FAILED
     for path, why in made.missed:
-        tell(f"{shown(path)}: no sketch: {why}")
+        tell(f"{shown(path)}: {messages.NO_SKETCH.format(reason=why)}")
     output = Output(sys.stdout.buffer)
     output.line("%s: %s, %s of equal pages, %d of %s, %d bytes" % (
         shown(given.output_file), numbered(made.files, "file"), numbered(made.groups, "group"), made.sketches,
