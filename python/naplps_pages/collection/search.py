@@ -224,7 +224,7 @@ def settled(connection: sqlite3.Connection, folder: int, marks: Optional[Marks],
     some = list(checked(connection.execute(UNREAD, (folder,)), UnreadMember)) if unread else []
     some += [UnreadMember(b"", pack.why)] if pack.state == UNREADABLE else []
     if unread > MAX_BROKEN:
-        some.append(UnreadMember(b"", messages.MANY_UNREAD_MEMBERS.format(number=unread, most=MAX_BROKEN)))
+        some.append(UnreadMember(b"", messages.MANY_UNREAD_MEMBERS.format(number=int(unread), most=MAX_BROKEN)))
     return PackState(members, some)
 
 
