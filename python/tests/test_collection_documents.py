@@ -134,9 +134,9 @@ def test_metadata_of_datasette(archive):
     shell(archive, "naplps-pages scan pages --into pages.db --words")
     connection = sqlite3.connect(os.path.join(archive, "pages.db"))
     columns = {name: {row[1] for row in connection.execute("PRAGMA table_info(%s)" % name)} for name in it["tables"]}
-    listing, texts = it["tables"]["listing"], it["tables"]["texts"]
-    assert {*listing["facets"], listing["sort"]} <= columns["listing"] and texts["fts_pk"] in columns["texts"]
-    assert texts["fts_table"] == texts.NAME
+    listing, words = it["tables"]["listing"], it["tables"]["texts"]
+    assert {*listing["facets"], listing["sort"]} <= columns["listing"] and words["fts_pk"] in columns["texts"]
+    assert words["fts_table"] == texts.NAME
     found = connection.execute(it["queries"]["find"]["sql"], {"words": "hello"}).fetchall()
     connection.close()
     assert [(os.path.basename(name), first) for name, first in found] == [("hello.nap", "Hello world!")]

@@ -149,7 +149,7 @@ def test_copies_that_may_lack_a_page_are_unknown_until_they_are_made_anew(store,
     connection.close()
     old = earlier(store, os.path.join(str(tmp_path), "old.db"))
     said = run(["equal", old, "--with", "treated"])
-    assert b"parity" not in said.stdout and b"of treated copies of 1 refused page it isn't known" in said.stderr
+    assert b"parity" not in said.stdout and b"for treated copies of 1 refused page it isn't known" in said.stderr
     assert b"parity: treated by tail+header" in run(["equal", store, "--with", "treated"]).stdout
     assert run(["scan", pages, "--into", old]).returncode == 0
     assert b"parity: treated by parity (around)" in run(["equal", old, "--with", "treated"]).stdout
