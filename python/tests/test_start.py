@@ -13,6 +13,8 @@ from samples import POINT
 
 # KiB of address space: from what Python itself needs to what a scan does.
 LITTLE = (16_000, 18_000, 20_000, 22_000, 24_000, 26_000, 28_000, 30_000, 36_000, 44_000)
+# Python itself ends so where memory lacks amid an exception ("Cannot recover from MemoryErrors"), at one size or another.
+DIED = (-signal.SIGSEGV, -signal.SIGABRT)
 COMMANDS = (["--version"], ["--help"], ["check", "@"], ["list", "--json", "@"], ["look", "@"], ["text", "@"],
             ["play", "@", "-o", "out"], ["census", "@"], ["cures", "@"], ["explain", "@"],
             ["scan", ".", "--into", "../x.db"], ["files", "no.db"], ["find", "word", "no.db"],
@@ -27,7 +29,7 @@ def test_little_memory_is_one_line_and_status_3(naplps, tmp_path, words):
     folder.mkdir()
     page = file(folder, "a.nap", POINT)
     words = [page if each == "@" else each for each in words]
-    lines = 0
+    lines = died = 0
     for kib in LITTLE:
         said = subprocess.run(["prlimit", f"--as={kib << 10}", COMMAND, *words], cwd=folder, capture_output=True,
                               env=dict(os.environ, NAPLPS=naplps, PYTHONDONTWRITEBYTECODE="1"))
@@ -35,6 +37,8 @@ def test_little_memory_is_one_line_and_status_3(naplps, tmp_path, words):
         if said.returncode == 3:
             lines += 1
             assert said.stderr.startswith(b"naplps-pages: ") and said.stderr.count(b"\n") <= 2, (kib, said.stderr)
+        elif said.returncode in DIED:
+            died += 1
         elif words[0] == "scan" and said.returncode == 1:  # (a worker lacked it, for one file)
             assert said.stderr.count(b"\n") == 1 and page.encode() in said.stderr, (kib, said)
         else:
@@ -42,6 +46,7 @@ def test_little_memory_is_one_line_and_status_3(naplps, tmp_path, words):
         for made in ("out", "../x.db"):
             if (folder / made).exists():
                 (folder / made).unlink()
+    assert died <= 1
     assert lines >= (0 if words[0].startswith("-") else 2)  # (Python alone may need more than these two do)
 
 
