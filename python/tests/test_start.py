@@ -13,7 +13,7 @@ from samples import POINT
 
 # KiB of address space: from what Python itself needs to what a scan does.
 LITTLE = (16_000, 18_000, 20_000, 22_000, 24_000, 26_000, 28_000, 30_000, 36_000, 44_000)
-# Python itself ends so where memory lacks amid an exception ("Cannot recover from MemoryErrors"), at one size or another.
+# Python itself ends so where memory lacks amid an exception ("Cannot recover from MemoryErrors"), at some size.
 DIED = (-signal.SIGSEGV, -signal.SIGABRT)
 COMMANDS = (["--version"], ["--help"], ["check", "@"], ["list", "--json", "@"], ["look", "@"], ["text", "@"],
             ["play", "@", "-o", "out"], ["census", "@"], ["cures", "@"], ["explain", "@"],
