@@ -1,17 +1,21 @@
-"""What `rt plant` lets through, as it prints it and as docs/measurements/PLANTS.md has it."""
+"""What `rt plant` lets through, as it prints it and as docs/measurements/plants.tsv has it."""
 import re
+from pathlib import Path
 from typing import Iterator, NamedTuple, Optional, Set
 
-PAGE = "docs/measurements/PLANTS.md"
+from shared.tables import rows_in
+
+TABLE = "docs/measurements/plants.tsv"
+COLUMNS = ("crate", "kind", "function", "body", "reason")
+NO_BODY = "-"
 FINDING = re.compile(
     r"^(?P<kind>proves|no-ensures|untested) +src/\S+?:\d+ (?P<function>.+?)(?:: (?P<body>\{.*?\})|\(\))(?:  \(.*)?$"
 )
 COUNTS = re.compile(r"^plants crate=\w+ planted-in=(?P<functions>\d+) .*not-run=(?P<left>\d+)$")
-ROW = re.compile(r"^\| (?P<crate>nap\w*) \| (?P<kind>[\w-]+) \| `(?P<function>.+?)` \| (?:`(?P<body>.*?)`)? *\| .+ \|$")
 
 
 class Finding(NamedTuple):
-    """What got through: the crate, what kind it is, the function, and the body that met its contract."""
+    """What got through: the crate, what kind it is, the function, and the body that met its contract, or NO_BODY."""
 
     crate: str
     kind: str
@@ -29,30 +33,27 @@ class Planted(NamedTuple):
 
 
 def planted_in(crate: str, output: str) -> Optional[Planted]:
-    """What `rt plant` printed of a crate, or None where it didn't come to an end."""
+    """What `rt plant` printed of a crate, laws apart, which no plant tests; or None where it didn't come to an end."""
     lines = output.splitlines()
-    found = filter(None, map(FINDING.match, lines))
-    findings = {Finding(crate, it["kind"], it["function"], it["body"] or "") for it in found}
+    found = (it for it in map(FINDING.match, lines) if it and not _is_law(it["kind"], it["function"]))
+    findings = {Finding(crate, it["kind"], it["function"], it["body"] or NO_BODY) for it in found}
     ended = COUNTS.match(lines[-1]) if lines else None
     return Planted(findings, int(ended["functions"]), ended["left"] == "0", lines[-1]) if ended else None
 
 
-def known_in(page: str) -> Set[Finding]:
-    """The findings of the page."""
-    found = filter(None, map(ROW.match, page.splitlines()))
-    return {Finding(it["crate"], it["kind"], it["function"], (it["body"] or "").replace("\\|", "|")) for it in found}
+def _is_law(kind: str, function: str) -> bool:
+    return kind == "untested" and function.startswith("laws::")
 
 
-def _row(finding: Finding) -> str:
-    """The row of the page for a finding, without its reason."""
-    body = f"`{finding.body}`".replace("|", "\\|") if finding.body else ""
-    return f"| {finding.crate} | {finding.kind} | `{finding.function}` | {body} | .. |"
+def known_in(table: Path) -> Set[Finding]:
+    """The findings of the table; raises ValueError as `rows_in` does."""
+    return {Finding(*row[:-1]) for row in rows_in(table, COLUMNS)}
 
 
 def differences(crate: str, planted: Planted, known: Set[Finding]) -> Iterator[str]:
     """What is found in a crate and not known; and where all plants were tried, what is known and isn't found. (Else a
     function may be untested for lack of time.)"""
     for finding in sorted(it for it in planted.findings - known if planted.is_whole or it.kind != "untested"):
-        yield f"{crate}: {PAGE} wants a row for this, with its reason:\n{_row(finding)}"
+        yield f"{TABLE} wants this row, with its reason:\n" + "\t".join(finding)
     for finding in sorted({it for it in known if it.crate == crate} - planted.findings if planted.is_whole else ()):
-        yield f"{crate}: this row of {PAGE} isn't found any more:\n{_row(finding)}"
+        yield f"this row of {TABLE} isn't found any more:\n" + "\t".join(finding)

@@ -1,5 +1,7 @@
 """Tests of what is read of plants, and of the streams of edits."""
+import tempfile
 import unittest
+from pathlib import Path
 
 from prove.plants import Finding, differences, known_in, planted_in
 from prove.streams import stream_of
@@ -9,35 +11,41 @@ rt: checking the crate as it stands
 proves      src/points.rt:12 Points::with_capacity: { Points::new(alloc) }
 proves      src/a.rt:3 <Half<T> as Halves>::put: { if a || b { 1 } else { 2 } }  (and in 3 more impls)
 no-ensures  src/io.rt:7 low::log()
+untested    src/laws.rt:7 laws::all_is_well()
 note: some words
 plants crate=low planted-in=9 untested=0 no-ensures=1 proves=2 same=0 refused=8 elsewhere=0 not-judged=0 not-run=0
 """
-PAGE = """\
-| Crate | Kind | Function | Body | Verdict |
-|---|---|---|---|---|
-| nap_low | proves | `Points::with_capacity` | `{ Points::new(alloc) }` | harmless: the capacity isn't seen |
-| nap_low | proves | `<Half<T> as Halves>::put` | `{ if a \\|\\| b { 1 } else { 2 } }` | harmless: the same |
-| nap_low | no-ensures | `low::log` | | not excluded yet |
+TABLE = """\
+crate\tkind\tfunction\tbody\treason
+nap_low\tproves\tPoints::with_capacity\t{ Points::new(alloc) }\tharmless: the capacity isn't seen
+nap_low\tproves\t<Half<T> as Halves>::put\t{ if a || b { 1 } else { 2 } }\tharmless: it isn't seen
+nap_low\tno-ensures\tlow::log\t-\tnot excluded yet
 """
 
 
 class Plants(unittest.TestCase):
-    """A crate with three findings."""
+    """A crate with three findings, and a law."""
+
+    def setUp(self) -> None:
+        with tempfile.TemporaryDirectory() as folder:
+            table = Path(folder) / "plants.tsv"
+            table.write_text(TABLE, "utf-8")
+            self.known = known_in(table)
 
     def test_what_was_found_is_what_is_known(self) -> None:
         planted = planted_in("nap_low", SAID)
         assert planted is not None
         self.assertEqual((len(planted.findings), planted.functions, planted.is_whole), (3, 9, True))
-        self.assertEqual(planted.findings, known_in(PAGE))
-        self.assertEqual(list(differences("nap_low", planted, known_in(PAGE))), [])
+        self.assertEqual(planted.findings, self.known)
+        self.assertEqual(list(differences("nap_low", planted, self.known)), [])
 
     def test_what_is_new_or_gone(self) -> None:
-        planted, another = planted_in("nap_low", SAID), Finding("nap_low", "untested", "low::other", "")
+        planted, another = planted_in("nap_low", SAID), Finding("nap_low", "untested", "low::other", "-")
         assert planted is not None
-        known = known_in(PAGE) - {Finding("nap_low", "no-ensures", "low::log", "")} | {another}
+        known = self.known - {Finding("nap_low", "no-ensures", "low::log", "-")} | {another}
         new, gone = differences("nap_low", planted, known)
-        self.assertTrue(new.endswith("\n| nap_low | no-ensures | `low::log` |  | .. |"))
-        self.assertTrue(gone.endswith("\n| nap_low | untested | `low::other` |  | .. |"))
+        self.assertTrue(new.endswith("\nnap_low\tno-ensures\tlow::log\t-"))
+        self.assertTrue(gone.endswith("\nnap_low\tuntested\tlow::other\t-"))
         in_part = planted._replace(is_whole=False, findings=planted.findings | {another})
         self.assertEqual(list(differences("nap_low", in_part, known - {another})), [new])
 
