@@ -33,7 +33,7 @@ if TYPE_CHECKING:
         treatments,
     )
     from .treating.changes import Change, Edit
-    from .treating.search import Cure
+    from .treating.treatments import Cure
     from .version import __version__
 
 __all__ = [
@@ -56,7 +56,7 @@ _NAMES = {
     "pages": (
         "Checker", "Places", "backend", "canon", "canon_form1", "check", "entries", "is_plain", "lines", "make",
         "places", "svg", "text", "treatments"),
-    "treating.changes": ("Change", "Edit"), "treating.search": ("Cure",),
+    "treating.changes": ("Change", "Edit"), "treating.treatments": ("Cure",),
     "version": ("__version__",)}
 _MODULES = {name: module for module, names in _NAMES.items() for name in names}
 

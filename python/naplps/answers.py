@@ -1,15 +1,16 @@
 """What the program says of a page, and the one reader of what `naplps batch` prints."""
-import hashlib
 import io
 import re
-from dataclasses import dataclass, field, replace
-from typing import Callable, List, NamedTuple, Optional, Sequence, Union
+from typing import TYPE_CHECKING, Callable, List, NamedTuple, Optional, Sequence, Union
 
-# (Numbers of 18 digits are kept in a store.)
-ACCEPTED = re.compile(rb"accepted (0|[1-9][0-9]{0,17}) entries")
-REFUSED = re.compile(rb"refused ([1-9][0-9]?) ([A-Za-z]+)(?: ([A-Z0-9-]+))? at (0|[1-9][0-9]{0,17})")
-WRONG_LINE = re.compile(rb"line ([1-9][0-9]{0,17}): (?:no line of a list, at column ([1-9][0-9]{0,17})|can't come here|"
-                        rb"the definition of line ([1-9][0-9]{0,17}) isn't ended)")
+if TYPE_CHECKING:
+    import hashlib
+
+# Patterns, each of which is compiled when it is first used. (Numbers of 18 digits are kept in a store.)
+ACCEPTED = rb"accepted (0|[1-9][0-9]{0,17}) entries"
+REFUSED = rb"refused ([1-9][0-9]?) ([A-Za-z]+)(?: ([A-Z0-9-]+))? at (0|[1-9][0-9]{0,17})"
+WRONG_LINE = (rb"line ([1-9][0-9]{0,17}): (?:no line of a list, at column ([1-9][0-9]{0,17})|can't come here|"
+              rb"the definition of line ([1-9][0-9]{0,17}) isn't ended)")
 NO_MEMORY = "the program had no memory for it"
 NONSENSE = "the program answered something that is no answer"
 # Refusals that say nothing of the page.
@@ -19,8 +20,7 @@ OF_THE_MACHINE = {MEMORY: NO_MEMORY, 22: "a device of the program failed"}
 MOST_LINE, MOST_DIGITS = 128, 18
 
 
-@dataclass(frozen=True)
-class Accepted:
+class Accepted(NamedTuple):
     """The page is accepted: the number of its entries, and what the command asked for."""
 
     entries: int
@@ -32,8 +32,7 @@ class Accepted:
         return f"accepted {self.entries} entries"
 
 
-@dataclass(frozen=True)
-class Refusal:
+class Refusal(NamedTuple):
     """The page is refused: number and name of the fault, the code that is left out, and the place of the byte."""
 
     number: int
@@ -53,8 +52,7 @@ class Refusal:
         return f"refused {self.number} {self.name} at {self.place}"
 
 
-@dataclass(frozen=True)
-class Unanswered:
+class Unanswered(NamedTuple):
     """The program gave no answer, which says nothing of the page."""
 
     reason: str
@@ -62,8 +60,7 @@ class Unanswered:
     too_much: bool = False
 
 
-@dataclass(frozen=True)
-class WrongLine:
+class WrongLine(NamedTuple):
     """Lines make no page: the first one that is wrong, from 1, and the reason as the program tells it.
 
     `column`, from 1, is that of a line that is no entry's: before it the line could be one's. `opening` is the line of
@@ -119,12 +116,12 @@ class AnswerTooLong(NotAnswered):
 
 def read_line(line: bytes, length: Optional[int]) -> Answer:
     """The answer that a line states, for a page of this length (None where it isn't known). Raises Nonsense."""
-    found = ACCEPTED.fullmatch(line)
+    found = re.fullmatch(ACCEPTED, line)
     if found:
         return Accepted(int(found[1]))
     if line == b"no memory":
         return Unanswered(NO_MEMORY, too_much=True)
-    found = REFUSED.fullmatch(line)
+    found = re.fullmatch(REFUSED, line)
     if not found:
         raise Nonsense
     number, place = int(found[1]), int(found[4])
@@ -139,7 +136,7 @@ def read_line(line: bytes, length: Optional[int]) -> Answer:
 
 def read_wrong_line(line: bytes) -> Optional[WrongLine]:
     """The wrong line that the answer to `make` tells of, if it tells of one."""
-    found = WRONG_LINE.fullmatch(line)
+    found = re.fullmatch(WRONG_LINE, line)
     if not found:
         return None
     number, reason = int(found[1]), line.decode("ascii").partition(": ")[2].partition(",")[0]
@@ -158,34 +155,38 @@ def with_body(call: str, answer: Answer, body: bytes) -> Answer:
         fits = body.isascii() and (isinstance(answer, Refusal) or body.count(b"\n") == answer.entries)
     if not fits:
         raise Nonsense
-    return replace(answer, body=body)
+    return answer._replace(body=body)
 
 
-@dataclass
+def new_hash() -> "hashlib._Hash":
+    """A SHA-256 of no bytes yet."""
+    import hashlib  # (which takes long to be imported, and which a check needs nothing of)
+    return hashlib.sha256()
+
+
 class AnswerParser:
     """Takes the answers to a call on some pages as `naplps batch` prints them, in pieces of any lengths.
 
     A body is held, if it has no more than `most` bytes. Where `most` is None bodies are hashed, and those of accepted
-    pages are held too that have no more than `keeps` bytes.
+    pages are held too that have no more than `keeps` bytes. `goes_on` is called after a piece that ended an answer,
+    where more answers are to come.
     """
 
-    call: str
-    pages: Sequence[bytes]
-    most: Optional[int]
-    # Called after a piece that ended an answer, where more answers are to come.
-    goes_on: Callable[[], None] = lambda: None
-    keeps: int = 0
-    answers: List[HashedAnswer] = field(default_factory=list)
-    # Of `make`, the line that is wrong, where one is; no page is answered then.
-    wrong_line: Optional[WrongLine] = None
     # What came of a head that isn't whole yet; the answer of a head, the length of its body, and what lacks of that.
     _rest: bytes = b""
     _answer: Optional[Answer] = None
     _length: int = 0
     _lacks: int = 0
-    # (its bytes are handed out without another copy)
-    _body: io.BytesIO = field(default_factory=io.BytesIO)
-    _hash: "hashlib._Hash" = field(default_factory=hashlib.sha256)
+    _hash: "hashlib._Hash"
+
+    def __init__(self, call: str, pages: Sequence[bytes], most: Optional[int],
+                 goes_on: Callable[[], None] = lambda: None, keeps: int = 0) -> None:
+        self.call, self.pages, self.most, self.goes_on, self.keeps = call, pages, most, goes_on, keeps
+        self.answers: List[HashedAnswer] = []
+        # Of `make`, the line that is wrong, where one is; no page is answered then.
+        self.wrong_line: Optional[WrongLine] = None
+        # (its bytes are handed out without another copy)
+        self._body = io.BytesIO()
 
     def take(self, piece: bytes) -> bool:
         """Takes a piece; whether all answers are there. Raises Nonsense, AnswerTooLong."""
@@ -227,7 +228,7 @@ class AnswerParser:
         if not self.keeps:
             return answer
         body, self._body = self._body.getvalue(), io.BytesIO()
-        return replace(answer, body=body) if isinstance(answer, Accepted) else answer
+        return answer._replace(body=body) if isinstance(answer, Accepted) else answer
 
     def _head(self, come: bytes, at: int) -> Optional[int]:
         """Takes the two lines before a body; where they end, or None where they aren't whole yet."""
@@ -246,7 +247,7 @@ class AnswerParser:
         page, line = self.pages[len(self.answers)], come[at:first]
         self._answer = self._read_made(line, page) if self.call == "make" else read_line(line, len(page))
         if self.most is None:
-            self._hash = hashlib.sha256()
+            self._hash = new_hash()
             if isinstance(self._answer, Accepted) != bool(self._length):
                 raise Nonsense
         return second + 1

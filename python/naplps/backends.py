@@ -11,10 +11,9 @@ from typing import Any, Callable, Iterator, List, NamedTuple, Optional, Protocol
 
 from . import faults
 from .answers import MEMORY, Accepted, Answer, Refusal, WrongLine
-from .client import Client
+from .client import Client, find, library
 from .faults import NoMemory, NoProgram, NotMade, Refused, Unavailable, WrongLibrary
 from .limits import MOST_PAGE, Limits
-from .program import find, library
 
 Data = Union[bytes, bytearray, memoryview]
 WHOLE = slice(None)
@@ -159,7 +158,7 @@ class LibraryBackend:
         lent, length = _lent(page)
         if call == "check":
             answer: AnswerStruct = self._check(budget, lent, length)
-            return self._told(answer, answer.length, b"")
+            return self._reply(answer, answer.length, b"")
         function, room, size = self._texts[call], _First(), FIRST
         answer = function(budget, lent, length, room, size)
         while answer.status == SMALL_ROOM:
@@ -168,7 +167,7 @@ class LibraryBackend:
             answer = function(budget, lent, length, room, size)
         if answer.length > size:
             raise self._wrong("its answer is longer than its room")
-        return self._told(answer, 0, ctypes.string_at(room, answer.length))
+        return self._reply(answer, 0, ctypes.string_at(room, answer.length))
 
     def is_plain(self, page: Data) -> bool:
         """Whether a page is plain."""
@@ -200,7 +199,7 @@ class LibraryBackend:
         """A page that comes in pieces, whose methods are called with the lock held. Raises NoMemory."""
         return LibraryPieces(self, budget, lock)
 
-    def _told(self, answer: AnswerStruct, entries: int, text: bytes) -> Reply:
+    def _reply(self, answer: AnswerStruct, entries: int, text: bytes) -> Reply:
         if answer.status == ACCEPTED:
             return Reply(entries, text)
         if answer.status != REFUSED:
@@ -229,17 +228,17 @@ class LibraryPieces:
 
     def __init__(self, library: LibraryBackend, budget: int, lock: threading.Lock) -> None:
         self._library, self._checking = library, CheckingStruct()
-        library._told(library._begin(self._checking, budget), 0, b"")
+        library._reply(library._begin(self._checking, budget), 0, b"")
         weakref.finalize(self, _drop, library._drop, self._checking, lock).atexit = False
 
     def feed(self, piece: Data) -> Reply:
         """Takes the next piece, and tells whether the page is refused so far. Raises NoMemory."""
-        return self._library._told(self._library._feed(self._checking, *_lent(piece)), 0, b"")
+        return self._library._reply(self._library._feed(self._checking, *_lent(piece)), 0, b"")
 
     def finish(self) -> Reply:
         """What comes of all pieces. Raises NoMemory."""
         answer: AnswerStruct = self._library._finish(self._checking)
-        return self._library._told(answer, answer.length, b"")
+        return self._library._reply(answer, answer.length, b"")
 
 
 def _drop(drop: Callable[[CheckingStruct], None], checking: CheckingStruct, lock: threading.Lock) -> None:

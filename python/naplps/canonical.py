@@ -74,7 +74,7 @@ class CanonicalEntry:
     @property
     def entry(self) -> "Entry":
         """The entry of the module naplps, where that is there too."""
-        from naplps.reading import read_line
+        from naplps.entry import read_line
         return read_line(self.line)
 
     @property
@@ -106,8 +106,8 @@ class _Reader:
             self.draws = byte == 0x0E
             return []
         if byte in _BYTES:
-            kind, held, own = _BYTES[byte]
-            return self._entry(kind, place, held, **own)
+            kind, held, members = _BYTES[byte]
+            return self._entry(kind, place, held, **members)
         if byte == 0x1C:
             both = [self._argument(), self._argument()]
             return self._entry("MOVE", self.at - 1, _HAND, move="APS", bytes=both)
@@ -122,8 +122,8 @@ class _Reader:
         """The entries of ESC and this byte."""
         place = self.at - 1
         if byte in _CONTROLS:
-            kind, held, own = _CONTROLS[byte]
-            return self._entry(kind, place, held, **own)
+            kind, held, members = _CONTROLS[byte]
+            return self._entry(kind, place, held, **members)
         if byte == 0x47:
             self._refuse_if(not self.after_character, "NothingToRepeat", place)
             return self._entry("TO-EOL", place, _HAND)
@@ -146,8 +146,8 @@ class _Reader:
             return self._entry("END", place)
         code = self._argument() if byte == 0x43 else self._argument(0x41, 0x44)
         self.saved, self.state = self.state, {**self.state, "pen": _pen("start")}
-        own: Members = {"character": code} if byte == 0x43 else {"mask": chr(code)}
-        return self._entry("GLYPH" if byte == 0x43 else "MASK", place + 1, **own)
+        members: Members = {"character": code} if byte == 0x43 else {"mask": chr(code)}
+        return self._entry("GLYPH" if byte == 0x43 else "MASK", place + 1, **members)
 
     def _opcode(self, opcode: int, start: int) -> List[CanonicalEntry]:
         """The entries of an opcode and its run, the bytes 40 to 7F that follow it."""
@@ -234,9 +234,9 @@ class _Reader:
     def _character(self, name: str, code: int, place: int) -> List[CanonicalEntry]:
         return self._entry("CHAR", place, _HAND, set=name, character=code)
 
-    def _entry(self, kind: str, place: int, held: Sequence[str] = (), **own: Any) -> List[CanonicalEntry]:
+    def _entry(self, kind: str, place: int, held: Sequence[str] = (), **members: Any) -> List[CanonicalEntry]:
         """An entry, after which the pen is nowhere known if the entry holds it."""
-        made = CanonicalEntry({"kind": kind, "place": place, **own, **{name: self.state[name] for name in held}})
+        made = CanonicalEntry({"kind": kind, "place": place, **members, **{name: self.state[name] for name in held}})
         self.after_character = kind == "CHAR"
         if "pen" in held:
             self.state["pen"] = _pen("after")
@@ -252,8 +252,8 @@ class _Reader:
         self._refuse_if(not least <= byte <= most, "BadArgument", self.at - 1)
         return byte
 
-    def _expect(self, wanted: bytes) -> None:
-        for each in wanted:
+    def _expect(self, expected: bytes) -> None:
+        for each in expected:
             self._refuse_if(self._next() != each, "BadCode", self.at - 1)
 
     def _refuse_if(self, wrong: bool, reason: str, place: int) -> None:
@@ -355,8 +355,8 @@ _WRITERS: Sequence[Tuple[str, Callable[[Members], str]]] = (
 
 def read(stream: bytes) -> Iterator[CanonicalEntry]:
     """The entries of a canonical stream. Raises NotCanonical after the entries of all codes before the refused one."""
-    for place, wanted in enumerate(HEADER):
-        if stream[place:place + 1] != bytes((wanted,)):
+    for place, expected in enumerate(HEADER):
+        if stream[place:place + 1] != bytes((expected,)):
             raise NotCanonical("BadHeader", place)
     reader = _Reader(bytes(stream))
     while reader.at < len(reader.stream):

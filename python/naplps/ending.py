@@ -1,8 +1,12 @@
 """Signals that end the tool: they end its processes too, those too that have only just begun."""
 import signal
+import sys
 from contextlib import contextmanager
 from types import FrameType
-from typing import Iterator, Optional, Protocol, Set
+from typing import TYPE_CHECKING, Iterator, Optional, Protocol, Set
+
+if TYPE_CHECKING:
+    from sys import UnraisableHookArgs
 
 SIGNALS = (signal.SIGINT, signal.SIGTERM, signal.SIGHUP)
 
@@ -29,6 +33,7 @@ class Ending:
     def watch(self) -> None:
         """Has signals raise Stopped in the main thread, but for those that are ignored, as under nohup."""
         self.is_watched = True
+        sys.unraisablehook = self._take_ignored
         for number in SIGNALS:
             if signal.getsignal(number) is not signal.SIG_IGN:
                 signal.signal(number, self._stop)
@@ -38,6 +43,15 @@ class Ending:
         for number in SIGNALS:
             if signal.getsignal(number) == self._stop:
                 signal.signal(number, signal.SIG_DFL)
+
+    def _take_ignored(self, ignored: "UnraisableHookArgs") -> None:
+        """Has a signal come again that came amid a callback, as of an object that goes: Python ignores it there."""
+        if isinstance(ignored.exc_value, Stopped):
+            number = ignored.exc_value.args[0]
+            signal.signal(signal.SIGALRM, lambda *_: self._stop(number, None))
+            signal.setitimer(signal.ITIMER_REAL, 0.001)
+        else:
+            sys.__unraisablehook__(ignored)
 
     def _stop(self, number: int, _: Optional[FrameType]) -> None:
         if not self.is_starting:

@@ -6,12 +6,11 @@ from typing import Iterable, Iterator, List, NamedTuple, Optional, Tuple, Union,
 from . import drawing
 from .answers import Accepted, Answer, Refusal
 from .backends import Backend, Data, Pieces, Reply, found, taken
-from .entry import Entry
+from .entry import Entry, placed, read_line
 from .faults import NoAnswer, NotALine, Refused
 from .limits import MOST_LISTED, USUAL_BUDGET, budget_of
-from .reading import placed, read_line
 from .screen_text import text_lines
-from .treating.search import Cure, find
+from .treating.treatments import Cure, find
 
 
 class Checker:
@@ -64,11 +63,11 @@ class Checker:
         return self._pieces
 
 
-def _entries_of(told: Reply) -> int:
-    refused: Optional[Refused] = told.refused
+def _entries_of(reply: Reply) -> int:
+    refused: Optional[Refused] = reply.refused
     if refused is not None:
         raise refused
-    return told.entries
+    return reply.entries
 
 
 LF = "\n"
@@ -145,9 +144,9 @@ def places(data: Data, budget: int = USUAL_BUDGET) -> Places:
     A place is the offset of the byte that added the entry, often the first one of the next code; or the length of the
     page for an entry that came at its end. Raises NeedsLibrary for a page above 16 MiB.
     """
-    told = _told("places", data, budget)
+    reply = _reply("places", data, budget)
     try:
-        return Places([(place, read_line(line)) for place, line in placed(told.text)], told.refused)
+        return Places([(place, read_line(line)) for place, line in placed(reply.text)], reply.refused)
     except NotALine as error:
         raise _no_line(error) from None
 
@@ -175,7 +174,7 @@ def treatments(data: Data, budget: int = USUAL_BUDGET) -> Optional[Cure]:
     it is equal to the original, or draws what was meant there, isn't claimed.
     """
     def ask(call: str, treated: bytes) -> Answer:
-        reply = _told(call, treated, budget)
+        reply = _reply(call, treated, budget)
         if reply.refused is None:
             return Accepted(reply.entries, reply.text)
         return Refusal(reply.refused.number, reply.refused.name, None, reply.refused.place, reply.text)
@@ -189,16 +188,16 @@ def backend() -> Backend:
     return found().backend
 
 
-def _told(call: str, data: Data, budget: int) -> Reply:
+def _reply(call: str, data: Data, budget: int) -> Reply:
     page, number = taken(data), budget_of(budget)
     return found().answer(call, page, number)
 
 
 def _accepted(call: str, data: Data, budget: int) -> Reply:
-    told = _told(call, data, budget)
-    if told.refused is not None:
-        raise told.refused
-    return told
+    reply = _reply(call, data, budget)
+    if reply.refused is not None:
+        raise reply.refused
+    return reply
 
 
 def _no_line(error: NotALine) -> NoAnswer:

@@ -4,7 +4,7 @@ from functools import lru_cache
 from typing import Dict, Iterable, Iterator, List, Match, NamedTuple, Optional, Sequence, Tuple, Union
 
 from . import letters
-from .drawing.cells import DOT, RIGHT, Cell, TextCursor, cell
+from .drawing.writing import DOT, RIGHT, Cell, TextCursor, cell
 from .entry import (
     Char, Clear, Colour, DefEnd, Entry, Field, GlyphStart, Look, MaskStart, Pen, Position, Reset, TextMove,
 )

@@ -1,8 +1,13 @@
-"""Cuts a page into codes with their names, for explanations alone: what a page means the program says.
+"""Cuts a page into codes with their names, with the entries that came of them, and those that stop a refused page.
 
-Macros are followed, since a body may change the sets or begin a code that ends after the call.
+That is for explanations alone: what a page means the program says. Macros are followed, since a body may change the
+sets or begin a code that ends after the call.
 """
-from typing import Dict, Iterator, List, NamedTuple, Optional, Tuple
+import bisect
+from dataclasses import dataclass, field, replace
+from typing import Dict, Iterable, Iterator, List, NamedTuple, Optional, Tuple
+
+from naplps.answers import Refusal
 
 # Steps are bytes that are taken, also those of macros.
 MOST_STEPS = 300_000
@@ -132,7 +137,7 @@ class Cutter:
         if name == "PDI" and not shifted:
             return self._opcode(start, byte) if byte < 0x40 else self._named(start, "word without an opcode")
         if name == "macro":
-            # (its own end is told before the body comes)
+            # (its own end comes before the body)
             code = self._named(start, f"call of macro {byte:02x}")
             body = self.macros.get(byte)
             if body:
@@ -225,3 +230,159 @@ class Cutter:
 def cut(page: bytes) -> Iterator[Code]:
     """The codes of a page."""
     return Cutter(page).codes()
+
+
+# The place of the byte with which an entry came, where that is known, and the entry's line.
+PlacedLine = Tuple[Optional[int], str]
+# Kinds of entries that come with the last byte of their own code; the others come with the byte after a run.
+OF_CONTROLS = frozenset((
+    "CHAR", "MOVE", "TO-EOL", "BELL", "CLEAR", "CURSOR", "BLINK-START", "BLINK-STOP", "GLYPH", "MASK", "END"))
+# Codes of which many may stand after each other, and add nothing.
+WITHOUT_EFFECT = ("NUL", "control without effect")
+# Codes after which the body of a macro stands.
+OF_BODIES = ("DEF MACRO", "DEFP MACRO")
+# The name of what stands after the codes that are cut: a page of very many is shown up to there.
+REST = "the rest, which isn't cut"
+
+
+@dataclass
+class CodeRow:
+    """Some bytes of the page, the code that they are, and the entries that came of them: their numbers, and lines."""
+
+    start: int
+    end: int
+    acts: int
+    name: str
+    opcode: bool
+    entries: List[int] = field(default_factory=list)
+    lines: List[str] = field(default_factory=list)
+
+
+def rows_with_lines(data: bytes, entries: List[PlacedLine], stop: Optional[int]) -> List[CodeRow]:
+    """The rows of a page, up to the place of a refusal, with the lines of the entries that their bytes added."""
+    rows = rows_of_codes(data, entries, stop)
+    for row in rows:
+        row.lines = [entries[number][1] for number in row.entries]
+    return rows
+
+
+def rows_of_codes(data: bytes, entries: List[PlacedLine], stop: Optional[int]) -> List[CodeRow]:
+    """The same rows, with the numbers of the entries alone."""
+    rows = [row for row in _code_rows(cut(data), len(data)) if stop is None or row.start <= stop]
+    starts = [row.start for row in rows]
+    runs = {row.acts: row for row in rows if row.opcode}
+    later: List[CodeRow] = []
+    for number, (place, line) in enumerate(entries):
+        assert place is not None
+        row = None if line.partition(" ")[0] in OF_CONTROLS else runs.get(place)
+        if row is None:
+            at = bisect.bisect_right(starts, place) - 1
+            row = rows[at] if at >= 0 and place < rows[at].end else runs.get(place)
+        if row is None and rows:
+            row = rows[-1]
+        if row is None or row.name == REST:
+            later.append(CodeRow(place, place, place, "", False, [number]))
+        else:
+            row.entries.append(number)
+    # (the code that is refused stays where a macro that it calls drew something)
+    return [row for row in rows if stop is None or row.end <= stop or row.entries] + later
+
+
+def rows_after(rows: Iterable[CodeRow], start: int) -> List[CodeRow]:
+    """The rows of the bytes from the start on, with their offsets after it."""
+    return [replace(row, start=max(0, row.start - start), end=row.end - start, acts=row.acts - start)
+            for row in rows if row.end > start or row.start >= start]
+
+
+def _code_rows(codes: Iterable[Code], length: int) -> List[CodeRow]:
+    """Rows without a gap: what comes of a macro has no bytes of its own, and what no code takes is named so. The
+    same code without effect again has no row of its own."""
+    rows: List[CodeRow] = []
+    done = 0
+    last = ""
+    for start, end, acts, name, opcode in codes:
+        if start > done:
+            rows.append(CodeRow(done, start, start, "body" if last in OF_BODIES else "", False))
+            done = start
+        if end > done:
+            if name in WITHOUT_EFFECT and rows and rows[-1].name == name:
+                rows[-1].end = end
+            else:
+                rows.append(CodeRow(done, end, acts, name, opcode))
+            done = end
+        last = name
+    if done < length:
+        rows.append(CodeRow(done, length, length, REST, False))
+    return rows
+
+
+# The number of bytes of a page that are read after its refusal, those of macros counted too.
+MOST_AFTER_REFUSAL = 100_000
+# The names that refusals have for codes, by those of the table of codes.
+LEFT_OUT = {name: name for name in ("CAN", "SDC", "NSR", "UNPROTECT", "EDC1", "EDC2", "EDC3", "EDC4")}
+LEFT_OUT.update({"DEFT MACRO": "DEFT", "INCREMENTAL POINT": "INCREMENTAL-POINT", "INCREMENTAL LINE": "INCREMENTAL-LINE",
+                 "INCREMENTAL POLY FILLED": "INCREMENTAL-POLY"})
+SEQUENCES = (*OTHER_ESCAPES.values(), "escape sequence")
+UNKNOWN_SET = "unknown set"
+EIGHTH_BIT, TRANSPARENT = "eighth bit", "SET COLOR without a colour"
+MOST_SHOWN = 5
+# The number of bytes after the place of a refusal that belong to its escape sequence.
+MOST_BEHIND = 64
+
+
+def stops(data: Optional[bytes], answer: Refusal) -> List[str]:
+    """The codes that stop a page, the refusal's own first; at the end an empty name, if it wasn't read to its end."""
+    cutter = Cutter(data or b"", MOST_AFTER_REFUSAL)
+    names: List[str] = []
+    refused = refused_name(data, answer)
+    for code in cutter.codes():
+        name = stop_name(code, data or b"")
+        if name is not None and max(code.acts if not code.opcode else code.start, code.start) >= answer.place:
+            names.append(name)
+    if names[:1] != [refused]:
+        names.insert(0, refused)
+    return names + ([""] if data is None or cutter.steps >= MOST_AFTER_REFUSAL else [])
+
+
+def refused_name(data: Optional[bytes], answer: Refusal) -> str:
+    """The name of the code that is refused, or of the refusal where that isn't for a code that isn't read."""
+    if answer.code:
+        return answer.code
+    if answer.fault == "EighthBit":
+        return EIGHTH_BIT
+    for code in _codes_at(data, answer.place) if data is not None else ():
+        return stop_name(code, data or b"") or answer.fault
+    return answer.fault
+
+
+def stop_of(data: bytes, answer: Refusal) -> Optional[str]:
+    """The name of the code that is refused, where the answer has neither that nor a fault that says as much."""
+    if answer.fault == "BadEscape":
+        start = data.rfind(b"\x1b", 0, answer.place + 1)
+        some = data[max(start, 0):answer.place + MOST_BEHIND]
+        code = next(Cutter(some).codes(), None)
+        if start >= 0 and code and code.end > answer.place - start:
+            return stop_name(code, some)
+    if answer.fault == "BadEscape" or (answer.fault == "Missing" and data.startswith(b"\x3c", answer.place)):
+        name = refused_name(data, answer)
+        return name if name != answer.fault else None
+    return None
+
+
+def _codes_at(data: Optional[bytes], place: int) -> Iterator[Code]:
+    return (code for code in Cutter(data or b"", MOST_AFTER_REFUSAL).codes() if code.start <= place < code.end)
+
+
+def stop_name(code: Code, data: bytes) -> Optional[str]:
+    """The name of a code that isn't read; nothing of others."""
+    if code.name in LEFT_OUT:
+        return LEFT_OUT[code.name]
+    if code.name == "byte of the eight-bit code":
+        return EIGHTH_BIT
+    if code.name in SEQUENCES or code.name.startswith(UNKNOWN_SET):
+        some = data[code.start:code.end]
+        hexadecimal = some[:MOST_SHOWN].hex(" ").upper() + (" .." if len(some) > MOST_SHOWN else "")
+        return f"{hexadecimal} ({code.name})" if some[:1] == b"\x1b" else code.name
+    if code.name == "SET COLOR" and code.end - code.start == 1 and data[code.start:code.end] == b"\x3c":
+        return TRANSPARENT
+    return None

@@ -12,17 +12,18 @@ PAGE, TEXT, BLANK, CAPTURE = "page", "text", "blank", "capture"
 # The number of bytes of a file that are looked at for what it looks like.
 MOST_LOOKED_AT = 4096
 MAC_HEADER = 128
-ARC_HEADER, MOST_ARC_METHOD, ARC_NAME = 29, 11, re.compile(rb"[!-~]{1,12}")
+ARC_HEADER, MOST_ARC_METHOD, ARC_NAME = 29, 11, rb"[!-~]{1,12}"
 # What texts are made of; and letters of other codes, each of which stands in a word, with at least so many bytes of
-# ASCII for each. (Without the controls 80 to 9F, and the few signs of Latin-1 that texts have.)
-TEXT_BYTES, LEAST_PLAIN = re.compile(rb"[\t\n\x0c\r\x20-\x7e\x80-\xff]*"), 4
-LATIN_1 = re.compile(rb"[\t-\r\x20-\x7e\xa0\xa1\xa3\xa7-\xab\xb0-\xb7\xb9-\xbf\xc0-\xff]*")
-OF_DOS = re.compile(rb"[\t-\r\x20-\x7e\x80-\xa8\xad-\xaf\xb3\xba-\xbc\xbf-\xc0\xc4\xc8-\xc9\xcd\xd9-\xda\xe1\xf8]*")
+# ASCII for each. (Without the controls 80 to 9F, and the few signs of Latin-1 that texts have.) A pattern is compiled
+# when it is first used.
+TEXT_BYTES, LEAST_PLAIN = rb"[\t\n\x0c\r\x20-\x7e\x80-\xff]*", 4
+LATIN_1 = rb"[\t-\r\x20-\x7e\xa0\xa1\xa3\xa7-\xab\xb0-\xb7\xb9-\xbf\xc0-\xff]*"
+OF_DOS = rb"[\t-\r\x20-\x7e\x80-\xa8\xad-\xaf\xb3\xba-\xbc\xbf-\xc0\xc4\xc8-\xc9\xcd\xd9-\xda\xe1\xf8]*"
 CODES = (("Latin-1", LATIN_1), ("a code page of DOS", OF_DOS))
 # How many bytes a sector of a disk may have.
 SECTORS = (128, 256, 512, 1024, 2048, 4096)
 # In an accepted page they stand in the bodies of its macros alone.
-DEFINITION, BEGINNINGS = b"\x1b\x40", re.compile(rb"\x1f|\x1b[\x22\x25]")
+DEFINITION, BEGINNINGS = b"\x1b\x40", rb"\x1f|\x1b[\x22\x25]"
 
 
 class Magic(NamedTuple):
@@ -89,7 +90,7 @@ def kind(pieces: Iterable[bytes], answer: Accepted) -> str:
 def last_beginning(data: bytes) -> int:
     """Where the last NSR, ESC 22 or ESC 25 of an accepted page stands; -1 where there is none."""
     at = data.find(DEFINITION)
-    return max((found.start() for found in BEGINNINGS.finditer(data, at)), default=-1) if at >= 0 else -1
+    return max((found.start() for found in re.compile(BEGINNINGS).finditer(data, at)), default=-1) if at >= 0 else -1
 
 
 def looks_like(beginning: bytes, length: int) -> Optional[str]:
@@ -108,7 +109,7 @@ def _is_arc(beginning: bytes, _length: int) -> bool:
     if beginning[:1] != b"\x1a" or len(beginning) < ARC_HEADER or not 1 <= beginning[1] <= MOST_ARC_METHOD:
         return False
     name, end, _ = beginning[2:15].partition(b"\0")
-    return ARC_NAME.fullmatch(name) is not None and end != b""
+    return re.fullmatch(ARC_NAME, name) is not None and end != b""
 
 
 def _is_dos_disk(beginning: bytes, _length: int) -> bool:
@@ -121,14 +122,14 @@ def _text_in(beginning: bytes, length: int) -> Optional[str]:
     """In which code it is a text, where it has letters that ASCII lacks, and few of them."""
     text = beginning.rstrip(b"\x1a")
     high = sum(1 for byte in text if byte >= 0x80)
-    if not high or TEXT_BYTES.fullmatch(text) is None:
+    if not high or re.fullmatch(TEXT_BYTES, text) is None:
         return None
     if _is_utf_8(text, len(beginning) == length):
         return "text in UTF-8"
     if high * LEAST_PLAIN > len(text):
         return None
     for name, letters in CODES:
-        if letters.fullmatch(text):
+        if re.fullmatch(letters, text):
             return "text in " + name
     return None
 
@@ -170,7 +171,7 @@ def _pieces(file: Optional[IO[bytes]]) -> Iterator[bytes]:
         yield piece
 
 
-def told(it: Description) -> str:
+def remark(it: Description) -> str:
     """What stands after the line of an answer: nothing for a page."""
     if it.pages:
         return f" (capture of {it.pages} pages)"

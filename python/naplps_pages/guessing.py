@@ -43,16 +43,16 @@ class GuessedPage:
     passed: List[int]
     end: Optional[Refusal]
 
-    def said(self, first: int = 0) -> Tuple[str, ...]:
+    def sentences(self, first: int = 0) -> Tuple[str, ...]:
         """The lines that tell of the guess. Offsets count from the first byte of the page."""
-        some = ", ".join(str(place - first) for place in self.passed[:MOST_TOLD])
+        places = ", ".join(str(place - first) for place in self.passed[:MOST_TOLD])
         more = f" and {len(self.passed) - MOST_TOLD} more" if len(self.passed) > MOST_TOLD else ""
         codes = "code" if len(self.passed) == 1 else "codes"
-        told = f"Hatched is a guess: what stands behind, read on without the {codes} at {some}{more}."
+        sentence = f"Hatched is a guess: what stands behind, read on without the {codes} at {places}{more}."
         if self.end is None:
-            return (told,)
+            return (sentence,)
         end = Refusal(self.end.number, self.end.fault, self.end.code, self.end.place - first).line
-        return told, f"The guess ends where the page is {end}."
+        return sentence, f"The guess ends where the page is {end}."
 
 
 class Guesser:
@@ -62,14 +62,14 @@ class Guesser:
         self.program, self.data = program, bytearray(page)
         self.steps, self.asked = MOST_STEPS, 0
 
-    def guess(self, told: Listed) -> Optional[GuessedPage]:
+    def guess(self, page: Listed) -> Optional[GuessedPage]:
         """What stands after the refusal of a page with these entries; nothing where that can't be read."""
-        answer: Answer = told.answer
+        answer: Answer = page.answer
         passed: List[int] = []
         while isinstance(answer, Refusal) and len(passed) < MOST_CODES and self._pass(answer):
             passed.append(answer.place)
             answer = self.program.ask("check", Page("", bytes(self.data)))
-        before = told.lines
+        before = page.lines
         if not passed or before is None or not isinstance(answer, (Accepted, Refusal)):
             return None
         lines = listed(self.program, Page("", bytes(self.data))).lines

@@ -4,7 +4,7 @@ import subprocess
 import sys
 from typing import List
 
-from naplps.program import for_child
+from naplps.client import for_child
 
 # The folder in which this package stands.
 FOLDER = os.path.dirname(os.path.dirname(os.path.abspath(__file__)))

@@ -1,13 +1,13 @@
-"""The lists of pages, alone or after other pages."""
+"""The lists of pages, alone or after other pages; and their rows, in which characters after each other are one."""
 from dataclasses import dataclass
 from functools import cached_property
-from typing import Iterator, List, NamedTuple, Optional, Tuple, Union
+from typing import Iterable, Iterator, List, NamedTuple, Optional, Tuple, Union
 
 from naplps.answers import NONSENSE, Accepted, Answer, Refusal, Unanswered
 from naplps.client import Client
+from naplps.entry import Entries, lines_in, placed
 from naplps.limits import MOST_LISTED, MOST_PAGE
 from naplps.names import shown
-from naplps.reading import Entries, lines_in, placed
 
 from . import messages
 from .source import Page, Unread, read
@@ -49,13 +49,13 @@ def listed_of_few(program: Client, page: Page, has_places: bool = True) -> Liste
     """The same of a page that was accepted before with few entries: asks for these alone, where they are few still.
     Where places aren't wanted there are no rows but lines, which is faster."""
     command = command_of(page) if has_places else LIST
-    told = program.ask(command, page)
-    if isinstance(told, Unanswered):
-        return listed(program, page) if told.too_much else Listed(told)
+    reply = program.ask(command, page)
+    if isinstance(reply, Unanswered):
+        return listed(program, page) if reply.too_much else Listed(reply)
     if has_places:
-        return _with_rows(command, told, told)
-    lines = told.body.decode("ascii").splitlines()
-    return Listed(told, unplaced=lines if len(lines) <= MOST_LISTED else None)
+        return _with_rows(command, reply, reply)
+    lines = reply.body.decode("ascii").splitlines()
+    return Listed(reply, unplaced=lines if len(lines) <= MOST_LISTED else None)
 
 
 def _listed(program: Client, page: Page, answer: Answer) -> Listed:
@@ -63,16 +63,16 @@ def _listed(program: Client, page: Page, answer: Answer) -> Listed:
         return Listed(answer)
     if page.data is None and isinstance(answer, Refusal):
         return Listed(answer)
-    told = program.ask(command_of(page), page)
-    if isinstance(told, Unanswered):
-        return Listed(answer if told.too_much else told)
-    if told.line != answer.line:
+    reply = program.ask(command_of(page), page)
+    if isinstance(reply, Unanswered):
+        return Listed(answer if reply.too_much else reply)
+    if reply.line != answer.line:
         return Listed(Unanswered(NONSENSE))
-    return _with_rows(command_of(page), answer, told)
+    return _with_rows(command_of(page), answer, reply)
 
 
-def _with_rows(command: str, answer: Answer, told: Union[Accepted, Refusal]) -> Listed:
-    rows = [*_rows(command, told.body)]
+def _with_rows(command: str, answer: Answer, reply: Union[Accepted, Refusal]) -> Listed:
+    rows = [*_rows(command, reply.body)]
     return Listed(answer, rows if len(rows) <= MOST_LISTED else None)
 
 
@@ -139,8 +139,8 @@ def read_earlier(names: List[str], seconds: float) -> Earlier:
 def heard(program: Client, earlier: Earlier, page: Page) -> Heard:
     """Asks about a page after these."""
     if not earlier.names:
-        told = listed(program, page)
-        return Heard(told, told)
+        alone = listed(program, page)
+        return Heard(alone, alone)
     if page.data is None or len(earlier.data) + len(page.data) > MOST_PAGE:
         return _without(Unanswered(messages.LONG_WITH_EARLIER))
     every = listed(program, earlier.joined(page))
@@ -155,8 +155,8 @@ def heard(program: Client, earlier: Earlier, page: Page) -> Heard:
     if every.rows is None or before.rows is None:
         return _without(Unanswered(messages.MANY_WITH_EARLIER))
     rows = _behind(every.rows, before.rows, start)
-    mine: Answer = Accepted(len(rows)) if isinstance(answer, Accepted) else moved(answer, start)
-    return Heard(Listed(mine, rows), every)
+    of_page: Answer = Accepted(len(rows)) if isinstance(answer, Accepted) else moved(answer, start)
+    return Heard(Listed(of_page, rows), every)
 
 
 def _behind(every: List[Row], before: List[Row], start: int) -> List[Row]:
@@ -178,3 +178,79 @@ def moved(answer: Refusal, start: int) -> Refusal:
 
 def _without(answer: Answer) -> Heard:
     return Heard(Listed(answer), Listed(answer))
+
+
+# The greatest number of characters that have one row.
+MOST_IN_ROW = 80
+PEN, AFTER = " pen=", " pen=after "
+# Digits of a character's code.
+CODE = 2
+# Letters of the primary set that stand for themselves in quotation marks.
+ESCAPES = {0x22: '\\"', 0x5C: "\\\\", 0x7F: "\\x7f"}
+
+
+class FoldedRow(NamedTuple):
+    """A row of a list, and how many entries it tells."""
+
+    line: str
+    entries: int
+
+
+class _Characters(NamedTuple):
+    """A character's line: its set, its code, its pen, and what else it has."""
+
+    set: str
+    code: str
+    pen: str
+    rest: str
+
+
+def _character(line: str) -> Optional[_Characters]:
+    if not line.startswith("CHAR "):
+        return None
+    words = line.split(" ", 4)
+    return _Characters(*words[1:]) if len(words) == 5 else None
+
+
+def goes_on(last: str, line: str) -> bool:
+    """Whether the line is a character that continues a row."""
+    around = _around(last)
+    return around is not None and line[:around[0]] + line[around[0] + CODE:] == around[1]
+
+
+def _around(line: str) -> Optional[Tuple[int, str]]:
+    """Of a character's line where its code stands, and what stands around the code in the lines that continue it."""
+    pen = line.find(PEN)
+    if pen < 0 or not line.startswith("CHAR "):
+        return None
+    return pen - CODE, line[:pen - CODE] + AFTER[:-1] + line[line.find(" ", pen + 1):]
+
+
+def folded(lines: Iterable[str]) -> Iterator[FoldedRow]:
+    """The rows of a list, one after another."""
+    run: List[str] = []
+    around: Optional[Tuple[int, str]] = None
+    at, expected = 0, ""
+    for line in lines:
+        if around and line[:at] + line[at + CODE:] == expected and len(run) < MOST_IN_ROW:
+            run.append(line)
+            continue
+        if run:
+            yield _row(run)
+        run, around = [line], _around(line)
+        at, expected = around or (0, "")
+    if run:
+        yield _row(run)
+
+
+def _row(run: List[str]) -> FoldedRow:
+    """The row of some lines that continue each other."""
+    first = _character(run[0]) if len(run) > 1 else None
+    if first is None:
+        return FoldedRow(run[0], 1)
+    at = run[0].find(PEN) - CODE
+    codes = [line[at:at + CODE] for line in run]
+    codes_shown = " ".join([first.set, *codes])
+    if first.set == "primary":
+        codes_shown = '"%s"' % bytes.fromhex("".join(codes)).decode("latin-1").translate(ESCAPES)
+    return FoldedRow(f"CHAR {codes_shown} x{len(run)} {first.pen} {first.rest}", len(run))

@@ -1,16 +1,19 @@
 """Pages that are almost equal: whose lists differ in words, in colours or in places alone; or of which one is the
-beginning of another. docs/COLLECTIONS.md has the definitions."""
+beginning of another; and how they are printed. docs/COLLECTIONS.md has the definitions."""
 import re
 from array import array
 from collections import defaultdict
 from dataclasses import dataclass, field
 from functools import lru_cache
 from hashlib import blake2b
-from typing import Callable, Dict, Iterable, Iterator, List, NamedTuple, Optional, Sequence, Set, Tuple
+from typing import Callable, Dict, Iterable, Iterator, List, NamedTuple, Optional, Sequence, Set, Tuple, Union
 
 from naplps import letters
+from naplps.names import Members, as_json, shown
 
+from .console import Output
 from .near_keys import KEY, LEAST_ENTRIES, MOST_SAID, PREFIX, NearKeys
+from .schema import dumps
 
 WORDS, COLOURS, PLACES = "words", "colours", "places"
 # The greatest number of entries, of all lists together, that are compared as beginnings.
@@ -55,11 +58,11 @@ def keys_of(listed: bytes) -> NearKeys:
         runs.append(run[0])
         return b"TEXT pen=%b %b\n" % run.groups()
     words, colours, places = map(_digest, (_RUN.sub(take, listed), without_colours(listed), without_places(listed)))
-    said = " ".join(dict.fromkeys(" ".join(map(_said, runs)).split()))[:MOST_SAID]
+    said = " ".join(dict.fromkeys(" ".join(map(_run_text, runs)).split()))[:MOST_SAID]
     return NearKeys(words, colours, places, b"".join(_prefixes(listed)), said)
 
 
-def _said(run: bytes) -> str:
+def _run_text(run: bytes) -> str:
     """The text of a run; an accent is on the letter after it."""
     found: List[str] = []
     accent = 0
@@ -208,3 +211,48 @@ def _different_words(group: Iterable[ListedPage]) -> Tuple[Tuple[str, ...], ...]
     for words in every:
         common = set(words) if common is None else common & set(words)
     return tuple(tuple(word for word in words if word not in (common or ()))[:MOST_WORDS] for words in every)
+
+
+SAME_WORDS, NO_OTHERS = "(the same words, in another order)", "(no others)"
+Found = Union[Difference, Beginning]
+
+
+def show(output: Output, found: Found, as_object: bool) -> None:
+    """Prints a group or a beginning, as text or as an object of JSON."""
+    if as_object:
+        output.line(dumps(_object(found)))
+    else:
+        output.text("".join(f"{line}\n" for line in _lines(found)))
+
+
+def _lines(found: Found) -> Iterator[str]:
+    if isinstance(found, Beginning):
+        last = "with its last entry" if found.last_fits else "but for its last entry"
+        yield f"{_names(found.part)} is a beginning of {_names(found.whole)}, {last}"
+        return
+    yield f"{len(found.pages)} pages differ in {found.what} alone:"
+    for number, page in enumerate(found.pages):
+        words = f": {words_of(found, number)}" if found.what == WORDS else ""
+        yield f"  {_names(page)}{words}"
+
+
+def words_of(found: Difference, number: int) -> str:
+    """The words of one of the pages that not all of them have."""
+    return " ".join(found.words[number]) or (NO_OTHERS if any(found.words) else SAME_WORDS)
+
+
+def _names(page: ListedPage) -> str:
+    return ", ".join(shown(each.name) + (f" treated by {each.treated}" if each.treated else "") for each in page.names)
+
+
+def _object(found: Found) -> Members:
+    if isinstance(found, Beginning):
+        return {"beginning": _files(found.part), "of": _files(found.whole), "last_fits": found.last_fits}
+    pages: List[Members] = [{"files": _files(page)} for page in found.pages]
+    for page, words in zip(pages, found.words):
+        page["words"] = list(words)
+    return {"differ_in": found.what, "pages": pages}
+
+
+def _files(page: ListedPage) -> List[Members]:
+    return [{**as_json(each.name), **({"treated": each.treated} if each.treated else {})} for each in page.names]

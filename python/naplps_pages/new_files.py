@@ -1,4 +1,4 @@
-"""Files that are made: whole or not at all, and never over another one; and the notes beside copies and parts."""
+"""Files that are made: whole or not at all, and never over another one."""
 import contextlib
 import errno
 import os
@@ -6,18 +6,8 @@ from typing import Dict, Iterable, Iterator, Optional
 
 from naplps.names import leaf
 
-from . import TOOL, messages
+from . import messages
 from .console import NotWritten
-
-ENDING = b".json"
-# How each note begins: `cures` and `split` tell first where their file comes from.
-BEGINS = b'{\n  "source_name": "'
-WRITTEN_BY = b'\n  "tool": "%s ' % TOOL.encode("ascii")
-
-
-def is_note(name: bytes, data: bytes) -> bool:
-    """Whether a file of this name and these bytes is such a note."""
-    return name.endswith(ENDING) and data.startswith(BEGINS) and WRITTEN_BY in data
 
 
 def put(path: str, data: bytes) -> None:

@@ -1,21 +1,20 @@
 """The run of a command on single pages, with its status."""
 import os
 import sys
-from argparse import Namespace
-from dataclasses import dataclass, field
-from typing import TYPE_CHECKING, Callable, Dict, List, Optional, Sequence
+from typing import TYPE_CHECKING, Any, Callable, Dict, List, Optional, Sequence
 
 from naplps.answers import NONSENSE, Answer, Refusal, Unanswered
-from naplps.client import Client
+from naplps.client import Client, find
 from naplps.faults import NoProgram, NotALine
 from naplps.limits import MODEST, Limits
 from naplps.names import shown
-from naplps.program import find
 
 from .console import ACCEPTED, FAILED, REFUSED, NotWritten, Output, OutputLost, tell
 from .source import Page, Unread, is_store, read
 
 if TYPE_CHECKING:
+    from argparse import Namespace
+
     from .listing import Earlier, Heard, Listed
 
 # The options that a session has.
@@ -23,12 +22,9 @@ OPTIONS = ("json", "into", "full", "past", "png", "sheet", "look", "output_file"
            "scale", "speed")
 
 
-@dataclass
 class Session:
-    """One run of a command."""
+    """One run of a command, with its options."""
 
-    program: Client
-    names: List[str]
     json: bool = False
     into: Optional[str] = None
     full: bool = False
@@ -48,11 +44,15 @@ class Session:
     # (by what the page at work is treated; and whether refusals are counted, and not told each)
     treated: str = ""
     is_quiet: bool = False
-    after: "Optional[Earlier]" = None
-    output: Output = field(default_factory=lambda: Output(sys.stdout.buffer))
     status: int = ACCEPTED
-    paths: Dict[str, str] = field(default_factory=dict)
-    reader: Callable[[str, float], Page] = read
+
+    def __init__(self, program: Client, names: List[str], after: "Optional[Earlier]" = None, **options: Any) -> None:
+        self.program, self.names, self.after = program, names, after
+        self.output = Output(sys.stdout.buffer)
+        self.paths: Dict[str, str] = {}
+        self.reader: Callable[[str, float], Page] = read
+        assert all(hasattr(self, name) for name in options)
+        vars(self).update(options)
 
     @property
     def earlier(self) -> "Earlier":
@@ -100,7 +100,7 @@ class Session:
             self.fail(REFUSED)
         return True
 
-    def takes(self, _told: "Listed") -> bool:
+    def takes(self, _listed: "Listed") -> bool:
         """Whether what a page draws is shown."""
         return True
 
@@ -138,8 +138,8 @@ class Session:
                 tell(str(error))
                 self.fail(FAILED)
             except Exception as error:  # pylint: disable=broad-except
-                from .unexpected import told
-                self._without(name, told(error), more)
+                from .unexpected import failure_message
+                self._without(name, failure_message(error), more)
             finally:
                 if page and page.file:
                     page.file.close()
@@ -157,10 +157,10 @@ class Session:
 
 
 # What runs a command on the files of a store.
-OfStore = Callable[[Namespace, Client, "Optional[Earlier]"], int]
+OfStore = Callable[["Namespace", Client, "Optional[Earlier]"], int]
 
 
-def on_pages(given: Namespace, tool: str, work: Callable[[Session], int], limits: Limits = MODEST, of_store: str = "",
+def on_pages(given: "Namespace", tool: str, work: Callable[[Session], int], limits: Limits = MODEST, of_store: str = "",
              on_store: Optional[OfStore] = None) -> int:
     """Runs a command on pages; the status. `of_store` is told where one of them is a store, `on_store` takes one that
     is named alone, and `tool` is the path of the tool, beside which naplps may stand."""

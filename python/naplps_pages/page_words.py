@@ -46,7 +46,7 @@ def _small(text: str) -> str:
     return text.lower()
 
 
-def wanted(text: str) -> List[Phrase]:
+def parse_query(text: str) -> List[Phrase]:
     """What is looked for. Raises NoWords."""
     if len(text) > MOST_ASKED:
         raise NoWords(messages.LONG_TO_FIND.format(most=MOST_ASKED))

@@ -4,11 +4,9 @@ import os
 import select
 import stat
 import sys
-import tempfile
 import time
-from dataclasses import dataclass
 from types import TracebackType
-from typing import IO, List, Optional, Type, cast
+from typing import IO, List, NamedTuple, Optional, Type, cast
 
 from naplps.limits import MOST_PAGE
 
@@ -61,8 +59,7 @@ DEVICES = {stat.S_IFCHR: messages.IS_DEVICE, stat.S_IFBLK: messages.IS_DEVICE, s
 NO_SUCH_FILE = (errno.ENOENT, errno.ENOTDIR, errno.ENAMETOOLONG)
 
 
-@dataclass(frozen=True)
-class Page:
+class Page(NamedTuple):
     """The bytes of a page; or, of a page that is longer than MOST_PAGE, the file that has them."""
 
     name: str
@@ -131,7 +128,7 @@ def _is_unnamed(name: str) -> bool:
 
 def _member(name: str) -> Optional[Page]:
     """The member of a pack, where the name begins with a pack that is there. Raises Unread."""
-    from .packs.naming import BETWEEN, is_pack
+    from .packs import BETWEEN, is_pack
     at = name.find(BETWEEN)
     while at >= 0:
         pack = os.path.abspath(os.fsencode(name[:at]))
@@ -163,6 +160,7 @@ def _kept(first: bytes, file: IO[bytes]) -> IO[bytes]:
         copy: IO[bytes] = open(os.dup(file.fileno()), "rb", buffering=0)
         copy.seek(-len(first), os.SEEK_CUR)
         return copy
+    import tempfile  # (which takes long to be imported, and few need)
     spool = tempfile.TemporaryFile()
     length = spool.write(first)
     for piece in iter(lambda: file.read(PIECE), b""):

@@ -1,4 +1,4 @@
-"""What is told of an exception that nobody expected: one line, and no traceback."""
+"""The message on an exception that nobody expected: one line, and no traceback."""
 import os
 
 from naplps.names import shown
@@ -14,17 +14,17 @@ class Unexpected(Exception):
     """An exception that nobody expected, with the file that was at work."""
 
     def __init__(self, name: str, error: Exception) -> None:
-        super().__init__(f"{shown(name)}: {told(error)}")
+        super().__init__(f"{shown(name)}: {failure_message(error)}")
 
 
-def told(error: Exception) -> str:
+def failure_message(error: Exception) -> str:
     """What went wrong, and where in this tool; of the system's faults only its reason."""
     if isinstance(error, OSError) and error.errno:
         return os.strerror(error.errno)
     if isinstance(error, MemoryError):
         return "there is no memory for it"
-    said = shown(f"{type(error).__name__}: {error}")[:MOST_SAID]
-    return FAILED % (_place(error), said)
+    text = shown(f"{type(error).__name__}: {error}")[:MOST_SAID]
+    return FAILED % (_place(error), text)
 
 
 def _place(error: Exception) -> str:

@@ -18,7 +18,7 @@ COMMAND = os.path.join(TOP, "pages", "naplps-pages")
 sys.path[:0] = [PACKAGES, HERE]
 sys.dont_write_bytecode = True
 
-from naplps import program as program_module  # noqa: E402
+from naplps import client as client_module  # noqa: E402
 
 # (no test asserts a time)
 settings.register_profile("untimed", deadline=None)
@@ -52,8 +52,8 @@ Run = Callable[..., "subprocess.CompletedProcess[bytes]"]
 def naplps() -> str:
     """The path of the program."""
     try:
-        return program_module.find(COMMAND)
-    except program_module.NoProgram as error:
+        return client_module.find(COMMAND)
+    except client_module.NoProgram as error:
         pytest.exit(str(error), 77)
 
 

@@ -8,9 +8,10 @@ import time
 from typing import NamedTuple, Optional
 
 from conftest import COMMAND, bare
-from naplps_pages.collection import schemas, tables
+from naplps_pages.collection import tables
 from naplps_pages.collection.kept import keep_part, read_part
-from naplps_pages.collection.schemas import Answered, File, Terms
+from naplps_pages.collection.protocol import block_of
+from naplps_pages.collection.tables import Answered, File, Terms
 from naplps_pages.collection.store import open_to_write
 from naplps_pages.collection.writer import Writer
 
@@ -151,9 +152,9 @@ def written(store, root, found, terms=Terms("naplps", b"\0" * 32, "2", 1048576),
     folder, _ = writer.folder(root, tables.READ, None)
     files = [File(folder, name, tables.READ, None, 650, 1, 1, at, answer.own)
              for at, (name, answer) in enumerate(found)]
-    writer.take((tuple(files), tuple(answer for _, answer in found)))
+    writer.take(block_of((tuple(files), tuple(answer for _, answer in found))))
     writer.write()
-    connection.executescript(schemas.INDICES)
+    connection.executescript(tables.INDICES)
     writer.finish(len(files), len(files))
     if began:
         connection.execute("UPDATE runs SET began = ?", (began,))

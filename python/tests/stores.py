@@ -3,7 +3,7 @@ import os
 import shutil
 import sqlite3
 
-from naplps_pages.collection import schemas
+from naplps_pages.collection import tables
 from packers import pack
 from samples import OUTSIDE, POINT, SPELLED
 from scans import tree
@@ -70,14 +70,14 @@ def earlier(store, path):
     """The store as one of the schema before has it, with the rest of what it has; its path."""
     made = sqlite3.connect(path, isolation_level=None)
     made.executescript("PRAGMA application_id = %d; %s %s; %s" % (
-        0x4E41504C, schemas.tables(schemas.EARLIER), schemas.listing(schemas.EARLIER), schemas.INDICES))
+        0x4E41504C, tables.created(tables.EARLIER), tables.listing(tables.EARLIER), tables.INDICES))
     made.execute("ATTACH ? AS new", (store,))
-    tables = [name for name, in made.execute("SELECT name FROM main.sqlite_master WHERE type = 'table'")]
-    for name in tables:
+    names = [name for name, in made.execute("SELECT name FROM main.sqlite_master WHERE type = 'table'")]
+    for name in names:
         some = ", ".join(row[1] for row in made.execute(f"PRAGMA main.table_info({name})"))
         made.execute(f"INSERT INTO main.{name} SELECT {some} FROM new.{name}")
     made.execute("UPDATE main.pages SET kind = NULL WHERE state = 1")
     made.execute("DELETE FROM main.meta WHERE key IN ('cures', 'words')")
-    made.execute("UPDATE main.meta SET value = ? WHERE key = 'schema'", (str(schemas.EARLIER),))
+    made.execute("UPDATE main.meta SET value = ? WHERE key = 'schema'", (str(tables.EARLIER),))
     made.close()
     return path

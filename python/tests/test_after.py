@@ -10,7 +10,7 @@ from conftest import file
 from naplps.answers import Accepted
 from naplps.client import Client
 from naplps_pages.listing import Earlier, Listed, heard, listed
-from naplps_pages.player.played import played
+from naplps_pages.player import played
 from naplps_pages.source import Page
 from players import drawn_of, held
 from samples import OUTSIDE, POINT, POINT_LINE, needs_node
@@ -128,7 +128,7 @@ def test_a_player_has_the_entries_of_earlier_pages_in_front(run, folder):
 
 @needs_node
 def test_the_entries_of_earlier_pages_are_bounded_too(monkeypatch):
-    monkeypatch.setattr("naplps_pages.player.played.MOST_LINES", 20_000)
+    monkeypatch.setattr("naplps_pages.player.MOST_LINES", 20_000)
     before = ["RECT-FILLED 0,0 4000000,4000000 pel=0,0 colour=own-start texture=0/none", "CLEAR pen=0,0"] * 500
     made = played(b"AB", Listed(Accepted(1), [(0, before[0])]), before=before)
     it = json.loads(made)

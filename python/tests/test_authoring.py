@@ -10,8 +10,8 @@ import authored
 import entries
 from lines import line_of
 from naplps import letters
+from naplps.entry import read
 from naplps.screen_text import text_lines
-from naplps.reading import read
 from naplps_pages.authoring.translating import MOST_MISTAKES, misfit, translate
 
 HAND, INK = "pen=start colour=own-start text=0,0/normal/----", "pel=0,0 colour=own-start texture=0/none"

@@ -10,8 +10,8 @@ import pytest
 
 from conftest import COMMAND, file
 from naplps import Char
-from naplps.reading import read_line
-from naplps_pages.census import Census
+from naplps.entry import read_line
+from naplps_pages.commands.census import Census
 from naplps_pages.schema import AT_ONCE, dumps, pieces_of
 from samples import MACRO, has
 

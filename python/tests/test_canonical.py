@@ -18,7 +18,7 @@ from conftest import PACKAGES, TOP
 from entries import legal_list
 from gallery import pages
 from naplps import canonical
-from naplps.reading import read_line
+from naplps.entry import read_line
 from samples import has
 
 sys.path.append(os.path.join(TOP, "scripts"))

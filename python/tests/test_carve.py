@@ -17,7 +17,7 @@ import pytest
 from conftest import COMMAND, file
 from naplps.answers import Accepted
 from naplps.client import Client
-from naplps_pages import carving
+from naplps_pages.commands import carve
 from naplps_pages.console import NotWritten
 from naplps_pages.page_finder import MOST_GIVEN, SHAPES, PageFinder
 from packers import pack
@@ -211,7 +211,7 @@ class _Full:
     """A disk that has room for a number of files."""
 
     def __init__(self, room):
-        self.room, self.put = room, carving.put_inside
+        self.room, self.put = room, carve.put_inside
 
     def __call__(self, path, data):
         self.room -= 1
@@ -225,7 +225,7 @@ def test_a_full_disk_loses_nothing(naplps, tmp_path, monkeypatch, capfd):
     monkeypatch.setenv("NAPLPS", naplps)
     path, to = file(tmp_path, "disk.img", DISK * 3), os.path.join(str(tmp_path), "to")
     full = _Full(5)
-    monkeypatch.setattr(carving, "put_inside", full)
+    monkeypatch.setattr(carve, "put_inside", full)
     assert main(["carve", path, "--into", to], COMMAND) == 3
     assert b"No space left on device" in capfd.readouterr().err.encode()
     full.room = 1000

@@ -9,7 +9,7 @@ from hypothesis import strategies as st
 from conftest import file
 from naplps.answers import Refusal
 from naplps.client import Client
-from naplps_pages.census import MOST_STEPS, stops
+from naplps_pages.codes import MOST_AFTER_REFUSAL, stops
 from samples import OUTSIDE, POINT, with_parity
 from test_reasons import LEFT_OUT
 
@@ -78,7 +78,7 @@ def test_files_of_other_formats_are_counted_and_not_in_the_table(run, tmp_path):
 
 def test_long_and_hostile_pages_are_read_in_part(run, tmp_path):
     deep = b"\x1b\x2b\x7a\x1b\x40A\x1d\x41\x1d\x41\x1b\x45\x1d\x41\x18"
-    for data, names in ((POINT + b"\x18" * (MOST_STEPS + 9), {"CAN"}), (deep, {"Budget"}),
+    for data, names in ((POINT + b"\x18" * (MOST_AFTER_REFUSAL + 9), {"CAN"}), (deep, {"Budget"}),
                         (b"\x18" * ((16 << 20) + 1), {"CAN"}), (b"\x18" + deep, {"CAN"})):
         said = run(["census", "--json", file(tmp_path, "page", data)])
         row = json.loads(said.stdout)

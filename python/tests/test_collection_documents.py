@@ -12,7 +12,7 @@ import pytest
 
 from conftest import COMMAND, TOP
 from naplps_pages import commands
-from naplps_pages.collection import canon_tables, store, tables, texts
+from naplps_pages.collection import kept, store, tables, texts
 from samples import has
 from scans import tree
 
@@ -69,15 +69,15 @@ def test_the_names_of_the_pages(archive):
 def test_the_tables_of_the_store(tmp_path):
     connection = store.open_to_write(str(tmp_path / "pages.db"))
     assert texts.make(connection)
-    for table in canon_tables.CANON_TABLES:
+    for table in kept.CANON_TABLES:
         table.make(connection)
     found = {name: [row[1] for row in connection.execute("PRAGMA table_info(%s)" % name)] for name, in
              connection.execute("SELECT name FROM sqlite_master WHERE type = 'table'").fetchall()}
     columns = [row[1] for row in connection.execute("PRAGMA table_info(listing)")]
     connection.close()
     told = dict(re.findall(r"^\| `(\w+)` \| (.*) \|$", STORE, re.MULTILINE))
-    assert set(told) == set(found) - set(texts.SHADOWS)
-    assert all(f"`{name}`" in STORE for name in texts.SHADOWS)
+    assert set(told) == set(found) - set(tables.SHADOWS)
+    assert all(f"`{name}`" in STORE for name in tables.SHADOWS)
     for name, row in told.items():
         if name != "meta":
             assert re.findall(r"`(\w+)`", row) == found[name], name
@@ -136,7 +136,7 @@ def test_metadata_of_datasette(archive):
     columns = {name: {row[1] for row in connection.execute("PRAGMA table_info(%s)" % name)} for name in it["tables"]}
     listing, words = it["tables"]["listing"], it["tables"]["texts"]
     assert {*listing["facets"], listing["sort"]} <= columns["listing"] and words["fts_pk"] in columns["texts"]
-    assert words["fts_table"] == texts.NAME
+    assert words["fts_table"] == tables.INDEX
     found = connection.execute(it["queries"]["find"]["sql"], {"words": "hello"}).fetchall()
     connection.close()
     assert [(os.path.basename(name), first) for name, first in found] == [("hello.nap", "Hello world!")]

@@ -7,6 +7,7 @@ import os
 import shutil
 import sqlite3
 import subprocess
+import time
 
 import pytest
 
@@ -14,10 +15,11 @@ from conftest import COMMAND
 from naplps.client import Client
 from naplps.names import shown
 from naplps.version import VERSION
-from naplps_pages.collection import equal_run
+from naplps_pages.collection import equal
 from naplps_pages.collection.equal import Group, Spelling
 from naplps_pages.collection.folders import Place
 from naplps_pages.collection.progress import Counting, Progress, duration
+from naplps_pages.collection.store_files import Lock
 from naplps_pages.new_files import put
 from samples import OUTSIDE, POINT, SPELLED, with_parity
 from scans import FAKE, rows, tree
@@ -88,8 +90,10 @@ def test_equal_for_programs(run, store, pages):
 def test_a_store_without_indices_tells_the_same(run, store, tmp_path):
     words = (["equal", store], ["equal", store, "--with", "copies"], ["files", store, "--refused"], ["files", store],
              ["canon", store, "--into", os.path.join(str(tmp_path), "to"), "--csv"])
+    def told():
+        return [[line for line in lines(run(each)) if not line.startswith("scan: ")] for each in words]
     run(words[-1])                                              # (what is there is told as that)
-    before = [lines(run(each)) for each in words]
+    before = told()
     connection = sqlite3.connect(store)
     names = ("pages_by_canon", "pages_by_number", "files_by_page")
     assert {name for name, in connection.execute("SELECT name FROM sqlite_master WHERE sql LIKE 'CREATE INDEX%'")} == {
@@ -97,7 +101,37 @@ def test_a_store_without_indices_tells_the_same(run, store, tmp_path):
     for name in names:
         connection.execute("DROP INDEX " + name)
     connection.close()
-    assert [lines(run(each)) for each in words] == before
+    with Lock(store):                                           # (as while a first scan is at work)
+        assert told() == before
+        assert rows(store, "SELECT name FROM sqlite_master WHERE sql LIKE 'CREATE INDEX%'") == []
+
+
+@pytest.mark.parametrize("words", [
+    ["equal"], ["files"], ["report", "-o", "/dev/null"], ["find", "a"], ["canon", "--into", "to"], ["census"],
+    ["near"]])
+def test_any_command_makes_the_indices_that_are_missing(run, store, tmp_path, words):
+    wanted = rows(store, "SELECT name, sql FROM sqlite_master ORDER BY name")
+    names = ("pages_by_canon", "pages_by_number", "files_by_page")
+    for some in (names, names[1:], names[:1]):
+        connection = sqlite3.connect(store)
+        connection.executescript("; ".join("DROP INDEX " + name for name in some))
+        connection.close()
+        run([*words, store], cwd=str(tmp_path))
+        assert rows(store, "SELECT name, sql FROM sqlite_master WHERE name <> 'near_keys' AND name NOT LIKE "
+                           "'sqlite_autoindex_near%' ORDER BY name") == wanted
+    assert rows(store, "PRAGMA integrity_check") == [("ok",)]
+
+
+def test_a_store_that_another_program_writes_is_read_at_once_without_indices(run, store):
+    wanted = lines(run(["files", store]))
+    connection = sqlite3.connect(store, isolation_level=None)
+    connection.execute("DROP INDEX files_by_page")
+    connection.execute("BEGIN IMMEDIATE")
+    began = time.monotonic()
+    assert lines(run(["files", store])) == wanted and time.monotonic() - began < 30
+    connection.execute("ROLLBACK")
+    assert rows(store, "SELECT 1 FROM sqlite_master WHERE name = 'files_by_page'") == []
+    connection.close()
 
 
 def test_refused(run, store, pages):
@@ -187,12 +221,12 @@ def test_verify_trusts_no_hash(run, store, pages):
 
 
 def test_pages_of_one_hash_and_other_bytes(fake, pages, monkeypatch):
-    monkeypatch.setattr(equal_run, "hashed", lambda data: b"hash")
+    monkeypatch.setattr(equal, "hashed", lambda data: b"hash")
     spellings = [Spelling(hashlib.sha256(FILES[name]).digest(),
                           [Place(os.fsencode(pages), name.encode(), len(FILES[name]))]) for name in ("a point", "cut")]
     told = []
     program = Client(fake(FAKE))
-    left = equal_run.verified(program, Group(b"hash", "2", 1, 11, spellings),
+    left = equal.verified(program, Group(b"hash", "2", 1, 11, spellings),
                               lambda name, why: told.append((name, why)))
     program.close()
     assert (left.spellings, told) == (spellings[:1], [

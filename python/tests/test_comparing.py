@@ -6,7 +6,7 @@ from random import Random
 
 import gallery
 from conftest import file
-from naplps_pages.comparing import MOST_LINES, MOST_WIDE, side_by_side
+from naplps_pages.commands.diff import MOST_LINES, MOST_WIDE, side_by_side
 from samples import BOMB, OUTSIDE
 
 

@@ -11,9 +11,8 @@ from hypothesis import strategies as st
 from conftest import file
 from naplps.answers import Refusal
 from naplps.treating.changes import AROUND, WITHIN
-from naplps.treating.search import MOST_ASKED, TreatmentSearch
-from naplps.treating.treatments import TREATMENTS, grade_of, treated, untreated
-from naplps_pages.curing import told_change
+from naplps.treating.treatments import MOST_ASKED, TREATMENTS, TreatmentSearch, grade_of, treated, untreated
+from naplps_pages.notes import change_members
 from old_files import in_eight_bits, sauce
 from samples import POINT, with_parity
 from spelled import logo
@@ -212,7 +211,7 @@ def test_a_treatment_does_what_it_tells_and_nothing_else(data, place):
     for each in treated(untreated(data), min(place, len(data))):
         (change,) = each.changes
         assert change.treatment in TREATMENTS and each.source is data
-        told = told_change(change, data)
+        told = change_members(change, data)
         assert undone(each.data, [told]) == data
         if change.grade == AROUND and not change.parity:
             (edit,) = told["edits"]

@@ -14,7 +14,7 @@ from naplps_pages.cli import main
 from naplps_pages.collection.cluster import address_of, alike, difference
 from naplps_pages.collection.pool import ClusterFailed
 from naplps_pages.collection.tables import hashed
-from naplps_pages.packs.naming import inside
+from naplps_pages.packs import inside
 from packers import pack
 from samples import POINT
 from scans import (

@@ -16,11 +16,11 @@ import naplps as nap
 from conftest import file
 from libraries import library_path
 from naplps import backends, letters
+from naplps.backends import LibraryBackend
 from naplps.drawing.description import MOST_SHORT, colour_name, describe, place_name
 from naplps.drawing.paper import escaped
-from naplps.backends import LibraryBackend
+from naplps.entry import read
 from naplps.limits import MOST_LISTED
-from naplps.reading import read
 from naplps_pages.nearness import keys_of
 from samples import BOMB, OUTSIDE
 from strategies import pages

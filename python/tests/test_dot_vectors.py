@@ -8,7 +8,7 @@ from pathlib import Path
 from conftest import PACKAGES, TOP
 from naplps.dots import raster
 from naplps.dots.surface import DIRECT
-from naplps.reading import read_line
+from naplps.entry import read_line
 from samples import needs_node
 
 VECTORS = Path(TOP, "vectors")

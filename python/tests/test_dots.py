@@ -6,7 +6,7 @@ import zlib
 import naplps as nap
 from conftest import TOP
 from naplps.dots.frames import moving, png, stored
-from naplps.reading import read_line
+from naplps.entry import read_line
 
 GALLERY = os.path.join(TOP, "examples", "gallery")
 U = 32768

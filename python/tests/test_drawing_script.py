@@ -13,9 +13,8 @@ from conftest import HERE, TOP
 from entries import legal_list
 from gallery import pages
 from naplps.drawing import draw
-from naplps.entry import members_of
+from naplps.entry import members_of, read_line
 from naplps.faults import NotALine
-from naplps.reading import read_line
 from samples import needs_node
 from test_canonical import vectors
 from timelines import timeline

@@ -15,7 +15,7 @@ from conftest import HERE, TOP
 from gallery import pages
 from naplps.dots import raster
 from naplps.drawing.walk import drawn
-from naplps.reading import read_line
+from naplps.entry import read_line
 from samples import has, lack, needs_chromium
 from test_canonical import vectors
 

@@ -13,9 +13,9 @@ import naplps as nap
 from conftest import TOP, file
 from libraries import library_path, made_up
 from naplps import backends
-from naplps import program as surroundings
-from naplps.client import Client
+from naplps import client as surroundings
 from naplps.backends import SONAME
+from naplps.client import Client
 from samples import POINT
 from scans import tree
 

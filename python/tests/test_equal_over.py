@@ -10,9 +10,9 @@ from hypothesis import HealthCheck, given, settings
 from hypothesis import strategies as st
 
 from conftest import COMMAND, PACKAGES
-from naplps_pages.collection import equal, equal_run, tables
+from naplps_pages.collection import equal, sources, tables
 from naplps_pages.collection.merge import merge
-from naplps_pages.collection.schemas import Answered, Terms
+from naplps_pages.collection.tables import Answered, Terms
 from naplps_pages.collection.store import open_to_read
 from samples import OUTSIDE, POINT, POINT_AND_BELL, SPELLED
 from scans import made_up, tree, written
@@ -29,7 +29,7 @@ def same(into, stores):
     """Whether the groups of the stores are those of the merged one, and there are some."""
     for copies in (False, True):
         wanted = list(equal.groups(open_to_read(into), copies))
-        assert wanted and list(equal_run.groups(stores, copies, nothing)) == wanted
+        assert wanted and list(sources.groups_over(stores, copies, nothing)) == wanted
 
 
 def test_parts_of_a_scan(run, tmp_path):
@@ -119,7 +119,7 @@ def test_stores_that_differ_in_terms_and_answers(tmp_path, stores):
     into = os.path.join(room, "all.db")
     assert merge(into, paths[::-1], unfinished=False)
     for copies in (False, True):
-        assert list(equal_run.groups(paths, copies, nothing)) == list(equal.groups(open_to_read(into), copies))
+        assert list(sources.groups_over(paths, copies, nothing)) == list(equal.groups(open_to_read(into), copies))
 
 
 @pytest.mark.parametrize("words", [["--null"], []])
@@ -134,8 +134,8 @@ def test_a_reader_that_ends_early(naplps, tmp_path, words):
 
 LITTLE = """import sys; sys.path.insert(0, %r)
 from naplps_pages import cli
-from naplps_pages.collection import equal_run
-equal_run.CACHE = 256; sys.exit(cli.main(sys.argv[1:], 'naplps-pages'))""" % PACKAGES
+from naplps_pages.collection import sources
+sources.CACHE = 256; sys.exit(cli.main(sys.argv[1:], 'naplps-pages'))""" % PACKAGES
 
 
 def test_no_room_for_temporary_files(tmp_path, small_disk):

@@ -16,10 +16,10 @@ from naplps.dots import surface
 from naplps.limits import USUAL_BUDGET
 from naplps_pages.collection import canon_filling
 from naplps_pages.collection.store_files import Lock
-from naplps_pages.collection.canon_tables import PICTURES
+from naplps_pages.collection.kept import PICTURES
 from naplps_pages.collection.progress import Stopping
 from naplps_pages.collection.store import open_to_write
-from naplps_pages.collection.rows import WorkerOptions
+from naplps_pages.collection.protocol import WorkerOptions
 from samples import BOMB, OUTSIDE
 from scans import StopsSoon
 

@@ -5,8 +5,8 @@ from hypothesis import strategies as st
 
 from conftest import file
 from naplps_pages import refusals
-from naplps_pages.codes import MOST_STEPS, cut
-from naplps_pages.explaining import assigned, hexdump
+from naplps_pages.codes import MOST_STEPS, cut, rows_with_lines
+from naplps_pages.commands.explain import hexdump
 from samples import MACRO, OUTSIDE, POINT_AND_BELL
 
 
@@ -99,7 +99,7 @@ def test_the_caret_is_under_the_byte(length, place):
 @given(st.binary(max_size=60))
 @settings(deadline=None)
 def test_codes_have_no_gap_and_stay_in_the_page(data):
-    rows = assigned(data, [], None)
+    rows = rows_with_lines(data, [], None)
     assert b"".join(data[row.start:row.end] for row in rows) == data
     for code in cut(data):
         assert 0 <= code.start <= code.end <= len(data) and code.acts <= len(data)
@@ -107,4 +107,4 @@ def test_codes_have_no_gap_and_stay_in_the_page(data):
 
 def test_macros_that_call_themselves_end():
     data = bytes.fromhex("1B 2A 7A 1B 40 41 19 41 19 41 1B 45 19 41")
-    assert assigned(data, [], None)[-1].name == "call of macro 41"
+    assert rows_with_lines(data, [], None)[-1].name == "call of macro 41"

@@ -13,12 +13,12 @@ from naplps_pages import unexpected
 from naplps_pages.cli import main
 from naplps_pages.collection import tables
 from naplps_pages.collection.file_reader import PackScan
-from naplps_pages.collection.rows import FolderFiles
-from naplps_pages.collection.schemas import Terms
+from naplps_pages.collection.protocol import FolderFiles, block_of
+from naplps_pages.collection.tables import File, Terms
 from naplps_pages.collection.store import open_to_write
 from naplps_pages.collection.writer import Writer
-from naplps_pages.packs.member import PackLimits
-from naplps_pages.packs.naming import inside
+from naplps_pages.packs import PackLimits
+from naplps_pages.packs import inside
 from naplps_pages.packs.reading import PACKS
 from packers import written
 from samples import POINT, SPELLED
@@ -43,8 +43,7 @@ class KeptRows:
         number, _ = self.writer.folder(inside(path), tables.READ, None)
         scan = PackScan(FolderFiles(number, inside(path), (b"",)), PackLimits(1 << 20))
         members = {seen.file.name: seen.file for seen in scan.members()}
-        self.writer.take((tuple(members.values()), ()))
-        self.writer.take(((scan.own,), ()))
+        self.writer.take(block_of(((*members.values(), scan.own), ())))
         self.writer.write()
         found = rows_of(self.connection, number)
         for member, _, state, _, at in found:
@@ -176,10 +175,11 @@ def test_an_exception_that_nobody_expected_names_the_file(tmp_path, monkeypatch,
     pages = tree(os.path.join(str(tmp_path), "pages"), {"a": POINT, "b": SPELLED})
     store = os.path.join(str(tmp_path), "pages.db")
 
-    def number(file):
-        return file._replace(size=1 << 63) if file.name == b"b" else file
+    def number(row):
+        return File(*row)._replace(size=1 << 63) if File(*row).name == b"b" else row
     take = Writer.take
-    monkeypatch.setattr(Writer, "take", lambda self, piece: take(self, (tuple(map(number, piece[0])), piece[1])))
+    monkeypatch.setattr(Writer, "take", lambda self, block: take(
+        self, block._replace(files=list(map(number, block.files)))))
     assert main(["scan", pages, "--into", store], COMMAND) == 3
     said = capfd.readouterr()
     start = "naplps-pages: %s/b: the tool itself failed (collection/writer.py line " % pages
@@ -198,8 +198,8 @@ def test_an_exception_that_nobody_expected_names_the_file(tmp_path, monkeypatch,
 
 
 def test_what_is_told_of_an_exception():
-    assert unexpected.told(OSError(28, "no matter")) == "No space left on device"
-    assert unexpected.told(MemoryError()) == "there is no memory for it"
-    assert unexpected.told(ValueError("\x1b[31m\n")) == (
+    assert unexpected.failure_message(OSError(28, "no matter")) == "No space left on device"
+    assert unexpected.failure_message(MemoryError()) == "there is no memory for it"
+    assert unexpected.failure_message(ValueError("\x1b[31m\n")) == (
         "the tool itself failed (outside of it): ValueError: \\x1b[31m\\n")
     assert len(str(unexpected.Unexpected("\x1b", ValueError("x" * 10_000)))) < 400

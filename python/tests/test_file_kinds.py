@@ -20,7 +20,7 @@ import old_files
 from conftest import HERE, TOP, file
 from naplps.answers import Accepted, Refusal
 from naplps.client import Client
-from naplps.reading import read_line
+from naplps.entry import read_line
 from naplps_pages.file_kinds import MAGIC, MOST_LOOKED_AT, kind, looks_like
 from samples import OUTSIDE, POINT, needs_node, with_parity
 

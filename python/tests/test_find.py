@@ -148,6 +148,26 @@ def test_that_there_is_no_fts5_is_told(store, monkeypatch, capsys):
     connection.close()
 
 
+FORGOTTEN = "INSERT INTO words(words, rowid, text) SELECT 'delete', page, text FROM texts WHERE text"
+OTHER_TERMS = "INSERT INTO terms(version, program_hash, form, budget) SELECT version, program_hash, form, 7 FROM terms"
+
+
+@NEEDS_FTS5
+@pytest.mark.parametrize("change, pages", [
+    (f"{FORGOTTEN} = 'MENU'; DELETE FROM texts WHERE text = 'MENU'", 1),
+    (f"{FORGOTTEN} NOTNULL; DELETE FROM texts WHERE text <> ''; UPDATE texts SET text = NULL, why = 'none'", 5),
+    (f"{OTHER_TERMS}; UPDATE texts SET terms = 2 WHERE text = 'MENU'", 1), (OTHER_TERMS, 0),
+    ("DROP TABLE words; DELETE FROM texts WHERE text <> 'hockey'", 5),
+    ("INSERT INTO words(words) VALUES('rebuild')", 0)])
+def test_pages_without_a_text_are_counted(run, store, change, pages):
+    connection = sqlite3.connect(store)
+    connection.executescript(f"BEGIN; {change}; COMMIT")
+    connection.close()
+    lacking = f"{pages} page{'s have' if pages > 1 else ' has'} no text kept, and can't be found"
+    assert run(["find", "hockey", store]).stderr.decode() == (
+        f"naplps-pages: {store}: {lacking}: a scan with --words keeps it\n" if pages else "")
+
+
 def test_texts_of_others_are_bounded(run, store):
     connection = sqlite3.connect(store)
     connection.execute("UPDATE texts SET text = '<b>\x1b[31m hockey' WHERE text = 'hockey'")
@@ -181,8 +201,9 @@ def test_texts_of_the_schema_before_are_found(run, store, tmp_path):
 
 # Modules that take long, of which a command needs none that only looks into a store.
 HEAVY = ("asyncio", "concurrent", "ctypes", "dataclasses", "email", "hashlib", "http", "inspect", "multiprocessing",
-         "naplps.drawing", "naplps.entry", "naplps_pages.collection.rows", "naplps_pages.report", "pathlib", "shutil",
-         "site", "ssl", "subprocess", "tarfile", "tempfile", "threading", "urllib", "xml", "zipfile")
+         "naplps.drawing", "naplps.entry", "naplps_pages.collection.kept", "naplps_pages.collection.protocol",
+         "naplps_pages.near_keys", "naplps_pages.report", "pathlib", "shutil", "site", "ssl", "subprocess", "tarfile",
+         "tempfile", "threading", "urllib", "xml", "zipfile")
 IMPORTED = """import sys
 sys.path.insert(0, sys.argv[1])
 from naplps_pages import cli
@@ -194,7 +215,7 @@ def test_find_imports_little(store):
     said = subprocess.run([sys.executable, "-I", "-S", "-c", IMPORTED, PACKAGES, "find", "hockey", store],
                           stdout=subprocess.PIPE, stderr=subprocess.PIPE, check=True)
     status, *names = said.stderr.decode().split()
-    assert status == "0" and b"ICE HOCKEY TODAY" in said.stdout and "naplps_pages.collection.finding" in names
+    assert status == "0" and b"ICE HOCKEY TODAY" in said.stdout and "naplps_pages.collection.texts" in names
     assert [name for name in names if any(name == each or name.startswith(each + ".") for each in HEAVY)] == []
 
 

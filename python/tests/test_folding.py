@@ -8,7 +8,7 @@ from hypothesis import given
 from hypothesis import strategies as st
 
 from conftest import file
-from naplps_pages.folding import MOST_IN_ROW, folded
+from naplps_pages.listing import MOST_IN_ROW, folded
 from naplps_pages.report.drawing import shortened
 from reports import held
 

@@ -128,7 +128,7 @@ sys.setprofile(hook)
 runpy.run_path(command, run_name="__main__")
 """
 # What a check may take: functions, files, modules of ours, and all modules.
-MOST = (50, 16, 19, 120)
+MOST = (50, 16, 19, 60)
 
 
 def test_a_check_takes_few_functions_and_modules_from_its_first_line_on(naplps, tmp_path):
@@ -138,6 +138,27 @@ def test_a_check_takes_few_functions_and_modules_from_its_first_line_on(naplps, 
     assert (ran.returncode, ran.stdout) == (0, "accepted 1 entries\n"), ran.stderr
     counts = tuple(map(int, ran.stderr.split()))
     assert counts[0] > 20 and all(map(int.__le__, counts, MOST)), counts
+
+
+# Modules of Python that take long to be imported, of which a first answer needs none.
+SLOW = {"ast", "asyncio", "ctypes", "dataclasses", "email", "hashlib", "inspect", "json", "logging", "multiprocessing",
+        "pathlib", "random", "shutil", "site", "socket", "sqlite3", "tempfile", "urllib"}
+IMPORTED = """
+import atexit, runpy, sys
+atexit.register(lambda: print(*sys.modules, file=sys.stderr))
+sys.argv = sys.argv[1:]
+runpy.run_path(sys.argv[0], run_name="__main__")
+"""
+
+
+@pytest.mark.parametrize("word, needless", [
+    ("check", SLOW), ("canon", SLOW), ("--version", SLOW | {"argparse", "subprocess", "naplps.client"})])
+def test_a_first_answer_imports_no_module_that_takes_long(naplps, tmp_path, word, needless):
+    page = file(tmp_path, "page", POINT)
+    ran = subprocess.run([sys.executable, "-BES", "-c", IMPORTED, COMMAND, word, page],
+                         env={**os.environ, "NAPLPS": naplps}, capture_output=True, text=True)
+    loaded = set(ran.stderr.split())
+    assert ran.returncode == 0 and {"naplps_pages.cli", "os", "typing"} <= loaded and not needless & loaded
 
 
 @pytest.mark.skipif(not has("mypy"), reason="there is no mypy")

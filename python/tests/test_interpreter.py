@@ -118,9 +118,9 @@ def test_no_program_of_the_current_folder_is_run(tmp_path, path):
             file.write("#!/bin/sh\n>> %s\n" % ran)
         os.chmod(os.path.join(here, name), 0o755)
     os.mkdir(elsewhere)
-    lines = ("import sys; sys.path[0] = %r\nfrom naplps_pages import png\nfrom naplps import program\n"
-             "for find in (lambda: program.find('/nowhere/x/y'), lambda: png.png_of(b'<svg/>', 9)):\n"
-             "    try:\n        print(find())\n    except (png.NoPng, program.NoProgram) as error:\n"
+    lines = ("import sys; sys.path[0] = %r\nfrom naplps import client\nfrom naplps_pages import pictures\n"
+             "for find in (lambda: client.find('/nowhere/x/y'), lambda: pictures.png_of(b'<svg/>', 9)):\n"
+             "    try:\n        print(find())\n    except (pictures.NoPng, client.NoProgram) as error:\n"
              "        print(error)\n" % PACKAGES)
     env = {**os.environ, "PATH": path % elsewhere, "PYTHONDONTWRITEBYTECODE": "1"}
     env.pop("NAPLPS", None)

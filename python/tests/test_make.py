@@ -15,10 +15,10 @@ from libraries import HEAD, library_path, made_up
 from lines import line_of
 from naplps import backends
 from naplps.answers import NONSENSE, Accepted, Unanswered, WrongLine
-from naplps.client import Client
 from naplps.backends import LibraryBackend, ProgramBackend
+from naplps.client import Client
+from naplps.entry import read_line
 from naplps.limits import MOST_PAGE
-from naplps.reading import read_line
 from samples import POINT, POINT_LINE
 from strategies import pages
 from test_client import BATCH

@@ -11,7 +11,7 @@ import pytest
 import gallery
 from conftest import COMMAND, PACKAGES, TOP, file
 from naplps import letters
-from naplps.drawing.cells import SIZES
+from naplps.drawing.writing import SIZES
 from naplps_pages.authoring import translating, values
 from samples import has
 

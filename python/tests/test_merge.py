@@ -13,7 +13,7 @@ import pytest
 from conftest import COMMAND, PACKAGES
 from naplps_pages.collection import tables
 from naplps_pages.collection.store_files import Lock
-from naplps_pages.collection.schemas import Answered, Terms
+from naplps_pages.collection.tables import Answered, Terms
 from scans import (
     FAKE, NO_STORE, children, count, every_table, is_sound, made_up, rows, start, statuses, tree, wait_until, written,
 )

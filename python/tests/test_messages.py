@@ -16,7 +16,7 @@ MESSAGES = {name: text for name, text in vars(messages).items() if name.isupper(
 # What a message is given to, besides an exception that is raised.
 TELLING = ("tell", "tell_line", "complain", "error", "Unanswered", "ArgumentTypeError")
 # Commands have what is wrong with their words, as their help; the others tell of modules and outputs that fail.
-ELSEWHERE = ("__main__.py", "cli.py", "commands")
+ELSEWHERE = ("__main__.py", "cli.py", "parsing.py", "commands")
 
 
 def parsed(path):

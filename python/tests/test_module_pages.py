@@ -8,10 +8,9 @@ import naplps as nap
 from conftest import TOP, file
 from libraries import library_path
 from naplps import backends
-from naplps.entry import members_of
 from naplps.backends import LibraryBackend, ProgramBackend
+from naplps.entry import members_of, read_line
 from naplps.limits import MOST_LISTED
-from naplps.reading import read_line
 from naplps.writer import blocks, star
 from samples import BOMB, OUTSIDE, POINT, with_parity
 from spelled import logo

@@ -19,15 +19,15 @@ from lines import line_of
 from naplps.limits import USUAL_BUDGET
 from naplps_pages.collection import canon_filling
 from naplps_pages.collection.store_files import Lock
-from naplps_pages.collection.canon_tables import NEAR_KEYS
+from naplps_pages.collection.kept import NEAR_KEYS
 from naplps_pages.collection.progress import Stopping
 from naplps_pages.collection.store import open_to_write
-from naplps_pages.collection.rows import WorkerOptions
+from naplps_pages.collection.protocol import WorkerOptions
 from naplps_pages.near_keys import FORM, LEAST_ENTRIES
 from naplps_pages.nearness import NearPages, PageName, without_colours, without_places, without_words
 from naplps_pages.report.questions import Questions
-from naplps_pages.report.roots import load
-from naplps_pages.report.table import Table
+from naplps_pages.report.files import load_roots
+from naplps_pages.report.making import Table
 from samples import BOMB, OUTSIDE, with_parity
 from scans import StopsSoon
 
@@ -348,7 +348,7 @@ OF_MORE = {("base.nap", "it is a beginning of this page, with its last entry"),
 def test_reports_name_them(run, store):
     near(run, store)
     questions = Questions(store)
-    table = Table(questions.connection, load(questions.connection), [])
+    table = Table(questions.connection, load_roots(questions.connection), [])
     table.fill()
     held = json.loads(json.dumps(table.held()))
     columns, leaf = held["columns"], os.path.basename

@@ -6,9 +6,8 @@ import pytest
 
 from naplps.answers import Accepted, Refusal
 from naplps.client import Client
-from naplps.treating.search import MOST_ASKED, TreatmentSearch
-from naplps.treating.treatments import TREATMENTS, treated, untreated
-from naplps_pages import census
+from naplps.treating.treatments import MOST_ASKED, TREATMENTS, TreatmentSearch, treated, untreated
+from naplps_pages import codes
 from naplps_pages.file_kinds import kind, last_beginning, looks_like
 
 # Codes that treatments look for.
@@ -47,8 +46,8 @@ def test_every_treatment_and_the_census_end(naplps, seed):
             search = TreatmentSearch(ask)
             cure = search.find(data, answer.place)
             assert len(asked) <= 2 * MOST_ASKED and (cure is None or isinstance(ask("check", cure.data), Accepted))
-            names = census.stops(data, answer)
-            assert names and len(names) <= census.MOST_STEPS + 2
+            names = codes.stops(data, answer)
+            assert names and len(names) <= codes.MOST_AFTER_REFUSAL + 2
             looks_like(data, len(data))
         else:
             assert isinstance(answer, Accepted)

@@ -11,11 +11,11 @@ from typing import NamedTuple, Optional
 import pytest
 
 from naplps.client import Client
-from naplps_pages.collection import schemas
-from naplps_pages.packs.naming import named
+from naplps_pages.collection import tables
+from naplps_pages.packs import named
 from naplps_pages.report.drawing import DrawingLimits, draw
 from naplps_pages.report.questions import Questions
-from naplps_pages.report.roots import Roots, joined
+from naplps_pages.report.files import Roots, joined
 from packers import add, entry, pack, written, zip_of
 from reports import held
 from samples import OUTSIDE, POINT, SPELLED, with_parity
@@ -322,7 +322,7 @@ def test_a_report_of_packs(run, naplps, at, store):
     questions, client = Questions(store), Client(naplps)
     told = questions.ask("files", {"text": "tar!sub/b", "from": "0", "count": "9"})
     assert [each["name"] for each in told["files"]] == ["sub.tar!sub/bad"]
-    it = questions.wanted({"key": told["files"][0]["key"]})
+    it = questions.drawing_task({"key": told["files"][0]["key"]})
     assert it and draw(client, it, DrawingLimits(1 << 20, 1000, 10)).why == ""
     questions.close()
     client.close()
@@ -370,7 +370,7 @@ def test_a_store_of_an_earlier_version(run, at, store):
     pack(os.path.join(at, "pack.tar"), FILES)
     assert scan(run, at, "--into", store).returncode == 0
     assert statuses(store)["pack.tar!a"] == ("accepted", None)
-    assert rows(store, "SELECT value FROM meta WHERE key = 'schema'") == [(str(schemas.SCHEMA),)]
+    assert rows(store, "SELECT value FROM meta WHERE key = 'schema'") == [(str(tables.SCHEMA),)]
 
 
 def test_parts_have_packs_as_a_whole(run, at, store):

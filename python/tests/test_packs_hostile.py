@@ -16,7 +16,7 @@ from hypothesis import strategies as st
 from conftest import COMMAND, PACKAGES
 from extremes import pax, record, summed
 from naplps_pages.collection import tables
-from naplps_pages.packs.member import PackLimits
+from naplps_pages.packs import PackLimits
 from naplps_pages.packs.reading import open_file, open_pack
 from packers import (
     GIBIBYTE, add, deflated, entry, gzipped, header, member, pack, squeezed, tar_bomb, written, zip_bomb, zip_of,
@@ -361,7 +361,7 @@ COUNT = """
 import resource, sys
 sys.path.insert(0, sys.argv[1])
 from naplps_pages.packs.reading import open_file, open_pack
-from naplps_pages.packs.member import PackLimits
+from naplps_pages.packs import PackLimits
 def peak():
     return resource.getrusage(resource.RUSAGE_SELF).ru_maxrss
 with open_file(sys.argv[2].encode()) as file:

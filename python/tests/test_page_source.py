@@ -10,7 +10,7 @@ import entries as listed
 import gallery
 from conftest import file
 from lines import line_of
-from naplps.reading import read
+from naplps.entry import read
 from naplps_pages.authoring.translating import translate
 from naplps_pages.authoring.writing import source_lines
 from samples import BOMB, OUTSIDE

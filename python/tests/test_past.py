@@ -42,7 +42,7 @@ def drawn(asked, data):
     told = listed(asked, Page("", data))
     made = Guesser(asked, data).guess(told)
     assert made is not None, told
-    svg = drawing.draw(made.lines, f"then {told.answer.line}", drawing.Guess(made.start, made.said())).svg
+    svg = drawing.draw(made.lines, f"then {told.answer.line}", drawing.Guess(made.start, made.sentences())).svg
     harmless(svg)
     return svg, told.answer
 
@@ -190,6 +190,6 @@ def test_any_page_is_read_on_within_bounds(asked, data):
     assert len(guesser.data) == len(data)
     if made is not None:
         assert made.lines[:made.start] == told.lines and len(made.passed) <= MOST_CODES
-        svg = drawing.draw(made.lines, "", drawing.Guess(made.start, made.said())).svg
+        svg = drawing.draw(made.lines, "", drawing.Guess(made.start, made.sentences())).svg
         harmless(svg)
         assert re.search(r"then a guess of ", texts(svg)[0])

@@ -7,7 +7,7 @@ from hypothesis import Phase, given, settings
 from hypothesis import strategies as st
 
 from naplps import drawing
-from naplps.drawing.curves import Cubic, Round, Straight, dashed, sweep
+from naplps.drawing.shapes import Cubic, Round, Straight, dashed, sweep
 from naplps.drawing.measure import HEIGHT, WIDTH, Pel, pel
 from naplps.entry import ONE
 from paths import area, bezier, holds, hull, polygons

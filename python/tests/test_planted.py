@@ -11,8 +11,7 @@ from naplps.answers import Accepted, Refusal
 from naplps.client import Client
 from naplps.treating.borders import draws, pages_in, pieces
 from naplps.treating.changes import AROUND
-from naplps.treating.search import TreatmentSearch
-from naplps.treating.treatments import treated, untreated
+from naplps.treating.treatments import TreatmentSearch, treated, untreated
 from planted import files
 
 FILES = int(os.environ.get("PLANTED", "600"))

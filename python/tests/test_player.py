@@ -13,10 +13,9 @@ from naplps import drawing
 from naplps.answers import Refusal
 from naplps.client import Client
 from naplps.drawing.walk import MOST_DRAWN
-from naplps.entry import ONE
-from naplps.reading import placed
+from naplps.entry import ONE, placed
 from naplps_pages.listing import listed
-from naplps_pages.player.played import played
+from naplps_pages.player import played
 from naplps_pages.source import Page
 from players import drawn_of, how_like, like, play, want
 from samples import POINT, needs_chromium, needs_node
@@ -442,7 +441,7 @@ def weather(program):
     def made(**small):
         with pytest.MonkeyPatch.context() as patched:
             for name, value in small.items():
-                patched.setattr(f"naplps_pages.player.played.{name}", value)
+                patched.setattr(f"naplps_pages.player.{name}", value)
             return played(page, told), len(page)
     return made
 

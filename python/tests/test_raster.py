@@ -11,10 +11,10 @@ import pytest
 import slow_raster as slow
 from naplps import letters
 from naplps.dots import characters, raster, shapes
-from naplps.dots.surface import Grid, Painted
-from naplps.dots.shapes import PAGE, Scale
 from naplps.dots.characters import DOT, PART, SIZES
-from naplps.reading import read_line
+from naplps.dots.shapes import PAGE, Scale
+from naplps.dots.surface import Grid, Painted
+from naplps.entry import read_line
 from pictures import picture
 
 SHAPES, PAGES = int(os.environ.get("RASTER_SHAPES", "300")), int(os.environ.get("RASTER_PAGES", "20"))

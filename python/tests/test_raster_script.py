@@ -18,7 +18,7 @@ from gallery import pages
 from naplps import letters
 from naplps.dots import shapes
 from naplps.dots.walk import DotWalk
-from naplps.reading import read_line
+from naplps.entry import read_line
 from pictures import picture
 from samples import needs_node
 from test_raster import KINDS, shape

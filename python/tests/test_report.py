@@ -7,12 +7,12 @@ import re
 import pytest
 
 from conftest import file
-from naplps_pages import cli
+from naplps_pages import parsing
 from naplps_pages.collection.store import open_to_read
-from naplps_pages.report import choices, making
+from naplps_pages.report import facts, making
+from naplps_pages.report import in_block
 from naplps_pages.report.drawing import Drawing, DrawnPage, shortened
-from naplps_pages.report.limits import in_block
-from naplps_pages.report.roots import Roots
+from naplps_pages.report.files import Roots
 from naplps_pages.report.making import choose
 from naplps_pages.report.sketch_workers import ENDED, IS_FULL, Room
 from reports import SPELLED, collection, held, words
@@ -163,7 +163,7 @@ def test_how_many_sketches(made, more, sketches):
 
 
 def test_how_many_sketches_where_nothing_or_all_is_said(made, naplps, tmp_path):
-    usual, all_of_them = (cli.parser("report").parse_args(["s.db", "-o", "html", *some])
+    usual, all_of_them = (parsing.parser_of("report").parse_args(["s.db", "-o", "html", *some])
                           for some in ([], ["--sketches", "all"]))
     assert (usual.sketches, all_of_them.sketches) == (10_000, None)
     made({"a": POINT, "b": OUTSIDE, "c": b""})
@@ -179,8 +179,8 @@ class Sorted:
 
     def __init__(self, groups, refused, others):
         class FakeFile:
-            def __init__(self, answer, told, page):
-                self.answer, self.told, self.page = answer, told, page
+            def __init__(self, answer, summary, page):
+                self.answer, self.summary, self.page = answer, summary, page
         self.groups = ["group"] * groups
         self.files = [FakeFile(0, "accepted", at) for at in range(groups)]
         for told, number in refused.items():
@@ -192,7 +192,7 @@ class Sorted:
 def kinds(table, most):
     some = choose(table, most)
     assert len(set(some)) == len(some)
-    return [("group" if table.in_group[number] >= 0 else table.files[number].told) for number in some]
+    return [("group" if table.in_group[number] >= 0 else table.files[number].summary) for number in some]
 
 
 def test_which_pages_have_a_sketch():
@@ -297,11 +297,11 @@ def test_first_words_and_hashes(made):
 
 
 def test_folders_to_choose():
-    some = choices._folders([("a", 1), ("a/b", 2), ("c/d.zip!/", 3), ("", 4), ("x/y/z", 5)])
+    some = facts._folders([("a", 1), ("a/b", 2), ("c/d.zip!/", 3), ("", 4), ("x/y/z", 5)])
     assert some == [("a", 3), ("a/b", 2), ("c", 3), ("c/d.zip!/", 3), ("x", 5), ("x/y", 5), ("x/y/z", 5)]
-    many = choices._folders(("top/%04d" % at, 1) for at in range(1000))
+    many = facts._folders(("top/%04d" % at, 1) for at in range(1000))
     assert many == [("top", 1000)]
-    assert len(choices._folders(("%04d" % at, 1) for at in range(1000))) == 500
+    assert len(facts._folders(("%04d" % at, 1) for at in range(1000))) == 500
 
 
 @pytest.mark.parametrize("command", [["report", "-o", "x.html"], ["serve"]])

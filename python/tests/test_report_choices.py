@@ -209,10 +209,11 @@ def test_a_capture_is_named_and_says_what_cuts_it(browser, naplps, tmp_path, ser
 
 def test_the_top_says_how_many_pages_can_be_played():
     some = [(0, Drawing(played="{}")), (1, Drawing()), (2, Drawing(played="{}"))]
-    assert making._told_held(some, 5000) == ("3 of 5,000 sketches are in this file; 2 of these pages can be played. "
-                                             "naplps-pages serve shows the others too.")
-    assert making._told_held(some, 3) == "3 of 3 sketches are in this file; 2 of these pages can be played."
-    assert making._told_held(some[:1], 1) == "1 of 1 sketches are in this file."
+    assert making._held_sentence(some, 5000) == (
+        "3 of 5,000 sketches are in this file; 2 of these pages can be played. "
+        "naplps-pages serve shows the others too.")
+    assert making._held_sentence(some, 3) == "3 of 3 sketches are in this file; 2 of these pages can be played."
+    assert making._held_sentence(some[:1], 1) == "1 of 1 sketches are in this file."
 
 
 @pytest.mark.parametrize("width", [390, 700, 1240])

@@ -78,7 +78,7 @@ def test_a_served_report_draws_it_too(store, naplps):
         assert {name: each["treated"] for name, each in files.items()} == {
             "as it is": "", "parity": "parity (around)", "end": "tail (around)", "guess": "can (within, a guess)",
             "out": ""}
-        made = {name: draw(client, questions.wanted({"key": each["key"]}), DrawingLimits(1 << 20, 1000, 10))
+        made = {name: draw(client, questions.drawing_task({"key": each["key"]}), DrawingLimits(1 << 20, 1000, 10))
                 for name, each in files.items()}
         assert made["parity"].text == made["guess"].text == made["as it is"].text != ""
         assert "a guess" in made["guess"].sketch and "treated by" not in made["as it is"].sketch

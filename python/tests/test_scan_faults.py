@@ -12,8 +12,9 @@ from naplps_pages import interpreter
 from naplps_pages.collection import tables
 from naplps_pages.collection.store_files import APPLICATION, Lock, is_held
 from naplps_pages.collection.pool import NoWorkers, Pool
-from naplps_pages.collection.rows import FolderFiles, WorkerOptions
+from naplps_pages.collection.protocol import FolderFiles, WorkerOptions
 from naplps_pages.collection.store import keep_log
+from naplps_pages.collection.tables import File
 from naplps_pages.collection.worker import Worker
 from samples import OUTSIDE, POINT
 from scans import (
@@ -79,8 +80,8 @@ def test_no_program(run, tmp_path, store):
 WORKER = """
 import os, time
 from multiprocessing.connection import Connection
-from naplps_pages.collection.schemas import File
-from naplps_pages.collection.tables import READ
+from naplps_pages.collection.protocol import block_of, empty
+from naplps_pages.collection.tables import READ, File
 def main(descriptor):
     line = Connection(descriptor)
     line.send(("alive", None))
@@ -91,8 +92,8 @@ def main(descriptor):
                 if name == b"hangs": time.sleep(600)
                 if name == b"fails": line.send(("failed", "MemoryError")); os._exit(1)
                 if name == b"dies": os._exit(7)
-                line.send(("piece", ((File(folder, name, READ),), ())))
-        line.send(("done", None))
+                line.send(("rows", tuple(block_of(((File(folder, name, READ),), ())))))
+        line.send(("done", tuple(empty())))
 """
 
 
@@ -104,7 +105,7 @@ def test_workers_that_fail(tmp_path):
     pool = Pool(2, (), 5.0, "odd_worker", str(tmp_path))
     try:
         chunks = [(FolderFiles(1, b"/x", names[at:at + 50]),) for at in range(0, len(names), 50)]
-        found = [file for piece in pool.run(iter(chunks)) if piece for file in piece[0]]
+        found = [File(*row) for block in pool.run(iter(chunks)) if block for row in block.files]
     finally:
         pool.close()
     assert sorted(file.name for file in found) == sorted(names)
@@ -136,7 +137,7 @@ def test_a_worker_that_is_killed_in_its_first_moment_is_replaced(tmp_path, monke
     pool = Pool(1, ("much" * 100_000,), 600.0, "odd_worker", str(tmp_path))
     try:
         chunks = [(FolderFiles(1, b"/x", (b"%d" % number,)),) for number in range(9)]
-        found = [file.name for piece in pool.run(iter(chunks)) if piece for file in piece[0]]
+        found = [File(*row).name for block in pool.run(iter(chunks)) if block for row in block.files]
     finally:
         pool.close()
     assert len(killed) == 2 and sorted(found) == [b"%d" % number for number in range(9)]

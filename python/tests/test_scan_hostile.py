@@ -12,7 +12,7 @@ from forked import begun, ended, forked, require_told
 from naplps_pages.collection import tables
 from naplps_pages.collection.folders import identity_of
 from naplps_pages.collection.search import MAX_BROKEN, hidden, walk
-from naplps_pages.collection.rows import FolderFiles, WorkerOptions
+from naplps_pages.collection.protocol import FolderFiles, WorkerOptions
 from naplps_pages.collection.store import open_to_read
 from naplps_pages.collection.worker import Worker
 from packers import entry, pack, written, zip_of

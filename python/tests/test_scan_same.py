@@ -3,17 +3,21 @@ import os
 import random
 import shutil
 import signal
+import subprocess
+import sys
+import time
 
 import pytest
 from hypothesis import HealthCheck, given, settings
 from hypothesis import strategies as st
 
+from conftest import PACKAGES, bare
 from naplps.answers import Accepted, Refusal
 from naplps.client import Client
 from naplps_pages.collection import tables
 from naplps_pages.file_kinds import kind, looks_like
 from samples import MACRO, OUTSIDE, POINT, with_parity
-from scans import FileRow, children, count, is_sound, rows, slow, start, table, tree, wait_until
+from scans import FileRow, children, count, every_table, is_sound, rows, slow, start, table, tree, wait_until
 from strategies import pages as made_pages
 
 SOME = [POINT, OUTSIDE, MACRO, b"", b"\x18", b"\x1b", with_parity(POINT), b"\x0fhello", b"\x0f\x00hello"]
@@ -95,6 +99,63 @@ def test_killed_five_times_and_resumed(run, naplps, tmp_path, store):
     assert known >= 10_000 and b"; %d known, " % known in said.stdout
     other = store + ".other"
     assert run(["scan", pages, "--into", other]).returncode == 0
+    assert table(store, pages) == table(other, pages)
+
+
+COMMANDS = (["files"], ["equal"], ["find", "hello"], ["census"])
+
+
+def test_killed_at_twenty_moments_it_has_the_tables_of_one_that_was_not(run, naplps, tmp_path, store):
+    """Between the scans a command makes the indices, or none does."""
+    pages = tree(os.path.join(str(tmp_path), "pages"), mixed(6000))
+    chance = random.Random(7)
+    for number in range(20):
+        scan = start(["scan", pages, "--into", store, "--processes", "2"], naplps)
+        time.sleep(chance.random() * 0.8)
+        scan.kill()
+        scan.communicate()
+        assert scan.returncode in (0, -signal.SIGKILL)
+        if number % 3 == 2 and os.path.exists(store):
+            run([COMMANDS[number % len(COMMANDS)][0], *COMMANDS[number % len(COMMANDS)][1:], store])
+    assert run(["scan", pages, "--into", store]).returncode == 0 and is_sound(store)
+    other = store + ".other"
+    assert run(["scan", pages, "--into", other]).returncode == 0
+    assert table(store, pages) == table(other, pages)
+    assert every_table(store)["indices"] == every_table(other)["indices"]
+
+
+KILLED = """import os, sys
+sys.path.insert(0, sys.argv[1])
+from naplps_pages import cli
+from naplps_pages.collection import scan
+before, last = scan.INDICES.split(";", 1)
+class Connection(scan.sqlite3.Connection): pass
+def killed(self, roots):
+    self.connection.executescript({before})
+    self.connection.create_function("die", 0, lambda: os.kill(os.getpid(), 9))
+    self.connection.executescript("BEGIN; " + {amid} + "; SELECT die();")
+scan.Writer.sweep = killed
+cli.main(sys.argv[2:], "naplps-pages")"""
+
+
+@pytest.mark.parametrize("before, amid", [("''", "'SELECT 1'"), ("before", "'SELECT 1'"), ("''", "before")])
+@pytest.mark.parametrize("command", COMMANDS)
+def test_killed_before_its_indices_are_made(run, naplps, tmp_path, store, before, amid, command):
+    pages = tree(os.path.join(str(tmp_path), "pages"), mixed(100))
+    lines = KILLED.format(before=before, amid=amid)
+    words = bare(["scan", pages, "--into", store])
+    killed = subprocess.run([sys.executable, "-ESc", lines, PACKAGES, *words],
+                            env={**os.environ, "NAPLPS": naplps})
+    assert killed.returncode == -signal.SIGKILL and is_sound(store)
+    indices = "SELECT name, sql FROM sqlite_master WHERE type = 'index' AND sql IS NOT NULL ORDER BY name"
+    assert len(rows(store, indices)) == (before == "before")
+    other = store + ".other"
+    assert run(["scan", pages, "--into", other]).returncode == 0
+    said, wanted = run([*command, store]), run([*command, other])
+    assert said.stdout.replace(os.fsencode(store), b"") == wanted.stdout.replace(os.fsencode(other), b"") or (
+        command == ["files"])                                   # (it says when the scan ended)
+    assert rows(store, indices) == rows(other, indices) and is_sound(store)
+    assert run(["scan", pages, "--into", store]).returncode == 0
     assert table(store, pages) == table(other, pages)
 
 

@@ -7,9 +7,9 @@ import sqlite3
 
 import pytest
 
-from naplps_pages.collection import schemas, tables, texts
-from naplps_pages.collection.canon_tables import CANON_TABLES
-from naplps_pages.collection.kinds import NotAStore
+from naplps_pages.collection import tables, texts
+from naplps_pages.collection.kept import CANON_TABLES
+from naplps_pages.collection.tables import NotAStore
 from naplps_pages.collection.store import StoreFailed, open_to_read, open_to_write, open_unchanged
 from samples import OUTSIDE, POINT, SPELLED, with_parity
 from scans import rows, tree
@@ -56,11 +56,11 @@ def held(path):
         return file.read()
 
 
-@pytest.mark.parametrize("schema", [schemas.SCHEMA, schemas.EARLIER])
+@pytest.mark.parametrize("schema", [tables.SCHEMA, tables.EARLIER])
 def test_the_words_of_a_schema_are_those_that_sqlite_keeps(schema):
     connection = sqlite3.connect(":memory:")
-    connection.executescript(f"{schemas.tables(schema)} {schemas.listing(schema)}; {schemas.INDICES}")
-    assert {(kind, name): words for kind, name, words in connection.execute(WORDS)} == schemas.own(schema)
+    connection.executescript(f"{tables.created(schema)} {tables.listing(schema)}; {tables.INDICES}")
+    assert {(kind, name): words for kind, name, words in connection.execute(WORDS)} == tables.objects(schema)
     connection.close()
 
 
@@ -133,7 +133,7 @@ def test_a_scan_renews_it(old, store, run, pages):
     assert run(["scan", os.path.join(pages, "a"), "--into", old, "--cures"]).stdout.startswith((
         b"1 file: 1 accepted (1 page)"))
     assert rows(old, WORDS) == rows(store, WORDS) and rows(old, "SELECT value FROM meta WHERE key = 'schema'") == [
-        (str(schemas.SCHEMA),)]
+        (str(tables.SCHEMA),)]
     assert listed(old, "kind", "pages")["capture"] == [None, None]
     assert b"13 of unknown kind" in run(["files", old]).stdout
     said = run(["scan", pages, "--into", old, "--cures"])
@@ -211,9 +211,9 @@ def test_the_index_of_words(store, tmp_path, run):
     assert texts.make(connection) and texts.make(connection)
     page, terms = connection.execute("SELECT id, terms FROM pages WHERE kind = ?", (tables.TEXT,)).fetchone()
     for text in ("h\u00e9llo world", "good day"):
-        texts.forget(connection, page)
+        connection.execute(texts.FORGET, (page,))
         connection.execute("INSERT OR REPLACE INTO texts VALUES(?, ?, 0, ?, ?, NULL)", (page, terms, text, text[:4]))
-        texts.note(connection, page)
+        connection.execute(texts.NOTE, (page,))
         found = [connection.execute("SELECT rowid FROM words WHERE words MATCH ?", (word,)).fetchall()
                  for word in ("hello", "WORLD", "day")]
         assert found == ([[(page,)], [(page,)], []] if "world" in text else [[], [], [(page,)]])
@@ -263,7 +263,7 @@ WRONG = ["UPDATE pages SET kind = 3 WHERE state = 0", "UPDATE pages SET holds = 
 @pytest.mark.parametrize("words", WRONG)
 def test_values_that_no_scan_writes(store, words):
     connection = sqlite3.connect(store)
-    schemas.require_right(connection, [each.table for each in CANON_TABLES])
+    tables.require_right(connection, [each.table for each in CANON_TABLES])
     connection.execute(words)
     with pytest.raises(NotAStore):
-        schemas.require_right(connection, [each.table for each in CANON_TABLES])
+        tables.require_right(connection, [each.table for each in CANON_TABLES])

@@ -2,7 +2,7 @@
 import pytest
 
 from naplps.screen_text import lines_of
-from naplps_pages.page_words import NoWords, first_words, lines_with, match_of, wanted
+from naplps_pages.page_words import NoWords, first_words, lines_with, match_of, parse_query
 from stream_writer import StreamWriter
 
 LOOK = "colour=own-start text=0,0/%s/----"
@@ -95,20 +95,20 @@ def test_a_page_of_the_program(run, tmp_path):
     ("ON ICE\nHOCKEY", '"ice hockey"', ["ON ICE"]), ("A B\nC", "c a", ["A B", "C"]), ("A B", "a z", None),
     ("X-RAY 4", "x-ray 4", ["X-RAY 4"])])
 def test_words_are_found(text, asked, found):
-    assert lines_with(text, wanted(asked)) == found
+    assert lines_with(text, parse_query(asked)) == found
 
 
 @pytest.mark.parametrize("asked", ["", " ", "\"", "-", "* ( ) : ^ \"\" '", "\u0301", "x " * 33, "x" * 401, "\0"])
 def test_what_is_no_word_is_not_looked_for(asked):
     with pytest.raises(NoWords):
-        wanted(asked)
+        parse_query(asked)
 
 
 @pytest.mark.parametrize("asked, match", [
     ("a OR b", '"a" * AND "or" * AND "b" *'), ('"a b" c', '"a b" AND "c" *'), ('a"b', '"a" * AND "b"'),
     ("text:NEAR(x, 2)", '"text near x" * AND "2" *'), ("^a*", '"a" *'), ("-a {b}", '"a" * AND "b" *')])
 def test_nothing_that_is_typed_acts(asked, match):
-    assert match_of(wanted(asked)) == match
+    assert match_of(parse_query(asked)) == match
 
 
 def test_first_words():

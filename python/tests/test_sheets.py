@@ -9,8 +9,7 @@ from conftest import file
 from naplps import drawing
 from naplps.drawing import paper
 from naplps_pages import messages
-from naplps_pages.png import PROGRAM
-from naplps_pages.sheet import MOST_PAGES, ContactSheet, Tile
+from naplps_pages.pictures import MOST_PAGES, RSVG_CONVERT, ContactSheet, Tile
 from samples import OUTSIDE, POINT, has
 from test_sketch import INK, SVG, harmless, tree
 
@@ -138,7 +137,7 @@ def with_program(tmp_path, monkeypatch, text):
 
 
 @pytest.mark.parametrize("text, told", [
-    ("", messages.NO_RSVG_CONVERT.format(program=PROGRAM)),
+    ("", messages.NO_RSVG_CONVERT.format(program=RSVG_CONVERT)),
     ("#!/bin/sh\necho no luck >&2\nexit 1\n", "rsvg-convert failed: no luck"),
     ("#!/bin/sh\nexit 0\n", "rsvg-convert failed: "),
     ("#!/bin/sh\nexec sleep 600\n", "rsvg-convert didn't end in 8 s")])

@@ -10,14 +10,13 @@ from hypothesis import strategies as st
 from naplps import drawing, letters
 from naplps.answers import Accepted
 from naplps.client import Client
-from naplps.drawing import curves
-from naplps.drawing.cells import SIZES
 from naplps.drawing.colours import FIRST
 from naplps.drawing.measure import WIDTH, on_page
+from naplps.drawing.shapes import arc_path
 from naplps.drawing.walk import MOST_DRAWN
-from naplps.entry import ONE
+from naplps.drawing.writing import SIZES
+from naplps.entry import ONE, read_line
 from naplps.faults import NotALine
-from naplps.reading import read_line
 from strategies import POINTS, pages
 
 SVG = "{http://www.w3.org/2000/svg}"
@@ -86,7 +85,7 @@ def ends_of(path):
 @settings(max_examples=400, deadline=None)
 def test_each_point_of_an_arc_is_on_it(points, filled):
     places = on_page(points)
-    path = curves.path(places, filled)
+    path = arc_path(places, filled)
     on = ends_of(path)
     for place in places:
         assert min(math.dist(place, each) for each in on) < 0.01
@@ -97,7 +96,7 @@ def test_each_point_of_an_arc_is_on_it(points, filled):
 @settings(max_examples=400, deadline=None)
 def test_an_arc_of_three_points_is_of_their_circle(points):
     places = on_page(points)
-    path = curves.path(places, False)
+    path = arc_path(places, False)
     for (x, y), (radius, large, sweep, a, b) in _arcs(path):
         assert math.dist((x, y), (a, b)) <= 2 * radius + 0.05
     sweeps = {sweep for _, (_, _, sweep, _, _) in _arcs(path)}

@@ -32,7 +32,7 @@ def test_little_memory_is_one_line_and_status_3(naplps, tmp_path, words):
     lines = died = 0
     for kib in LITTLE:
         said = subprocess.run(["prlimit", f"--as={kib << 10}", COMMAND, *words], cwd=folder, capture_output=True,
-                              env=dict(os.environ, NAPLPS=naplps, PYTHONDONTWRITEBYTECODE="1"))
+                              env=dict(os.environ, NAPLPS=naplps, PYTHONDONTWRITEBYTECODE="1"), timeout=600)
         assert b"Traceback" not in said.stderr, (kib, said.stderr)
         if said.returncode == 3:
             lines += 1
@@ -47,7 +47,7 @@ def test_little_memory_is_one_line_and_status_3(naplps, tmp_path, words):
             if (folder / made).exists():
                 (folder / made).unlink()
     assert died <= 1
-    assert lines >= (0 if words[0].startswith("-") else 2)  # (Python alone may need more than these two do)
+    assert lines >= (0 if words[0].startswith("-") else 1)  # (Python alone may need more than these two do)
 
 
 def test_a_signal_that_comes_at_once_prints_no_traceback(naplps, tmp_path):
@@ -90,3 +90,28 @@ def test_a_signal_at_a_chosen_moment_ends_the_tool_without_a_word(naplps, tmp_pa
     said = subprocess.run([sys.executable, "-c", before + RUN, "check", file(tmp_path, "a.nap", POINT)],
                           capture_output=True, env=dict(os.environ, NAPLPS=naplps, PYTHONPATH=PACKAGES))
     assert (said.returncode, said.stderr) == (-signal.SIGINT, b"")
+
+
+AMID_A_CALLBACK = """
+import os, signal, time, weakref
+from naplps.ending import ENDING, Stopped
+
+class Object:
+    pass
+
+ENDING.watch()
+it = Object()
+watched = weakref.ref(it, lambda _: os.kill(os.getpid(), signal.SIGTERM))
+try:
+    del it
+    time.sleep(60)
+except Stopped as stopped:
+    print(stopped.args[0] == signal.SIGTERM)
+"""
+
+
+def test_a_signal_amid_a_callback_comes_again():
+    """Python ignores what is raised there, and would print it."""
+    said = subprocess.run([sys.executable, "-c", AMID_A_CALLBACK], env=dict(os.environ, PYTHONPATH=PACKAGES),
+                          capture_output=True, timeout=600)
+    assert (said.returncode, said.stdout, said.stderr) == (0, b"True\n", b"")

@@ -12,7 +12,7 @@ from naplps_pages.collection.session import Names
 from naplps_pages.collection.store import open_to_read
 from naplps_pages.commands import ALONE
 from naplps_pages.console import NotWritten
-from naplps_pages.sheet import MOST_PAGES
+from naplps_pages.pictures import MOST_PAGES
 from conftest import file
 from packers import pack
 from samples import OUTSIDE, POINT, SPELLED, with_parity

@@ -7,15 +7,15 @@ import struct
 import pytest
 
 from forked import forked, require_told
-from naplps_pages.collection import every_file, schemas, tables, texts
-from naplps_pages.collection.schemas import Answered
+from naplps_pages.collection import every_file, tables, texts
+from naplps_pages.collection.tables import Answered
 from naplps_pages.collection.store import StoreFailed, open_to_read, open_to_write, open_unchanged
 from naplps_pages.report.questions import Questions
 from scans import rows, written
 from stores import COMMANDS, archive, clean, copied, earlier, words_of
 
 
-@pytest.fixture(scope="module", params=[schemas.SCHEMA, schemas.EARLIER])
+@pytest.fixture(scope="module", params=[tables.SCHEMA, tables.EARLIER])
 def made(tmp_path_factory, naplps, request):
     """A folder with pages, and a store of these and another; and what runs the commands."""
     folder = str(tmp_path_factory.mktemp("stores"))
@@ -27,7 +27,7 @@ def made(tmp_path_factory, naplps, request):
     connection.execute("UPDATE folders SET path = CAST(replace(CAST(path AS TEXT), ?, '/other') AS BLOB)", (pages,))
     connection.commit()
     connection.close()
-    if request.param == schemas.EARLIER:
+    if request.param == tables.EARLIER:
         os.rename(os.path.join(folder, "good.db"), os.path.join(folder, "new.db"))
         earlier(os.path.join(folder, "new.db"), os.path.join(folder, "good.db"))
     return Made(folder, pages, naplps)
@@ -172,7 +172,7 @@ def test_a_row_of_a_schema_that_lies_is_refused(made, words):
         assert said.status == 3 and said.err.startswith(b"naplps-pages: bad.db: "), (command, said)
 
 
-@pytest.mark.parametrize("shadow", [*texts.SHADOWS, "texts"])
+@pytest.mark.parametrize("shadow", [*tables.SHADOWS, "texts"])
 def test_an_index_of_what_keeps_the_words_is_refused(indexed, shadow):
     column = {"words_data": "block", "words_idx": "term", "words_docsize": "sz", "words_config": "v", "texts": "text"}
     indexed.change("CREATE INDEX evil ON %s((length(%s)))" % (shadow, column[shadow]))
@@ -359,11 +359,11 @@ def test_as_many_reasons_as_pages_take_no_longer_than_one(tmp_path):
 
 def test_every_column_has_a_kind():
     connection = sqlite3.connect(":memory:")
-    connection.executescript(schemas.tables())
-    for table, declared in schemas.TABLES.items():
+    connection.executescript(tables.created())
+    for table, declared in tables.TABLES.items():
         some = [(row[1], bool(row[3] or row[5])) for row in connection.execute("PRAGMA table_info(%s)" % table)]
         assert [(each.name, not each.may_lack) for each in declared.columns] == some
-    assert set(schemas.TABLES) | {"meta"} == {name for name, in connection.execute("SELECT name FROM sqlite_master "
+    assert set(tables.TABLES) | {"meta"} == {name for name, in connection.execute("SELECT name FROM sqlite_master "
                                                                                  "WHERE type = 'table'")}
 
 

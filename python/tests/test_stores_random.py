@@ -15,7 +15,7 @@ import urllib.request
 import pytest
 
 from forked import begun, counted, ended, forked, require_told, rounds
-from naplps_pages.collection import schemas
+from naplps_pages.collection import tables
 from naplps_pages.collection.store_files import ENDINGS
 from packers import written
 from stores import COMMANDS, archive, clean, copied, words_of
@@ -63,12 +63,12 @@ def changed(chance, connection):
     """One change of a database by SQL."""
     kind = chance.random()
     if kind < 0.75:
-        table = chance.choice(sorted(schemas.TABLES))
-        column = chance.choice(schemas.TABLES[table].columns).name
+        table = chance.choice(sorted(tables.TABLES))
+        column = chance.choice(tables.TABLES[table].columns).name
         where = chance.choice(("", " WHERE abs(random()) % 3 = 0", " WHERE rowid = 1" if table != "roots" else ""))
         connection.execute("UPDATE OR IGNORE %s SET %s = %s%s" % (table, column, value(chance), where))
     elif kind < 0.8:
-        connection.execute("DELETE FROM %s" % chance.choice(sorted(schemas.TABLES)))
+        connection.execute("DELETE FROM %s" % chance.choice(sorted(tables.TABLES)))
     elif kind < 0.85:
         connection.execute("INSERT OR REPLACE INTO meta VALUES(%s, %s)" % (
             chance.choice(("'part'", "'schema'", "'hash'", "'tool'")),

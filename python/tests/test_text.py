@@ -1,7 +1,7 @@
 """The text of pages."""
 from conftest import file
+from naplps.entry import read
 from naplps.screen_text import text_lines
-from naplps.reading import read
 from samples import OUTSIDE
 from stream_writer import StreamWriter
 

@@ -12,9 +12,8 @@ from naplps.drawing.colours import Palette
 from naplps.drawing.measure import HEIGHT, WIDTH
 from naplps.drawing.paper import Paper
 from naplps.drawing.walk import MOST_DRAWN, Walk
-from naplps.entry import ONE
+from naplps.entry import ONE, Entries, read_line
 from naplps.faults import NotALine
-from naplps.reading import Entries, read_line
 from test_sketch import elements, harmless, numbers
 
 # The cell of normal text, as parts of the side of the unit screen.
@@ -215,7 +214,7 @@ def test_lines_are_read_once(monkeypatch):
     def read_line(line, reads=drawing.walk.read_line):
         read.append(line)
         return reads(line)
-    monkeypatch.setattr("naplps.reading.read_line", read_line)
+    monkeypatch.setattr("naplps.entry.read_line", read_line)
     lines = field(0.1, 0.3, 5, 2) + typed("AB CD", "--w-") + ["MAP 1048576 0,65535,0", "BELL"]
     entries = Entries(lines)
     drawing.draw(entries)

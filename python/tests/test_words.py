@@ -2,17 +2,18 @@
 import json
 import os
 import re
+import shutil
 import subprocess
 import sys
 
 import pytest
 
-from conftest import COMMAND, file
-from naplps_pages import cli, commands
+from conftest import COMMAND, PACKAGES, file
+from naplps_pages import commands, parsing
 from samples import OUTSIDE, POINT, SPELLED
 from scans import tree
 
-NAMES = [name for name in commands.NAMES if name not in commands.OLD]
+NAMES = [name for group in commands.GROUPS for name in commands.in_group(group)]
 
 
 @pytest.fixture
@@ -34,6 +35,41 @@ def test_the_first_help_has_twelve_commands_at_most(run):
     assert run(["--help"]).stdout.decode() == run(["-h"]).stdout.decode() == first
     assert 6 <= len(listed(first)) <= 12 and "box" in listed(first)
     assert listed(every) == NAMES and all(len(line) <= 80 for line in (first + every).splitlines())
+    assert sorted(NAMES) == sorted({*commands.NAMES} - {*commands.OLD})
+
+
+# A command of its own, which stands among those that work on pages.
+SIZE = """'''The command size.'''
+from . import BUDGET, PAGES, PAGE_GROUP, SECONDS, Command, on_pages
+
+
+def size(session):
+    return session.each(lambda page: session.output.line(f"{session.front(page.name)}{len(page.data)} bytes"))
+
+
+COMMAND = Command("print how long pages are", lambda: [PAGES, BUDGET, SECONDS], on_pages(size),
+                  group=PAGE_GROUP, rank=51)
+"""
+
+
+def test_a_module_is_a_command(naplps, tmp_path):
+    for name in ("naplps", "naplps_pages"):
+        shutil.copytree(os.path.join(PACKAGES, name), tmp_path / "python" / name,
+                        ignore=shutil.ignore_patterns("__pycache__"))
+    (tmp_path / "pages").mkdir()
+    command = shutil.copy(COMMAND, tmp_path / "pages")
+    (tmp_path / "python" / "naplps_pages" / "commands" / "size.py").write_text(SIZE, "ascii")
+
+    def run(*words):
+        return subprocess.run([command, *words], capture_output=True, text=True, cwd=tmp_path,
+                              env={**os.environ, "NAPLPS": naplps})
+    file(tmp_path, "page", POINT)
+    behind = NAMES.index("list") + 1
+    assert run("size", "page").stdout == f"{len(POINT)} bytes\n"
+    assert listed(run("help", "--all").stdout) == [*NAMES[:behind], "size", *NAMES[behind:]]
+    assert "size" not in listed(run("help").stdout)
+    assert run("size", "--help").stdout.startswith("usage: naplps-pages size [-h] PAGE [PAGE ...]\n\nPrint how long")
+    assert "did you mean size?" in run("sise", "page").stderr
 
 
 def test_help_of_a_command_is_its_own(run):
@@ -43,7 +79,7 @@ def test_help_of_a_command_is_its_own(run):
 
 def test_options_are_described_55_times_at_most():
     told = [word for name in NAMES for word in re.findall(
-        r"^  (--[a-z-]+|-o)\b", cli.parser(name).format_help(), re.MULTILINE)]
+        r"^  (--[a-z-]+|-o)\b", parsing.parser_of(name).format_help(), re.MULTILINE)]
     assert len(told) + len(commands.SHARED) <= 55
 
 
@@ -104,7 +140,7 @@ def test_one_picture_of_several_pages(run, tmp_path):
     assert open(sheet, "rb").read() == open(old, "rb").read()
 
 
-@pytest.mark.parametrize("command, most", [("check", 19), ("scan", 59)])
+@pytest.mark.parametrize("command, most", [("check", 19), ("scan", 45)])
 def test_few_modules_of_ours_are_imported(naplps, tmp_path, command, most):
     tree(os.path.join(str(tmp_path), "pages"), {"a.nap": POINT, "b.nap": OUTSIDE})
     lines = ("import atexit, runpy, sys\n"

@@ -13,7 +13,7 @@ import subprocess
 import pytest
 
 from conftest import COMMAND
-from naplps_pages.collection import schemas
+from naplps_pages.collection import tables
 from scans import is_sound, rows, tree
 from written_earlier import FILES, KEPT, SCRIPT, Ran, move, ran
 
@@ -113,7 +113,7 @@ def test_a_scan_goes_on_in_its_store(tool, box):
     assert told.startswith("11 files: 6 accepted (3 pages, 2 texts, 1 blank), 5 refused (1 capture)")
     store = str(box / "pages.db")
     assert is_sound(store) and rows(store, "SELECT value FROM meta WHERE key = 'schema'") == [
-        (str(schemas.SCHEMA),)]
+        (str(tables.SCHEMA),)]
     assert len(tool("find", "harbour", "pages.db").splitlines()) == 3
     assert "; 11 known, 0 pages asked about" in tool("scan", "pages", "--into", "pages.db")
     tool("merge", "pages.db", "--into", "all.db")

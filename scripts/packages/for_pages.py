@@ -14,7 +14,7 @@ from shared.layout import TOP
 sys.path.append(str(TOP / "python"))
 from naplps.version import VERSION  # noqa: E402
 from naplps_pages import file_kinds, refusals  # noqa: E402
-from naplps_pages.player import played  # noqa: E402
+from naplps_pages import player  # noqa: E402
 
 BROWSER, PAGE = TOP / "browser", TOP / "browser" / "page"
 PLAYER = TOP / "python" / "naplps_pages" / "player"
@@ -84,15 +84,15 @@ def player_scripts() -> Dict[Path, str]:
     """The scripts with which players draw and paint dots, by their paths."""
     head = "// Made of browser/%s by scripts/packages/browser --page.\n"
     return {PLAYER / name: head % source + joined(source, wanted) for name, source, wanted in (
-        (played.DRAWING, "playing.js", "Drawing"), (played.DOTS, "dots.js", "Dots"))}
+        (player.DRAWING, "playing.js", "Drawing"), (player.DOTS, "dots.js", "Dots"))}
 
 
 def page(module: bytes) -> str:
     """The page in which files are dropped, with this module of the library."""
-    player_style, player = played.component(draws=False)
+    player_style, player_script = player.component(draws=False)
     own = TOP / "python" / "naplps_pages" / "player" / "page.css"
     style = own.read_text("utf-8") + player_style + (PAGE / "page.css").read_text("utf-8")
-    script = player + joined("page/page.js")
+    script = player_script + joined("page/page.js")
     sums = [f"'sha256-{base64.b64encode(hashlib.sha256(text.encode('utf-8')).digest()).decode('ascii')}'"
             for text in (script, style)]
     foot = (f"naplps {VERSION}. The module has the SHA-256 {hashlib.sha256(module).hexdigest()}. Which pages are "
@@ -118,9 +118,9 @@ def kinds() -> Dict[str, object]:
             "codes": [[name, _pattern(letters)] for name, letters in it.CODES]}
 
 
-def _pattern(of: "re.Pattern[bytes]") -> str:
+def _pattern(of: bytes) -> str:
     """A pattern over bytes as one over the letters of Latin-1, which JavaScript has too."""
-    return of.pattern.decode("ascii")
+    return of.decode("ascii")
 
 
 def _told(it: object) -> str:

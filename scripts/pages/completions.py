@@ -3,10 +3,10 @@ import re
 from typing import Dict, Iterator, List, Tuple
 
 from naplps_pages.commands import (
-    FILES, FOLDERS, GROUPS, SHARED_WORDS, Argument, OneOf, Option, Part, command, options,
+    FILES, FOLDERS, GROUPS, SHARED_WORDS, Argument, OneOf, Option, Part, command, in_group, options,
 )
 
-NAMES = tuple(name for group in GROUPS for name in (*group.first, *group.others))
+NAMES = tuple(name for group in GROUPS for name in in_group(group))
 HELP = Option("--help", "print help", default=False)
 
 

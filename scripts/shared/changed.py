@@ -17,7 +17,7 @@ from shared.suite import test_scripts
 SCRIPTS = "scripts/shared/test-scripts"
 # Where Python is: the folder that its modules are imported from, and that of the files.
 ROOTS = (("python", "python"), ("python/tests", "python/tests"), ("scripts", "scripts"), ("library", "library"))
-PUBLIC_ITEMS = "scripts/prove/test-public-items"
+PUBLIC_ITEMS = "scripts/test/test-public-items"
 SAID_ONCE = "scripts/test/test-said-once"
 HOUSE = "scripts/test-pages house"
 OF_PROGRAM = (

@@ -40,7 +40,7 @@ class Changed(unittest.TestCase):
     def test_by_hand(self) -> None:
         """What a change needs, as people would say it."""
         for file, wanted, unwanted in (
-            ("python/naplps_pages/census.py", "scripts/test-pages old-files", "scripts/test-pages player"),
+            ("python/naplps_pages/commands/census.py", "scripts/test-pages old-files", "scripts/test-pages player"),
             ("python/naplps_pages/commands/check.py", "scripts/test-pages commands", "scripts/test-pages player"),
             ("docs/BATCH.md", "scripts/test/test-batch", "library/test-library"),
             ("docs/LIBRARY.md", "library/test-library", "scripts/test/test-batch"),

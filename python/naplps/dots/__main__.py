@@ -4,8 +4,8 @@ It prints 200 lines of 256 inks, the lowest row first, and then a line for each 
 """
 import sys
 
+from ..entry import read_line
 from ..faults import NotALine
-from ..reading import read_line
 from . import raster
 from .surface import ACROSS, DIRECT, MARK
 
@@ -17,9 +17,9 @@ def main() -> None:
     except (NotALine, UnicodeDecodeError) as error:
         sys.exit(f"no line of a list: {error}")
     rows = [it.inks[at:at + ACROSS] for at in range(0, len(it.inks), ACROSS)]
-    told = [" ".join(map(str, row)) for row in rows]
+    lines = [" ".join(map(str, row)) for row in rows]
     colours = {ink & ~MARK: colour for ink, colour in it.colours().items() if not ink & DIRECT}
-    print("\n".join(told + [f"{address} {colour}" for address, colour in sorted(colours.items())]))
+    print("\n".join(lines + [f"{address} {colour}" for address, colour in sorted(colours.items())]))
 
 
 main()

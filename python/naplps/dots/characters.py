@@ -201,10 +201,10 @@ def placed(x: int, y: int, size: DotCell) -> Placed:
 
 
 @lru_cache(maxsize=4096)
-def _side(phase: int, length: int, count: int, how: str) -> Side:
+def _side(phase: int, length: int, count: int, rule: str) -> Side:
     """The dots of a side that begins so far in the dot 0, and shows a number of columns or rows."""
     size = abs(length)
-    scale = size // (count * DOT) if how == WHOLE else 0
+    scale = size // (count * DOT) if rule == WHOLE else 0
     spare = (size // DOT - scale * count) // 2
     found: List[Tuple[int, int]] = []
     for dot in range((min(phase, phase + length)) // DOT - 1, (max(phase, phase + length)) // DOT + 2):
@@ -220,7 +220,7 @@ def _side(phase: int, length: int, count: int, how: str) -> Side:
     return tuple(found)
 
 
-def _sides(cell: Placed, wide: int, high: int, how: str) -> _Sides:
+def _sides(cell: Placed, wide: int, high: int, rule: str) -> _Sides:
     """The sides of a cell that shows so many columns and rows."""
     x, y, across, up, rotation = cell
     if rotation in (2, 3):
@@ -229,8 +229,8 @@ def _sides(cell: Placed, wide: int, high: int, how: str) -> _Sides:
         up = -up
     left, low = x // DOT, y // DOT
     if rotation in (1, 3):
-        return _Sides(left, low, _side(x - left * DOT, up, high, how), _side(y - low * DOT, across, wide, how), True)
-    return _Sides(left, low, _side(x - left * DOT, across, wide, how), _side(y - low * DOT, up, high, how), False)
+        return _Sides(left, low, _side(x - left * DOT, up, high, rule), _side(y - low * DOT, across, wide, rule), True)
+    return _Sides(left, low, _side(x - left * DOT, across, wide, rule), _side(y - low * DOT, up, high, rule), False)
 
 
 def _runs(row: int, dots: Sequence[int], spans: List[Span]) -> None:

@@ -320,8 +320,8 @@ class Raster(NamedTuple):
             bare.byteswap()
         pairs = [(ink, colour_of(ink, self.colour_map)) for ink in sorted({ink & ~MARK for ink in self.inks})
                  if not ink & DIRECT]
-        told = b"".join(struct.pack(">II", ink, colour) for ink, colour in pairs)
-        return struct.pack(">I", FORM) + bare.tobytes() + told
+        colours = b"".join(struct.pack(">II", ink, colour) for ink, colour in pairs)
+        return struct.pack(">I", FORM) + bare.tobytes() + colours
 
     def rows(self) -> List["array[int]"]:
         """The rows of inks from the top of the screen down."""

@@ -8,9 +8,9 @@ from ..entry import (
     Position, Rect, Reset, TextMove, ToEol, Wait,
 )
 from ..letters import COLUMNS, WRITTEN, columns_of
-from .cells import RIGHT, TOP, Cell, TextCursor, cell
 from .colours import Palette
 from .paper import escaped
+from .writing import RIGHT, TOP, Cell, TextCursor, cell
 
 # Pieces that are so near to each other, as parts of a cell, stand in one row, or are one word.
 SAME_ROW, SAME_WORD, TOUCHING = 0.5, 0.3, 0.01
@@ -279,8 +279,8 @@ class _Describer:
         self.letters.clear()
         self.areas, self.others, self.signs = [], 0, dict.fromkeys(SIGNS, 0)
         if rows or areas or others or any(signs):
-            told, left = _told(areas)
-            self.screens.append(Screen(rows, told, others + left, *signs))
+            sentences, left = _sentences(areas)
+            self.screens.append(Screen(rows, sentences, others + left, *signs))
 
     def changes(self) -> List[str]:
         """What changes by itself."""
@@ -335,7 +335,7 @@ def _shoelace(places: Sequence[Tuple[float, float]]) -> float:
     return sum(a * d - c * b for (a, b), (c, d) in zip(places, [*places[1:], places[0]])) / 2
 
 
-def _told(areas: Iterable[_Area]) -> Tuple[Tuple[str, ...], int]:
+def _sentences(areas: Iterable[_Area]) -> Tuple[Tuple[str, ...], int]:
     """Sentences on the largest areas, and how many others there are."""
     ordered = sorted(areas, key=lambda area: -area.size)
     named = [area for area in ordered[:MOST_AREAS] if area.size >= SIZES[-1][0]]

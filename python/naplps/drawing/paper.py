@@ -23,11 +23,11 @@ class Element(NamedTuple):
 
     def markup(self) -> str:
         """It as SVG."""
-        told = "".join([f' {name}="{value}"' for name, value in self.attributes.items()])
+        attributes = "".join([f' {name}="{value}"' for name, value in self.attributes.items()])
         if not (self.inside or self.text):
-            return f"<{self.name}{told}/>"
+            return f"<{self.name}{attributes}/>"
         within = escaped(self.text) + "".join(each.markup() for each in self.inside)
-        return f"<{self.name}{told}>{within}</{self.name}>"
+        return f"<{self.name}{attributes}>{within}</{self.name}>"
 
 
 # The greatest number of bytes of a sketch, and of these what is kept for the parts around the drawing.

@@ -4,17 +4,15 @@ from dataclasses import dataclass
 from typing import Dict, NamedTuple, Optional, Sequence, Tuple, Union
 
 from ..entry import (
-    Blink, BlinkMark, Char, Clear, Colour, Cursor, DefEnd, Entry, Field, GlyphStart, Line, MaskStart, Point, Rect,
-    Reset, TextMove, ToEol, Wait,
+    Blink, BlinkMark, Char, Clear, Colour, Cursor, DefEnd, Entries, Entry, Field, GlyphStart, Line, MaskStart, Point,
+    Rect, Reset, TextMove, ToEol, Wait, read_line,
 )
-from ..reading import Entries, read_line
-from .cells import Saved, WordWidths
 from .colours import BLACK, Palette
 from .description import describe
 from .paper import Captions, Full, Paper, document
 from .shapes import Shapes
 from .textures import SvgAttributes
-from .writing import Writing
+from .writing import Saved, WordWidths, Writing
 
 Lines = Union[Sequence[str], Entries]
 # The number of entries, and of their points, that are drawn.
@@ -173,7 +171,7 @@ class Guess(NamedTuple):
     """From which entry on the entries are a guess, and the lines that tell of it below the picture."""
 
     start: int
-    said: Tuple[str, ...]
+    notes: Tuple[str, ...]
 
 
 @dataclass(frozen=True)
@@ -185,8 +183,8 @@ class Drawn:
     drawn: int
 
 
-def drawn(lines: Lines, said: str = "", guess: Optional[Guess] = None, prefix: str = "") -> Drawn:
-    """The drawing of the page with these lines or entries. `said` is what else it has to say of itself. Its ids begin
+def drawn(lines: Lines, note: str = "", guess: Optional[Guess] = None, prefix: str = "") -> Drawn:
+    """The drawing of the page with these lines or entries. `note` is what else it has to say of itself. Its ids begin
     with the prefix, or with a hash of the lines."""
     entries = entries_of(lines)
     total = len(entries)
@@ -194,7 +192,7 @@ def drawn(lines: Lines, said: str = "", guess: Optional[Guess] = None, prefix: s
     walk = Walk(entries, palette_of(entries, sure), Paper(lambda: prefix or _prefix_of(entries)))
     walk.guess_start = sure
     count = walk.draw()
-    caption = "Sketch of " + "; ".join(filter(None, (_counted(min(count, sure), sure), said)))
+    caption = "Sketch of " + "; ".join(filter(None, (_counted(min(count, sure), sure), note)))
     if guess:
         caption += "; then a guess of " + _counted(max(0, count - sure), total - sure)
         walk.paper.note(" ".join(below))
@@ -209,17 +207,17 @@ def _prefix_of(entries: Entries) -> str:
     return "n" + hashlib.sha256("\n".join(entries.lines).encode("ascii")).hexdigest()[:8]
 
 
-def draw(lines: Lines, said: str = "", guess: Optional[Guess] = None) -> Sketch:
-    """The sketch of the page with these lines or entries. `said` is what else it has to say of itself."""
-    made = drawn(lines, said, guess)
+def draw(lines: Lines, note: str = "", guess: Optional[Guess] = None) -> Sketch:
+    """The sketch of the page with these lines or entries. `note` is what else it has to say of itself."""
+    made = drawn(lines, note, guess)
     entries = entries_of(lines)
     described = describe([entries[number] for number in range(min(made.drawn, guess.start if guess else made.drawn))])
     return Sketch(document(made.paper, made.captions._replace(described=described.short())), made.drawn)
 
 
-def empty(said: str) -> Sketch:
+def empty(reason: str) -> Sketch:
     """A sketch without a drawing, which says why."""
-    return Sketch(document(Paper(lambda: "n"), Captions(said)), 0)
+    return Sketch(document(Paper(lambda: "n"), Captions(reason)), 0)
 
 
 def _counted(drawn: int, total: int) -> str:

@@ -1,24 +1,34 @@
-"""A worker of a scan that makes all that is kept of a page while it has its bytes, and asks no question twice."""
+"""What a box keeps of each page: a worker of a scan makes it while it has the bytes, and asks no question twice. A file
+that is too long for a page is read once, and the pages inside it are found as they come.
+"""
+import hashlib
+import os
 import re
-from typing import Any, Callable, Dict, List, Optional, Sequence, Tuple
+import sys
+from typing import IO, Any, Callable, Dict, List, Optional, Sequence, Tuple
 
 from naplps.answers import Accepted, Answer, HashedAnswer, Refusal, Unanswered
 from naplps.client import Client
 from naplps.limits import MOST_LISTED
+from naplps.names import shown
 from naplps.treating.borders import pieces
 from naplps.treating.changes import digest
-from naplps.treating.search import Cure
+from naplps.treating.treatments import Cure
 
-from .. import curing
+from .. import file_kinds, messages
 from ..collection import tables
-from ..collection.file_reader import Seen
-from ..collection.rows import Piece, WorkerOptions
-from ..collection.schemas import Answered, Cured
-from ..collection.worker import KnownHashes, Knows, PieceMaker, Worker, serve
+from ..collection.every_file import FileFacts
+from ..collection.file_reader import FLAGS, Seen, change, marks
+from ..collection.folders import opened, reason
+from ..collection.progress import Progress
+from ..collection.protocol import BlockMaker, Piece, WorkerOptions, serve
+from ..collection.tables import Answered, Cured
+from ..collection.worker import KnownHashes, Knows, Worker
+from ..commands.split import MOST_PAGES, has_a_page, parts_of
 from ..listing import LIST, PLACES
-from ..page_finder import CarvedPage, all_pages
-from ..report.limits import HELD_PLAYER
-from ..splitting import MOST_PAGES, has_a_page, parts_of
+from ..notes import treatment_members
+from ..page_finder import CarvedPage, PageFinder, all_pages
+from ..report import HELD_PLAYER
 from .kept_pages import Claims, KeptPage, KeptPart
 
 # The number of answers that are known at once, and of bytes of these.
@@ -38,11 +48,11 @@ class AskedOnce:
         """The answer to a call on some bytes."""
         self.beat()
         if call == LIST:
-            told = self.ask(PLACES, data)
-            if isinstance(told, Accepted):
-                return Accepted(told.entries, PLACE.sub(b"", told.body))
-            if not isinstance(told, Unanswered) or not told.too_much:
-                return told
+            places = self.ask(PLACES, data)
+            if isinstance(places, Accepted):
+                return Accepted(places.entries, PLACE.sub(b"", places.body))
+            if not isinstance(places, Unanswered) or not places.too_much:
+                return places
         key = call, digest(data)
         if key not in self.known:
             answer = self.program.ask(call, data)
@@ -68,9 +78,9 @@ MOST_PLAYED = HELD_PLAYER * 3 // 4
 class BoxWorker(Worker):
     """Turns chunks into rows that have what is kept of each page too."""
 
-    def __init__(self, how: WorkerOptions, knows: Knows, beat: Callable[[], None], carves: bool,
+    def __init__(self, options: WorkerOptions, knows: Knows, beat: Callable[[], None], carves: bool,
                  claims: Optional[Claims] = None) -> None:
-        super().__init__(how, knows, beat)
+        super().__init__(options, knows, beat)
         self.carves, self.claims = carves, claims
         self.keeps, self.has_more = MOST_CANON, True
         self.once = AskedOnce(self.program, beat)
@@ -85,17 +95,17 @@ class BoxWorker(Worker):
 
     def _unknown(self, window: List[Seen]) -> Dict[bytes, bytes]:
         some = super()._unknown(window)
-        mine = self.claims.taken(list(some)) if self.claims and some else some
-        return {own: data for own, data in some.items() if own in mine}
+        claimed = self.claims.taken(list(some)) if self.claims and some else some
+        return {own: data for own, data in some.items() if own in claimed}
 
     def answered(self, window: List[Seen]) -> Piece:
         """The rows of files that were read."""
         return self._answered(window)
 
-    def _row(self, own: bytes, data: bytes, said: HashedAnswer) -> Answered:
-        if isinstance(said.answer, Accepted) and said.answer.body:
-            self.streams[own] = said.answer.body
-        return super()._row(own, data, said)
+    def _row(self, own: bytes, data: bytes, hashed: HashedAnswer) -> Answered:
+        if isinstance(hashed.answer, Accepted) and hashed.answer.body:
+            self.streams[own] = hashed.answer.body
+        return super()._row(own, data, hashed)
 
     def _more(self, answered: Answered, data: bytes) -> Answered:
         self.cure = None
@@ -122,7 +132,7 @@ class BoxWorker(Worker):
             kept = kept._replace(data=data, parts=self._parts(data))
         if self.cure:
             copy = self.cure.data
-            return kept._replace(cure=curing.members_of(data, self.cure), copy=copy,
+            return kept._replace(cure=treatment_members(data, self.cure), copy=copy,
                                  copied=self._places(copy, self.cure.entries))
         kept = kept._replace(places=self._places(data))
         if self.carves and answered.kind is None and not answered.looks_like:
@@ -133,8 +143,8 @@ class BoxWorker(Worker):
         """The body of `places` for a page, where it isn't too much."""
         if entries is not None and entries > MOST_LISTED:
             return None
-        told = self._ask(PLACES, data)
-        return None if isinstance(told, Unanswered) else told.body
+        answer = self._ask(PLACES, data)
+        return None if isinstance(answer, Unanswered) else answer.body
 
     def _parts(self, data: bytes) -> List[KeptPart]:
         """The parts of a capture; none where they are too many, or no page is among them."""
@@ -169,6 +179,65 @@ def main(descriptor: int) -> None:
     serve(descriptor, _worker)
 
 
-def _worker(first: Sequence[Any], beat: Callable[[], None]) -> PieceMaker:
-    how, store, terms, run, carves, claims = first
-    return BoxWorker(how, KnownHashes(store, terms, run, how.wanted), beat, carves, Claims(claims) if claims else None)
+def _worker(first: Sequence[Any], beat: Callable[[], None]) -> BlockMaker:
+    options, store, terms, run, carves, claims = first
+    known = KnownHashes(store, terms, run, options.retry)
+    return BoxWorker(options, known, beat, carves, Claims(claims) if claims else None)
+
+
+class NotCarved(Exception):
+    """The file can't be read, or isn't as it was when it was scanned, with the reason."""
+
+
+def key_of_long(file: FileFacts) -> bytes:
+    """By what is known again what is kept of such a file: its path, its size and its times."""
+    text = repr((file.folder, file.name, file.size, file.mtime_ns, file.at))
+    return hashlib.sha256(b"long file: " + text.encode("ascii")).digest()
+
+
+def carve_long(file: FileFacts, program: Client) -> KeptPage:
+    """What is kept of a file: its hash in place of its bytes, and the pages inside it; none where it is of a kind that
+    is known. Raises NotCarved.
+    """
+    try:
+        at = opened(file.folder, follow=True)
+        try:
+            descriptor = os.open(file.name, FLAGS, dir_fd=at)
+        finally:
+            os.close(at)
+        with open(descriptor, "rb", buffering=0) as source:
+            before = os.fstat(descriptor)
+            if (file.size, file.mtime_ns) != marks(before)[:2]:
+                raise NotCarved(messages.NOT_AS_SCANNED)
+            kept = _searched(source, before.st_size, program, file.at_path.path)
+            if change(before, os.fstat(descriptor)):
+                raise NotCarved(messages.NOT_AS_SCANNED)
+            return kept
+    except OSError as error:
+        raise NotCarved(reason(error)) from None
+
+
+def _searched(source: IO[bytes], length: int, program: Client, name: str) -> KeptPage:
+    """Reads a file, piece by piece."""
+    hashed = hashlib.sha256()
+    first = source.read(file_kinds.MOST_LOOKED_AT)
+    if file_kinds.looks_like(first, length):
+        return KeptPage(carved=[], cut=b"")
+    progress = Progress(sys.stderr, lambda: length >> 20, what=f"MiB of {shown(name)}")
+    left: Optional[bytes] = first
+
+    def read(number: int) -> bytes:
+        nonlocal left
+        piece, left = left if left else source.read(number), None
+        hashed.update(piece)
+        return piece
+
+    def beat(at: int) -> bool:
+        progress.show(at >> 20)
+        return False
+    try:
+        found = list(PageFinder(program, beat=beat).find(read))
+    finally:
+        progress.clear()
+    return KeptPage(hashed.digest(), carved=[part_of(each) for each in found],
+                    cut=b"".join(each.data for each in found))

@@ -1,7 +1,6 @@
 """The folder of a box: it is empty or one that was made so, is held by one run at a time, and has nothing foreign in
 the places where files of a box stand.
 """
-import json
 import os
 import re
 import stat
@@ -16,6 +15,7 @@ from ..collection.folders import reason
 from ..collection.store_files import Busy, Lock
 from ..console import NotWritten
 from ..new_files import make_folder, put_inside
+from ..notes import note_bytes, read_note
 
 # What stands in it: the marker; the store and what is kept beside it; what people look at; and the folders of pages.
 MARKER, STORE, KEPT = "box.json", "box.db", "pages.db"
@@ -47,7 +47,7 @@ class BoxFolder:
     def __enter__(self) -> "BoxFolder":
         """Takes the folder, or makes it. Raises NotWritten where it isn't one for a box, or another run has it."""
         self._require_apart()
-        self._require_own()
+        self._require_free_or_box()
         make_folder(self.path)
         try:
             self.lock.__enter__()
@@ -56,7 +56,7 @@ class BoxFolder:
         except OSError as error:
             raise NotWritten(self.path, reason(error)) from None
         try:
-            self._require_own()
+            self._require_free_or_box()
             if not os.path.lexists(self.of(MARKER)):
                 put_inside(self.of(MARKER), self._marker())
             self._clear()
@@ -79,7 +79,7 @@ class BoxFolder:
             if _stands_in(real, place):
                 raise NotWritten(self.path, messages.BOX_AROUND.format(folder=shown(os.fsdecode(root))))
 
-    def _require_own(self) -> None:
+    def _require_free_or_box(self) -> None:
         """Raises NotWritten where the folder isn't empty and no box, or something foreign has a name of a box's."""
         try:
             names = sorted(os.listdir(self.path))
@@ -103,12 +103,7 @@ class BoxFolder:
     def _require_marker(self) -> None:
         path = self.of(MARKER)
         try:
-            number = os.open(path, os.O_RDONLY | os.O_NONBLOCK | os.O_NOFOLLOW | os.O_CLOEXEC)
-            with open(number, encoding="ascii") as file:
-                it = os.fstat(number)
-                if not stat.S_ISREG(it.st_mode) or it.st_size > MOST_MARKER:
-                    raise ValueError
-                held = json.load(file)
+            held = read_note(path, MOST_MARKER)
             if held["what"] != WHAT or not isinstance(held["folders"], list):
                 raise ValueError
             names = [str(each["name"]) for each in held["folders"]]
@@ -120,8 +115,7 @@ class BoxFolder:
             raise NotWritten(self.path, messages.BOX_OF_OTHERS.format(folders=", ".join(map(shown, names))))
 
     def _marker(self) -> bytes:
-        members = {"what": WHAT, "tool": f"{TOOL} {VERSION}", "folders": self.folders}
-        return (json.dumps(members, indent=2) + "\n").encode("ascii")
+        return note_bytes({"what": WHAT, "tool": f"{TOOL} {VERSION}", "folders": self.folders})
 
     def _clear(self) -> None:
         """Takes away the files that a run left unfinished which was killed."""

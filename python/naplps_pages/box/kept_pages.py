@@ -7,7 +7,7 @@ from typing import Iterable, List, NamedTuple, Optional, Sequence, Set, Tuple
 from naplps.names import Members
 
 from .. import messages
-from ..collection.schemas import Answered, CanonValues
+from ..collection.tables import CanonValues
 from ..collection.store import StoreFailed, address
 
 MADE = "CREATE TABLE claims(own BLOB PRIMARY KEY) WITHOUT ROWID"
@@ -28,9 +28,9 @@ class Claims:
         ask = self.connection.execute
         try:
             ask("BEGIN IMMEDIATE")
-            mine = {own for own in hashes if ask(CLAIM, (own,)).rowcount}
+            claimed = {own for own in hashes if ask(CLAIM, (own,)).rowcount}
             ask("COMMIT")
-            return mine
+            return claimed
         except sqlite3.Error:
             return set(hashes)
 
@@ -50,7 +50,7 @@ MOST_LENGTH = 64 << 20
 
 
 class KeptPart(NamedTuple):
-    """A part of a file: where it is, what is told of it, and the line of the answer to it, or why there is none."""
+    """A part of a file: where it is, what was found of it, and the line of the answer to it, or why there is none."""
 
     offset: int
     length: int
@@ -82,15 +82,15 @@ class KeptPage(NamedTuple):
     @property
     def values(self) -> CanonValues:
         """This as a worker sends it, and as it stands in the file."""
-        return (_packed(self.data), _packed(self.places), _packed(self.canon), _told(self.cure), _packed(self.copy),
-                _packed(self.copied), _told(self.parts), _told(self.carved), _packed(self.cut))
+        return (_packed(self.data), _packed(self.places), _packed(self.canon), _as_json(self.cure), _packed(self.copy),
+                _packed(self.copied), _as_json(self.parts), _as_json(self.carved), _packed(self.cut))
 
 
 def _packed(data: Optional[bytes]) -> Optional[bytes]:
     return None if data is None else zlib.compress(data, LEVEL)
 
 
-def _told(value: object) -> Optional[str]:
+def _as_json(value: object) -> Optional[str]:
     return None if value is None else json.dumps(value)
 
 
@@ -104,10 +104,10 @@ def _unpacked(data: Optional[bytes]) -> Optional[bytes]:
     return made
 
 
-def _parts(told: Optional[str]) -> Optional[List[KeptPart]]:
-    return None if told is None else [
+def _parts(text: Optional[str]) -> Optional[List[KeptPart]]:
+    return None if text is None else [
         KeptPart(offset, length, (more[0], more[1]), cut_at, line, why)
-        for offset, length, more, cut_at, line, why in json.loads(told)]
+        for offset, length, more, cut_at, line, why in json.loads(text)]
 
 
 class KeptPages:
@@ -145,9 +145,9 @@ class KeptPages:
         if known != [APPLICATION, FORM] or some != [*TABLES]:
             raise StoreFailed(self.path, messages.NO_PAGES_OF_BOX)
 
-    def take(self, answers: Sequence[Answered]) -> None:
-        """Takes what workers found."""
-        self.rows += [(each.own, each.values) for each in answers if each.values is not None]
+    def take(self, values: Sequence[Tuple[bytes, CanonValues]]) -> None:
+        """Takes what workers found, by the hashes of pages."""
+        self.rows += values
 
     def write(self) -> None:
         """Writes what was taken, and waits until it is on the disk."""

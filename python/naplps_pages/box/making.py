@@ -1,32 +1,52 @@
-"""Makes the files of a box. What a run before wrote is replaced where it is as that left it; what somebody changed
-stays, and is told.
+"""Fills a box: scans, makes its files and its report, and tells in ten lines what it came to. What a run before wrote
+is replaced where it is as that left it; what somebody changed stays, and is reported.
 """
+import argparse
+import gc
 import hashlib
 import io
-import json
 import os
 import sqlite3
 import stat
+import sys
+from contextlib import suppress
 from dataclasses import dataclass, field
 from typing import Callable, Dict, Iterator, List, NamedTuple, Optional, Set, Tuple
 
 from naplps.answers import Accepted, Answer, Refusal, Unanswered, read_line
+from naplps.client import find
+from naplps.ending import Stopped
+from naplps.limits import MOST_PAGE
 from naplps.names import Members, shown
 from naplps.treating.borders import Piece
+from naplps.version import VERSION
 
-from .. import carving, curing, messages, splitting
-from ..collection import every_file, tables
+from .. import messages, notes
+from ..collection import equal, every_file, tables
 from ..collection.every_file import FileFacts
-from ..collection.folders import reason
-from ..collection.printing import Printer
+from ..collection.file_reader import Otherwise, Seen, read
+from ..collection.folders import absolute, reason
+from ..collection.kept import refused_by
+from ..collection.pool import processors
+from ..collection.printing import Printer, numbered
+from ..collection.protocol import Retry, WorkerOptions, block_of
+from ..collection.scan import ScanOptions, ScanRun, missing, scanned
+from ..collection.tables import File
+from ..collection.search import apart
 from ..collection.session import Names
-from ..console import NotWritten
-from ..curing import tells_the_same
+from ..collection.status import UNKNOWN, WORDS, Status, status
+from ..collection.store import open_to_read
+from ..console import COMPLETE, SOME_LACK, NotWritten, Output, tell
 from ..new_files import make_folders, put_inside, replace
-from ..packs.naming import pack_of
+from ..packs import pack_of
 from ..page_finder import LEAST_ENTRIES, CarvedPage
-from .folder import CANONICAL, CAPTURES, CARVED, CUT, READABLE, TABLE, BoxFolder
-from .kept_pages import KeptPage, KeptPart
+from ..report import USUAL_SKETCHES
+from ..report.facts import load_groups
+from ..report.making import ReportOptions, make
+from ..report.sketch_workers import OBJECTS
+from .box_worker import BoxWorker, NotCarved, carve_long, key_of_long
+from .folder import CANONICAL, CAPTURES, CARVED, CLAIMS, CUT, KEPT, READABLE, REPORT, STORE, TABLE, BoxFolder
+from .kept_pages import Claims, KeptPage, KeptPages, KeptPart
 
 # The number of files that are put together, and of their bytes.
 MOST_FILES, MOST_BYTES = 200, 16 << 20
@@ -50,8 +70,8 @@ class PutFiles:
 
     def put_noted(self, path: str, data: bytes, note: Members) -> None:
         """Puts a file, and before it its note; one that is there and tells the same, of an earlier time, stays."""
-        if not tells_the_same(self.place.of(path + ".json"), note):
-            self.put(path + ".json", (json.dumps(note, indent=2) + "\n").encode("ascii"))
+        if not notes.has_same_note(self.place.of(path + ".json"), note):
+            self.put(path + ".json", notes.note_bytes(note))
         self.put(path, data)
 
     def flush(self) -> None:
@@ -60,32 +80,33 @@ class PutFiles:
         self.waiting, self.length = [], 0
         known = {path: self._hashes(path) for path in some}
         new = {path: hashlib.sha256(data).digest() for path, data in some.items()}
-        self._note({path: own for path, own in new.items() if own not in known[path]})
+        self._note({path: digest for path, digest in new.items() if digest not in known[path]})
         for path, data in some.items():
             self._put(path, data, new[path], known[path])
-        self._forget({path: own for path, own in new.items() if known[path] - {own} and path not in self.lost})
+        self._forget({path: digest for path, digest in new.items() if known[path] - {digest} and path not in self.lost})
 
-    def has_shown(self, path: str, own: bytes) -> bool:
+    def has_shown(self, path: str, digest: bytes) -> bool:
         """Whether the file at a path is there, and was made of what has this hash."""
-        return os.path.isfile(self.place.of(path)) and own in self._hashes(path)
+        return os.path.isfile(self.place.of(path)) and digest in self._hashes(path)
 
-    def show(self, path: str, own: bytes) -> None:
+    def show(self, path: str, digest: bytes) -> None:
         """Notes of what the file at a path was made."""
-        self._note({path: own})
-        self._forget({path: own})
+        self._note({path: digest})
+        self._forget({path: digest})
 
     def _hashes(self, path: str) -> Set[bytes]:
         """What the runs before made there."""
-        return {own for own, in self.connection.execute("SELECT hash FROM made WHERE path = ?", (os.fsencode(path),))}
+        rows = self.connection.execute("SELECT hash FROM made WHERE path = ?", (os.fsencode(path),))
+        return {digest for digest, in rows}
 
-    def _put(self, path: str, data: bytes, own: bytes, known: Set[bytes]) -> None:
+    def _put(self, path: str, data: bytes, digest: bytes, known: Set[bytes]) -> None:
         whole = self.place.of(path)
         if os.path.dirname(path):
             make_folders(self.place.path, path)
         there = _hash_of(whole)
         if there is None:
             put_inside(whole, data)
-        elif there == own:
+        elif there == digest:
             return
         elif there in known:
             replace(whole, data)
@@ -98,7 +119,7 @@ class PutFiles:
         if new:
             self.connection.execute("BEGIN IMMEDIATE")
             self.connection.executemany("INSERT OR IGNORE INTO made(path, hash) VALUES(?, ?)", (
-                (os.fsencode(path), own) for path, own in new.items()))
+                (os.fsencode(path), digest) for path, digest in new.items()))
             self.connection.execute("COMMIT")
 
     def _forget(self, new: Dict[str, bytes]) -> None:
@@ -106,7 +127,7 @@ class PutFiles:
         if new:
             self.connection.execute("BEGIN IMMEDIATE")
             self.connection.executemany("DELETE FROM made WHERE path = ? AND hash <> ?", (
-                (os.fsencode(path), own) for path, own in new.items()))
+                (os.fsencode(path), digest) for path, digest in new.items()))
             self.connection.execute("COMMIT")
 
 
@@ -144,7 +165,7 @@ class Totals:
     sources: int = 0
 
 
-class How(NamedTuple):
+class AnswerTerms(NamedTuple):
     """By what pages were asked: the version of the program and the budget."""
 
     version: str
@@ -152,11 +173,11 @@ class How(NamedTuple):
 
 
 class BoxFiles:
-    """Makes the files; `find` gives what is kept of a page, and `complain` is told what isn't made."""
+    """Makes the files; `find` gives what is kept of a page, and `complain` gets what isn't made."""
 
-    def __init__(self, put: PutFiles, how: How, names: Names, find: Callable[[FileFacts], Optional[KeptPage]],
+    def __init__(self, put: PutFiles, terms: AnswerTerms, names: Names, find: Callable[[FileFacts], Optional[KeptPage]],
                  complain: Callable[[str, str], None]) -> None:
-        self.put, self.how, self.names, self.find, self.complain = put, how, names, find, complain
+        self.put, self.terms, self.names, self.find, self.complain = put, terms, names, find, complain
         self.totals = Totals()
         self.cut: List[Members] = []
         self.table = io.BytesIO()
@@ -234,10 +255,11 @@ class BoxFiles:
             raise NotNamed(str(error)) from None
 
     def _copy(self, file: FileFacts, cure: Members, copy: bytes) -> None:
-        assert isinstance(file.said, Refusal)
+        assert isinstance(file.answered, Refusal)
         path = self._named(READABLE, file)
-        told: Members = {**cure, "program": self.how.version}
-        self.put.put_noted(path, copy, curing.provenance(file.at_path.path, file.said, told, self.how.budget))
+        treatment: Members = {**cure, "program": self.terms.version}
+        note = notes.treated_note(file.at_path.path, file.answered, treatment, self.terms.budget)
+        self.put.put_noted(path, copy, note)
         self.totals.copies += 1
         self.totals.guesses += file.grade == tables.WITHIN
 
@@ -247,18 +269,19 @@ class BoxFiles:
         self.totals.captures += 1
         some = [_cut(data, parts, number) for number in range(len(parts))]
         beside = self._named(CAPTURES, file)
-        source = splitting.source_of(name, data, len(parts), self.how.version)
+        source = notes.capture_source(name, data, len(parts), self.terms.version)
         for number, part in enumerate(some, 1):
-            path = splitting.path_of(beside, number, len(parts))
-            self.put.put_noted(path, part.data, splitting.note_of(source, number, part))
+            path = notes.part_path(beside, number, len(parts))
+            self.put.put_noted(path, part.data, notes.part_note(source, number, part))
             self.totals.cut += 1
             self.cut.append({"path": shown(path), "source": shown(name), "how": "split", "offset": part.piece.offset,
-                             "bytes": part.piece.length, "cut_at": part.piece.cut_at, "answer": _said(part.answer)})
+                             "bytes": part.piece.length, "cut_at": part.piece.cut_at,
+                             "answer": _answer_line(part.answer)})
 
-    def _carved(self, file: FileFacts, parts: List[KeptPart], cut: bytes, own: bytes) -> None:
+    def _carved(self, file: FileFacts, parts: List[KeptPart], cut: bytes, sha256: bytes) -> None:
         """The pages inside a file of no known kind, which has this hash."""
         name, stem = file.at_path.path, self._named(CARVED, file)
-        source = carving.source_of(name, file.size or 0, own.hex())
+        source = notes.carve_source(name, file.size or 0, sha256.hex())
         at = 0
         for part in parts:
             found = CarvedPage(part.offset, cut[at:at + part.length], *part.more, _answer(part))
@@ -266,12 +289,12 @@ class BoxFiles:
             if isinstance(found.answer, Unanswered):
                 self.complain(name, found.answer.reason)
                 continue
-            path = carving.path_of(stem, found.offset)
-            self.put.put_noted(path, found.data, carving.note_of(source, found, LEAST_ENTRIES, self.how.version))
+            path = notes.carved_path(stem, found.offset)
+            self.put.put_noted(path, found.data, notes.carved_note(source, found, LEAST_ENTRIES, self.terms.version))
             self.totals.carved += 1
             self.cut.append({"path": shown(path), "source": shown(name), "how": "carve", "offset": found.offset,
                              "bytes": len(found.data), "at_least_bytes": found.least_end - found.offset,
-                             "at_most_offset": found.most_begin, "answer": _said(found.answer)})
+                             "at_most_offset": found.most_begin, "answer": _answer_line(found.answer)})
         self.totals.sources += 1
 
 
@@ -279,12 +302,12 @@ class NotNamed(Exception):
     """No file can be named after another, with the reason."""
 
 
-def _cut(data: bytes, parts: List[KeptPart], number: int) -> splitting.CutPart:
+def _cut(data: bytes, parts: List[KeptPart], number: int) -> notes.CutPart:
     """A part of a capture with its bytes, and those before it and behind the last."""
     part = parts[number]
     before, draws = part.more
     end = part.offset + part.length
-    return splitting.CutPart(
+    return notes.CutPart(
         Piece(part.offset, part.length, before, part.cut_at, bool(draws)), data[part.offset:end],
         data[part.offset - before:part.offset], data[end:] if number + 1 == len(parts) else b"", _answer(part))
 
@@ -293,5 +316,202 @@ def _answer(part: KeptPart) -> Answer:
     return read_line(part.line.encode("ascii"), part.length) if part.line else Unanswered(part.why)
 
 
-def _said(answer: Answer) -> str:
+def _answer_line(answer: Answer) -> str:
     return answer.line if isinstance(answer, (Accepted, Refusal)) else answer.reason
+
+
+# Refused files that no treatment makes readable and that are no capture: of a format that is known, or of none.
+OTHERS = f"""SELECT count(*) FROM present f CROSS JOIN pages p ON p.id = f.page
+    LEFT JOIN cures c ON c.page = p.id AND c.terms = p.terms WHERE p.state = {tables.REFUSED} AND p.kind IS NULL
+    AND c.treatments IS NULL AND coalesce(p.looks_like, '') {{}} ''"""
+# The number of formats that are named.
+MOST_NAMED = 4
+
+
+def summary_lines(place: BoxFolder, connection: sqlite3.Connection, it: Status, totals: Totals) -> List[str]:
+    """The ten lines."""
+    connection.execute("DROP TABLE IF EXISTS temp.found")
+    connection.execute(equal.GROUPS.format(equal.SEVERAL + equal.COPIES, "count(*) > 1"))
+    groups = int(connection.execute("SELECT count(*) FROM found").fetchone()[0])
+    with_copies = len(load_groups(connection))
+    unknown, known = (int(connection.execute(OTHERS.format(is_so)).fetchone()[0]) for is_so in ("=", "<>"))
+    counts, kinds = it.counts.get, it.tally.kinds.get
+    folder = shown(place.path)
+    return [
+        f"files:           {_files_line(it)}",
+        "accepted:        %d: %s" % (counts("accepted", 0), ", ".join((
+            numbered(kinds("page", 0), "page"), numbered(kinds("text", 0), "text"), f"{kinds('blank', 0)} blank",
+            *([f"{kinds(UNKNOWN, 0)} {UNKNOWN}"] if kinds(UNKNOWN) else [])))),
+        "captures:        %s" % _captures_line(totals.captures, totals.cut, CAPTURES),
+        "readable copies: %d, %d of them guesses, in %s" % (totals.copies, totals.guesses, READABLE),
+        "carved:          %s" % (f"{numbered(totals.carved, 'page')} out of {numbered(totals.sources, 'file')}, in "
+                                 f"{CARVED}"),
+        "equal pages:     %s of accepted files, %d with readable copies; %s, in %s" % (
+            numbered(groups, "group"), with_copies, numbered(
+                len(totals.canonical), "different canonical page"), CANONICAL),
+        f"other kinds:     {known}{_formats(it)}",
+        f"not known:       {numbered(unknown, 'file')}",
+        f"not read:        {_unread_line(it)}",
+        f"look at:         {folder}/{REPORT}; {TABLE} has each file, {CUT} each page that was cut out of one"]
+
+
+def _files_line(it: Status) -> str:
+    """How many files there are, and how many are gone."""
+    gone = tables.FILE_STATES[tables.GONE]
+    number = sum(number for name, number in it.counts.items() if name != gone)
+    return str(number) + (f", and {it.counts[gone]} gone" if it.counts.get(gone) else "")
+
+
+def _captures_line(files: int, pages: int, folder: str) -> str:
+    return f"{numbered(files, 'file')}, cut into {numbered(pages, 'part')}, in {folder}"
+
+
+def _formats(it: Status) -> str:
+    """The formats that most files look like."""
+    some = sorted(it.tally.looks.items(), key=lambda each: (-each[1], each[0]))
+    formats = [f"{number} {name}" for name, number in some[:MOST_NAMED]]
+    return f": {', '.join(formats)}{', ..' if len(some) > MOST_NAMED else ''}" if formats else ""
+
+
+def _unread_line(it: Status) -> str:
+    """Files without an answer, by their states."""
+    some = [f"{it.counts[tables.FILE_STATES[state]]} {word}" for state, word in WORDS.items()
+            if it.counts.get(tables.FILE_STATES[state])]
+    lacking = it.counts.get(tables.PAGE_STATES[tables.NO_ANSWER])
+    return ", ".join([*some, *([f"{lacking} without an answer"] if lacking else [])]) or "nothing"
+
+
+Given = argparse.Namespace
+
+
+def fill_box(given: Given, tool: str) -> int:
+    """Fills the box that is asked for; the status. `tool` is the path of the tool, beside which naplps may stand.
+
+    Raises NoProgram, NotWritten, StoreFailed, TooLarge or sqlite3.Error.
+    """
+    options = WorkerOptions(find(tool), given.budget, given.seconds, MOST_PAGE)
+    roots = apart(map(absolute, given.folders))
+    lacking = missing(roots)
+    if lacking and not os.path.lexists(given.into):
+        for root, why in lacking:
+            tell(f"{shown(os.fsdecode(root))}: {why}")
+        return SOME_LACK
+    with BoxFolder(given.into, roots) as place:
+        return BoxRun(place, options, given).fill()
+
+
+class BoxRun:
+    """One run over a box."""
+
+    def __init__(self, place: BoxFolder, options: WorkerOptions, given: Given) -> None:
+        self.place, self.given = place, given
+        is_lost = os.path.lexists(place.of(STORE)) and not os.path.lexists(place.of(KEPT))
+        self.options = options._replace(retry=Retry(again=is_lost, cures=given.cures, words=given.words))
+        self.processes = given.processes or processors()
+        self.kept = KeptPages(place.of(KEPT), not given.no_carve, place.of(CLAIMS), is_new=True)
+        Claims(place.of(CLAIMS), is_new=True)
+        self.status = COMPLETE
+        self.worker: Optional[BoxWorker] = None
+
+    def fill(self) -> int:
+        """Scans, makes the files, and prints what all came to; the status."""
+        try:
+            found = scanned(ScanOptions(list(self.given.folders), self.place.of(STORE), self.processes, self.options,
+                                        beside=self.kept, refused=refused_by(self.given)))
+            if isinstance(found, int):
+                return found
+            self.status = found.status
+            try:
+                lines = self._made(found)
+            except Stopped:
+                tell(messages.STOPPED)
+                raise
+        finally:
+            with suppress(OSError):
+                os.unlink(self.place.of(CLAIMS))
+            if self.worker:
+                self.worker.close()
+            self.kept.close()
+        output = Output(sys.stdout.buffer)
+        for line in lines:
+            output.line(line)
+        output.flush()
+        return self.status
+
+    def _made(self, found: ScanRun) -> List[str]:
+        """Makes the files, and the report where it would show anything else; the lines that tell of all."""
+        connection = open_to_read(self.place.of(STORE))
+        version, = connection.execute("SELECT version FROM terms WHERE id = ?", (found.writer.terms,)).fetchone()
+        put = PutFiles(self.place, self.kept.connection, self._complain)
+        files = BoxFiles(put, AnswerTerms(version, self.options.budget), Names(connection), self._find, self._complain)
+        files.make(every_file.load(connection, None, None))
+        connection.execute("DROP TABLE temp.kept")
+        it = status(connection, self.place.of(STORE))
+        shown_by = hashlib.sha256(repr((VERSION, version, it.roots, it.tally.left)).encode("ascii", "backslashreplace"))
+        shown_by.update(files.table.getvalue())
+        if not put.has_shown(REPORT, shown_by.digest()):
+            self._report()
+            put.show(REPORT, shown_by.digest())
+        return summary_lines(self.place, connection, it, files.totals)
+
+    def _report(self) -> None:
+        """Makes the report, of what is kept."""
+        gc.set_threshold(OBJECTS)  # (a large store has many objects, all of which are needed)
+        made = make(open_to_read(self.place.of(STORE)), ReportOptions(
+            self.place.of(STORE), self.place.of(REPORT), self.options.program, USUAL_SKETCHES, False, self.processes,
+            self.options.seconds, replace=True, kept=self.place.of(KEPT)))
+        for path, why in made.missed:
+            self._complain(path, messages.NO_SKETCH.format(reason=why))
+
+    def _complain(self, name: str, why: str) -> None:
+        tell(f"{shown(name)}: {why}")
+        self.status = max(self.status, SOME_LACK)
+
+    def _find(self, file: FileFacts) -> Optional[KeptPage]:
+        """What is kept of a file's page. Where too little is, the file is read again."""
+        if file.own is None:
+            return self._find_long(file)
+        kept = self.kept.of(file.own)
+        if kept is None or self._lacks(file, kept):
+            self._fill(file, file.own)
+            kept = self.kept.of(file.own)
+        return kept
+
+    def _find_long(self, file: FileFacts) -> Optional[KeptPage]:
+        """What is kept of a file that is too long for a page; where nothing is, it is read."""
+        key = key_of_long(file)
+        kept = self.kept.of(key)
+        if kept is None and not self.given.no_carve:
+            try:
+                kept = carve_long(file, self._local_worker().program)
+            except NotCarved as why:
+                self._complain(file.at_path.path, str(why))
+                return None
+            self.kept.put([(key, kept.values)])
+        return kept
+
+    def _local_worker(self) -> BoxWorker:
+        """A worker in this process."""
+        self.worker = self.worker or BoxWorker(self.options, lambda _: set(), lambda: None, not self.given.no_carve)
+        return self.worker
+
+    def _lacks(self, file: FileFacts, kept: KeptPage) -> bool:
+        """Whether more is asked for now than is kept of a page."""
+        if file.answer == tables.ACCEPTED:
+            return kept.canon is None
+        is_unknown = file.kind is None and file.looks_like is None and file.treated is None
+        return (is_unknown and kept.carved is None and not self.given.no_carve) or (
+            file.treated is not None and kept.copy is None)
+
+    def _fill(self, file: FileFacts, own: bytes) -> None:
+        """Reads a file again, and keeps what its page comes to."""
+        try:
+            page = read(file.at_path, own)
+        except Otherwise as otherwise:
+            self._complain(file.at_path.path, str(otherwise))
+            return
+        page.close()
+        if page.data is not None:
+            piece = self._local_worker().answered([Seen(File(0, b"", tables.READ, own=own), page.data)])
+            self.kept.take(block_of(piece).values)
+            self.kept.write()

@@ -10,15 +10,15 @@ from typing import Iterator, NamedTuple, Optional, Tuple
 from naplps.answers import Refusal
 from naplps.names import shown
 
-from .. import census as printing
-from ..census import EIGHTH_BIT, Census, Row, stops
+from ..codes import EIGHTH_BIT, stops
+from ..commands.census import Census, Row, show
 from ..console import SOME_LACK
 from ..page_session import Session
-from .kinds import Count, Hash, Name, PageState, Path, RefusalNumber, Text, checked
 from .file_reader import Otherwise, read
 from .folders import Place
 from .progress import Progress
 from .store import kept, open_to_read
+from .tables import Count, Hash, Name, PageState, Path, RefusalNumber, Text, checked
 
 # The greatest number of refused pages that are read on.
 MAX_READ = 100_000
@@ -75,7 +75,7 @@ def census(session: Session) -> int:
         progress.tell(f"{shown(path)}: {why}")
         session.fail(SOME_LACK)
     progress.clear()
-    printing.show(session, found)
+    show(session, found)
     return session.status
 
 
@@ -86,7 +86,7 @@ def exact(connection: sqlite3.Connection) -> Census:
         setattr(found, MEMBERS[count.state], count.pages)
     for stop in checked(connection.execute(FIRST), StopCount):
         found.rows[stop.name] = Row(first=stop.pages)
-    found.others = connection.execute(OTHERS).fetchone()[0]
+    found.others, = connection.execute(OTHERS).fetchone()
     return found
 
 

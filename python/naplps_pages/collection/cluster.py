@@ -22,13 +22,12 @@ from naplps.names import shown
 from .. import messages
 from ..console import tell
 from ..interpreter import FOLDER, interpreter
-from ..packs.naming import pack_of
+from ..packs import pack_of
 from .folders import Replaced, join, opened_again, reason
 from .pool import ClusterFailed, Task, Workers, count, ending, halves
-from .rows import Chunk, FolderFiles, Piece, WorkerOptions
-from .schemas import File
-from .tables import UNREADABLE, VANISHED
-from .worker import Worker, limit_memory
+from .protocol import Chunk, FolderFiles, Piece, RowBlock, WorkerOptions, block_of, limit_memory
+from .tables import UNREADABLE, VANISHED, File
+from .worker import Worker
 
 # So often it is looked which workers have been silent, and one that is for so long gets nothing any more, in seconds.
 LOOK, SILENT = 5.0, 60.0
@@ -97,21 +96,21 @@ def answers(watch: Watch, words: List[str], given: Dict[str, Any], look: Callabl
     `look` is called now and then, and has `watch` look. One that becomes silent is asked no more, and isn't among the
     answers. One that can't be reached is asked again until it is known to be silent, or for twice that time.
     """
-    said: Dict[str, Any] = {}
+    result: Dict[str, Any] = {}
     end = time.monotonic() + 2 * SILENT
     while True:
-        wanted = watch.now() - set(said)
-        if not wanted:
-            return {worker: each for worker, each in said.items() if worker not in watch.silent}
-        for worker, each in _asked(watch, words, given, look, wanted).items():
+        expected = watch.now() - set(result)
+        if not expected:
+            return {worker: each for worker, each in result.items() if worker not in watch.silent}
+        for worker, each in _asked(watch, words, given, look, expected).items():
             if not _is_unreached(each) or time.monotonic() > end:
-                said[worker] = each
-        _pause(PAUSE if wanted - set(said) else 0.0, look)
+                result[worker] = each
+        _pause(PAUSE if expected - set(result) else 0.0, look)
 
 
-def _is_unreached(said: object) -> bool:
+def _is_unreached(result: object) -> bool:
     """Whether an answer is that there was no connection. (What the system says of a program has a number.)"""
-    return isinstance(said, OSError) and said.errno is None
+    return isinstance(result, OSError) and result.errno is None
 
 
 def _pause(seconds: float, look: Callable[[], None]) -> None:
@@ -135,15 +134,15 @@ def _asked(watch: Watch, words: List[str], given: Dict[str, Any], look: Callable
     threading.Thread(target=asks, daemon=True).start()
     while True:
         try:
-            said = done.get(timeout=POLL_SECONDS)
+            result = done.get(timeout=POLL_SECONDS)
         except Empty:
             look()
             if workers & watch.silent:
                 return {}
             continue
-        if isinstance(said, BaseException):
-            raise said
-        return dict(said)
+        if isinstance(result, BaseException):
+            raise result
+        return dict(result)
 
 
 NOT_THERE = "it isn't there on the workers"
@@ -224,7 +223,7 @@ class Alike(NamedTuple):
 class Given(NamedTuple):
     """What is to be done; an empty chunk asks only whether all is the same."""
 
-    how: WorkerOptions
+    options: WorkerOptions
     alike: Alike
     chunk: Chunk
 
@@ -242,7 +241,7 @@ def main() -> None:
     """Does what is given, once."""
     limit_memory()
     given = pickle.load(sys.stdin.buffer)
-    differs = difference(given.how.program, given.alike)
+    differs = difference(given.options.program, given.alike)
     done = Done(differs, [], ()) if differs else _worked(given)
     sys.stdout.buffer.write(pickle.dumps(done))
 
@@ -253,7 +252,7 @@ def _worked(given: Given) -> Done:
     def beat() -> None:
         if os.getppid() != parent:
             sys.exit(1)  # nobody waits for it any more
-    worker = Worker(given.how, lambda hashes: set(), beat, MAX_MEMBERS, elsewhere=True)
+    worker = Worker(given.options, lambda hashes: set(), beat, MAX_MEMBERS, elsewhere=True)
     try:
         pieces = [piece for piece in worker.pieces(given.chunk) if piece[0]]
         return Done(None, pieces, worker.left, tuple(worker.others))
@@ -274,16 +273,16 @@ def _numbered(roots: List[bytes]) -> Iterator[Tuple[bytes, int]]:
             continue
 
 
-def difference(program: str, wanted: Alike) -> Optional[str]:
+def difference(program: str, expected: Alike) -> Optional[str]:
     """What is another thing here, or isn't here; None where all is the same."""
     try:
-        if _hash_of_file(program) != wanted.program:
+        if _hash_of_file(program) != expected.program:
             return f"{program} is another program there"
     except OSError as error:
         return f"{program}: {reason(error)}"
-    if _hash_of_package() != wanted.package:
+    if _hash_of_package() != expected.package:
         return f"{os.path.join(FOLDER, PACKAGES[-1])} is another version there"
-    for root, number in wanted.roots:
+    for root, number in expected.roots:
         try:
             if os.stat(root).st_ino != number:
                 return f"{os.fsdecode(root)} is another folder there"
@@ -357,10 +356,10 @@ class Cluster(Workers):
     # (each task costs its scheduler time)
     max_files, max_names = 2000, 256 << 10
 
-    def __init__(self, where: str, how: WorkerOptions, alike: Alike) -> None:
+    def __init__(self, where: str, options: WorkerOptions, alike: Alike) -> None:
         super().__init__()
         library = _distributed()
-        self.how, self.alike = how, alike
+        self.options, self.alike = options, alike
         self.address = address_of(where)
         try:
             self.client = library.Client(self.address, timeout=CONNECT, set_as_default=False, name="naplps-pages")
@@ -369,7 +368,7 @@ class Cluster(Workers):
         self.sent: Dict[Any, Task] = {}
         self.done: "SimpleQueue[Any]" = SimpleQueue()
         self.watch = Watch(self.client)
-        self.told: Set[str] = set()
+        self.named: Set[str] = set()
         self.received_at = time.monotonic()
         try:
             self._check()
@@ -381,26 +380,26 @@ class Cluster(Workers):
         """Compares what has to be the same, on each worker. Raises ClusterFailed."""
         try:
             self.client.wait_for_workers(1, timeout=JOIN)
-            said = answers(self.watch, WORDS, self._input(()), self._look_before)
+            result = answers(self.watch, WORDS, self._input(()), self._look_before)
         except ClusterFailed:
             raise
         except Exception as error:  # pylint: disable=broad-except
             raise ClusterFailed(messages.WORKERS_FAILED.format(
                 address=self.address, reason=_first_line(error))) from None
-        if not said:
+        if not result:
             raise ClusterFailed(messages.NO_WORKER_ANSWERS.format(address=self.address))
         faults = [f"{worker}: {fault}" for worker, fault in sorted(
-            (worker, _fault(each)) for worker, each in said.items()) if fault]
+            (worker, _fault(each)) for worker, each in result.items()) if fault]
         if faults:
             raise ClusterFailed("; ".join(faults))
 
     def _input(self, chunk: Chunk) -> Dict[str, Any]:
-        return {"input": pickle.dumps(Given(self.how, self.alike, chunk)), "capture_output": True,
+        return {"input": pickle.dumps(Given(self.options, self.alike, chunk)), "capture_output": True,
                 "start_new_session": True}
 
-    def set_options(self, how: WorkerOptions) -> None:
+    def set_options(self, options: WorkerOptions) -> None:
         """Asks of the workers what the store keeps to."""
-        self.how = how
+        self.options = options
 
     def is_busy(self) -> bool:
         """Whether a task is out."""
@@ -410,7 +409,7 @@ class Cluster(Workers):
         """Whether another task should be out."""
         return len(self.sent) < MAX_IN_FLIGHT
 
-    def receive(self, seconds: float) -> Iterator[Optional[Piece]]:
+    def receive(self, seconds: float) -> Iterator[Optional[RowBlock]]:
         """What came of a task, or nothing where none is done in that time. What a silent worker has is sent to others.
         """
         self._look_after()
@@ -475,7 +474,7 @@ class Cluster(Workers):
             self.retry.append(self.sent.pop(future)._replace(workers=frozenset()))
             future.cancel()
 
-    def _take(self, future: Any) -> Iterator[Piece]:
+    def _take(self, future: Any) -> Iterator[RowBlock]:
         """What came of a task."""
         self._look()
         if future not in self.sent:
@@ -485,18 +484,18 @@ class Cluster(Workers):
             future.add_done_callback(self.done.put)  # its worker ended; the scheduler gives it to another
             return
         try:
-            said = future.exception(FETCH) if future.status == "error" else future.result(FETCH)
+            result = future.exception(FETCH) if future.status == "error" else future.result(FETCH)
         except Exception:  # pylint: disable=broad-except
             self._look()
             future.add_done_callback(self.done.put)
             return
         task = self.sent.pop(future)
-        done = _done(said)
+        done = _done(result)
         if done is None:
             future.release()
-            yield from self._lose(task.chunk, f"the process that looked at it {_failure(said)}")
+            yield from self._lose(task.chunk, f"the process that looked at it {_failure(result)}")
             return
-        yield from self._read(future, task, done)
+        yield from map(block_of, self._read(future, task, done))
         future.release()
 
     def _read(self, future: Any, task: Task, done: Done) -> Iterator[Piece]:
@@ -515,8 +514,8 @@ class Cluster(Workers):
         worker = self.watch.worker_of(future)
         tried = task.tried | {worker}
         left = self.watch.now() - tried
-        if worker and worker not in self.told:
-            self.told.add(worker)
+        if worker and worker not in self.named:
+            self.named.add(worker)
             tell(messages.UNREAD_BUT_ASKED.format(worker=worker) if left else messages.UNREAD_BY.format(worker=worker))
         if left and worker:
             self.retry.append(Task(unread.chunk, tried, left))
@@ -524,7 +523,7 @@ class Cluster(Workers):
         else:
             yield from unread.final
 
-    def _lose(self, chunk: Chunk, why: str) -> Iterator[Piece]:
+    def _lose(self, chunk: Chunk, why: str) -> Iterator[RowBlock]:
         """Asks again for a chunk that ended its process, in halves."""
         if count(chunk) > 1:
             self.retry.extend(map(Task, halves(chunk)))
@@ -540,27 +539,27 @@ class Cluster(Workers):
             pass  # nobody is there any more
 
 
-def _done(said: Any) -> Optional[Done]:
+def _done(result: Any) -> Optional[Done]:
     """What a process gave back; None where it failed."""
-    if not isinstance(said, subprocess.CompletedProcess) or said.returncode:
+    if not isinstance(result, subprocess.CompletedProcess) or result.returncode:
         return None
-    return cast(Done, pickle.loads(said.stdout))
+    return cast(Done, pickle.loads(result.stdout))
 
 
-def _fault(said: Any) -> Optional[str]:
+def _fault(result: Any) -> Optional[str]:
     """Why a worker can't be used."""
-    done = _done(said)
-    return done.differs if done else f"naplps-pages {_failure(said)}"
+    done = _done(result)
+    return done.differs if done else f"naplps-pages {_failure(result)}"
 
 
-def _failure(said: Any) -> str:
+def _failure(result: Any) -> str:
     """How a process failed."""
-    if isinstance(said, subprocess.CompletedProcess):
-        lines: List[str] = said.stderr.decode("utf-8", "replace").strip().split("\n")
-        return "ended %s%s" % (ending(said.returncode), ": " + lines[-1] if lines[-1] else "")
-    return f"failed: {_first_line(said)}"
+    if isinstance(result, subprocess.CompletedProcess):
+        lines: List[str] = result.stderr.decode("utf-8", "replace").strip().split("\n")
+        return "ended %s%s" % (ending(result.returncode), ": " + lines[-1] if lines[-1] else "")
+    return f"failed: {_first_line(result)}"
 
 
 def _first_line(error: object) -> str:
-    said = str(error).strip().split("\n")[0]
-    return "%s%s" % (type(error).__name__, ": " + said if said else "")
+    line = str(error).strip().split("\n")[0]
+    return f"{type(error).__name__}: {line}" if line else type(error).__name__

@@ -11,13 +11,12 @@ from naplps.names import Members, shown
 
 from .. import messages
 from ..new_files import made_folder, make_folders, put_inside
-from .equal_run import most_budget
-from .folders import Place, reason
-from .kinds import Count, Hash, Name, Path
 from .file_reader import Otherwise, read
+from .folders import Place, reason
 from .printing import NAME, ErrorReporter, Printer, named, shown_as
+from .sources import most_budget
 from .store import kept, open_to_read
-from .tables import hashed
+from .tables import Count, Hash, Name, Path, hashed
 
 COLUMNS = ["canonical", "status", "path", "reason", *NAME]
 PIECE = 1 << 20

@@ -1,25 +1,32 @@
-"""Groups of pages that draw the same, treated copies among them, and of pages that look alike at their end.
+"""The command equal: groups of pages that draw the same, treated copies among them, and of pages that look alike at
+their end.
 
 By themselves all copies stand in groups of their own. Where they are wanted among others, a copy that was treated
 around its page stands beside pages that are read as they are. One that was treated within is a guess: it stands in
 groups of guesses alone, of which it is told how many other files draw the same.
 """
 import sqlite3
-from itertools import groupby
+from argparse import Namespace
+from itertools import chain, groupby
 from operator import attrgetter
-from typing import Iterable, Iterator, List, NamedTuple, Optional, Sequence, Tuple
+from typing import Callable, Iterable, Iterator, List, NamedTuple, Optional, Sequence, Tuple
 
-from naplps.limits import MOST_LISTED
+from naplps.answers import Accepted, Answer, Refusal, Unanswered
+from naplps.client import Client
+from naplps.client import find as find_program
+from naplps.limits import MOST_LISTED, Limits
 from naplps.names import Members, shown
-from naplps.treating.treatments import graded
+from naplps.treating.treatments import find, graded
 
 from .. import messages
-from .canon_tables import PICTURES
+from ..console import FAILED, tell
+from ..source import Page
+from .file_reader import Otherwise, read
 from .folders import Place
-from .kinds import Count, GradeNumber, Hash, Name, Path, Text
-from .printing import NAME, Printer, named, numbered, shown_as
-from .store import kept
-from .tables import ACCEPTED, AROUND, GRADES, REFUSED, WITHIN
+from .kept import PICTURES
+from .printing import NAME, ErrorReporter, Printer, named, numbered, shown_as
+from .store import StoreFailed, kept, open_to_read
+from .tables import ACCEPTED, AROUND, GRADES, REFUSED, WITHIN, Count, GradeNumber, Hash, Name, Path, Text, hashed
 
 COLUMNS = ["canonical", "spellings", "files", "entries", "spelling", "hash", *NAME]
 OF_TREATED = ["treatments", "grade", "copy", "others"]
@@ -357,3 +364,161 @@ def _files(some: Group) -> List[Tuple[bytes, Place]]:
 def _list(some: Group) -> Members:
     return {"canonical": some.canon.hex(), "canonical_bytes": some.length, "entries": some.entries, "spellings": [
         {"hash": each.own.hex(), "files": [named(place) for place in each.places]} for each in some.spellings]}
+
+
+# Given the path of a file and what is wrong with it.
+Tell = Callable[[str, str], None]
+
+
+def verified(program: Client, group: Group, tell: Tell) -> Group:
+    """The group as it is now: each file is read again, and the canonical bytes of each spelling are compared."""
+    spellings: List[Spelling] = []
+    first: Optional[bytes] = None
+    for spelling in group.spellings:
+        found = _verified_spelling(program, group, spelling, tell)
+        if found is None:
+            continue
+        canon, there = found
+        if first is not None and canon != first:
+            for place in there.places:
+                tell(place.path, messages.SAME_HASH.format(other=shown(spellings[0].places[0].path)))
+            continue
+        first = canon
+        spellings.append(there)
+    return group._replace(spellings=spellings)
+
+
+def _verified_spelling(program: Client, group: Group, spelling: Spelling,
+              tell: Tell) -> Optional[Tuple[bytes, Spelling]]:
+    """The canonical bytes of a spelling, and its files that have it still."""
+    canon: Optional[bytes] = None
+    places: List[Place] = []
+    for place in spelling.places:
+        try:
+            page = read(place, spelling.own)
+        except Otherwise as otherwise:
+            tell(place.path, str(otherwise))
+            continue
+        try:
+            if canon is None:
+                answer = _canon(program, page, spelling)
+                if answer is None:
+                    tell(place.path, messages.OTHER_COPY_OF_IT)
+                    return None
+                if not isinstance(answer, Accepted):
+                    tell(place.path, answer.reason if isinstance(answer, Unanswered) else answer.line)
+                    return None
+                canon = answer.body
+        finally:
+            page.close()
+        places.append(place)
+    if canon is None:
+        return None
+    if hashed(canon) != group.canon:
+        tell(places[0].path, messages.OTHER_HASH)
+        return None
+    return canon, spelling._replace(places=places)
+
+
+def _canon(program: Client, page: Page, spelling: Spelling) -> Optional[Answer]:
+    """The answer to `canon` on a page, or on its treated copy; None where that is another now."""
+    if spelling.treated is None:
+        return program.ask("canon", page)
+    answer = program.ask("check", page)
+    if not isinstance(answer, Refusal) or page.data is None:
+        return None
+    cure = find(program.ask, page.data, answer.place)
+    if cure is None or hashed(cure.data) != spelling.treated.copy:
+        return None
+    return program.ask("canon", cure.data)
+
+
+
+
+def _program(given: Namespace, tool: str, stores: List[str]) -> Client:
+    """The program, under the largest budget of the stores: a budget only refuses."""
+    from .sources import most_budget
+    return Client(find_program(tool), most_budget(stores), Limits(seconds=given.seconds))
+
+
+def equal_by_picture(given: Namespace, tool: str) -> int:
+    """The groups of pages that look alike. What isn't known of pictures is found out first."""
+    store = given.stores[0]
+    if len(given.stores) > 1:
+        raise StoreFailed(given.stores[1], messages.PICTURES_OF_ONE_STORE)
+    from .canon_filling import CanonFilling
+    from .pool import processors
+    from .protocol import WorkerOptions
+    from .sources import most_budget
+    it = CanonFilling(PICTURES, store, lambda: WorkerOptions(
+        find_program(tool), most_budget([store]), given.seconds, 0), given.processes or processors()).filled()
+    if it is None:
+        return FAILED
+    printer = Printer(given.form, PICTURE_COLUMNS)
+    telling = ErrorReporter(printer)
+    for group in picture_groups(it.connection):
+        show_pictures(printer, group)
+    printer.flush()
+    for name, why in without_picture(it.connection):
+        telling(name, why)
+    return max(it.status, telling.status)
+
+
+def equal(given: Namespace, tool: str) -> int:
+    """The groups of pages with one list, in one store or over several; the status."""
+    with_treated = given.treated or given.guesses
+    connection = open_to_read(given.stores[0]) if len(given.stores) == 1 else None
+    printer = Printer(given.form, COLUMNS + (OF_TREATED if with_treated else []))
+    telling = ErrorReporter(printer)
+    some = _groups(given, connection, telling, with_treated)
+    if not given.verify:
+        for group in some:
+            show(printer, group)
+    else:
+        program = _program(given, tool, given.stores)
+        try:
+            for group in _verified(program, some, given.copies, telling):
+                show(printer, group)
+        finally:
+            program.close()
+    printer.flush()
+    return telling.status
+
+
+def _groups(given: Namespace, connection: Optional[sqlite3.Connection], telling: ErrorReporter,
+            with_treated: bool) -> Iterator[Group]:
+    """The groups that are asked for. What isn't known of treated copies is told."""
+    if connection is None:
+        if with_treated:
+            raise StoreFailed(given.stores[1], messages.COPIES_OF_ONE_STORE)
+        from .sources import groups_over
+        return groups_over(given.stores, given.copies, telling)
+    if not with_treated:
+        some = groups(connection, given.copies)
+        # (a script that takes one page of each group mustn't take a copy for one)
+        return chain(some, _apart(connection, given.copies)) if given.form == "text" else some
+    without, unknown = untried(connection)
+    store = shown(given.stores[0])
+    if without:
+        tell(messages.UNTRIED.format(path=store, pages=_refused(without)))
+    if unknown:
+        tell(messages.UNKNOWN_COPIES.format(path=store, pages=_refused(unknown)))
+    return chain(treated_groups(connection, given.copies), (
+        group for _ in range(given.guesses) for group in guesses(connection, given.copies)))
+
+
+def _refused(number: int) -> str:
+    return numbered(number, "refused page")
+
+
+def _apart(connection: sqlite3.Connection, copies: bool) -> Iterator[Group]:
+    """The groups of treated copies, which are looked for once all others are printed."""
+    yield from apart(connection, copies)
+
+
+def _verified(program: Client, some: Iterator[Group], copies: bool,
+              telling: ErrorReporter) -> Iterator[Group]:
+    for group in some:
+        left = verified(program, group, telling)
+        if len(left.spellings) > 1 or (left.files > 1 if copies else left.spellings and left.others):
+            yield left

@@ -12,12 +12,12 @@ from ..refusals import Reason
 from ..schema import answered
 from . import tables
 from .folders import Place
-from .kinds import (
+from .printing import NAME, Printer, named, numbered, shown_as
+from .store import kept
+from .tables import (
     Count, FileState, Flag, GradeNumber, Hash, Name, Number, PageKind, PageState, Path, RefusalNumber, Text,
     TextSource,
 )
-from .printing import NAME, Printer, named, numbered, shown_as
-from .store import kept
 
 REFUSED_COLUMNS = ["number", "fault", "code", "stops", "place", "hash", "tried", "treatments", "grade", *NAME]
 REASONS = """CREATE TEMP TABLE reasons AS SELECT p.number AS number, coalesce(p.left_out, '') AS left_out,
@@ -195,7 +195,7 @@ class FileFacts(NamedTuple):
         return tables.FILE_STATES[self.state] if self.answer is None else tables.PAGE_STATES[self.answer]
 
     @property
-    def said(self) -> Answer:
+    def answered(self) -> Answer:
         """The answer to its page."""
         if self.answer == tables.ACCEPTED and self.entries is not None:
             return Accepted(self.entries)
@@ -252,10 +252,10 @@ def show(printer: Printer, file: FileFacts) -> None:
 
 def _line(file: FileFacts) -> str:
     """What is known of a file, for people."""
-    said = file.said
-    if isinstance(said, Unanswered):
+    answer = file.answered
+    if isinstance(answer, Unanswered):
         return f"{file.status}: {file.why}" if file.why else file.status
-    more = [said.line]
+    more = [answer.line]
     if kind_of(file):
         more.append(f"looks like {file.looks_like}" if file.kind is None else
                     f"capture of {file.holds} pages" if file.holds else tables.KINDS[file.kind])

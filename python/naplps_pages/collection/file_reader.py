@@ -11,14 +11,12 @@ from typing import IO, Callable, Iterator, List, NamedTuple, Optional, Tuple
 from naplps.limits import MOST_PAGE
 
 from .. import messages
-from ..packs.member import Member, PackLimits
-from ..packs.naming import pack_of
+from ..packs import Member, PackLimits, pack_of
 from ..packs.reading import PACKS, NoMember, open_file, open_pack
 from ..source import Page
 from .folders import Place, Replaced, is_gone, opened, reason
-from .rows import FolderFiles
-from .schemas import File
-from .tables import CHANGED, MAX_NUMBER, NOT_A_FILE, READ, TOO_LONG, UNREADABLE, VANISHED, hashed
+from .protocol import FolderFiles
+from .tables import CHANGED, MAX_NUMBER, NOT_A_FILE, READ, TOO_LONG, UNREADABLE, VANISHED, File, hashed
 
 FLAGS = os.O_RDONLY | os.O_NOFOLLOW | os.O_NONBLOCK | os.O_CLOEXEC | os.O_NOCTTY
 PIECE = 1 << 20
@@ -153,16 +151,16 @@ class _From(NamedTuple):
     why: Optional[str] = None
 
     @property
-    def told(self) -> bytes:
+    def encoded(self) -> bytes:
         """This as a name in a chunk."""
         return b"%d %d %d %d %d %d " % (self.at, self.began, *self.marks) + (self.why or "").encode("utf-8")
 
 
-def _from(told: bytes) -> Optional[_From]:
+def _from(encoded: bytes) -> Optional[_From]:
     """The same again; nothing where a pack is read from its start."""
-    if not told:
+    if not encoded:
         return None
-    *numbers, why = told.split(b" ", 6)
+    *numbers, why = encoded.split(b" ", 6)
     at, began, size, mtime_ns, ctime_ns, inode = map(int, numbers)
     return _From(at, began, (size, mtime_ns, ctime_ns, inode), why.decode("utf-8") or None)
 
@@ -175,9 +173,9 @@ class PackScan:
 
     def __init__(self, names: FolderFiles, limits: PackLimits, members: Optional[int] = None,
                  elsewhere: bool = False) -> None:
-        self.folder, path, (told,), self.identity = names
+        self.folder, path, (encoded,), self.identity = names
         self.path, self.elsewhere = pack_of(path) or b"", elsewhere
-        self.limits, self.most_members, self.start = limits, members, _from(told)
+        self.limits, self.most_members, self.start = limits, members, _from(encoded)
         self.own = File(self.folder, b"", READ)
         self.left: Optional[bytes] = None
 
@@ -204,7 +202,7 @@ class PackScan:
         for number, member in enumerate(pack.members(start.at), 1):
             yield self._seen(member)
             if number == self.most_members:
-                self.left = start._replace(at=pack.next, why=start.why or pack.why).told
+                self.left = start._replace(at=pack.next, why=start.why or pack.why).encoded
                 return
         changed = change(before, os.fstat(file.fileno()))
         if changed:

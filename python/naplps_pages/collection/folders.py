@@ -3,7 +3,7 @@ import errno
 import os
 from typing import Iterator, NamedTuple, Optional
 
-from ..packs.naming import pack_of
+from ..packs import pack_of
 
 FLAGS = os.O_RDONLY | os.O_DIRECTORY | os.O_CLOEXEC | os.O_NOCTTY
 # Bytes of a path that are given to the system at once.

@@ -14,18 +14,19 @@ from naplps.names import shown
 
 from .. import messages
 from ..console import NotWritten, Output, tell
-from . import schemas, tables, texts
-from .canon_tables import CANON_TABLES
+from . import tables, texts
 from .folders import join, reason
-from .kinds import Count, Hash, Name, PageState, Path, RefusalNumber, Text, columns
+from .kept import CANON_TABLES
 from .printing import numbered
 from .progress import Progress, Stopping
-from .schemas import Answered, Cured, Fault, File, Folder, PageText, Root, StoredRun, Terms, listed, marks, taken_over
 from .sources import Source, Sources, lacking, require_apart
 from .status import Counts, counted
 from .store import StoreFailed, attach, keep_private, open_to_write, path_of
 from .store_files import INDEX, JOURNAL, LOG, MADE, Busy, Lock, place, require_own
-from .tables import NO_ANSWER, UNREADABLE
+from .tables import (
+    NO_ANSWER, UNREADABLE, Answered, Count, Cured, Fault, File, Folder, Hash, Name, PageState, PageText, Path,
+    RefusalNumber, Root, StoredRun, Terms, Text, columns, listed, marks, taken_over,
+)
 
 OWN = "SELECT own, ?, id FROM pages ORDER BY own"
 STORED_ANSWER = f"""SELECT t.version, t.budget, p.state, p.number, p.left_out, p.place, p.entries, p.canon, p.canon_size
@@ -81,16 +82,16 @@ class StoredAnswer(NamedTuple):
     answer: AnswerUnder
 
     @property
-    def told(self) -> str:
+    def line(self) -> str:
         """This for people, after the store and a file."""
         answer = self.answer
         if answer.entries is not None and answer.canon is not None:
-            said = f"{Accepted(answer.entries).line}, canonical {answer.canon.hex()}"
+            answered = f"{Accepted(answer.entries).line}, canonical {answer.canon.hex()}"
         else:
             fault = next((row.name for row in self.source.rows(FAULT, FaultName, (answer.number,))), "")
-            said = Refusal(answer.number or 0, fault, answer.left_out, answer.place or 0).line
+            answered = Refusal(answer.number or 0, fault, answer.left_out, answer.place or 0).line
         names = [shown(os.fsdecode(join(*row))) for row in self.source.rows(NAME, FileName, (self.page,))]
-        return ": ".join([shown(self.source.path), *names, said])
+        return ": ".join([shown(self.source.path), *names, answered])
 
 
 def differing(sources: Sequence[Source], progress: Progress,
@@ -182,7 +183,7 @@ class Joining:
             self._rows(source, terms, runs)
         if any(source.has_words for source in self.sources):
             texts.make(self.connection)
-        self.connection.executescript(schemas.INDICES)
+        self.connection.executescript(tables.INDICES)
         return self._counts()
 
     def _terms(self, source: Source) -> Dict[int, int]:
@@ -230,11 +231,11 @@ class Joining:
         attach(self.connection, source.path, "part")
         try:
             self.connection.execute("BEGIN")
-            is_earlier = source.schema == schemas.EARLIER
+            is_earlier = source.schema == tables.EARLIER
             pages, cures = (_columns(row, table if is_earlier else "") for row, table in (
                 (Answered, "pages"), (Cured, "cures")))
-            for option in schemas.OPTIONS:
-                self.connection.execute(schemas.keep(option, "part"))
+            for option in tables.OPTIONS:
+                self.connection.execute(tables.keep(option, "part"))
             for table in CANON_TABLES:
                 self.connection.execute(KEEP, (table.option,))
                 table.join(self.connection)
@@ -262,14 +263,14 @@ class Joining:
 
 def _columns(row: type, earlier: str) -> str:
     """The columns of a row; of a table of the schema before, if it is one, as they are by the rules of now."""
-    others = schemas.unknown(earlier)
+    others = tables.unknown(earlier)
     return ", ".join(others.get(column.name, column.name) for column in columns(row))
 
 
 def _as(column: str, numbers: Dict[int, int]) -> str:
     """What gives the numbers here in place of those of a store, in SQL."""
     usual = max(numbers.values(), default=0)
-    others = ["WHEN %d THEN %d" % each for each in numbers.items() if each[1] != usual]
+    others = [f"WHEN {old} THEN {number}" for old, number in numbers.items() if number != usual]
     return f"CASE {column} {' '.join(others)} ELSE {usual} END" if others else str(usual)
 
 
@@ -299,7 +300,7 @@ def merge(into: str, paths: Sequence[str], unfinished: bool) -> bool:
     stopping.act()
     assert counts is not None
     output = Output(sys.stdout.buffer)
-    output.line(counts.told(f"from {numbered(len(sources), 'store')}"))
+    output.line(counts.summary(f"from {numbered(len(sources), 'store')}"))
     output.flush()
     return not faults
 
@@ -356,7 +357,7 @@ def _require_same(into: str, sources: List[Source], stopping: Stopping) -> None:
     try:
         for number, (one, other) in enumerate(differing(sources, progress, lambda: stopping.number is not None), 1):
             if number <= MAX_TOLD:
-                progress.tell(messages.ANSWERS_DIFFER.format(one=one.told, other=other.told))
+                progress.tell(messages.ANSWERS_DIFFER.format(one=one.line, other=other.line))
     finally:
         progress.clear()
     if number:

@@ -10,16 +10,15 @@ from naplps.treating.treatments import graded
 from .. import messages
 from ..console import FAILED, Output, tell
 from ..near_keys import FORM, PREFIX
-from ..near_pages import show
 from ..nearness import (
     COLOURS, MOST_ENTRIES, PLACES, WORDS, Beginning, Difference, ListedPage, PageName, beginnings, difference,
-    numbers_of,
+    numbers_of, show,
 )
 from .canon_filling import CanonFilling
-from .canon_tables import NEAR_KEYS, WITH_COPIES
 from .folders import Place
-from .kinds import Hash, ListKey, ListWords, Name, Path, PrefixKeys, Text, checked
-from .rows import WorkerOptions
+from .kept import NEAR_KEYS, WITH_COPIES, ListKey, ListWords, PrefixKeys
+from .protocol import WorkerOptions
+from .tables import Hash, Name, Path, Text, checked
 
 FIND = ("DROP TABLE IF EXISTS temp.named", "DROP TABLE IF EXISTS temp.compared",
         f"CREATE TEMP TABLE named AS {WITH_COPIES}", "CREATE INDEX temp.named_by_canon ON named(canon)",
@@ -118,9 +117,9 @@ class NearGroups:
         return names
 
 
-def near(store: str, how: WorkerOptions, processes: int, as_objects: bool) -> int:
+def near(store: str, options: WorkerOptions, processes: int, as_objects: bool) -> int:
     """Prints what is near in a store; the status. Raises StoreFailed or sqlite3.Error."""
-    it = CanonFilling(NEAR_KEYS, store, lambda: how, processes).filled()
+    it = CanonFilling(NEAR_KEYS, store, lambda: options, processes).filled()
     if it is None:
         return FAILED
     _print(it.connection, as_objects)

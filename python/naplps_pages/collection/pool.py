@@ -11,10 +11,9 @@ from multiprocessing.connection import Connection, wait
 from typing import Deque, FrozenSet, Iterator, List, NamedTuple, Optional, Sequence, Set, Tuple
 
 from .. import interpreter, messages
-from ..packs.naming import pack_of
-from .rows import ALIVE, DONE, FAILED, MAX_AHEAD, Chunk, Piece, WorkerOptions, received
-from .schemas import File
-from .tables import UNREADABLE
+from ..packs import pack_of
+from .protocol import DONE, FAILED, MAX_AHEAD, ROWS, Chunk, Row, RowBlock, WorkerOptions, block_of
+from .tables import UNREADABLE, File
 
 MAIN = "naplps_pages.collection.worker"
 # The number of chunks of a worker at a time, so that it needn't wait for the next. They fit into its socket's buffer,
@@ -49,7 +48,7 @@ class Task(NamedTuple):
 
 
 class Workers(ABC):
-    """Workers that turn chunks into pieces, on this machine or on others; `retry` are tasks that have to be sent again,
+    """Workers that turn chunks into blocks, on this machine or on others; `retry` are tasks that have to be sent again,
     and `retried` chunks of one file that are so, since their worker failed. A chunk has no more than a number of files,
     and of bytes of names."""
 
@@ -59,7 +58,7 @@ class Workers(ABC):
         self.retry: Deque[Task] = deque()
         self.retried: Set[Chunk] = set()
 
-    def run(self, chunks: Iterator[Chunk]) -> Iterator[Optional[Piece]]:
+    def run(self, chunks: Iterator[Chunk]) -> Iterator[Optional[RowBlock]]:
         """Yields what comes of the chunks, which are taken as needed, and now and then None while nothing comes.
 
         A chunk of nothing says that the next may take a while to be found. Raises WorkersFailed.
@@ -90,20 +89,20 @@ class Workers(ABC):
         """Sends a chunk to a worker."""
 
     @abstractmethod
-    def receive(self, seconds: float) -> Iterator[Optional[Piece]]:
+    def receive(self, seconds: float) -> Iterator[Optional[RowBlock]]:
         """What workers have sent, or nothing where none has in that time. What one had that failed is sent again."""
 
     @abstractmethod
     def close(self) -> None:
         """Ends the workers, or leaves them."""
 
-    def set_options(self, how: WorkerOptions) -> None:
+    def set_options(self, options: WorkerOptions) -> None:
         """Asks of the workers what the store keeps to."""
 
-    def lost(self, chunk: Chunk, reason: str) -> Iterator[Piece]:
+    def lost(self, chunk: Chunk, reason: str) -> Iterator[RowBlock]:
         """Tries a chunk of one file once more whose worker failed, which may be by chance; the second time, its row."""
         if chunk in self.retried:
-            yield (File(chunk[0].folder, chunk[0].names[0], UNREADABLE, reason),), ()
+            yield block_of(((File(chunk[0].folder, chunk[0].names[0], UNREADABLE, reason),), ()))
         else:
             self.retried.add(chunk)
             self.retry.appendleft(Task(chunk))
@@ -146,20 +145,21 @@ class WorkerHandle:
         self.chunks.append(chunk)
         self.connection.send(chunk)
 
-    def receive(self) -> Optional[Piece]:
-        """The next piece that it sends; nothing where it says something else. Raises EOFError where it has ended."""
+    def receive(self) -> Optional[RowBlock]:
+        """The next block that it sends; nothing where it says something else. Raises EOFError where it has ended."""
         what, value = self.connection.recv()
         self.received_at, self.has_started = time.monotonic(), True
+        if what == FAILED:
+            self.reason = messages.WORKER_FAILED.format(reason=value)
+        if what not in (ROWS, DONE):
+            return None
+        block = RowBlock._make(value)
         if what == DONE:
             self.chunks.popleft()
             self.reported = 0
-        elif what == FAILED:
-            self.reason = messages.WORKER_FAILED.format(reason=value)
-        elif what != ALIVE:
-            piece = received(value)
-            self.reported += _reported(self.chunks[0], piece[0])
-            return piece
-        return None
+        else:
+            self.reported += _reported(self.chunks[0], block.files)
+        return block
 
     def has_room(self) -> bool:
         """Whether it should have another chunk: not after a pack, which may take long."""
@@ -170,7 +170,7 @@ class WorkerHandle:
         chunks = tuple(self.chunks)
         return (_behind(chunks[0], self.reported),) + chunks[1:] if chunks else ()
 
-    def how_it_ended(self) -> str:
+    def end_reason(self) -> str:
         """Why it ended, which it has."""
         try:
             status = self.process.wait(GRACE)
@@ -223,7 +223,7 @@ class Pool(Workers):
         except OSError:
             pass  # it has ended, as is received
 
-    def receive(self, seconds: float) -> Iterator[Optional[Piece]]:
+    def receive(self, seconds: float) -> Iterator[Optional[RowBlock]]:
         """What workers have sent, or nothing where none has in that time. One that has ended or hangs is replaced."""
         busy = [worker for worker in self.workers if worker.chunks]
         ready = wait([worker.connection for worker in busy], seconds if busy else 0)
@@ -237,18 +237,18 @@ class Pool(Workers):
         if not ready:
             yield None
 
-    def _receive(self, worker: WorkerHandle) -> Iterator[Piece]:
+    def _receive(self, worker: WorkerHandle) -> Iterator[RowBlock]:
         try:
-            piece = worker.receive()
+            block = worker.receive()
         except (EOFError, OSError):
             yield from self._replace(worker)
             return
-        if piece:
-            yield piece
+        if block:
+            yield block
 
-    def _replace(self, worker: WorkerHandle) -> Iterator[Piece]:
+    def _replace(self, worker: WorkerHandle) -> Iterator[RowBlock]:
         """Replaces a worker that has ended. The files that it may have been at are tried one by one, and then again."""
-        reason = worker.how_it_ended()
+        reason = worker.end_reason()
         self.failed_starts = 0 if worker.has_started else self.failed_starts + 1
         if self.failed_starts >= MAX_FAILED_STARTS:
             raise NoWorkers(messages.NO_WORKERS.format(reason=reason))
@@ -284,9 +284,9 @@ def _is_pack(chunk: Chunk) -> bool:
     return pack_of(chunk[0].path) is not None
 
 
-def _reported(chunk: Chunk, files: Sequence[File]) -> int:
+def _reported(chunk: Chunk, files: Sequence[Row]) -> int:
     """How many names of the chunk these files tell of: of a pack that is its own row alone."""
-    return sum(1 for file in files if not file.name) if _is_pack(chunk) else len(files)
+    return sum(not File(*file).name for file in files) if _is_pack(chunk) else len(files)
 
 
 def count(chunk: Chunk) -> int:

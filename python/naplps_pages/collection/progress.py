@@ -11,7 +11,7 @@ from types import FrameType, TracebackType
 from typing import Any, Callable, Dict, Iterable, Iterator, Optional, TextIO, Type, TypeVar
 
 from ..console import tell
-from ..packs.naming import is_pack
+from ..packs import is_pack
 from .kept import Part, below
 
 # The steps of SQLite between two looks whether there was one.

@@ -7,31 +7,30 @@ import stat
 import sys
 from collections import Counter
 from dataclasses import dataclass, replace
-from typing import Counter as Counts
+from operator import itemgetter
 from typing import Dict, FrozenSet, Iterator, List, Optional, Protocol, Sequence, Tuple, Union
+from typing import Counter as Counts
 
 from naplps.answers import Unanswered
-from naplps.client import Client
+from naplps.client import Client, version
 from naplps.limits import MOST_PAGE, Limits
 from naplps.names import shown
-from naplps.program import version
 
 from .. import messages
 from ..console import COMPLETE, FAILED, SOME_LACK, Output, tell
-from ..packs.member import NO_FILE, SEVERAL
+from ..packs import NO_FILE, SEVERAL
 from ..unexpected import Unexpected
-from . import tables, texts
-from .store_files import LOG, Busy, Lock
-from .canon_tables import CANON_TABLES
-from .status import counted
+from . import texts
 from .folders import absolute, is_gone, join, reason
-from .kept import KEEPS_TO, Part, keep, keep_part
-from .search import MAX_BROKEN, Scope, Search, apart, broken, hidden
+from .kept import CANON_TABLES, KEEPS_TO, Part, keep, keep_part
 from .pool import MAIN, ClusterFailed, NoWorkers, Pool, Workers, WorkersFailed
 from .progress import Counting, Progress, Stopping
-from .rows import Chunk, FolderFiles, Piece, WorkerOptions
-from .schemas import INDICES, Answered, File, Terms
+from .protocol import Chunk, FolderFiles, RowBlock, WorkerOptions
+from .search import MAX_BROKEN, Scope, Search, apart, broken, hidden
+from .status import counted
 from .store import StoreFailed, checkpoint, keep_log, keep_private, open_to_write
+from .store_files import LOG, Busy, Lock
+from .tables import INDICES, CanonValues, File, Terms
 from .writer import Writer
 
 # A worker that is silent for so long, beside the time of two answers, hangs.
@@ -39,6 +38,7 @@ PATIENCE = 60.0
 FORM = re.compile(r"canonical form ([0-9A-Za-z. ]+)")
 # How long is waited at the end for who reads the store, in seconds.
 READERS = 5.0
+name_of = itemgetter(File._fields.index("name"))
 # What may go wrong beside faults of the tool.
 EXPECTED = (OSError, sqlite3.Error, WorkersFailed, StoreFailed)
 
@@ -54,8 +54,8 @@ class Beside(Protocol):
     first: Tuple[object, ...]
     anew: Tuple[object, ...]
 
-    def take(self, answers: Sequence[Answered]) -> None:
-        """Takes what workers found."""
+    def take(self, values: Sequence[Tuple[bytes, CanonValues]]) -> None:
+        """Takes what workers found, by the hashes of pages."""
 
     def write(self) -> None:
         """Keeps what was taken. The rows of these pages are written into the store after that alone."""
@@ -68,7 +68,7 @@ class ScanOptions:
     folders: List[str]
     store: str
     processes: int
-    how: WorkerOptions
+    worker: WorkerOptions
     part: Optional[Part] = None
     on: Optional[str] = None
     beside: Optional[Beside] = None
@@ -76,23 +76,23 @@ class ScanOptions:
     refused: Optional[FrozenSet[str]] = None
 
 
-def terms_of(how: WorkerOptions) -> Terms:
+def terms_of(options: WorkerOptions) -> Terms:
     """The terms of the program's answers. Raises OSError, or ValueError where it gives none."""
-    limits = Limits(seconds=how.seconds)
-    with open(how.program, "rb") as file:
+    limits = Limits(seconds=options.seconds)
+    with open(options.program, "rb") as file:
         hashed = hashlib.sha256()
         for piece in iter(lambda: file.read(1 << 20), b""):
             hashed.update(piece)
-    client = Client(how.program, how.budget, limits)
+    client = Client(options.program, options.budget, limits)
     try:
         answer = client.hash_canon([b""])[0].answer
     finally:
         client.close()
     if isinstance(answer, Unanswered):
         raise ValueError(answer.reason)
-    told = version(how.program, limits)
-    form = FORM.search(told)
-    return Terms(told, hashed.digest(), form[1] if form else "unknown", how.budget)
+    text = version(options.program, limits)
+    form = FORM.search(text)
+    return Terms(text, hashed.digest(), form[1] if form else "unknown", options.budget)
 
 
 def scan(options: ScanOptions) -> int:
@@ -109,10 +109,10 @@ def scan(options: ScanOptions) -> int:
 def scanned(options: ScanOptions) -> "Union[ScanRun, int]":
     """Scans folders into a store; what that came to, or a status where it didn't come to its end."""
     try:
-        terms = terms_of(options.how)
+        terms = terms_of(options.worker)
     except (OSError, ValueError) as error:
         why = reason(error) if isinstance(error, OSError) else str(error)
-        tell(f"{shown(options.how.program)}: {why}")
+        tell(f"{shown(options.worker.program)}: {why}")
         return FAILED
     cluster: Optional[Workers] = None
     try:
@@ -124,7 +124,7 @@ def scanned(options: ScanOptions) -> "Union[ScanRun, int]":
             return SOME_LACK  # (a store of nothing is of no use)
         if options.on is not None:
             from .cluster import Cluster, alike  # (what few scans need, the others don't wait for)
-            cluster = Cluster(options.on, options.how, alike(terms.program_hash, roots))
+            cluster = Cluster(options.on, options.worker, alike(terms.program_hash, roots))
         with Stopping() as stopping, Lock(options.store):
             run = _scan_or_stop(options, terms, stopping, roots, cluster)
     except Busy as busy:
@@ -134,8 +134,8 @@ def scanned(options: ScanOptions) -> "Union[ScanRun, int]":
         tell(str(failed))
         return FAILED
     except (OSError, NoWorkers) as error:
-        said = reason(error) if isinstance(error, OSError) else str(error)
-        tell(f"{shown(options.store)}: {said}")
+        message = reason(error) if isinstance(error, OSError) else str(error)
+        tell(f"{shown(options.store)}: {message}")
         return FAILED
     finally:
         if cluster:
@@ -175,14 +175,14 @@ def _scan(options: ScanOptions, terms: Terms, stopping: Stopping, roots: List[by
     connection = open_to_write(options.store)
     try:
         keep_part(connection, options.store, options.part, roots)
-        wanted = keep(connection, options.how.wanted, options.refused)
+        retry = keep(connection, options.worker.retry, options.refused)
         for name in sorted(options.refused or ()):
-            if getattr(wanted, name):
+            if getattr(retry, name):
                 tell(f"{shown(options.store)}: {KEEPS_TO[name]}")
-        options = replace(options, how=options.how._replace(wanted=wanted))
+        options = replace(options, worker=options.worker._replace(retry=retry))
         if cluster:
-            cluster.set_options(options.how)
-        if options.how.wanted.words or options.how.wanted.near:
+            cluster.set_options(options.worker)
+        if options.worker.retry.words or options.worker.retry.near:
             keep_private(connection)
         if not keep_log(connection):
             tell(messages.NO_LOG.format(path=shown(options.store)))
@@ -190,10 +190,10 @@ def _scan(options: ScanOptions, terms: Terms, stopping: Stopping, roots: List[by
         progress = Progress(sys.stderr, lambda: counting.total)
         if progress.terminal:
             counting.start()
-        if options.how.wanted.words:
+        if options.worker.retry.words:
             with stopping.ends(connection):
                 _keep_words(connection, options.store)
-        writer = Writer(connection, os.fsencode(options.how.program), terms, options.beside is not None)
+        writer = Writer(connection, os.fsencode(options.worker.program), terms, options.beside is not None)
         run = ScanRun(options, writer, progress, stopping, cluster)
         try:
             run.scan(roots)
@@ -227,7 +227,7 @@ class ScanRun:
                  workers: Optional[Workers] = None) -> None:
         self.options, self.writer, self.progress, self.stopping = options, writer, progress, stopping
         self.workers = workers or self._pool(options.beside.first if options.beside else ())
-        scope = Scope(options.how.wanted, hidden(options.store), min(options.how.most, MOST_PAGE), options.part,
+        scope = Scope(options.worker.retry, hidden(options.store), min(options.worker.most, MOST_PAGE), options.part,
                       self.workers.max_files, self.workers.max_names)
         self.search = Search(writer, scope, self._complain)
         self.found = 0
@@ -239,8 +239,10 @@ class ScanRun:
         """Scans, on processes of this machine if there are no other workers."""
         beside = self.options.beside
         self._work(self.workers, self.search.chunks(roots))
-        if beside and self.writer.files and self.stopping.number is None:
-            self._work(self._pool(beside.anew), iter(self._waiting()))
+        if beside and self.stopping.number is None:
+            waiting = self._waiting()
+            if waiting:
+                self._work(self._pool(beside.anew), iter(waiting))
         try:
             with self.stopping.ends(self.writer.connection):
                 if self.stopping.number is None:
@@ -253,15 +255,15 @@ class ScanRun:
 
     def _pool(self, more: Tuple[object, ...]) -> Pool:
         """Workers of this machine."""
-        first = (self.options.how, self.options.store, self.writer.terms, self.writer.run, *more)
+        first = (self.options.worker, self.options.store, self.writer.terms, self.writer.run, *more)
         module = self.options.beside.module if self.options.beside else MAIN
-        return Pool(self.options.processes, first, PATIENCE + 2 * self.options.how.seconds, module)
+        return Pool(self.options.processes, first, PATIENCE + 2 * self.options.worker.seconds, module)
 
     def _work(self, workers: Workers, chunks: Iterator[Chunk]) -> None:
         """Takes what workers find in the files of these chunks, until it is to stop."""
         try:
-            for piece in workers.run(chunks):
-                self._take(piece)
+            for block in workers.run(chunks):
+                self._take(block)
                 if self.stopping.number is not None:
                     break
         except WorkersFailed as failed:
@@ -277,7 +279,7 @@ class ScanRun:
         names: Dict[int, List[bytes]] = {}
         for file in self.writer.files:
             names.setdefault(file.folder, []).append(file.name)
-        self.writer.files = []
+        self.writer.forget()
         chunks: List[Chunk] = []
         for folder, some in names.items():
             path, = self.writer.connection.execute("SELECT path FROM folders WHERE id = ?", (folder,)).fetchone()
@@ -288,10 +290,10 @@ class ScanRun:
         """Makes the values of pages in those tables that are asked for, where the scan came to its end."""
         options, connection = self.options, self.writer.connection
         for table in CANON_TABLES if self.line else ():
-            if getattr(options.how.wanted, table.option) and self.stopping.number is None:
+            if getattr(options.worker.retry, table.option) and self.stopping.number is None:
                 from .canon_filling import CanonPass
                 table.make(connection)
-                values = CanonPass(table, connection, options.store, options.how, options.processes)
+                values = CanonPass(table, connection, options.store, options.worker, options.processes)
                 self.status = max(self.status, values.run(self.stopping))
                 if self.stopping.number is not None:
                     tell(messages.SCAN_WAS_STOPPED)
@@ -301,14 +303,14 @@ class ScanRun:
         """The file that was written or searched last."""
         return os.fsdecode(self.writer.at_work or self.search.path or os.fsencode(self.options.store))
 
-    def _take(self, piece: Optional[Piece]) -> None:
-        if piece:
-            self.found += sum(1 for file in piece[0] if file.name)
-            self.writer.take(piece)
+    def _take(self, block: Optional[RowBlock]) -> None:
+        if block:
+            self.found += sum(map(bool, map(name_of, block.files)))
+            self.writer.take(block)
             if self.options.beside:
-                self.options.beside.take(piece[1])
-            for file, why in _lacking(piece):
-                self._complain_of(file.folder, file.name, why)
+                self.options.beside.take(block.values)
+            for folder, name, why in block.unread:
+                self._complain_of(folder, name, why)
         if self.writer.is_due:
             self._write()
         self.progress.show(self.search.known + self.found)
@@ -349,14 +351,3 @@ class ScanRun:
         counts = counted(writer.connection, writer.run)
         writer.finish(counts.met, counts.asked)
         self.line = counts.line(self.search.known)
-
-
-def _lacking(piece: Piece) -> Iterator[Tuple[File, str]]:
-    """The files of a piece about which something couldn't be known, and why."""
-    files, answers = piece
-    reasons = {each.own: each.why for each in answers if each.state == tables.NO_ANSWER and each.why}
-    for file in files:
-        if file.state in (tables.UNREADABLE, tables.CHANGED):
-            yield file, file.why or ""
-        elif reasons and file.own in reasons:
-            yield file, reasons[file.own]

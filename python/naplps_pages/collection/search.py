@@ -8,15 +8,16 @@ import stat
 from typing import Callable, Dict, FrozenSet, Iterable, Iterator, List, Mapping, NamedTuple, Optional, Tuple
 
 from .. import messages
-from ..packs.member import NO_FILE
-from ..packs.naming import inside, is_pack, pack_of
+from ..packs import NO_FILE, inside, is_pack, pack_of
 from .file_reader import Marks, marks
 from .folders import FolderIdentity, identity_of, is_gone, is_within, join, opened, reason
 from .kept import Part, below
-from .kinds import Count, FileState, Flag, Name, Number, Path, Text, checked, one
-from .rows import AskAgain, Chunk, FolderFiles
+from .protocol import Chunk, FolderFiles, Retry
 from .store_files import ENDINGS
-from .tables import GONE, READ, SETTLED, TOO_LONG, UNREADABLE, VANISHED
+from .tables import (
+    GONE, READ, SETTLED, TOO_LONG, UNREADABLE, VANISHED, Count, FileState, Flag, Name, Number, Path, Text, checked,
+    one,
+)
 from .writer import Writer
 
 # Each row of a folder has its whole path, so a deep one would cost the square of its depth.
@@ -271,7 +272,7 @@ class Scope(NamedTuple):
     A chunk has at most a number of files, and of bytes of names.
     """
 
-    wanted: AskAgain
+    retry: Retry
     hides: Hidden
     most: int
     part: Optional[Part]
@@ -322,9 +323,9 @@ class Search:
             if is_root:
                 why = listing.why or self._emptied(listing)
                 self.writer.root(root, why)
-            told = why if is_root else listing.why
-            if told and (is_root or listing.state == UNREADABLE):
-                self.tell(listing.path, told)
+            fault = why if is_root else listing.why
+            if fault and (is_root or listing.state == UNREADABLE):
+                self.tell(listing.path, fault)
             if self.scope.part:
                 listing = listing._replace(names=self.scope.part.names(below(root, listing.path), listing.names))
             folder, was_known = self.writer.folder(listing.path, listing.state, listing.why)
@@ -371,7 +372,7 @@ class Search:
         self.path = path
         folder, was_known = self.writer.folder(inside(path), READ, None)
         known: Optional[PackState] = None
-        if was_known and not self.scope.wanted.again:
+        if was_known and not self.scope.retry.again:
             known = settled(self.writer.connection, folder, self._marks(name, descriptor),
                             self._asked, self.scope.most)
         if known is None:
@@ -384,7 +385,7 @@ class Search:
     @property
     def _asked(self) -> Dict[str, object]:
         """The parameters of SETTLED."""
-        return {"terms": self.writer.terms, "cures": self.scope.wanted.cures, "words": self.scope.wanted.words}
+        return {"terms": self.writer.terms, "cures": self.scope.retry.cures, "words": self.scope.retry.words}
 
     def _marks(self, name: bytes, descriptor: Optional[int]) -> Optional[Marks]:
         """The marks of a pack by its name in a folder; a link is followed, since one may be named."""
@@ -409,7 +410,7 @@ class Search:
             if row is None or row.name != name:
                 yield name
                 continue
-            if not self.scope.wanted.again and row.settled and self._is_as_it_was(row, listing.descriptor):
+            if not self.scope.retry.again and row.settled and self._is_as_it_was(row, listing.descriptor):
                 self.known += 1
                 if self.known % QUIET_FILES == 0:
                     yield None

@@ -5,31 +5,29 @@ Look draws readable copies in place of refused pages, and leaves out what draws 
 import os
 import sqlite3
 from argparse import Namespace
-from dataclasses import dataclass, field
-from typing import TYPE_CHECKING, Callable, Iterator, List, NamedTuple, Optional, Sequence, Type
+from dataclasses import dataclass
+from typing import TYPE_CHECKING, Any, Callable, Iterator, List, NamedTuple, Optional, Sequence, Type
 
 from naplps.answers import Refusal
 from naplps.client import Client
 from naplps.names import shown
-from naplps.treating.search import find
-from naplps.treating.treatments import graded
+from naplps.treating.treatments import find, graded
 
 from .. import console, messages
 from ..console import NotWritten, tell
 from ..listing import Listed
 from ..new_files import make_folders
-from ..packs.naming import pack_of
+from ..packs import pack_of
 from ..page_session import Session
-from ..sheet import MOST_PAGES
+from ..pictures import MOST_PAGES
 from ..source import Page, Unread
-from .equal_run import most_budget
 from .file_reader import Otherwise, read
 from .folders import Place, is_within
 from .kept import RootPath
-from .kinds import Count, Hash, Name, Path, Text, checked
 from .printing import numbered
+from .sources import most_budget
 from .store import kept, open_to_read, run
-from .tables import CAPTURE, REFUSED, hashed
+from .tables import CAPTURE, REFUSED, Count, Hash, Name, Path, Text, checked, hashed
 
 if TYPE_CHECKING:
     from ..listing import Earlier
@@ -121,26 +119,24 @@ def _below(path: bytes, root: bytes) -> Optional[bytes]:
     return os.path.basename(path) if path == root else None
 
 
-@dataclass
 class StoreSession(Session):
     """One run of a command on the files of a store."""
 
-    files: Iterator[StoredFile] = field(default_factory=lambda: iter(()))
-    stored: Optional[Names] = None
     current: Optional[StoredFile] = None
-    store: str = ""
+
+    def __init__(self, program: Client, names: List[str], files: Iterator[StoredFile], stored: Names,
+                 **options: Any) -> None:
+        super().__init__(program, names, **options)
+        self.files, self.stored, self.store = files, stored, names[0]
+        self.reader = self._read
 
     def front(self, name: str) -> str:
         """What stands before the answer to a page: its name."""
         return f"{shown(name)}: "
 
-    def __post_init__(self) -> None:
-        self.store = self.names[0]
-        self.reader = self._read
-
     def title(self, page: Page) -> str:
         """Its name below the folders that were scanned."""
-        assert self.current and self.stored
+        assert self.current
         return shown(self.stored.of(self.current.place))
 
     def each(self, work: Callable[[Page], None], more: Sequence[str] = ()) -> int:
@@ -179,7 +175,7 @@ class StoreSession(Session):
 
     def path_for(self, name: str, ending: str = "") -> str:
         """The path of the file for a page, in the folder that is given. Raises NotWritten."""
-        assert self.into is not None and self.current and self.stored
+        assert self.into is not None and self.current
         path = self.stored.of(self.current.place) + ending
         make_folders(self.into, path)
         return os.path.join(self.into, path)
@@ -217,12 +213,14 @@ class LookCounts:
         return ", ".join(some) + ("; left out: " + ", ".join(left) if left else "")
 
 
-@dataclass
 class LookSession(StoreSession):
     """One run of look on the files of a store."""
 
-    counts: LookCounts = field(default_factory=LookCounts)
-    is_quiet: bool = True
+    is_quiet = True
+
+    def __init__(self, *words: Any, **options: Any) -> None:
+        super().__init__(*words, **options)
+        self.counts = LookCounts()
 
     def take(self, stored: StoredFile) -> bool:
         """Whether a file is looked at: not one that is known to draw nothing, or to be of another format."""
@@ -236,15 +234,15 @@ class LookSession(StoreSession):
         """Whether there is room for another picture."""
         return self.sheet is None or self.counts.pictures < MOST_PAGES
 
-    def takes(self, told: Listed) -> bool:
+    def takes(self, listed: Listed) -> bool:
         """Whether there is anything to draw; then it is counted."""
-        if told.lines is not None and not told.lines:
+        if listed.lines is not None and not listed.lines:
             self.counts.empty += 1
             return False
         self.counts.pictures += 1
         self.counts.copies += bool(self.treated)
-        self.counts.refused += isinstance(told.answer, Refusal)
-        if isinstance(told.answer, Refusal):
+        self.counts.refused += isinstance(listed.answer, Refusal)
+        if isinstance(listed.answer, Refusal):
             self.fail(console.REFUSED)
         return True
 

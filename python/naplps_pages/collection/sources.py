@@ -1,20 +1,28 @@
-"""Stores that are read together: parts of one scan, or scans of folders that stand apart."""
+"""Stores that are read together, and groups of equal pages over them: parts of one scan, or scans of folders apart.
+
+For groups the sorted runs of hashes are merged from disk. The index of a store is such a run; where a scan was stopped
+there is none, and SQLite sorts. Of what is merged only the pages of groups are kept, in a database of temporary files,
+so memory doesn't grow with the stores.
+"""
+import heapq
+import itertools
 import os
 import resource
 import sqlite3
+import sys
 from dataclasses import dataclass, field
-from typing import Dict, Iterator, List, NamedTuple, Optional, Sequence, Tuple, Type
+from typing import Callable, Dict, Iterable, Iterator, List, NamedTuple, Optional, Sequence, Tuple, Type
 
 from naplps.names import shown
 
 from .. import messages
 from . import texts
-from .canon_tables import CANON_TABLES
-from .kinds import Count, Path, Row, Text, checked
+from .equal import EqualFile, Group, grouped
+from .kept import CANON_TABLES, Part, RootPath, kept_part
+from .progress import Progress
+from .store import StoreFailed, open_unchanged, schema_of, show_present
 from .store_files import is_held
-from .kept import Part, RootPath, kept_part
-from .schemas import require_right
-from .store import StoreFailed, open_unchanged, schema_of
+from .tables import NO_ANSWER, Count, Hash, Name, PageState, Path, Row, Text, checked, marks, require_right
 
 # What is held of all their files together, and of each at least, in KiB.
 CACHE, LEAST = 64 << 10, 64
@@ -107,11 +115,11 @@ class Sources:
 def _allow(number: int) -> None:
     """Allows this process as many open files as this number of stores need, if it may."""
     soft, hard = resource.getrlimit(resource.RLIMIT_NOFILE)
-    wanted = OTHERS + EACH * number
+    needed = OTHERS + EACH * number
     if resource.RLIM_INFINITY not in (soft, hard):
-        wanted = min(wanted, hard)
-    if soft != resource.RLIM_INFINITY and soft < wanted:
-        resource.setrlimit(resource.RLIMIT_NOFILE, (wanted, hard))
+        needed = min(needed, hard)
+    if soft != resource.RLIM_INFINITY and soft < needed:
+        resource.setrlimit(resource.RLIMIT_NOFILE, (needed, hard))
 
 
 def _opened(path: str, cache: int) -> Source:
@@ -188,3 +196,218 @@ def lacking(sources: Sequence[Source]) -> Iterator[Tuple[str, str]]:
 def _listed(missing: List[str]) -> str:
     more = f" and {len(missing) - MAX_LISTED} more" if len(missing) > MAX_LISTED else ""
     return ("part " if len(missing) == 1 else "parts ") + ", ".join(missing[:MAX_LISTED]) + more
+
+
+# Pages for which it isn't their store alone that says what counts: without an answer there, or on other terms.
+ODD = f"SELECT own FROM pages WHERE state = {NO_ANSWER} OR terms NOT IN ({{}})"
+TABLES = """
+    CREATE TABLE odd(own BLOB PRIMARY KEY) WITHOUT ROWID;
+    CREATE TABLE answers(own BLOB, store INTEGER, page INTEGER, state INTEGER, canon BLOB, form TEXT, entries INTEGER,
+        length INTEGER, PRIMARY KEY(own, store)) WITHOUT ROWID;
+    CREATE TABLE wanted(number INTEGER, canon BLOB, store INTEGER, page INTEGER, form TEXT, entries INTEGER,
+        length INTEGER);
+    CREATE TABLE found(number INTEGER, form TEXT, own BLOB, folder BLOB, name BLOB, at INTEGER, entries INTEGER,
+        length INTEGER);
+    CREATE TABLE members(number INTEGER, form TEXT, own BLOB, folder BLOB, name BLOB, at INTEGER, entries INTEGER,
+        length INTEGER, PRIMARY KEY(number, form, own, folder, name)) WITHOUT ROWID;
+"""
+ANSWERS = """SELECT p.own, ?, p.id, p.state, p.canon, t.form, p.entries, p.canon_size FROM temp.odd o
+    CROSS JOIN pages p ON p.own = o.own CROSS JOIN terms t ON t.id = p.terms"""
+# Runs: the hash of canonical bytes, the store, the page there; and of odd pages form, entries and length that count.
+RUN = "SELECT canon, ?, id, NULL, NULL, NULL FROM pages WHERE canon IS NOT NULL {} ORDER BY canon, id"
+COPIES = """SELECT p.canon, ?, p.id, NULL, NULL, NULL
+    FROM (SELECT page FROM present GROUP BY page HAVING count(*) > 1) AS m CROSS JOIN pages p ON p.id = m.page
+    WHERE p.canon IS NOT NULL {} ORDER BY p.canon, p.id"""
+NOT_ODD = "AND {} NOT IN (SELECT page FROM temp.apart)"
+# What counts for odd pages: the answer of the last store that has one.
+ANSWERED = f"""SELECT w.canon, a.store, a.page, w.form, w.entries, w.length
+    FROM answers a JOIN answers w ON w.own = a.own AND w.store =
+        (SELECT max(b.store) FROM answers b WHERE b.own = a.own AND b.state <> {NO_ANSWER})
+    WHERE w.canon IS NOT NULL ORDER BY w.canon, a.store, a.page"""
+FILES = """SELECT w.number, coalesce(w.form, t.form), p.own, d.path, f.name, f.at,
+    coalesce(w.entries, p.entries), coalesce(w.length, p.canon_size) FROM temp.wanted w
+    CROSS JOIN pages p ON p.id = w.page CROSS JOIN terms t ON t.id = p.terms CROSS JOIN present f ON f.page = p.id
+    CROSS JOIN folders d ON d.id = f.folder"""
+TERMS = """SELECT t.id, t.program_hash, t.form, t.budget FROM terms t LEFT JOIN runs r ON r.terms = t.id
+    GROUP BY t.id ORDER BY max(r.id)"""
+# (a script ends the transaction that it finds, and each row would be one)
+SORTED = """
+    CREATE TABLE canons(number INTEGER PRIMARY KEY, canon BLOB);
+    INSERT OR IGNORE INTO canons SELECT number, canon FROM wanted;
+    CREATE INDEX wanted_by_store ON wanted(store, page, number, form, entries, length);
+    BEGIN;
+"""
+GROUPS = """
+    INSERT INTO members SELECT * FROM found ORDER BY number, form, own, folder, name;
+    CREATE TABLE ranked AS SELECT number, form FROM members GROUP BY number, form HAVING {} > 1
+        ORDER BY count(DISTINCT own) DESC, count(*) DESC, number, form;
+"""
+# (found and ordered as they stand: nothing is sorted here)
+MEMBERS = """SELECT c.canon, r.form, m.entries, m.length, m.own, m.folder, m.name, m.at FROM ranked r
+    CROSS JOIN canons c ON c.number = r.number CROSS JOIN members m ON m.number = r.number AND m.form = r.form
+    ORDER BY r.rowid, m.own, m.folder, m.name"""
+
+
+class PageHash(NamedTuple):
+    """The hash of a page."""
+
+    own: Hash
+
+
+class OddAnswer(NamedTuple):
+    """What a store, by its place among the sources, says of an odd page."""
+
+    own: Hash
+    store: Count
+    page: Count
+    state: PageState
+    canon: Optional[Hash]
+    form: Text
+    entries: Optional[Count]
+    length: Optional[Count]
+
+
+class RunRow(NamedTuple):
+    """A row of a run."""
+
+    canon: Hash
+    store: Count
+    page: Count
+    form: Optional[Text]
+    entries: Optional[Count]
+    length: Optional[Count]
+
+
+class WantedFile(NamedTuple):
+    """A file of a page that is in a group, by the number of that."""
+
+    number: Count
+    form: Text
+    own: Hash
+    folder: Path
+    name: Name
+    at: Optional[Count]
+    entries: Count
+    length: Count
+
+
+class TermsNumber(NamedTuple):
+    """The number of terms in a store, and what they are."""
+
+    id: Count
+    program_hash: Hash
+    form: Text
+    budget: Count
+
+
+def groups_over(paths: Sequence[str], copies: bool, complain: Callable[[str, str], None]) -> Iterator[Group]:
+    """The groups over these stores, as `groups` of `equal` gives them of one that has all of it. Raises StoreFailed.
+
+    `complain` is given the names of stores that aren't finished, or beside which others lack, and what is so.
+    """
+    with Sources(paths) as sources:
+        require_apart(sources)
+        for path, why in lacking(sources):
+            complain(path, why)
+        work = sqlite3.connect("", isolation_level=None)  # a database of temporary files
+        try:
+            yield from grouped(_Over(work, sources, copies).files())
+        except sqlite3.Error as error:
+            raise StoreFailed(messages.TEMPORARY_FILES.format(path=shown(paths[0])), str(error)) from None
+        finally:
+            work.close()
+
+
+def most_budget(paths: Sequence[str]) -> int:
+    """The largest budget of the stores. Raises StoreFailed."""
+    with Sources(paths) as sources:
+        return max(source.number("SELECT coalesce(max(budget), 0) FROM terms") for source in sources)
+
+
+class _Over:
+    """The groups of some sources, of which later ones count more, and a database to work in."""
+
+    def __init__(self, work: sqlite3.Connection, sources: List[Source], copies: bool) -> None:
+        self.work, self.sources, self.copies = work, sources, copies
+        self.has_odd = False
+
+    def files(self) -> Iterator[EqualFile]:
+        """The files of the groups, in their order."""
+        self.work.executescript(f"PRAGMA journal_mode = OFF; PRAGMA cache_size = {-CACHE // 2}; {TABLES} BEGIN;")
+        for source in self.sources:
+            try:
+                show_present(source.connection)
+            except sqlite3.Error as error:
+                raise StoreFailed(source.path, str(error)) from None
+        self._set_apart()
+        self._choose()
+        for at, source in enumerate(self.sources):
+            _copy(self.work.execute("SELECT page, number, form, entries, length FROM wanted WHERE store = ? "
+                                    "ORDER BY page", (at,)), source,
+                  "wanted(page INTEGER PRIMARY KEY, number INTEGER, form TEXT, entries INTEGER, length INTEGER)")
+            self.work.executemany(f"INSERT INTO found VALUES({marks(WantedFile)})", source.rows(FILES, WantedFile))
+        self.work.executescript(GROUPS.format("count(*)" if self.copies else "count(DISTINCT own)"))
+        return itertools.starmap(EqualFile, self.work.execute(MEMBERS))
+
+    def _set_apart(self) -> None:
+        """Looks what counts for odd pages."""
+        all_terms = [list(source.rows(TERMS, TermsNumber)) for source in self.sources]
+        usual = [terms._replace(id=0) for some in all_terms for terms in some][-1:]
+        for source, some in zip(self.sources, all_terms):
+            numbers = [str(terms.id) for terms in some if [terms._replace(id=0)] == usual]
+            self.work.executemany("INSERT OR IGNORE INTO odd VALUES(?)", source.rows(
+                ODD.format(", ".join(numbers)), PageHash))
+        self.has_odd = self.work.execute("SELECT 1 FROM odd LIMIT 1").fetchone() is not None
+        for at, source in enumerate(self.sources if self.has_odd else ()):
+            _copy(self.work.execute("SELECT own FROM odd ORDER BY own"), source, "odd(own BLOB PRIMARY KEY)")
+            self.work.executemany(f"INSERT INTO answers VALUES({marks(OddAnswer)})", source.rows(
+                ANSWERS, OddAnswer, (at,)))
+            _copy(self.work.execute("SELECT page FROM answers WHERE store = ? ORDER BY page", (at,)), source,
+                  "apart(page INTEGER PRIMARY KEY)")
+
+    def _runs(self) -> Iterator[Iterator[RunRow]]:
+        """The runs, each sorted."""
+        for at, source in enumerate(self.sources):
+            yield source.rows(RUN.format(NOT_ODD.format("id") if self.has_odd else ""), RunRow, (at,))
+            if self.copies:
+                yield source.rows(COPIES.format(NOT_ODD.format("p.id") if self.has_odd else ""), RunRow, (at,))
+        if self.has_odd:
+            for _ in range(2 if self.copies else 1):  # (each may be that of several files)
+                yield map(RunRow._make, self.work.execute(ANSWERED))
+
+    def _choose(self) -> None:
+        """Merges the runs, and notes the pages of hashes that are there twice."""
+        total = sum(source.number("SELECT count(*) FROM pages") for source in self.sources)
+        progress = Progress(sys.stderr, lambda: total, what="pages")
+        self.work.executemany(f"INSERT INTO wanted VALUES({marks(RunRow, 1)})",
+                              _several(progress.through(heapq.merge(*self._runs()))))
+        progress.clear()
+        self.work.executescript(SORTED)
+
+
+def _several(rows: Iterable[RunRow]) -> Iterator[Tuple[object, ...]]:
+    """The rows of runs, in order, whose hash is there twice: each once, after a number of the hash, in its order."""
+    number = 0
+    last: Optional[RunRow] = None
+    is_first = False
+    for row in rows:
+        if last is None or row.canon != last.canon:
+            is_first = True
+        else:
+            if is_first:
+                number += 1
+                yield (number, *last)
+                is_first = False
+            if row != last:
+                yield (number, *row)
+        last = row
+
+
+def _copy(rows: Iterable[Tuple[object, ...]], source: Source, table: str) -> None:
+    """Puts rows into a temporary table of a source, which is made."""
+    try:
+        source.connection.execute(f"CREATE TEMP TABLE {table}")
+        marks = ", ".join("?" * (table.count(",") + 1))
+        source.connection.executemany(f"INSERT INTO temp.{table.split('(')[0]} VALUES({marks})", rows)
+    except sqlite3.Error as error:
+        raise StoreFailed(source.path, str(error)) from None

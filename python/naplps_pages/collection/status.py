@@ -7,12 +7,11 @@ from typing import Dict, List, NamedTuple, Optional, Sequence, Tuple, TypeVar
 from naplps.names import Members, as_json, shown
 
 from . import tables
-from .canon_tables import CANON_TABLES
-from .kept import Part, kept, kept_part, lacking
-from .kinds import Count, FileState, Flag, Name, PageKind, PageState, Path, Text, checked, one
+from .kept import CANON_TABLES, Part, kept, kept_part, lacking
 from .printing import Printer, numbered
 from .store import log_of
 from .store_files import LOG, is_held
+from .tables import Count, FileState, Flag, Name, PageKind, PageState, Path, Text, checked, one
 
 Key = TypeVar("Key")
 # Files in folders that the run read, those that it missed, and those that were named by themselves, by their states.
@@ -61,10 +60,10 @@ class Counts(NamedTuple):
 
     def line(self, known: int) -> str:
         """The counts of a scan for people, with the number of those that were known."""
-        return self.told(f"{known} known, {numbered(self.asked, 'page')} asked about")
+        return self.summary(f"{known} known, {numbered(self.asked, 'page')} asked about")
 
-    def told(self, how: str) -> str:
-        """The counts for people, and in their midst how they came."""
+    def summary(self, origin: str) -> str:
+        """The counts for people, and in their midst where they come from."""
         parts = ["%d %s" % (self.pages.get(state, 0), tables.PAGE_STATES[state])
                  for state in (tables.ACCEPTED, tables.REFUSED)]
         if self.pages.get(tables.ACCEPTED):
@@ -74,7 +73,7 @@ class Counts(NamedTuple):
         if self.pages.get(tables.NO_ANSWER):
             parts.append(f"{self.pages[tables.NO_ANSWER]} without an answer")
         parts += [f"{self.files[state]} {word}" for state, word in WORDS.items() if self.files.get(state)]
-        line = f"{numbered(self.met, 'file')}: {', '.join(parts)}; {how}"
+        line = f"{numbered(self.met, 'file')}: {', '.join(parts)}; {origin}"
         if self.files.get(tables.GONE):
             line += f"; {self.files[tables.GONE]} gone"
         if self.packs:
@@ -114,7 +113,8 @@ def counted(connection: sqlite3.Connection, run: int) -> Counts:
 
 
 def _one(connection: sqlite3.Connection, words: str, values: Tuple[int, ...]) -> int:
-    return int(connection.execute(words, values).fetchone()[0])
+    number, = connection.execute(words, values).fetchone()
+    return int(number)
 
 
 COLUMNS = ["what", "value"]

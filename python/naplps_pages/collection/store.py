@@ -3,7 +3,7 @@ import os
 import sqlite3
 import stat
 import time
-from typing import Callable, Iterator, Optional, Set, Type
+from typing import Callable, Dict, Iterator, Optional, Set, Type
 
 from naplps.faults import NoProgram
 from naplps.names import printable, shown
@@ -11,11 +11,10 @@ from naplps.version import VERSION
 
 from .. import TOOL, messages
 from ..console import FAILED, NotWritten, tell
-from ..unexpected import Unexpected, told
-from . import canon_tables, schemas, tables, texts
-from .canon_tables import NEAR_KEYS
-from .kinds import Row, checked
+from ..unexpected import Unexpected, failure_message
+from . import tables
 from .store_files import APPLICATION, LOG, foreign, is_held, place
+from .tables import Row, checked
 
 # A reader may hold a store that has only a rollback journal so long, in seconds.
 PATIENCE = 60
@@ -57,13 +56,14 @@ def reader(path: str) -> sqlite3.Connection:
 def open_to_read(path: str) -> sqlite3.Connection:
     """The store, to be read. Raises StoreFailed or sqlite3.Error.
 
-    Until a scan came to its end there are no indices: then the queries go to copies that have some.
+    What a scan that was killed left to be done is done now. Where that can't be, as while a first scan is at work,
+    there may be no indices: then the queries go to copies that have some.
     """
     _look(path)
     connection = _checked(path, "rw")
     connection.execute(f"PRAGMA cache_size = {-CACHE}")
-    if connection.execute("PRAGMA journal_mode").fetchone() == ("wal",) and not is_held(path):
-        _checkpoint_again(connection)
+    if not is_held(path):
+        _complete(connection)
     if not show_present(connection):
         connection.execute("CREATE TEMP TABLE found AS SELECT * FROM pages")
         connection.execute("DROP VIEW IF EXISTS temp.pages")
@@ -87,8 +87,8 @@ def attach(connection: sqlite3.Connection, path: str, name: str) -> None:
 def show_present(connection: sqlite3.Connection) -> bool:
     """Gives the files that are there as `present`, in which those of a page are found at once; whether that is cheap.
 
-    A member of a pack is there with where it begins, and another file with its length, as `Place` has them. Until a
-    scan came to its end there are no indices. Then `present` is a copy that has one.
+    A member of a pack is there with where it begins, and another file with its length, as `Place` has them. Where there
+    are no indices, `present` is a copy that has one.
     """
     words = f"present AS SELECT folder, name, page, {tables.AT} AS at FROM files f WHERE state = {tables.READ}"
     if connection.execute("SELECT 1 FROM sqlite_master WHERE type = 'index' AND name = 'files_by_page'").fetchone():
@@ -141,11 +141,10 @@ def _is_empty(connection: sqlite3.Connection) -> bool:
 
 def _make(connection: sqlite3.Connection) -> None:
     """Makes the tables, all or none."""
-    some = (("schema", schemas.SCHEMA), ("hash", tables.HASH), ("tool", f"{TOOL} {VERSION}"))
-    values = ", ".join("('%s', '%s')" % each for each in some)
-    connection.executescript(
-        "BEGIN IMMEDIATE; PRAGMA application_id = %d; %s %s; INSERT INTO meta VALUES %s; COMMIT;" % (
-            APPLICATION, schemas.tables(), schemas.listing(), values))
+    some = {"schema": tables.SCHEMA, "hash": tables.HASH, "tool": f"{TOOL} {VERSION}"}
+    values = ", ".join(f"('{key}', '{value}')" for key, value in some.items())
+    connection.executescript(f"BEGIN IMMEDIATE; PRAGMA application_id = {APPLICATION}; {tables.created()} "
+                             f"{tables.listing()}; INSERT INTO meta VALUES {values}; COMMIT;")
 
 
 def _renew(path: str, connection: sqlite3.Connection) -> None:
@@ -153,10 +152,10 @@ def _renew(path: str, connection: sqlite3.Connection) -> None:
 
     What that has more of is then unknown of each page, and the next scan asks about them again.
     """
-    if schema_of(connection) == schemas.SCHEMA:
+    if schema_of(connection) == tables.SCHEMA:
         return
     connection.executescript(
-        f"BEGIN IMMEDIATE; DROP VIEW IF EXISTS listing; {schemas.renewal()} {schemas.listing()}; COMMIT;")
+        f"BEGIN IMMEDIATE; DROP VIEW IF EXISTS listing; {tables.renewal()} {tables.listing()}; COMMIT;")
 
 
 def _checked(path: str, mode: str) -> sqlite3.Connection:
@@ -167,7 +166,7 @@ def _checked(path: str, mode: str) -> sqlite3.Connection:
             _make(connection)
         schema = _check(path, connection)
         _check_tables(path, connection, schema)
-        if mode != "rwc" and schema == schemas.EARLIER:
+        if mode != "rwc" and schema == tables.EARLIER:
             _show_as_now(connection)
         return connection
     except UnicodeDecodeError:  # (SQLite says what is wrong with a schema in the schema's own words)
@@ -185,7 +184,7 @@ def _checked(path: str, mode: str) -> sqlite3.Connection:
 
 def _show_as_now(connection: sqlite3.Connection) -> None:
     """Lets the tables of the schema before be read as those of this one."""
-    for name, words in schemas.as_now():
+    for name, words in tables.as_now():
         connection.execute(f"CREATE TEMP VIEW {name} AS {words}")
 
 
@@ -196,21 +195,31 @@ def _check_tables(path: str, connection: sqlite3.Connection, schema: int) -> Non
     other indices of the store's own tables, would act where it is read or written. An index of words is there as a
     whole, or not at all; a table of values by canonical streams is there or not.
     """
-    wanted = schemas.own(schema)
+    expected = tables.objects(schema)
     found = set()
-    optional = {**texts.OWN, **canon_tables.OWN}
-    tables_of_own = {name for kind, name in wanted if kind == "table"} | set(optional)
-    for kind, name, table, words in connection.execute("SELECT type, name, tbl_name, sql FROM main.sqlite_master"):
-        own = wanted.get((kind, name)) or optional.get(name)
-        if own is None and not _is_apart(kind, table, words, tables_of_own):
+    rows = connection.execute("SELECT type, name, tbl_name, sql FROM main.sqlite_master").fetchall()
+    tables_of_own = {name for kind, name in expected if kind == "table"}
+    optional = _optional({table for _, _, table, _ in rows} - tables_of_own - {"listing"})
+    tables_of_own.update(optional)
+    for kind, name, table, words in rows:
+        words_of_own = expected.get((kind, name)) or optional.get(name)
+        if words_of_own is None and not _is_apart(kind, table, words, tables_of_own):
             raise StoreFailed(path, messages.FOREIGN_TABLE.format(kind=kind, name=name))
-        if own is not None and words != own:
+        if words_of_own is not None and words != words_of_own:
             raise StoreFailed(path, messages.OTHER_TABLE.format(kind=kind, name=name))
         found.add((kind, name))
-    has_words = any(("table", name) in found for name in texts.OWN)
-    for name in [*(name for kind, name in wanted if kind == "table"), *(texts.OWN if has_words else ())]:
+    has_words = any(("table", name) in found for name in tables.TEXT_INDEX)
+    for name in [*(name for kind, name in expected if kind == "table"), *(tables.TEXT_INDEX if has_words else ())]:
         if ("table", name) not in found:
             raise StoreFailed(path, messages.LACKS_TABLE.format(table=name))
+
+
+def _optional(further: Set[str]) -> Dict[str, str]:
+    """The words of the tables that a store needn't have, as far as its further ones may be of these."""
+    if further <= set(tables.TEXT_INDEX):
+        return tables.TEXT_INDEX
+    from . import kept  # (what few stores have, the commands on others don't wait for)
+    return {**tables.TEXT_INDEX, **kept.OWN}
 
 
 def _is_apart(kind: str, table: str, words: Optional[str], own: Set[str]) -> bool:
@@ -232,12 +241,12 @@ def schema_of(connection: sqlite3.Connection) -> int:
 
 def _check(path: str, connection: sqlite3.Connection) -> int:
     """The schema of the file. Raises StoreFailed where it isn't a store that this tool knows."""
-    if connection.execute("PRAGMA application_id").fetchone()[0] != APPLICATION:
+    if connection.execute("PRAGMA application_id").fetchone() != (APPLICATION,):
         raise StoreFailed(path, messages.OTHER_DATABASE)
     schema = connection.execute("SELECT value FROM meta WHERE key = 'schema'").fetchone()
-    if schema is None or str(schema[0]) not in map(str, (schemas.EARLIER, schemas.SCHEMA)):
+    if schema is None or str(schema[0]) not in map(str, (tables.EARLIER, tables.SCHEMA)):
         raise StoreFailed(path, messages.OTHER_SCHEMA.format(
-            schema=schema[0] if schema else "unknown", earlier=schemas.EARLIER, known=schemas.SCHEMA))
+            schema=schema[0] if schema else "unknown", earlier=tables.EARLIER, known=tables.SCHEMA))
     made = connection.execute("SELECT value FROM meta WHERE key = 'hash'").fetchone()
     if made != (tables.HASH,):
         raise StoreFailed(path, messages.OTHER_HASHES.format(
@@ -268,6 +277,7 @@ def keep_private(connection: sqlite3.Connection) -> None:
 
     The words of pages stand beside the keys of those that are almost equal too. Raises OSError.
     """
+    from .kept import NEAR_KEYS
     some = ["texts", *[NEAR_KEYS.name] * NEAR_KEYS.is_there(connection)]
     if all(connection.execute(f"SELECT 1 FROM main.{name} LIMIT 1").fetchone() is None for name in some):
         path = path_of(connection)
@@ -301,12 +311,18 @@ def checkpoint(connection: sqlite3.Connection, seconds: float = 0, stops: Callab
     return True
 
 
-def _checkpoint_again(connection: sqlite3.Connection) -> None:
-    """Does what the last scan couldn't, since the store was read as it ended; if it still is, the next will."""
+def _complete(connection: sqlite3.Connection) -> None:
+    """Does what the last scan couldn't, since the store was read as it ended, or it was killed; or the next will."""
     try:
-        checkpoint(connection)
-    except sqlite3.Error:
-        pass  # as where nothing can be written
+        connection.execute(f"PRAGMA busy_timeout = {int(TURN * 1000)}")
+        if connection.execute("PRAGMA journal_mode").fetchone() == ("wal",):
+            checkpoint(connection)
+        found = {name for name, in connection.execute("SELECT name FROM main.sqlite_master WHERE type = 'index'")}
+        if not found.issuperset(tables.INDEXED):
+            connection.executescript(f"BEGIN IMMEDIATE; {tables.INDICES} COMMIT;")
+    except sqlite3.Error:  # as where nothing can be written
+        if connection.in_transaction:
+            connection.execute("ROLLBACK")
     connection.execute(f"PRAGMA busy_timeout = {PATIENCE * 1000}")
 
 
@@ -334,6 +350,6 @@ def run(named: str, work: Callable[[], int]) -> int:
     except BrokenPipeError:
         raise
     except Exception as error:  # pylint: disable=broad-except
-        why = str(error) if isinstance(error, sqlite3.Error) else told(error)
+        why = str(error) if isinstance(error, sqlite3.Error) else failure_message(error)
         tell(f"{shown(named)}: {why}")
     return FAILED

@@ -190,8 +190,8 @@ class Lock:
 
 
 def _holder(descriptor: int) -> str:
-    told = os.read(descriptor, 32).decode("ascii", "replace").strip()
-    return f"process {told}" if told.isdigit() else "another process"
+    holder = os.read(descriptor, 32).decode("ascii", "replace").strip()
+    return f"process {holder}" if holder.isdigit() else "another process"
 
 
 def is_held(store: str) -> bool:

@@ -1,40 +1,30 @@
-"""What a worker does: looks at files, and asks about those whose bytes the store doesn't know. Its process takes chunks
-from a connection, and sends what comes of them in pieces.
-"""
+"""What a worker of a scan does: looks at files, and asks about those whose bytes the store doesn't know."""
 import os
-import resource
-import signal
 import sqlite3
-import sys
-import time
 from collections import OrderedDict
-from multiprocessing.connection import Connection
-from types import FrameType
-from typing import (
-    Any, Callable, Dict, Iterable, Iterator, List, NamedTuple, Optional, Protocol, Sequence, Set, Tuple, Union,
-)
+from typing import Any, Callable, Dict, Iterable, Iterator, List, NamedTuple, Optional, Sequence, Set, Tuple, Union
 
 from naplps.answers import Accepted, Answer, HashedAnswer, Refusal, Unanswered
 from naplps.client import Client
 from naplps.limits import MODEST, MOST_LISTED, MOST_PAGE, Limits
 from naplps.screen_text import lines_of
 from naplps.treating.borders import clears_again, pages_in
-from naplps.treating.search import Cure, TreatmentSearch
+from naplps.treating.treatments import Cure, TreatmentSearch
 
 from .. import file_kinds
-from ..census import stop_of
-from ..new_files import is_note
-from ..packs.member import PackLimits
-from ..packs.naming import pack_of
+from ..codes import stop_of
+from ..notes import is_note
+from ..packs import PackLimits, pack_of
 from ..page_words import MOST_TEXT, first_words
 from ..source import Page
 from . import tables
 from .file_reader import OTHER, REPLACED, PackScan, Seen, change, look
 from .folders import Replaced, is_gone, opened_again, reason
-from .rows import ALIVE, DONE, FAILED, MAX_AHEAD, AskAgain, Chunk, FolderFiles, Piece, WorkerOptions, plain
-from .schemas import Answered, Cured, File, PageText
+from .protocol import MAX_AHEAD, BlockMaker, Chunk, FolderFiles, Piece, Retry, RowBlock, WorkerOptions, block_of, serve
 from .store import reader
-from .tables import CHANGED, DESCRIBED, HAS_TEXT, NO_ANSWER, REFUSED, TRIED, UNREADABLE, VANISHED
+from .tables import (
+    CHANGED, DESCRIBED, HAS_TEXT, NO_ANSWER, REFUSED, TRIED, UNREADABLE, VANISHED, Answered, Cured, File, PageText,
+)
 
 # An answer counts under the same terms; one of this run alone, where there was none, or all is asked again; and, if
 # treatments are asked for, of a refused page with what they came to; and if texts are, with one.
@@ -46,9 +36,9 @@ KNOWN = f"""SELECT 1 FROM pages p WHERE own = :own AND terms = :terms
 class KnownHashes:
     """Looks for hashes in a store that another process writes. Where it can't be read, nothing is known."""
 
-    def __init__(self, store: Optional[str], terms: int, run: int, wanted: AskAgain) -> None:
+    def __init__(self, store: Optional[str], terms: int, run: int, retry: Retry) -> None:
         self.store = store
-        self.values: Dict[str, object] = {"terms": terms, "run": run, **wanted._asdict()}
+        self.values: Dict[str, object] = {"terms": terms, "run": run, **retry._asdict()}
         self.connection: Optional[sqlite3.Connection] = None
 
     def __call__(self, hashes: List[bytes]) -> Set[bytes]:
@@ -97,17 +87,17 @@ class Worker:
     `others` are the folders that aren't those which the scan met.
     """
 
-    def __init__(self, how: WorkerOptions, knows: Knows, beat: Callable[[], None] = lambda: None,
+    def __init__(self, options: WorkerOptions, knows: Knows, beat: Callable[[], None] = lambda: None,
                  members: Optional[int] = None, elsewhere: bool = False) -> None:
-        self.how, self.knows, self.beat, self.members, self.elsewhere = how, knows, beat, members, elsewhere
+        self.options, self.knows, self.beat, self.members, self.elsewhere = options, knows, beat, members, elsewhere
         self.others: List[FolderFiles] = []
-        self.ahead = Client(how.program, how.budget, Limits(seconds=how.seconds), beat)
-        self.program = Client(how.program, how.budget, MODEST._replace(seconds=how.seconds), beat)
+        self.ahead = Client(options.program, options.budget, Limits(seconds=options.seconds), beat)
+        self.program = Client(options.program, options.budget, MODEST._replace(seconds=options.seconds), beat)
         self.asked: "OrderedDict[bytes, None]" = OrderedDict()
         self.left: Chunk = ()
         # The number of bytes of a canonical stream that is held; and whether more is asked than for answers.
         self.keeps = 0
-        self.has_more = how.wanted.cures or how.wanted.words
+        self.has_more = options.retry.cures or options.retry.words
 
     def pieces(self, chunk: Chunk) -> Iterator[Piece]:
         """The rows of a chunk, in the order of its files."""
@@ -127,14 +117,18 @@ class Worker:
             finally:
                 os.close(at)
 
+    def blocks(self, chunk: Chunk) -> Iterator[RowBlock]:
+        """The same, ready to be inserted."""
+        return map(block_of, self.pieces(chunk))
+
     def _folder(self, names: FolderFiles, at: int) -> Iterator[Piece]:
         """The rows of files of one folder."""
         yield from self._windows(
-            look(names.folder, at, name, self.how.most, MOST_PAGE, self.beat) for name in names.names)
+            look(names.folder, at, name, self.options.most, MOST_PAGE, self.beat) for name in names.names)
 
     def _pack(self, names: FolderFiles) -> Iterator[Piece]:
         """The rows of a pack: those of its members, and then its own."""
-        scan = PackScan(names, PackLimits(min(self.how.most, MOST_PAGE), self.beat), self.members, self.elsewhere)
+        scan = PackScan(names, PackLimits(min(self.options.most, MOST_PAGE), self.beat), self.members, self.elsewhere)
         yield from self._windows(scan.members())
         if scan.own.why == REPLACED:
             self.others.append(names)
@@ -164,8 +158,8 @@ class Worker:
 
     def _answered(self, window: List[Seen]) -> Piece:
         asked = self._unknown(window)
-        said = self.ahead.hash_canon(list(asked.values()), self.keeps)
-        rows = [self._row(own, data, each) for (own, data), each in zip(asked.items(), said)]
+        result = self.ahead.hash_canon(list(asked.values()), self.keeps)
+        rows = [self._row(own, data, each) for (own, data), each in zip(asked.items(), result)]
         if self.has_more:
             rows = [self._more(each, asked[each.own]) for each in rows]
         self._remember(asked)
@@ -174,13 +168,13 @@ class Worker:
     def _more(self, answered: Answered, data: bytes) -> Answered:
         """The row with what the treatments of a page come to, and with its text, where these are asked for."""
         copy: Optional[bytes] = None
-        if self.how.wanted.cures:
+        if self.options.retry.cures:
             answered, copy = self._cured(answered, data)
-        if self.how.wanted.words and answered.state != tables.NO_ANSWER:
-            answered = answered._replace(said=self._said(answered, data, copy))
+        if self.options.retry.words and answered.state != tables.NO_ANSWER:
+            answered = answered._replace(text=self._text_of(answered, data, copy))
         return answered
 
-    def _said(self, answered: Answered, data: bytes, copy: Optional[bytes]) -> PageText:
+    def _text_of(self, answered: Answered, data: bytes, copy: Optional[bytes]) -> PageText:
         """The text of a page: its own, that before its refusal, or that of its treated copy."""
         if answered.state == tables.REFUSED and copy is None:
             return _text(tables.BEFORE, self._ask("places", data))
@@ -189,21 +183,21 @@ class Worker:
             return PageText(source, why=TOO_MANY_FOR_TEXT)
         return _text(source, self._ask("list", data))
 
-    def _row(self, own: bytes, data: bytes, said: HashedAnswer) -> Answered:
+    def _row(self, own: bytes, data: bytes, result: HashedAnswer) -> Answered:
         """The row of an answer to these bytes. (It is made for each page, so the usual one has the shortest way.)"""
-        answer = said.answer
+        answer = result.answer
         if isinstance(answer, Accepted):
             is_page = answer.entries and SHIFT_OUT in data
             kind = tables.PAGE if is_page else NUMBERS[file_kinds.kind((data,), answer)]
             several = int(clears_again(data) or (
                 ESCAPE in data and file_kinds.DEFINITION in data and self._is_several(data)))
-            return Answered(own, tables.ACCEPTED, None, None, None, answer.entries, said.canon, said.length, None, kind,
-                            None, several, None, 0)
+            return Answered(own, tables.ACCEPTED, None, None, None, answer.entries, result.canon, result.length, None,
+                            kind, None, several, None, 0)
         look = file_kinds.looks_like(data[:file_kinds.MOST_LOOKED_AT], len(data))
         if not isinstance(answer, Refusal):
-            return row(own, said, Described())
+            return row(own, result, Described())
         holds = pages_in(data)
-        return row(own, said, Described(tables.CAPTURE if holds else None, look or "", stop=stop_of(data, answer),
+        return row(own, result, Described(tables.CAPTURE if holds else None, look or "", stop=stop_of(data, answer),
                                         holds=holds))
 
     def _is_several(self, data: bytes) -> bool:
@@ -234,16 +228,16 @@ class Worker:
             if own in self.asked or self.knows([own]):
                 return (seen.file,), ()
             before = os.fstat(seen.descriptor)
-            said = self.program.hash_canon_of_file(file)
-            described = file_kinds.described(Page("", None, file), said.answer)
+            result = self.program.hash_canon_of_file(file)
+            described = file_kinds.described(Page("", None, file), result.answer)
             if change(before, os.fstat(seen.descriptor)):
                 return (seen.file._replace(state=CHANGED, why=OTHER, own=None),), ()
-        answered = row(own, said, Described(NUMBERS.get(described.kind or ""), described.looks_like or ""))
-        if answered.state == tables.REFUSED and self.how.wanted.cures:
+        answered = row(own, result, Described(NUMBERS.get(described.kind or ""), described.looks_like or ""))
+        if answered.state == tables.REFUSED and self.options.retry.cures:
             answered = answered._replace(cured=Cured(why=TOO_LONG_TO_CURE))
-        if self.how.wanted.words and answered.state != tables.NO_ANSWER:
+        if self.options.retry.words and answered.state != tables.NO_ANSWER:
             source = tables.BEFORE if answered.state == tables.REFUSED else tables.WHOLE
-            answered = answered._replace(said=PageText(source, why=TOO_LONG_FOR_TEXT))
+            answered = answered._replace(text=PageText(source, why=TOO_LONG_FOR_TEXT))
         self._remember([own])
         return (seen.file,), (answered,)
 
@@ -264,11 +258,12 @@ class Worker:
         """The row of a treated copy."""
         names = "+".join(each.treatment for each in cure.changes)
         copy = cure.data
-        said, = self.ahead.hash_canon([copy])
-        why = None if isinstance(said.answer, Accepted) else OTHERWISE
-        if isinstance(said.answer, Unanswered):
-            why = said.answer.reason
-        return Cured(names, cure.entries, tables.hashed(copy), why, int(cure.treated.is_guess), said.canon, said.length)
+        result, = self.ahead.hash_canon([copy])
+        why = None if isinstance(result.answer, Accepted) else OTHERWISE
+        if isinstance(result.answer, Unanswered):
+            why = result.answer.reason
+        return Cured(names, cure.entries, tables.hashed(copy), why, int(cure.treated.is_guess), result.canon,
+                     result.length)
 
     def _ask(self, command: str, data: bytes) -> Answer:
         self.beat()
@@ -290,11 +285,11 @@ def _text(source: int, answer: Answer) -> PageText:
     return PageText(source, text, first_words(text))
 
 
-def row(own: bytes, said: HashedAnswer, it: Described) -> Answered:
+def row(own: bytes, result: HashedAnswer, it: Described) -> Answered:
     """The row of an answer."""
-    answer = said.answer
+    answer = result.answer
     if isinstance(answer, Accepted):
-        return Answered(own, tables.ACCEPTED, entries=answer.entries, canon=said.canon, canon_size=said.length,
+        return Answered(own, tables.ACCEPTED, entries=answer.entries, canon=result.canon, canon_size=result.length,
                         kind=it.kind, several=it.several, holds=it.holds)
     if isinstance(answer, Refusal):
         return Answered(own, tables.REFUSED, number=answer.number, left_out=answer.code, place=answer.place,
@@ -312,96 +307,11 @@ def _without(names: FolderFiles, error: Union[OSError, Replaced]) -> Iterator[Fi
     return (File(names.folder, name, state, why) for name in names.names)
 
 
-# A worker that needs more memory than this is at fault.
-MAX_MEMORY = 1 << 30
-# It shows that it is at work so often, in seconds, while it has nothing to send.
-BEAT = 1.0
-
-
-class PieceMaker(Protocol):
-    """What a process does: turns chunks into pieces, until it is closed."""
-
-    def pieces(self, chunk: Chunk) -> Iterator[Piece]:
-        """What comes of a chunk."""
-
-    def close(self) -> None:
-        """Ends what it has started."""
-
-
-class ScanConnection:
-    """The connection to the scan."""
-
-    def __init__(self, connection: Connection) -> None:
-        self.connection = connection
-        self.last = 0.0
-
-    def send(self, what: str, value: object = None) -> None:
-        """Sends a message."""
-        self.connection.send((what, value))
-        self.last = time.monotonic()
-
-    def beat(self) -> None:
-        """Shows that the worker is at work, now and then."""
-        if time.monotonic() - self.last > BEAT:
-            self.send(ALIVE)
-
-
 def main(descriptor: int) -> None:
     """Works until the connection ends."""
     serve(descriptor, _worker)
 
 
-def _worker(first: Sequence[Any], beat: Callable[[], None]) -> PieceMaker:
-    how, store, terms, run = first
-    return Worker(how, KnownHashes(store, terms, run, how.wanted), beat)
-
-
-def serve(descriptor: int, made: Callable[[Sequence[Any], Callable[[], None]], PieceMaker]) -> None:
-    """Works until the connection ends, by what is made of the first message."""
-    signal.signal(signal.SIGTERM, _end)
-    limit_memory()
-    line = ScanConnection(Connection(descriptor))
-    worker: Optional[PieceMaker] = None
-    try:
-        line.send(ALIVE)
-        worker = made(line.connection.recv(), line.beat)
-        while True:
-            _work(line, worker)
-    except (EOFError, ConnectionError):
-        pass  # the scan has ended
-    except Exception as error:  # pylint: disable=broad-except
-        _tell(line, error)
-    finally:
-        if worker:
-            worker.close()
-
-
-def limit_memory() -> None:
-    """Limits the memory of this process."""
-    hard = resource.getrlimit(resource.RLIMIT_AS)[1]
-    most = MAX_MEMORY if hard == resource.RLIM_INFINITY else min(MAX_MEMORY, hard)
-    try:
-        resource.setrlimit(resource.RLIMIT_AS, (most, hard))
-    except (OSError, ValueError):
-        pass  # the system has no such limit
-
-
-def _work(line: ScanConnection, worker: PieceMaker) -> None:
-    chunk = line.connection.recv()
-    for files, answers in worker.pieces(chunk):
-        if files:
-            line.send("piece", plain((files, answers)))
-    line.send(DONE)
-
-
-def _tell(line: ScanConnection, error: Exception) -> None:
-    said = str(error)
-    try:
-        line.send(FAILED, type(error).__name__ + (": " + said if said else ""))
-    except OSError:
-        pass
-    sys.exit(1)
-
-
-def _end(number: int, _: Optional[FrameType]) -> None:
-    sys.exit(128 + number)
+def _worker(first: Sequence[Any], beat: Callable[[], None]) -> BlockMaker:
+    options, store, terms, run = first
+    return Worker(options, KnownHashes(store, terms, run, options.retry), beat)

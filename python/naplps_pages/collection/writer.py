@@ -1,31 +1,33 @@
 """Writes a scan into its store, in steps: what a step holds is kept as a whole, or is asked again."""
 import sqlite3
 import time
-from operator import attrgetter
-from typing import Dict, Iterable, Iterator, List, Optional, Set, Tuple, TypeVar
+from operator import itemgetter, length_hint
+from typing import Dict, Iterable, Iterator, List, Optional, Set, Tuple
 
 from naplps.version import VERSION
 
 from .. import TOOL
-from ..packs.member import SEVERAL
-from ..packs.naming import pack_of
+from ..packs import SEVERAL, pack_of
 from . import texts
 from .folders import is_within, join
-from .rows import Piece
-from .schemas import Answered, Cured, Fault, File, Folder, Root, Terms, listed, marks, taken_over
-from .tables import ACCEPTED, GONE, NO_ANSWER, READ, UNREADABLE, VANISHED
+from .protocol import OF_ACCEPTED, Row, RowBlock, empty
+from .tables import (
+    GONE, NO_ANSWER, READ, UNREADABLE, VANISHED, Answered, Cured, Fault, File, Folder, Root, Terms, listed, marks,
+    taken_over,
+)
 
 # The number of files, or the age in seconds, with which a step is written.
 STEP, SECONDS = 2000, 2.0
 
-# What an accepted page has of an answer. To give SQLite a null takes longer than any of these.
-OF_ACCEPTED = "own, state, entries, canon, canon_size, kind, several, holds"
+# The statements that insert rows as they come, under terms and of a run.
 ANSWER = f"""ON CONFLICT(own) DO UPDATE SET {taken_over(listed(Answered, "terms", "run"))}
     WHERE terms <> excluded.terms OR state = {NO_ANSWER} OR excluded.state <> {NO_ANSWER}"""
-PAGE = f"INSERT INTO pages({listed(Answered, 'terms', 'run')}) VALUES({marks(Answered, 2)}) {ANSWER}"
-ACCEPTED_PAGE = f"INSERT INTO pages({OF_ACCEPTED}, terms, run) VALUES(?{', ?' * (OF_ACCEPTED.count(',') + 2)}) {ANSWER}"
+PAGE = f"INSERT INTO pages({listed(Answered, 'terms', 'run')}) VALUES({marks(Answered)}, {{terms}}, {{run}}) {ANSWER}"
+ACCEPTED_PAGE = (f"INSERT INTO pages({OF_ACCEPTED}, terms, run) "
+                 f"VALUES(?{', ?' * OF_ACCEPTED.count(',')}, {{terms}}, {{run}}) {ANSWER}")
 # (a file has the hash of its page after what is a column)
-OF_FILE = f"files({listed(File, 'page', 'run')}) VALUES({marks(File)}, (SELECT id FROM pages WHERE own = ?), ?)"
+OF_FILE = (f"files({listed(File, 'page', 'run')}) "
+           f"VALUES({marks(File)}, (SELECT id FROM pages WHERE own = ?), {{run}})")
 FILE = f"INSERT OR REPLACE INTO {OF_FILE}"
 # A member that was met before in this run, elsewhere in its pack, is one of several of its name.
 AGAIN = "run = excluded.run AND inode IS NOT excluded.inode"
@@ -35,16 +37,14 @@ MEMBER = f"""INSERT INTO {OF_FILE}
     page = CASE WHEN {AGAIN} THEN NULL ELSE excluded.page END,
     size = excluded.size, mtime_ns = NULL, ctime_ns = NULL, inode = excluded.inode, run = excluded.run"""
 CURE = f"""INSERT OR REPLACE INTO cures(page, terms, {listed(Cured)})
-    SELECT id, ?, {marks(Cured)} FROM pages WHERE own = ?"""
+    SELECT id, {{terms}}, {marks(Cured)} FROM pages WHERE own = ?"""
 FOLDER = f"""INSERT INTO folders({listed(Folder, "run")}) VALUES({marks(Folder, 1)})
     ON CONFLICT(path) DO UPDATE SET {taken_over("state, why, run")}"""
 IS_GONE = f"UPDATE files SET state = {GONE}, why = NULL, run = ? WHERE folder = ? AND name = ?"
 FOLDER_IS_GONE = f"UPDATE folders SET state = {GONE}, why = NULL WHERE id = ?"
 FILES_ARE_GONE = f"UPDATE files SET state = {GONE}, why = NULL, run = ? WHERE folder = ? AND state <> {GONE}"
-answer_values = attrgetter(*listed(Answered).split(", "))
-accepted_values = attrgetter(*OF_ACCEPTED.split(", "))
-
-Row = TypeVar("Row", File, Answered)
+# The hash of a page stands first in its row.
+hash_of = itemgetter(0)
 
 
 class Writer:
@@ -52,13 +52,13 @@ class Writer:
 
     def __init__(self, connection: sqlite3.Connection, program: bytes, terms: Terms, holds: bool = False) -> None:
         self.connection, self.holds = connection, holds
-        self.files: List[File] = []
-        self.answers: List[Answered] = []
+        self.block = empty()
+        self.members: List[Row] = []
         self.gone: List[Tuple[int, bytes]] = []
         self.names: Dict[int, str] = {}
         self.packs: Set[int] = set()
         self.unpacked: List[int] = []
-        self.current: Optional[Tuple[object, ...]] = None
+        self.current: Optional[File] = None
         self.has_words = texts.is_there(connection)
         self.began = time.monotonic()
         self._begin()
@@ -114,96 +114,106 @@ class Writer:
                                 (READ, found[0], READ))
         return int(found[0])
 
-    def take(self, piece: Piece) -> None:
-        """Takes what a worker found."""
-        files, answers = piece
-        self.files += files
-        self.answers += answers
+    def take(self, block: RowBlock) -> None:
+        """Takes what a worker found: files of folders, or members of one pack and the row of that."""
+        if self.packs and block.files and File(*block.files[0]).folder in self.packs:
+            self.members += block.files
+            block = block._replace(files=[])
+        self.block.add(block._replace(values=[], unread=[]))
+
+    @property
+    def files(self) -> Iterator[File]:
+        """The files of the step."""
+        return (File(*row) for row in (*self.block.files, *self.members))
 
     def is_gone(self, folder: int, name: bytes) -> None:
         """Notes that a file isn't there any more."""
         self.gone.append((folder, name))
 
+    def forget(self) -> None:
+        """Takes what waits out of the step."""
+        self.block, self.members = empty(), []
+
     @property
     def is_due(self) -> bool:
         """Whether the step is large enough to be written, or old enough."""
-        if len(self.files) + len(self.gone) >= STEP:
+        if len(self.block.files) + len(self.members) + len(self.gone) >= STEP:
             return True
         return time.monotonic() - self.began > SECONDS
 
     def write(self) -> None:
         """Writes the step."""
-        held: List[File] = []
-        if self.files or self.answers or self.gone:
+        held: Set[File] = set()
+        if self.gone or self.members or any(self.block):
             self._begin()
             self._pages()
-            held = self._held() if self.holds else []
-            self._files()
+            held = self._held() if self.holds else held
+            self._files(held)
             self.connection.executemany(IS_GONE, ((self.run, folder, name) for folder, name in self.gone))
         if self.connection.in_transaction:
             self.connection.execute("COMMIT")
-        self.files, self.answers, self.gone = held, [], []
+        self.block, self.members, self.gone = empty(), [], []
+        for file in held:
+            (self.members if file.folder in self.packs else self.block.files).append(file)
         self.began = time.monotonic()
 
     @property
     def at_work(self) -> Optional[bytes]:
-        """The path of the file whose row is written."""
-        row = self.current
-        if isinstance(row, Answered):
-            row = next((file for file in self.files if file.own == row.own), None)
-        if not isinstance(row, File):
+        """The path of the file whose row couldn't be written."""
+        if self.current is None:
             return None
-        path = self.connection.execute("SELECT path FROM folders WHERE id = ?", (row.folder,)).fetchone()
-        return join(path[0], row.name) if path else None
+        path = self.connection.execute("SELECT path FROM folders WHERE id = ?", (self.current.folder,)).fetchone()
+        return join(path[0], self.current.name) if path else None
 
-    def _in_turn(self, rows: Iterable[Row]) -> Iterator[Row]:
-        """These rows, each of which is noted while it is written."""
-        for row in rows:
-            self.current = row
-            yield row
-        self.current = None
+    def _insert_rows(self, words: str, rows: List[Row], of_pages: bool = False) -> None:
+        """Inserts rows of files, or of pages. The file is noted of one that can't be inserted."""
+        left = iter(rows)
+        try:
+            self.connection.executemany(words.format(terms=self.terms, run=self.run), left)
+        except Exception:
+            at = len(rows) - length_hint(left)
+            for row in rows[max(at - 1, 0):at]:
+                some = (file for file in self.files if file.own == hash_of(row)) if of_pages else iter([File(*row)])
+                self.current = next(some, None)
+            raise
 
     def _pages(self) -> None:
-        # (by hash, since neighbours in the index are cheaper)
-        answers = sorted(self.answers, key=lambda each: each.own)
-        accepted = [each for each in answers if each.state == ACCEPTED]
-        others = [each for each in answers if each.state != ACCEPTED]
-        self.connection.executemany(ACCEPTED_PAGE, (
-            (*accepted_values(each), self.terms, self.run) for each in self._in_turn(accepted)))
-        self.connection.executemany(PAGE, (
-            (*answer_values(each), self.terms, self.run) for each in self._in_turn(others)))
-        self.connection.executemany(CURE, ((self.terms, *each.cured, each.own) for each in answers if each.cured))
-        texts.write(self.connection, self.terms, ((each.own, each.said) for each in answers if each.said),
-                    self.has_words)
-        names = {each.number: each.fault for each in answers if each.number is not None and each.fault is not None}
+        """Writes the answers, by hash, since neighbours in the index are cheaper."""
+        block = self.block
+        self._insert_rows(ACCEPTED_PAGE, sorted(block.accepted, key=hash_of), True)
+        self._insert_rows(PAGE, sorted(block.others, key=hash_of), True)
+        self.connection.executemany(CURE.format(terms=self.terms), block.cures)
+        texts.write(self.connection, self.terms, block.texts, self.has_words)
+        names = dict(block.faults)
         if not names.items() <= self.names.items():
             self.names.update(names)
             self.connection.executemany(f"INSERT OR REPLACE INTO faults({listed(Fault)}) VALUES({marks(Fault)})",
                                         names.items())
 
-    def _held(self) -> List[File]:
-        """Takes the files out of the step that wait for the answer to their page, and packs of which members wait."""
-        owns = {file.own for file in self.files if file.own is not None}
+    def _held(self) -> Set[File]:
+        """The files of the step that wait for the answer to their page, and packs of which members wait."""
+        files = list(self.files)
+        owns = {file.own for file in files if file.own is not None}
         known = {own for own in owns if self.connection.execute("SELECT 1 FROM pages WHERE own = ?", (own,)).fetchone()}
-        folders = {file.folder for file in self.files if file.own is not None and file.own not in known}
-        held = [file for file in self.files if (file.own is not None and file.own not in known) or (
-            not file.name and file.folder in folders)]
-        self.files = [file for file in self.files if file not in held] if held else self.files
-        return held
+        folders = {file.folder for file in files if file.own is not None and file.own not in known}
+        return {file for file in files if (file.own is not None and file.own not in known) or (
+            not file.name and file.folder in folders)}
 
-    def _files(self) -> None:
-        plain = [file for file in self.files if file.folder not in self.packs] if self.packs else self.files
-        self.connection.executemany(FILE, ((*file, self.run) for file in self._in_turn(plain)))
-        if len(plain) < len(self.files):
-            some = [file for file in self.files if file.folder in self.packs]
-            self.connection.executemany(MEMBER, ((*file, self.run) for file in self._in_turn(some) if file.name))
+    def _files(self, held: Set[File]) -> None:
+        """Writes the files, but those that wait."""
+        files, members = ([row for row in rows if row not in held] if held else rows
+                          for rows in (self.block.files, self.members))
+        self._insert_rows(FILE, files)
+        if members:
+            some = [File(*row) for row in members]
+            self._insert_rows(MEMBER, [file for file in some if file.name])
             for file in some:
                 if not file.name:
                     self._pack(file)
 
     def _pack(self, file: File) -> None:
         """Writes the row of a pack itself, after those of its members."""
-        self.connection.execute(FILE, (*file, self.run))
+        self._insert_rows(FILE, [file])
         self.unpacked.append(file.folder)
         if file.state == READ:
             self.connection.execute(

@@ -1,16 +1,21 @@
-"""The commands: each is a module here, which declares its words, its options and what runs it.
+"""The commands: each is a module here, which declares its words, its options and its place in the help, and runs it.
 
-Its parser and its help are made of that, and so are the completions of shells and the synopses of the manual page.
+Its parser and its help are made of that, and so are the completions of shells and the synopses of the manual page. A
+help imports what declares its commands, so what a run takes besides is imported by the functions of the run.
 """
 import argparse
 import importlib
+import os
 from functools import partial
-from typing import Any, Callable, Iterator, List, NamedTuple, Optional, Tuple, Union
+from typing import TYPE_CHECKING, Any, Callable, Iterator, List, NamedTuple, Optional, Tuple, Union
 
 from naplps.limits import MODEST, MOST_BUDGET, USUAL_BUDGET, Limits
 from naplps.names import shown
 
 from .. import messages
+
+if TYPE_CHECKING:
+    from ..page_session import OfStore, Session
 
 Given = argparse.Namespace
 LEAST_SECONDS, MOST_SECONDS = 0.01, 1e6
@@ -18,26 +23,14 @@ LEAST_SECONDS, MOST_SECONDS = 0.01, 1e6
 MOST_PROCESSES = 512
 # What shells complete a value to.
 FILES, FOLDERS = "files", "folders"
-
-
-class CommandGroup(NamedTuple):
-    """Commands for what people want to do: those that the first help has, and the others."""
-
-    title: str
-    first: Tuple[str, ...]
-    others: Tuple[str, ...]
-
-
-GROUPS = (
-    CommandGroup("Look into a box of files", ("box", "scan", "files", "find", "equal", "report"),
-                 ("serve", "near", "merge")),
-    CommandGroup("Work on pages", ("check", "look", "explain", "cures"),
-                 ("list", "canon", "text", "describe", "play", "diff", "census", "split", "carve")),
-    CommandGroup("Make pages", ("make", "source"), ()),
-    CommandGroup("Help", (), ("help",)))
-# Words of earlier versions, each of which another word has taken the place of.
-OLD = ("refused", "convert", "status")
-NAMES = tuple(name for group in GROUPS for name in (*group.first, *group.others)) + OLD
+# What people want to do with a command, in the order of the help.
+COLLECTION_GROUP, PAGE_GROUP, MAKE_GROUP, HELP_GROUP = GROUPS = (
+    "Look into a box of files", "Work on pages", "Make pages", "Help")
+# Words of earlier versions, each of which another word has taken the place of, with the module that has them.
+OLD = {"refused": "files", "convert": "canon", "status": "files"}
+MODULES = tuple(sorted(file[:-3] for file in os.listdir(os.path.dirname(os.path.abspath(__file__)))
+                       if file.endswith(".py") and not file.startswith("_")))
+NAMES = (*MODULES, *OLD)
 ON_PAGES = ("No file is overwritten. Status: 0 all pages are accepted, 1 some are refused, 2 the command line is "
             "wrong, 3 something couldn't be read, asked or written. The program that is asked is the one that NAPLPS "
             "names, or naplps next to this command, or on PATH.")
@@ -130,22 +123,34 @@ class Command(NamedTuple):
     # (looks for what the words alone don't say, and exits where that is wrong)
     check: Callable[[Given], None] = nothing_more
     ending: str = ON_PAGES
-    # (what words of earlier versions are now, and what is told of them; None where they are words of this one)
+    # (what words of earlier versions are now, and the message on them; None where they are words of this one)
     renew: Callable[[List[str]], Optional[Tuple[List[str], str]]] = lambda words: None
     # (of a word of earlier versions, what is written in its place)
     now: str = ""
+    # (its place in the help: its group, its rank there, and whether the first help has it)
+    group: str = ""
+    rank: int = 0
+    is_first: bool = False
 
 
 def command(named: str) -> Command:
     """The command of this name, whose module is imported once it is asked for."""
-    found: Command = importlib.import_module(f".{named}", __name__).COMMAND
+    module = importlib.import_module(f".{OLD.get(named, named)}", __name__)
+    found: Command = module.EARLIER[named] if named in OLD else module.COMMAND
     return found
 
 
+def in_group(group: str, is_all: bool = True) -> List[str]:
+    """The commands of a group in their order: those of the first help, and then the others where all are asked for."""
+    some = [(not it.is_first, it.rank, name) for name, it in ((name, command(name)) for name in MODULES)
+            if it.group == group and (it.is_first or is_all)]
+    return [name for _, _, name in sorted(some)]
+
+
 def unknown(word: str) -> str:
-    """What is told of a word that is no command: the one that is spelled almost so."""
+    """The message on a word that is no command: it names the one that is spelled almost so."""
     import difflib  # (which takes long to be imported)
-    near = difflib.get_close_matches(word, NAMES[:-len(OLD)], 1)
+    near = difflib.get_close_matches(word, MODULES, 1)
     return f"there is no command {shown(word)};" + (f" did you mean {near[0]}?" if near else "")
 
 
@@ -158,18 +163,12 @@ def options(parts: List[Part]) -> Iterator[Option]:
             yield from part.options
 
 
-def imported(where: str) -> Any:
-    """What stands in a module of this package, as `answering.canon`."""
-    module, _, function = where.rpartition(".")
-    return getattr(importlib.import_module(f"..{module}", __name__), function)
-
-
-def on_pages(where: str, of_store: str = "", on_store: Any = None,
+def on_pages(work: "Callable[[Session], int]", of_store: str = "", on_store: "Optional[OfStore]" = None,
              limits: Limits = MODEST) -> Callable[[Given, str], int]:
-    """What runs a function on pages, as `page_session.on_pages` does: the function is imported once it runs."""
+    """What runs a function on pages, as `page_session.on_pages` does."""
     def run(given: Given, tool: str) -> int:
         from ..page_session import on_pages as running
-        return running(given, tool, imported(where), limits, of_store, on_store)
+        return running(given, tool, work, limits, of_store, on_store)
     return run
 
 
@@ -224,6 +223,6 @@ def old(word: str, title: str, now: str, to: str, read: Callable[[str], Any] = n
     return Option(word, "", title, read, to=to, now=now)
 
 
-def told_old(word: str, now: str) -> str:
-    """What is told of a word of earlier versions."""
+def renamed_message(word: str, now: str) -> str:
+    """The message on a word of earlier versions."""
     return f"`{shown(word)}` is `{now}` now; the next version takes only that"

@@ -1,11 +1,13 @@
 """The command box: all that is found in folders of files, in one folder."""
 from typing import List
 
-from naplps.limits import MOST_PAGE
+from naplps.names import shown
 
+from .. import messages
+from ..console import FAILED, NotWritten, tell
 from . import (
-    ASKED_FOR, BUDGET, FOLDERS, ON_STORES, PROCESSES, SECONDS, USUAL, Argument, Command, Given, Option, Part,
-    check_usual,
+    ASKED_FOR, BUDGET, COLLECTION_GROUP, FOLDERS, ON_STORES, PROCESSES, SECONDS, USUAL, Argument, Command, Given,
+    Option, Part, check_usual,
 )
 
 SOURCES = Argument("folders", "FOLDER", "a folder of files, a pack of them, which is a tar, tar.gz or zip file, or a "
@@ -20,10 +22,24 @@ def _parts() -> List[Part]:
 
 
 def _run(given: Given, tool: str) -> int:
-    from ..box.commands import run
-    given.most = MOST_PAGE
-    return run(given, tool)
+    import sqlite3
+    from naplps.faults import NoProgram
+    from ..box.making import fill_box
+    from ..collection.store import StoreFailed
+    from ..report.making import TooLarge
+    from ..unexpected import failure_message
+    try:
+        return fill_box(given, tool)
+    except (NoProgram, NotWritten, StoreFailed, TooLarge) as error:
+        tell(str(error))
+    except BrokenPipeError:
+        raise
+    except sqlite3.Error as error:
+        tell(messages.GOES_ON_AFTER.format(path=shown(given.into), reason=error))
+    except Exception as error:  # pylint: disable=broad-except
+        tell(f"{shown(given.into)}: {failure_message(error)}")
+    return FAILED
 
 
 COMMAND = Command("find all that is in folders of files, and put it into one folder", _parts, _run, check_usual,
-                  ON_STORES)
+                  ON_STORES, group=COLLECTION_GROUP, rank=10, is_first=True)

@@ -1,10 +1,29 @@
-"""The command carve: pages inside files of any kind."""
-from typing import List
+"""The command carve: pages inside files of any kind, and how far such a search is."""
+from __future__ import annotations
 
+import io
+import os
+import sys
+import time
+from contextlib import suppress
+from typing import IO, TYPE_CHECKING, List, Optional, Tuple
+
+from naplps.names import shown
+
+from .. import TOOL, messages
+from ..console import FAILED, REFUSED, NotWritten, tell
+from ..new_files import made_folder, put_inside, replace, require_free
 from . import (
-    BUDGET, FILES_OF_STORE, INTO_FOLDER, JSON_ALONE, SECONDS, Argument, Command, Option, Part, number, on_pages,
-    require_one_standard_input,
+    BUDGET, FILES_OF_STORE, INTO_FOLDER, JSON_ALONE, PAGE_GROUP, SECONDS, Argument, Command, Option, Part, number,
+    on_pages, require_one_standard_input,
 )
+
+if TYPE_CHECKING:
+    from naplps.names import Members
+    from ..collection.progress import Stopping
+    from ..page_finder import CarvedPage, PageFinder
+    from ..page_session import Session
+    from ..source import Page
 
 ENDING = ("No file is overwritten. The same command continues a search that was stopped. Status: 0 pages are found "
           "in each file, 1 in some there are none, 2 the command line is wrong, 3 something couldn't be read, asked or "
@@ -12,6 +31,10 @@ ENDING = ("No file is overwritten. The same command continues a search that was 
 FILES = Argument("pages", "FILE", "a file of any kind, as the image of a disk, PACK!MEMBER for a member of a pack, or "
                  "- for standard input", "+", "file")
 INTO = INTO_FOLDER._replace(help="make a file for each page in this folder; without it, what would be made is printed")
+WHAT, MOST_LENGTH = "how far naplps-pages carve has come; the same command goes on", 1 << 16
+PIECE = 1 << 20
+# Between two states that are kept, in seconds.
+OFTEN = 5.0
 
 
 def _parts() -> List[Part]:
@@ -21,5 +44,193 @@ def _parts() -> List[Part]:
     return [FILES, INTO, least, JSON_ALONE, BUDGET, SECONDS]
 
 
+def carve(session: Session) -> int:
+    """Finds the pages of each source."""
+    from ..collection.progress import Stopping
+    with made_folder(session.into), Stopping() as stopping:
+        def work(page: Page) -> None:
+            if stopping.number is None:
+                _Carving(session, page, stopping).run()
+        status = session.each(work)
+    session.output.flush()
+    if stopping.number is not None:
+        tell(messages.STOPPED)
+    stopping.act()
+    return status
+
+
+class _Carving:
+    """The work on one source."""
+
+    def __init__(self, session: Session, page: Page, stopping: Stopping) -> None:
+        from ..collection.progress import Progress
+        self.session, self.page, self.stopping = session, page, stopping
+        self.file: IO[bytes] = io.BytesIO(page.data) if page.data is not None else _of(page)
+        self.length = self.file.seek(0, os.SEEK_END)
+        self.progress = Progress(sys.stderr, lambda: self.length >> 20, what="MiB")
+        self.kept = time.monotonic()
+        self.state: Optional[CarveState] = None
+        self.found = 0
+        self.stem = ""
+
+    def run(self) -> None:
+        """Reads the source once for its hash, and once for its pages."""
+        from naplps.client import version
+        from ..notes import carve_source
+        from ..page_finder import PageFinder
+        marks = self._marks()
+        sha256 = self._hash()
+        if self.stopping.number is not None:
+            return
+        session = self.session
+        begin = 0
+        if session.into is not None:
+            self.stem = session.path_for(self.page.name)
+            folder, name = os.path.split(self.stem)
+            terms = [sha256, self.length, session.least, version(session.program.path, session.program.limits)]
+            self.state = CarveState(os.path.join(folder, f".{name}.carve.json"), shown(self.page.name), terms)
+            begin, self.found = self.state.load()
+        finder = PageFinder(session.program, session.least, self._beat)
+        source = carve_source(self.page.name, self.length, sha256)
+        try:
+            self.file.seek(begin)
+            for found in finder.find(self._read, begin):
+                self._take(source, found)
+        finally:
+            self.progress.clear()
+        if self._marks() != marks:
+            session.complain(self.page.name, messages.CHANGED)
+        elif not finder.stopped:
+            self._end(finder)
+
+    def _end(self, finder: PageFinder) -> None:
+        if self.state:
+            self.state.remove()
+        if finder.skipped:
+            tell(f"{shown(self.page.name)}: {messages.BEGINNINGS_SKIPPED.format(number=finder.skipped)}")
+        if finder.skipped or not self.found:
+            self.session.fail(REFUSED)
+        if not self.session.json:
+            pages = "1 page" if self.found == 1 else f"{self.found} pages"
+            self.session.output.line(f"{shown(self.page.name)}: {pages} found in {self.length} bytes")
+
+    def _marks(self) -> object:
+        """By what it shows that a long source changed. (A short one is held.)"""
+        if self.page.file is None:
+            return None
+        it = os.fstat(self.page.file.fileno())
+        return it.st_size, it.st_mtime_ns, it.st_ino
+
+    def _hash(self) -> str:
+        import hashlib
+        hashed = hashlib.sha256()
+        self.file.seek(0)
+        while self.stopping.number is None:
+            piece = self._read(PIECE)
+            if not piece:
+                break
+            hashed.update(piece)
+        return hashed.hexdigest()
+
+    def _read(self, number: int) -> bytes:
+        try:
+            return self.file.read(number)
+        except OSError as error:
+            from ..source import Unread
+            raise Unread(error.strerror or str(error)) from None
+
+    def _beat(self, at: int) -> bool:
+        """Tells how far it is, and keeps that; whether to stop."""
+        self.progress.show(at >> 20)
+        is_stopped = self.stopping.number is not None
+        now = time.monotonic()
+        if self.state and (is_stopped or now - self.kept > OFTEN):
+            self.kept = now
+            self.state.keep(at, self.found)
+        return is_stopped
+
+    def _take(self, source: Members, found: CarvedPage) -> None:
+        """Tells of a page, and writes it after its note."""
+        from naplps.answers import Unanswered
+        from naplps.client import version
+        from ..notes import answer_line, carved_note, carved_path, carved_places, note_bytes
+        from ..schema import answered, dumps
+        session, name = self.session, self.page.name
+        if isinstance(found.answer, Unanswered):
+            session.complain(name, found.answer.reason)
+            return
+        self.progress.clear()
+        path = name
+        if session.into is not None:
+            path = carved_path(self.stem, found.offset)
+            try:
+                require_free(path, found.data)
+            except NotWritten as taken:
+                tell(str(taken))
+                session.fail(FAILED)
+                return
+            note = carved_note(source, found, session.least, version(session.program.path, session.program.limits))
+            self._put(path, found, note_bytes(note))
+        self.found += 1
+        if session.json:
+            session.output.line(dumps({**answered(path, found.answer), **carved_places(found)}))
+        else:
+            session.output.line("%s: %d bytes at %d, at least %d, at most %d from %d: %s" % (
+                shown(path), len(found.data), found.offset, found.least_end - found.offset,
+                found.end - found.most_begin, found.most_begin, answer_line(found)))
+
+    def _put(self, path: str, found: CarvedPage, note: bytes) -> None:
+        """Writes a page and its note; where the disk is full, the same command goes on before this page."""
+        try:
+            put_inside(path + ".json", note)
+            put_inside(path, found.data)
+        except NotWritten:
+            if self.state:
+                self.state.keep(found.offset, self.found)
+            raise
+
+
+class CarveState:
+    """The file that has how far the search of one source is, by its hash and length, what was asked for, and by which
+    program."""
+
+    def __init__(self, path: str, source: str, terms: List[object]) -> None:
+        self.path, self.source, self.terms = path, source, terms
+
+    def load(self) -> Tuple[int, int]:
+        """Where the search goes on, and how many pages were found before. Raises NotWritten where a foreign file is."""
+        from ..notes import read_note
+        if not os.path.lexists(self.path):
+            return 0, 0
+        try:
+            held = read_note(self.path, MOST_LENGTH)
+            if held["what"] != WHAT:
+                raise ValueError
+        except (OSError, ValueError, KeyError, TypeError, RecursionError):
+            raise NotWritten(self.path, messages.FOREIGN_STATE) from None
+        at, found = held.get("at"), held.get("found")
+        is_mine = held.get("terms") == self.terms and all(type(each) is int and each >= 0 for each in (at, found))
+        return (at, found) if is_mine else (0, 0)
+
+    def keep(self, at: int, found: int) -> None:
+        """Keeps how far the search is. Where that can't be written, it goes on from before."""
+        from naplps.version import VERSION
+        from ..notes import note_bytes
+        with suppress(NotWritten, OSError):
+            members = {"source_name": self.source, "what": WHAT, "tool": f"{TOOL} {VERSION}", "terms": self.terms,
+                       "at": at, "found": found}
+            replace(self.path, note_bytes(members))
+
+    def remove(self) -> None:
+        """Removes it at the end."""
+        with suppress(OSError):
+            os.unlink(self.path)
+
+
+def _of(page: Page) -> IO[bytes]:
+    assert page.file is not None
+    return page.file
+
+
 COMMAND = Command("find pages inside files of any kind, each a file in a folder", _parts, on_pages(
-    "carving.carve", FILES_OF_STORE), require_one_standard_input, ENDING)
+    carve, FILES_OF_STORE), require_one_standard_input, ENDING, group=PAGE_GROUP, rank=130)

@@ -6,7 +6,7 @@ from naplps.answers import Accepted, Refusal
 from .. import file_kinds
 from ..page_session import Session, on_pages
 from ..source import Page
-from . import AFTER, BUDGET, JSON_ALONE, PAGES, SECONDS, Command, Given, Part, require_one_standard_input
+from . import AFTER, BUDGET, JSON_ALONE, PAGES, PAGE_GROUP, SECONDS, Command, Given, Part, require_one_standard_input
 
 
 def _parts() -> List[Part]:
@@ -22,7 +22,7 @@ def check(session: Session) -> int:
         if session.json:
             session.print_answer(page, answer, **it._asdict())
         elif there and isinstance(answer, (Accepted, Refusal)):
-            more = "" if it.kind == file_kinds.PAGE else file_kinds.told(it)
+            more = "" if it.kind == file_kinds.PAGE else file_kinds.remark(it)
             session.output.line(session.front(page.name) + answer.line + more)
     return session.each(work, more=("kind", "looks_like", "pages"))
 
@@ -31,4 +31,5 @@ def _run(given: Given, tool: str) -> int:
     return on_pages(given, tool, check)
 
 
-COMMAND = Command("say whether pages are accepted, or why not", _parts, _run, require_one_standard_input)
+COMMAND = Command("say whether pages are accepted, or why not", _parts, _run, require_one_standard_input,
+                  group=PAGE_GROUP, rank=10, is_first=True)

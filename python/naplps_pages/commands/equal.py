@@ -2,7 +2,7 @@
 from typing import List
 
 from . import (
-    CSV, JSON, NULL, ON_STORES, PROCESSES, SECONDS, Argument, Command, Given, OneOf, Option, Part,
+    COLLECTION_GROUP, CSV, JSON, NULL, ON_STORES, PROCESSES, SECONDS, Argument, Command, Given, OneOf, Option, Part,
 )
 
 # By what pages are equal.
@@ -36,9 +36,10 @@ def _check(given: Given) -> None:
 
 
 def _run(given: Given, tool: str) -> int:
-    from ..collection.equal_run import equal, equal_by_picture
+    from ..collection.equal import equal, equal_by_picture
     from ..collection.store import run
     return run(given.stores[0], lambda: equal_by_picture(given, tool) if given.by == "picture" else equal(given, tool))
 
 
-COMMAND = Command("print groups of pages that draw the same", _parts, _run, _check, ON_STORES)
+COMMAND = Command("print groups of pages that draw the same", _parts, _run, _check, ON_STORES,
+                  group=COLLECTION_GROUP, rank=50, is_first=True)

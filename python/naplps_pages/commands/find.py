@@ -5,7 +5,7 @@ from naplps.names import shown
 
 from .. import messages
 from ..console import COMPLETE, FAILED, tell
-from . import CSV, JSON, NULL, ON_STORES, STORE, Argument, Command, Given, OneOf, Part
+from . import COLLECTION_GROUP, CSV, JSON, NULL, ON_STORES, STORE, Argument, Command, Given, OneOf, Part
 
 WORDS = Argument("words", "WORD", "the beginning of a word; or words between quotes, in their order", "+")
 
@@ -28,23 +28,24 @@ def _run(given: Given, _: str) -> int:
 
 
 def _find(given: Given) -> int:
-    from ..collection import finding
+    from ..collection import texts
     from ..collection.printing import Printer, numbered
     from ..collection.store import StoreFailed, open_to_read
-    from ..page_words import wanted
-    parts = wanted(" ".join(given.words))
+    from ..page_words import parse_query
+    parts = parse_query(" ".join(given.words))
     connection = open_to_read(given.store)
-    why = finding.why_not(connection)
+    why = texts.why_not(connection)
     if why:
         raise StoreFailed(given.store, why)
-    printer = Printer(given.form, finding.COLUMNS)
-    for page in finding.found(connection, parts):
-        finding.show(printer, page)
+    printer = Printer(given.form, texts.COLUMNS)
+    for page in texts.found(connection, parts):
+        texts.show(printer, page)
     printer.flush()
-    lacking = finding.without_text(connection)
+    lacking = texts.without_text(connection)
     if lacking:
         tell(f"{shown(given.store)}: {messages.NO_TEXTS_OF.format(pages=numbered(lacking, 'page has', 'pages have'))}")
     return COMPLETE
 
 
-COMMAND = Command("find pages by their words, and print the lines", _parts, _run, ending=ON_STORES)
+COMMAND = Command("find pages by their words, and print the lines", _parts, _run, ending=ON_STORES,
+                  group=COLLECTION_GROUP, rank=40, is_first=True)

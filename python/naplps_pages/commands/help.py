@@ -5,7 +5,7 @@ from textwrap import fill
 from typing import Iterator, List
 
 from .. import TOOL
-from . import GROUPS, NAMES, SHARED, Argument, Command, Given, Option, Part, command, unknown
+from . import GROUPS, HELP_GROUP, NAMES, SHARED, Argument, Command, Given, Option, Part, command, in_group, unknown
 
 TITLE = "Files, pictures and reasons for NAPLPS pages."
 TOPIC = Argument("topic", "COMMAND", "a command, or `options` for those that several commands have", "?")
@@ -24,8 +24,8 @@ def _parts() -> List[Part]:
 
 def _run(given: Given, _: str) -> int:
     if given.topic in NAMES:
-        from ..cli import parser
-        sys.stdout.write(parser(given.topic).format_help())
+        from ..parsing import parser_of
+        sys.stdout.write(parser_of(given.topic).format_help())
     elif given.topic == OPTIONS:
         sys.stdout.write(of_options())
     elif given.topic is not None:
@@ -38,12 +38,12 @@ def _run(given: Given, _: str) -> int:
 def _commands(is_all: bool) -> Iterator[str]:
     yield f"usage: {TOOL} COMMAND [ARGUMENT ...]\n\n{TITLE}"
     for group in GROUPS:
-        names = group.first + (group.others if is_all else ())
+        names = in_group(group, is_all)
         if names:
-            yield f"\n{group.title}:"
+            yield f"\n{group}:"
         for name in names:
-            told = fill(command(name).help, WIDTH - 14)
-            yield f"  {name:10}" + told.replace("\n", "\n" + " " * 12)
+            text = fill(command(name).help, WIDTH - 14)
+            yield f"  {name:10}" + text.replace("\n", "\n" + " " * 12)
     yield "\n" + fill(MORE, WIDTH)
 
 
@@ -62,4 +62,4 @@ def of_options() -> str:
     return it.format_help()
 
 
-COMMAND = Command("list the commands, or describe one", _parts, _run, ending=ENDING)
+COMMAND = Command("list the commands, or describe one", _parts, _run, ending=ENDING, group=HELP_GROUP, rank=10)

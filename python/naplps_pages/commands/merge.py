@@ -2,7 +2,7 @@
 from typing import List, Optional, Tuple
 
 from ..console import COMPLETE, SOME_LACK
-from . import FILES, ON_STORES, Argument, Command, Given, Option, Part, told_old
+from . import COLLECTION_GROUP, FILES, ON_STORES, Argument, Command, Given, Option, Part, renamed_message
 
 STORES = Argument("parts", "STORE", "a file that `scan` made, which stays as it is", "+")
 INTO = Option("--into", "the new store, a file that isn't there yet", "STORE", completes=FILES, is_required=True)
@@ -22,7 +22,7 @@ def _renewed(words: List[str]) -> Optional[Tuple[List[str], str]]:
     if len(names) < 2 or any(word in ("-h", "--help") or word.startswith("--into") for word in others):
         return None
     words = [*others, "--into=" + names[0], "--", *names[1:]]
-    return words, told_old("merge INTO STORE ..", "merge STORE .. --into INTO")
+    return words, renamed_message("merge INTO STORE ..", "merge STORE .. --into INTO")
 
 
 def _run(given: Given, _: str) -> int:
@@ -32,4 +32,4 @@ def _run(given: Given, _: str) -> int:
 
 
 COMMAND = Command("join stores, as those of the parts of a scan, in a new one", _parts, _run, ending=ON_STORES,
-                  renew=_renewed)
+                  renew=_renewed, group=COLLECTION_GROUP, rank=90)

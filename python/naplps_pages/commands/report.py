@@ -7,7 +7,7 @@ from naplps.names import shown
 
 from .. import messages
 from ..console import COMPLETE, FAILED, SOME_LACK, Output, tell
-from . import FILES, FULL, PROCESSES, SECONDS, STORE, Command, Given, OneOf, Option, Part, number, old
+from . import COLLECTION_GROUP, FILES, FULL, PROCESSES, SECONDS, STORE, Command, Given, OneOf, Option, Part, number, old
 
 ENDING = ("Status: 0, or 1 if a page in the report has changed since it was scanned, 2 the command line is wrong, 3 "
           "the store, the program or the output failed.")
@@ -19,7 +19,7 @@ REPLACE = Option("--replace", "put it in place of a report that is there", defau
 
 
 def _parts() -> List[Part]:
-    from ..report.limits import MOST_SKETCHES, USUAL_SKETCHES
+    from ..report import MOST_SKETCHES, USUAL_SKETCHES
 
     def count(text: str) -> Optional[int]:
         return None if text == ALL else number(0, MOST_SKETCHES)(text)
@@ -38,7 +38,7 @@ def _run(given: Given, tool: str) -> int:
 
 def _report(given: Given, tool: str) -> int:
     import gc
-    from naplps.program import find
+    from naplps.client import find
     from ..collection.printing import numbered
     from ..collection.store import open_to_read
     from ..report import making
@@ -61,4 +61,5 @@ def _report(given: Given, tool: str) -> int:
     return SOME_LACK if made.missed else COMPLETE
 
 
-COMMAND = Command("make one HTML file that shows what a scan found", _parts, _run, ending=ENDING)
+COMMAND = Command("make one HTML file that shows what a scan found", _parts, _run, ending=ENDING,
+                  group=COLLECTION_GROUP, rank=60, is_first=True)

@@ -1,12 +1,14 @@
 """The command scan: the answers to all pages in folders, kept in a store."""
+from __future__ import annotations
+
 from argparse import ArgumentTypeError
 from typing import TYPE_CHECKING, List
 
 from naplps.limits import MOST_PAGE
 
 from . import (
-    ASKED_FOR, BUDGET, FILES, ON_STORES, PROCESSES, SECONDS, USUAL, Argument, Command, Given, OneOf, Option, Part,
-    check_usual, number,
+    ASKED_FOR, BUDGET, COLLECTION_GROUP, FILES, ON_STORES, PROCESSES, SECONDS, USUAL, Argument, Command, Given, OneOf,
+    Option, Part, check_usual, number,
 )
 
 if TYPE_CHECKING:
@@ -24,7 +26,7 @@ NEAR = Option("--near", "keep keys of each page, for `near`", default=False)
 PICTURES = Option("--pictures", "keep the hash of the picture of each page, for `equal --by picture`", default=False)
 
 
-def part(text: str) -> "ScanPart":
+def part(text: str) -> ScanPart:
     """The part of a scan that is named K/N."""
     from ..collection.kept import MAX_PARTS, read_part
     try:
@@ -48,16 +50,16 @@ def _run(given: Given, tool: str) -> int:
 
 
 def _scan(given: Given, tool: str) -> int:
-    from naplps.program import find
+    from naplps.client import find
     from ..collection.kept import refused_by
     from ..collection.pool import processors
-    from ..collection.rows import AskAgain, WorkerOptions
+    from ..collection.protocol import Retry, WorkerOptions
     from ..collection.scan import ScanOptions, scan
-    how = WorkerOptions(find(tool), given.budget, given.seconds, given.most, AskAgain(
+    options = WorkerOptions(find(tool), given.budget, given.seconds, given.most, Retry(
         given.again, given.cures, given.words, given.near, given.pictures))
-    return scan(ScanOptions(given.folders, given.into, given.processes or processors(), how, given.part, given.on,
+    return scan(ScanOptions(given.folders, given.into, given.processes or processors(), options, given.part, given.on,
                             refused=refused_by(given)))
 
 
 COMMAND = Command("ask about all pages in folders, and keep the answers in a store", _parts, _run, check_usual,
-                  ON_STORES)
+                  ON_STORES, group=COLLECTION_GROUP, rank=20, is_first=True)

@@ -3,7 +3,7 @@ import sys
 from typing import List
 
 from ..console import COMPLETE, FAILED, Output, tell
-from . import FULL, SECONDS, STORE, Command, Given, Option, Part, number
+from . import COLLECTION_GROUP, FULL, SECONDS, STORE, Command, Given, Option, Part, number
 
 ENDING = "Status: 0, 2 the command line is wrong, 3 the store, the program or the port failed."
 PORT = Option("--port", "the port of 127.0.0.1; by default a free one", "N", number(0, 65535), default=0)
@@ -19,10 +19,10 @@ def _run(given: Given, tool: str) -> int:
 
 
 def _serve(given: Given, tool: str) -> int:
-    from naplps.program import find
+    from naplps.client import find
     from ..report import server
     from ..report.drawing import DrawingLimits
-    from ..report.limits import SERVED_LINES, SERVED_PLAYER, SERVED_SKETCH, SERVED_TEXT
+    from ..report import SERVED_LINES, SERVED_PLAYER, SERVED_SKETCH, SERVED_TEXT
     from ..report.sketch_workers import DrawingOptions
     output = Output(sys.stdout.buffer)
 
@@ -38,4 +38,5 @@ def _serve(given: Given, tool: str) -> int:
     return COMPLETE
 
 
-COMMAND = Command("show what a scan found to browsers of this machine", _parts, _run, ending=ENDING)
+COMMAND = Command("show what a scan found to browsers of this machine", _parts, _run, ending=ENDING,
+                  group=COLLECTION_GROUP, rank=70)

@@ -1,25 +1,149 @@
-"""The command split: captures into their pages."""
+"""The command split: a capture cut into its pages, each a file of its own with a note."""
+from __future__ import annotations
+
 from typing import TYPE_CHECKING, List, Optional
 
+from naplps.names import shown
+
+from .. import messages
+from ..console import FAILED, REFUSED
+from ..new_files import make_folder
 from . import (
-    ALONE, BUDGET, INTO_FOLDER, JSON_ALONE, PAGES_OR_STORE, SECONDS, Command, Given, Part, on_pages,
+    ALONE, BUDGET, INTO_FOLDER, JSON_ALONE, PAGES_OR_STORE, PAGE_GROUP, SECONDS, Command, Given, Part, on_pages,
     require_one_standard_input,
 )
 
 if TYPE_CHECKING:
     from naplps.client import Client
+    from naplps.treating.borders import Piece
+    from naplps.treating.treatments import Ask
     from ..listing import Earlier
+    from ..notes import CutPart
+    from ..page_session import Session
+    from ..source import Page
+
+# A capture of more pages isn't cut.
+MOST_PAGES = 100_000
 
 
 def _parts() -> List[Part]:
     return [PAGES_OR_STORE, JSON_ALONE, INTO_FOLDER._replace(is_required=True), BUDGET, SECONDS]
 
 
-def _of_store(given: Given, client: "Client", after: "Optional[Earlier]") -> int:
+def split(session: Session) -> int:
+    """Cuts captures into their pages."""
+    from naplps.treating.borders import pieces
+
+    def work(page: Page) -> None:
+        if page.data is None:
+            session.complain(page.name, messages.LONG_CAPTURE)
+            return
+        some = pieces(page.data)
+        if len(some) > MOST_PAGES:
+            session.complain(page.name, messages.MANY_PARTS.format(pages=len(some), most=MOST_PAGES))
+        elif not some:
+            _fail(session, page, messages.NO_BORDER)
+        else:
+            _cut(session, page, some)
+    return session.each(work)
+
+
+def _fail(session: Session, page: Page, why: str) -> None:
+    if session.json:
+        session.complain(page.name, why)
+    else:
+        session.output.line(session.front(page.name) + why)
+    session.fail(REFUSED)
+
+
+def _cut(session: Session, page: Page, some: List[Piece]) -> None:
+    """Asks about the parts of a capture, and writes them where a page is among them."""
+    from naplps.answers import Accepted, Refusal, Unanswered
+    assert page.data is not None
+    parts = parts_of(session.program.ask, page.data, some)
+    lacking = [each.answer for each in parts if isinstance(each.answer, Unanswered)]
+    if not has_a_page(session.program.ask, parts):
+        _fail(session, page, messages.NO_PAGE_AMONG_PARTS.format(parts=len(parts)))
+        return
+    _write(session, page, parts)
+    if not session.json:
+        accepted, refused = (sum(isinstance(part.answer, kind) for part in parts) for kind in (Accepted, Refusal))
+        session.output.line("%s%d parts: %d accepted, %d refused" % (
+            session.front(page.name), len(parts), accepted, refused))
+    if lacking:
+        session.fail(FAILED)
+
+
+def parts_of(ask: Ask, data: bytes, some: List[Piece]) -> List[CutPart]:
+    """The parts of a capture, with the answers to them."""
+    from ..notes import CutPart
+    parts: List[CutPart] = []
+    for piece in some:
+        part = data[piece.offset:piece.end]
+        after = data[piece.end:] if piece is some[-1] else b""
+        parts.append(CutPart(piece, part, data[piece.offset - piece.before:piece.offset], after, ask("check", part)))
+    return parts
+
+
+def has_a_page(ask: Ask, parts: List[CutPart]) -> bool:
+    """Whether a page is among the parts, or of one it isn't known."""
+    from naplps.answers import Unanswered
+    return any(isinstance(part.answer, Unanswered) for part in parts) or any(
+        part.is_page or _is_readable(ask, part) for part in parts)
+
+
+def _is_readable(ask: Ask, part: CutPart) -> bool:
+    """Whether it is refused, and what a treatment graded around leaves of it is accepted as a page."""
+    from naplps.answers import Accepted, Refusal
+    from naplps.treating.treatments import TreatmentSearch
+    from .. import file_kinds
+    if not isinstance(part.answer, Refusal):
+        return False
+    cure = TreatmentSearch(ask).find(part.data, part.answer.place)
+    return (cure is not None and not cure.treated.is_guess
+            and file_kinds.kind((cure.data,), Accepted(cure.entries)) == file_kinds.PAGE)
+
+
+def _write(session: Session, page: Page, parts: List[CutPart]) -> None:
+    """Writes the parts, each after its note."""
+    from naplps.answers import Unanswered
+    from naplps.client import version
+    from ..notes import capture_source, part_note, part_path, put_part
+    assert page.data is not None
+    source = capture_source(page.name, page.data, len(parts), version(session.program.path, session.program.limits))
+    beside = session.path_for(page.name)
+    if session.into is not None:
+        make_folder(session.into)
+    for number, part in enumerate(parts, 1):
+        path = part_path(beside, number, len(parts))
+        if isinstance(part.answer, Unanswered):
+            session.complain(path, part.answer.reason)
+        put_part(path, part, part_note(source, number, part))
+        _print(session, path, part)
+
+
+def _print(session: Session, path: str, part: CutPart) -> None:
+    from naplps.answers import Accepted, Refusal
+    from naplps.treating.borders import text_length
+    from .. import file_kinds
+    from ..schema import answered, dumps
+    piece, answer = part.piece, part.answer
+    if session.json:
+        session.output.line(dumps({**answered(path, answer), "offset": piece.offset, "bytes": piece.length,
+                                   "cut_at": piece.cut_at, "before": part.before.hex(), "after": part.after.hex()}))
+    elif isinstance(answer, (Accepted, Refusal)):
+        texts = "".join(", %d bytes of text %s it" % (text_length(some), where) for some, where in (
+            (part.before, "before"), (part.after, "after")) if text_length(some))
+        line = answer.line if part.is_page or isinstance(answer, Refusal) else (
+            "%s (%s)" % (answer.line, file_kinds.kind((part.data,), answer)))
+        session.output.line("%s: %d bytes at %d, cut at %s%s: %s" % (
+            shown(path), piece.length, piece.offset, piece.cut_at, texts, line))
+
+
+def _of_store(given: Given, client: Client, after: Optional[Earlier]) -> int:
     from ..collection.session import CAPTURES_ALONE, on_files
-    from ..splitting import split
     return on_files(given, client, after, split, CAPTURES_ALONE)
 
 
 COMMAND = Command("cut a capture into its pages, each a file in a folder", _parts, on_pages(
-    "splitting.split", ALONE, _of_store), require_one_standard_input)
+    split, ALONE, _of_store), require_one_standard_input, group=PAGE_GROUP, rank=120)

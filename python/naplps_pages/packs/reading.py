@@ -10,8 +10,7 @@ from naplps.limits import MOST_PAGE
 from .. import messages
 from ..collection.folders import FolderIdentity, opened, opened_again, reason
 from ..collection.tables import READ
-from .member import Damage, Member, PackLimits
-from .naming import ZIP
+from . import ZIP, Damage, Member, PackLimits
 from .tars import Tar
 from .zips import Zip
 

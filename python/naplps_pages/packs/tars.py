@@ -7,8 +7,7 @@ from typing import IO, Callable, Iterator, List, NamedTuple, Optional, Tuple, Un
 
 from .. import messages
 from ..collection.tables import MAX_NUMBER, READ
-from .member import Damage, Member, PackLimits, other, passed_over, taken
-from .naming import named
+from . import Damage, Member, PackLimits, named, other, passed_over, taken
 
 GZIP = b"\x1f\x8b"
 # Bytes that are read and unpacked at a time.

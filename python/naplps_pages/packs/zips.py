@@ -9,8 +9,7 @@ from typing import IO, Dict, Iterator, List, Optional, Set, cast
 
 from .. import messages
 from ..collection.tables import READ, UNREADABLE
-from .member import Member, PackLimits, other, passed_over, taken
-from .naming import named
+from . import Member, PackLimits, named, other, passed_over, taken
 
 # The greatest number of bytes of a directory: some 400,000 members.
 MOST_DIRECTORY = 32 << 20
@@ -59,9 +58,9 @@ class Zip:
         try:
             self.zip = zipfile.ZipFile(cast(IO[bytes], _Directory(file, limits)))
         except FAULTS as error:
-            said = _said(error)
-            is_of_zip = isinstance(error, ZIP_FAULTS) and said not in UNSAID
-            self.why = f"{messages.NO_ZIP}: {said}" if is_of_zip else messages.NO_ZIP
+            message = _message(error)
+            is_of_zip = isinstance(error, ZIP_FAULTS) and message not in UNSAID
+            self.why = f"{messages.NO_ZIP}: {message}" if is_of_zip else messages.NO_ZIP
         except OSError as error:
             if error.errno not in (None, errno.EINVAL):  # (that is a place before the start, or none)
                 raise
@@ -142,7 +141,7 @@ class Zip:
             with self.zip.open(info) as file:
                 return taken(name, file.read(size + 1), size, at)
         except FAULTS as error:
-            return Member(name, UNREADABLE, messages.NOT_UNPACKED.format(reason=_said(error)), size, at)
+            return Member(name, UNREADABLE, messages.NOT_UNPACKED.format(reason=_message(error)), size, at)
 
 
 def _unreadable(info: zipfile.ZipInfo) -> Optional[str]:
@@ -154,7 +153,7 @@ def _unreadable(info: zipfile.ZipInfo) -> Optional[str]:
     return None
 
 
-def _said(error: Exception) -> str:
+def _message(error: Exception) -> str:
     """What the library says of an error, on one line that isn't long."""
-    said = str(error) or type(error).__name__
-    return "".join(each if each.isprintable() else "?" for each in said)[:MOST_SAID]
+    message = str(error) or type(error).__name__
+    return "".join(each if each.isprintable() else "?" for each in message)[:MOST_SAID]

@@ -1,6 +1,5 @@
 """The document of a report, with what is embedded in it."""
 import base64
-import hashlib
 import json
 import os
 import re
@@ -8,11 +7,8 @@ import zlib
 from html import escape
 from typing import Dict, List, Sequence, Tuple
 
-from ..player.played import component
-from .chart import chart
-from .choices import Choice
-from .facts import Facts
-from .groups import GroupSummary, of_spellings
+from ..player import component, policy_hash, resource
+from .facts import Choice, Facts, GroupSummary, ReasonRow, of_spellings
 
 # (9 takes twice the time of 7, and leaves 2 bytes in a hundred less)
 LEVEL = 7
@@ -43,12 +39,12 @@ class Document:
     def __init__(self, facts: Facts, groups: List[GroupSummary], source: str) -> None:
         """`source` names the script of where the files, groups and drawings come from."""
         style, script = component()
-        style, script = _own("report.css") + style, _own(source) + script + "".join(map(_own, SCRIPTS))
-        self.policy = POLICY % (_hash(script), _hash(style), ASKING if source == "asked.js" else "")
+        style, script = _resource("report.css") + style, _resource(source) + script + "".join(map(_resource, SCRIPTS))
+        self.policy = POLICY % (policy_hash(script), policy_hash(style), ASKING if source == "asked.js" else "")
         self.parts: Dict[str, str] = {
             "POLICY": escape(self.policy), "STYLE": style, "SCRIPT": script, "TITLE": escape(_title(facts)),
             "SCAN": _scan(facts), "COUNTS": _counts(facts.counts), "CHART": chart(facts.reasons, facts.files),
-            "ANSWERS": _options(facts.choices.answers), "GROUPS": _told_groups(groups),
+            "ANSWERS": _options(facts.choices.answers), "GROUPS": _groups_sentence(groups),
             "COPIES": " checked" if groups and not of_spellings(groups) else "",
             "FIND": "words, or part of a name" if source == "held.js" or facts.has_words else "part of a name",
             "KINDS": _choice("kind", "Kind", "each kind", facts.choices.kinds),
@@ -59,7 +55,7 @@ class Document:
     def html(self, held: str, data: str) -> str:
         """The page, with a sentence on what it holds and with its data."""
         parts = {**self.parts, "HELD": escape(held), "DATA": data}
-        return MARK.sub(lambda found: parts[found[1]], _own("report.html"))
+        return MARK.sub(lambda found: parts[found[1]], _resource("report.html"))
 
 
 def data_of(table: str, blocks: Sequence[str], texts: Sequence[str], played: Sequence[str]) -> str:
@@ -69,13 +65,8 @@ def data_of(table: str, blocks: Sequence[str], texts: Sequence[str], played: Seq
         for name, some in (("block", blocks), ("texts", texts), ("played-block", played)) for data in some)
 
 
-def _own(name: str) -> str:
-    with open(os.path.join(HERE, name), encoding="utf-8") as file:
-        return file.read()
-
-
-def _hash(text: str) -> str:
-    return f"'sha256-{base64.b64encode(hashlib.sha256(text.encode('utf-8')).digest()).decode('ascii')}'"
+def _resource(name: str) -> str:
+    return resource(HERE, name)
 
 
 def _title(facts: Facts) -> str:
@@ -110,7 +101,7 @@ def _choice(name: str, label: str, every: str, some: List[Choice]) -> str:
             "</span>\n" % (name, label, name, every, _options(some)))
 
 
-def _told_groups(groups: List[GroupSummary]) -> str:
+def _groups_sentence(groups: List[GroupSummary]) -> str:
     if not groups:
         return "No two files have equal pages."
     spelled, copies = of_spellings(groups), any(group.copies for group in groups)
@@ -120,9 +111,43 @@ def _told_groups(groups: List[GroupSummary]) -> str:
 
 def _others(number: int) -> str:
     """The box that shows files that aren't pages, where there are any."""
-    told = "also texts, blank files and others ({:,})".format(number)
-    return f'<label class="check"><input type="checkbox" id="others"> {told}</label>\n' if number else ""
+    text = "also texts, blank files and others ({:,})".format(number)
+    return f'<label class="check"><input type="checkbox" id="others"> {text}</label>\n' if number else ""
 
 
 def _so_many(number: int) -> str:
     return "1 group has" if number == 1 else "{:,} groups have".format(number)
+
+
+WIDE = 300
+# The greatest number of treatments that are named for a reason.
+MOST_TOLD = 4
+HEAD = ('<table class="chart"><thead><tr><th scope="col">Reason<th scope="col" class="bar">'
+        '<span class="unseen">Bar</span><th scope="col" class="number">Files<th scope="col" class="number">Of all'
+        '<th scope="col" class="means">It means</tr></thead>')
+BAR = '<svg viewBox="0 0 %d 16" preserveAspectRatio="none" aria-hidden="true"><rect width="%.1f" height="16"/></svg>'
+
+
+def chart(reasons: List[ReasonRow], files: int) -> str:
+    """A row for each reason, with a bar that is as long as it has files."""
+    if not reasons:
+        return "<p>No page is refused.</p>"
+    most = max(reason.files for reason in reasons)
+    return "%s<tbody>%s</tbody></table>" % (HEAD, "".join(_row(reason, most, files) for reason in reasons))
+
+
+def _row(reason: ReasonRow, most: int, files: int) -> str:
+    bar = BAR % (WIDE, max(2.0, WIDE * reason.files / most))
+    text = escape(reason.title)
+    return ('<tr><th scope="row"><button class="name" data-answer="%s">%s</button><td class="bar">%s'
+            '<td class="number">%s<td class="number">%.2f%%<td class="means">%s</tr>') % (
+        text, text, bar, "{:,}".format(reason.files), 100 * reason.files / max(files, 1),
+        escape(" ".join(part for part in (reason.means, _readable(reason.readable)) if part)))
+
+
+def _readable(some: List[Tuple[str, int]]) -> str:
+    """How many files of a reason are readable by which treatments, those of most first."""
+    text = ["{:,} by {}".format(files, by) for by, files in some[:MOST_TOLD]]
+    left = sum(files for _, files in some[MOST_TOLD:])
+    text += ["{:,} by others".format(left)] if left else []
+    return "Readable when treated: %s." % ", ".join(text) if text else ""

@@ -1,28 +1,136 @@
-"""Makes a report, as one HTML file: which pages have a sketch, and how all is packed."""
+"""Makes a report, as one HTML file: its table of all files, which pages have a sketch, and how all is packed."""
 import os
 import sqlite3
 import sys
 from concurrent.futures import Future, ThreadPoolExecutor
 from itertools import chain, zip_longest
-from typing import Callable, Dict, Iterable, Iterator, List, NamedTuple, Sequence, Tuple, TypeVar
+from typing import Callable, Dict, Iterable, Iterator, List, NamedTuple, Optional, Sequence, Set, Tuple, TypeVar
+
+from naplps.names import shown
+from naplps.treating.treatments import graded
 
 from .. import messages
 from ..collection import tables
 from ..collection.progress import Progress
 from ..console import NotWritten
 from ..new_files import put, replace
-from . import groups
-from .document import Document, data_of, packed, packed_json
-from .drawing import Block, Drawing, DrawingLimits, DrawnBlock, WantedDrawing, wanted
-from .facts import load_facts, told_refusals
-from .files import COUNT
-from .limits import (
-    A_PLAYED_BLOCK, HELD_LINES, HELD_PLAYER, HELD_SKETCH, HELD_TEXT, MOST_FILES, MOST_HELD, MOST_PLAYED, MOST_SKETCHES,
-    SOME_TEXTS, in_block,
+from ..page_words import first_words
+from . import (
+    A_PLAYED_BLOCK, HASH_DIGITS, HELD_LINES, HELD_PLAYER, HELD_SKETCH, HELD_TEXT, MOST_FILES, MOST_HELD, MOST_PLAYED,
+    MOST_SKETCHES, SOME_TEXTS, in_block,
 )
-from .roots import load as load_roots
+from .document import Document, data_of, packed, packed_json
+from .drawing import Block, Drawing, DrawingLimits, DrawnBlock, DrawingTask, drawing_task
+from .facts import GroupSummary, kind, load_facts, load_groups, refusal_texts
+from .files import ALL, COUNT, ReportFile, Roots, files_of, first_words_of, load_roots
+from .near_files import NearFiles
 from .sketch_workers import BlockQueue, DrawingOptions, Room
-from .table import NONE, Table
+
+NONE = -1
+# Of a file: the number of entries or the place of a refusal; the number of its spelling in the group, and of its page.
+COLUMNS = ("folder", "name", "size", "answer", "entries", "group", "spelling", "cure", "kind", "page", "sketch")
+
+
+class Numbers:
+    """Numbers for names, as they are met."""
+
+    def __init__(self) -> None:
+        self.names: List[str] = []
+        self.numbers: Dict[object, int] = {}
+
+    def of(self, name: str, key: object = None) -> int:
+        """The number of a name; names with different keys are different."""
+        number = self.numbers.setdefault((name, key), len(self.names))
+        if number == len(self.names):
+            self.names.append(name)
+        return number
+
+
+class Table:
+    """All files of a store, in the order of their paths. Its columns are there once it is filled."""
+
+    def __init__(self, connection: sqlite3.Connection, roots: Roots, groups: List[GroupSummary]) -> None:
+        self.files: List[ReportFile] = list(files_of(connection.execute(ALL)))
+        self.groups = groups
+        self.folders, self.answers, self.cures, self.kinds, self.hashes = (Numbers() for _ in range(5))
+        self.says: List[str] = []
+        self.first = first_words_of(connection)
+        self.roots, self.near = roots, NearFiles(connection)
+        self.columns: Dict[str, List[object]] = {name: [] for name in COLUMNS}
+        numbers = {group.key: number for number, group in enumerate(groups)}
+        # The groups of the files by their numbers, or NONE; and of the files that are accepted alone.
+        self.shown_in = [numbers.get(file.drawn_key, NONE) if file.drawn_key else NONE for file in self.files]
+        self.in_group = [group if file.key else NONE for file, group in zip(self.files, self.shown_in)]
+
+    def fill(self) -> None:
+        """Fills the columns."""
+        spellings = _spellings(self.files, self.shown_in)
+        relative: Dict[int, str] = {}
+        rows = []
+        for file, group in zip(self.files, self.shown_in):
+            if file.folder not in relative:
+                relative[file.folder] = self.roots.relative(file.path)
+            rows.append(self._row(file, relative[file.folder], group, spellings.get((group, file.own), NONE)))
+        self.columns.update(zip(COLUMNS, map(list, zip(*rows))))
+
+    def _row(self, file: ReportFile, folder: str, group: int, spelling: int) -> Tuple[object, ...]:
+        cure = NONE
+        if file.tried:
+            cure = self.cures.of(graded(file.treatments) if file.treatments else "")
+        page = NONE if file.own is None else self.hashes.of(file.own.hex()[:HASH_DIGITS])
+        return (self.folders.of(folder, file.folder), shown(os.fsdecode(file.name)), file.size,
+                self.answers.of(file.summary, file.number), file.at if file.entries is None else file.entries, group,
+                spelling, cure, self.kinds.of(kind(file.kind, file.looks_like)), page, NONE)
+
+    def place_sketches(self, drawn: List[Tuple[int, Drawing]]) -> None:
+        """Notes which sketch the files have, given those of some: equal pages and copies share one."""
+        shared = {_picture(self.files[number]): sketch for sketch, (number, _) in enumerate(drawn)}
+        sketches = [shared.get(_picture(file), NONE) for file in self.files]
+        self.columns["sketch"] = list(sketches)
+        shown_first = [first_words(drawing.text) for _, drawing in drawn]
+        says: Dict[object, str] = {}
+        for file, page, sketch in zip(self.files, self.columns["page"], sketches):
+            shows = shown_first[sketch] if sketch != NONE else ""
+            says[page] = shows or self.first.get(file.page or 0, "")
+        self.says = [says.get(page, "") for page in range(len(self.hashes.names))]
+
+    def held(self) -> Dict[str, object]:
+        """What the HTML file holds of it."""
+        return {"folders": self.folders.names, "answers": self.answers.names, "cures": self.cures.names,
+                "kinds": self.kinds.names, "numbers": self._numbers(), "hashes": self.hashes.names, "says": self.says,
+                "columns": self.columns, "near": self._near(),
+                "groups": [[group.canon.hex()[:16], group.spellings, group.files, group.entries, group.length,
+                            group.copies] for group in self.groups]}
+
+    def _near(self) -> Dict[object, List[Tuple[int, str]]]:
+        """The files that are almost equal, and the text on each, by the numbers of pages."""
+        numbers = {file.canon or file.treated_canon: number for number, file in reversed([*enumerate(self.files)])}
+        near = {page: [(numbers[each.canon], each.text) for each in self.near.of(file) if each.canon in numbers]
+                for file, page in zip(self.files, self.columns["page"])}
+        return {page: some for page, some in near.items() if some}
+
+    def _numbers(self) -> List[int]:
+        """The number of the refusal that each of the answers is, or 0."""
+        made = [0] * len(self.answers.names)
+        for file, answer in zip(self.files, self.columns["answer"]):
+            assert isinstance(answer, int)
+            made[answer] = file.number or 0
+        return made
+
+
+def _picture(file: ReportFile) -> object:
+    """What the pages with one sketch have alike."""
+    return file.key or ((file.page,) if file.page is not None else (file.path, file.name))
+
+
+def _spellings(files: List[ReportFile], in_group: List[int]) -> Dict[Tuple[int, Optional[bytes]], int]:
+    """The number of each spelling within its group, in the order of their hashes, those of readable copies last."""
+    owns: Dict[int, Set[Tuple[bool, bytes]]] = {}
+    for file, group in zip(files, in_group):
+        if group != NONE and file.own is not None:
+            owns.setdefault(group, set()).add((file.key is None, file.own))
+    return {(group, own): number for group, some in owns.items() for number, (_, own) in enumerate(sorted(some))}
+
 
 It = TypeVar("It")
 
@@ -89,7 +197,7 @@ def _refused(table: Table) -> List[int]:
     for number, file in enumerate(table.files):
         if file.answer == tables.REFUSED and file.page not in seen:
             seen.add(file.page)
-            reasons.setdefault(file.told, []).append(number)
+            reasons.setdefault(file.summary, []).append(number)
     return list(_in_turn(reasons.values()))
 
 
@@ -110,7 +218,7 @@ def number_of_pictures(table: Table) -> int:
 
 
 # A page that is to be drawn, and a drawing, with the number of their file.
-Task = Tuple[int, WantedDrawing]
+Task = Tuple[int, DrawingTask]
 Numbered = Tuple[int, Drawing]
 # Where pages are that have no sketch in the file.
 OTHERS_SERVED = "naplps-pages serve shows the others too."
@@ -175,9 +283,9 @@ def make(connection: sqlite3.Connection, options: ReportOptions) -> ReportTotals
     """Makes the file. Raises NotWritten or TooLarge."""
     require_room(options.into, options.replace)
     most = DrawingLimits(HELD_SKETCH, HELD_TEXT, HELD_LINES, HELD_PLAYER, options.full, shortens=True)
-    how = DrawingOptions(options.program, options.seconds, most, options.kept)
+    drawing_options = DrawingOptions(options.program, options.seconds, most, options.kept)
     # (the processes begin while the store is read, and to draw before all of it is)
-    with BlockQueue(how, _processes(connection, options), Room(MOST_HELD)) as queue:
+    with BlockQueue(drawing_options, _processes(connection, options), Room(MOST_HELD)) as queue:
         connection.execute("BEGIN")
         try:
             some, table = _read(connection)
@@ -193,7 +301,7 @@ def make(connection: sqlite3.Connection, options: ReportOptions) -> ReportTotals
     drawings = [(number, page.drawing) for (number, _), page in zip(tasks, chain(*(each.pages for each in blocks)))]
     data = _data(table, drawings, [each.packed for each in blocks], options.processes)
     missed = [(table.files[number].place.path, each.why) for number, each in drawings if each.why]
-    page = Document(facts, some, "held.js").html(_told_held(drawings, pictures), data).encode("utf-8")
+    page = Document(facts, some, "held.js").html(_held_sentence(drawings, pictures), data).encode("utf-8")
     if options.replace and os.path.isfile(options.into):
         replace(options.into, page)
     else:
@@ -208,29 +316,29 @@ def _processes(connection: sqlite3.Connection, options: ReportOptions) -> int:
     return min(options.processes, -(-pages // in_block(pages)))
 
 
-def _read(connection: sqlite3.Connection) -> Tuple[List[groups.GroupSummary], Table]:
+def _read(connection: sqlite3.Connection) -> Tuple[List[GroupSummary], Table]:
     """The groups and the files of a store. Raises TooLarge."""
     files: int = connection.execute(COUNT).fetchone()[0]
     if files > MOST_FILES:
         raise TooLarge(messages.MANY_FILES.format(number=files))
-    some = groups.load(connection)
+    some = load_groups(connection)
     return some, Table(connection, load_roots(connection), some)
 
 
-def _told_held(drawings: List[Numbered], pictures: int) -> str:
+def _held_sentence(drawings: List[Numbered], pictures: int) -> str:
     """How many sketches there are, how many of their pages can be played, and what shows the others."""
-    told = f"{len(drawings):,} of {pictures:,} sketches are in this file"
+    text = f"{len(drawings):,} of {pictures:,} sketches are in this file"
     played = sum(1 for _, each in drawings if each.played)
     if played < len(drawings):
-        told += f"; {played:,} of these pages can be played"
-    return f"{told}." if len(drawings) == pictures else f"{told}. {OTHERS_SERVED}"
+        text += f"; {played:,} of these pages can be played"
+    return f"{text}." if len(drawings) == pictures else f"{text}. {OTHERS_SERVED}"
 
 
 def _tasks(table: Table, numbers: List[int]) -> List[Task]:
     """What is to be drawn of these files, in their order. The first of the numbers can be played."""
     tasks: List[Task] = []
     for number in numbers:
-        it = wanted(table.files[number])
+        it = drawing_task(table.files[number])
         if it:
             tasks.append((number, it._replace(is_played=len(tasks) < MOST_PLAYED)))
     return sorted(tasks)
@@ -262,7 +370,7 @@ def _data(table: Table, drawings: List[Numbered], blocks: List[str], threads: in
     played = [(number, drawing.played) for number, drawing in drawings if drawing.played]
     with Packing(threads) as packing:
         held = packing.table({
-            **table.held(), "per": in_block(len(drawings)), "texts": SOME_TEXTS, "refusals": told_refusals(),
+            **table.held(), "per": in_block(len(drawings)), "texts": SOME_TEXTS, "refusals": refusal_texts(),
             "accepted": names.index(accepted) if accepted in names else -1, "playedPer": A_PLAYED_BLOCK,
             "played": [table.columns["page"][number] for number, _ in played]})
         texts = packing.texts([drawing.text for _, drawing in drawings])

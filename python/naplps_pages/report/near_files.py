@@ -3,10 +3,9 @@ import sqlite3
 from collections import defaultdict
 from typing import Dict, List, NamedTuple, Tuple
 
-from ..collection.canon_tables import NEAR_KEYS
+from ..collection.kept import NEAR_KEYS
 from ..collection.near import NearGroups
-from ..near_pages import words_of
-from ..nearness import WORDS, Beginning, Difference, ListedPage, difference
+from ..nearness import WORDS, Beginning, Difference, ListedPage, difference, words_of
 from .files import ReportFile
 
 # The most pages that are named as almost equal to one, for each thing in which they may differ.
@@ -15,10 +14,10 @@ LAST = {True: "with its last entry", False: "but for its last entry"}
 
 
 class NearFile(NamedTuple):
-    """A page that is almost equal to another one: its canonical hash, and what is told of it there."""
+    """A page that is almost equal to another one: its canonical hash, and the text on it there."""
 
     canon: bytes
-    told: str
+    text: str
 
 
 class NearFiles:
@@ -42,16 +41,16 @@ class NearFiles:
         canon = file.canon or file.treated_canon
         if canon is None:
             return []
-        found = [NearFile(other.canon, _told(group, page, other)) for group, page in self.groups.get(canon, ())
-                 for other in _others(group, page)]
-        return found + [_told_of(each, canon) for each in self.beginnings.get(canon, ())[:MOST_NEAR]]
+        found = [NearFile(other.canon, _difference_text(group, page, other))
+                 for group, page in self.groups.get(canon, ()) for other in _others(group, page)]
+        return found + [_beginning_of(each, canon) for each in self.beginnings.get(canon, ())[:MOST_NEAR]]
 
 
 def _others(group: Difference, page: ListedPage) -> List[ListedPage]:
     return [other for other in group.pages[:MOST_NEAR + 1] if other is not page][:MOST_NEAR]
 
 
-def _told(group: Difference, page: ListedPage, other: ListedPage) -> str:
+def _difference_text(group: Difference, page: ListedPage, other: ListedPage) -> str:
     if group.what != WORDS:
         return f"differs in {group.what}"
     pair = difference(WORDS, (page, other))
@@ -59,7 +58,7 @@ def _told(group: Difference, page: ListedPage, other: ListedPage) -> str:
     return f"differs in words: {here} here, {there} there" if here != there else f"differs in words: {here}"
 
 
-def _told_of(each: Beginning, canon: bytes) -> NearFile:
+def _beginning_of(each: Beginning, canon: bytes) -> NearFile:
     last = LAST[each.last_fits]
     if each.part.canon == canon:
         return NearFile(each.whole.canon, f"this page is a beginning of it, {last}")

@@ -6,20 +6,18 @@ from naplps.treating.treatments import graded
 
 from .. import messages
 from ..collection import tables, texts
-from ..collection.kinds import Count, Name, Path, checked, one
+from ..collection.tables import Count, Name, Path, checked, one
 from ..collection.store import open_to_read
-from ..packs.naming import MOST_NAME
-from . import choices
+from ..packs import MOST_NAME
+from . import HASH_DIGITS
 from . import files as of_files
-from . import groups as of_groups
-from . import store_words as words_of
 from .document import Document
-from .drawing import WantedDrawing, wanted
-from .facts import Facts, load_facts, told_refusals
-from .files import ReportFile
-from .limits import HASH_DIGITS
+from .drawing import DrawingTask, drawing_task
+from .facts import (
+    IS_SHOWN, Facts, GroupSummary, cure, is_inside, kind, load_facts, load_groups, of_spellings, refusal_texts,
+)
+from .files import ReportFile, files_of, first_words_of, joined, word_condition
 from .near_files import NearFiles
-from .roots import joined
 
 Answer = Dict[str, object]
 Words = Dict[str, str]
@@ -36,27 +34,29 @@ NTH = "row_number() OVER (PARTITION BY coalesce(p.canon, c.canon, p.own), t.form
     "ORDER BY p.canon IS NULL, d.path, f.name)"
 POSITION = "SELECT rowid FROM hits WHERE folder = ? AND name = ?"
 HASH = re.compile(r"[0-9a-f]{%d,64}" % HASH_DIGITS)
-OF_HASH = "SELECT f.folder, f.name FROM pages p CROSS JOIN files f ON f.page = p.id AND f.state = 0 " \
+OF_HASH = "SELECT f.folder, f.name FROM pages p CROSS JOIN files f ON f.page = p.id AND " \
+    f"f.state = {tables.READ} " \
     "CROSS JOIN folders d ON d.id = f.folder WHERE p.own >= ? AND p.own <= ? ORDER BY d.path, f.name LIMIT 1"
-PART = "SELECT %s FROM hits h CROSS JOIN files f ON f.folder = h.folder AND f.name = h.name %s WHERE h.rowid > ? " \
-    "AND h.rowid <= ? ORDER BY h.rowid" % (of_files.COLUMNS, of_files.JOINS)
+PART = f"SELECT {of_files.COLUMNS} FROM hits h CROSS JOIN files f ON f.folder = h.folder AND f.name = h.name " \
+    f"{of_files.JOINS} WHERE h.rowid > ? AND h.rowid <= ? ORDER BY h.rowid"
 ONE = f"SELECT {of_files.COLUMNS} {of_files.FROM} WHERE f.folder = ? AND f.name = ? AND {of_files.THERE}"
 # (`named` is a table that NearGroups makes)
 OF_CANON = "SELECT n.folder, n.name FROM named n CROSS JOIN folders d ON d.id = n.folder WHERE n.canon = ? " \
     "ORDER BY d.path, n.name LIMIT 1"
-MEMBERS = "SELECT %s FROM pages p CROSS JOIN terms t ON t.id = p.terms CROSS JOIN files f ON f.page = p.id AND " \
-    "f.state = 0 CROSS JOIN folders d ON d.id = f.folder LEFT JOIN faults n ON n.number = p.number LEFT JOIN cures c " \
-    "ON c.page = p.id AND c.terms = p.terms WHERE p.canon = ? AND t.form = ? ORDER BY p.own, d.path, f.name LIMIT ?" \
-    % of_files.COLUMNS
-COPIES = "SELECT %s FROM cures c CROSS JOIN pages p ON p.id = c.page AND p.terms = c.terms CROSS JOIN terms t ON " \
-    "t.id = p.terms CROSS JOIN files f ON f.page = p.id AND f.state = 0 CROSS JOIN folders d ON d.id = f.folder LEFT " \
-    "JOIN faults n ON n.number = p.number WHERE c.canon = ? AND t.form = ? ORDER BY p.own, d.path, f.name LIMIT ?" \
-    % of_files.COLUMNS
+MEMBERS = f"SELECT {of_files.COLUMNS} FROM pages p CROSS JOIN terms t ON t.id = p.terms CROSS JOIN files f ON " \
+    f"f.page = p.id AND f.state = {tables.READ} CROSS JOIN folders d ON d.id = f.folder LEFT JOIN faults n ON " \
+    "n.number = p.number LEFT JOIN cures c " \
+    "ON c.page = p.id AND c.terms = p.terms WHERE p.canon = ? AND t.form = ? ORDER BY p.own, d.path, f.name LIMIT ?"
+COPIES = f"SELECT {of_files.COLUMNS} FROM cures c CROSS JOIN pages p ON p.id = c.page AND p.terms = c.terms " \
+    "CROSS JOIN terms t ON " \
+    f"t.id = p.terms CROSS JOIN files f ON f.page = p.id AND f.state = {tables.READ} CROSS JOIN folders d ON " \
+    "d.id = f.folder LEFT JOIN faults n ON n.number = p.number WHERE c.canon = ? AND t.form = ? " \
+    "ORDER BY p.own, d.path, f.name LIMIT ?"
 
 
 # The words by which files are found, and those of them that a value has to be equal to.
 FIELDS = ("text", "folder", "kind", "answer", "cure", "order", "pages", "once", "others")
-EQUALS = {"kind": "kind_of(p.kind, p.looks_like) = ?", "answer": f"told({of_files.REASONS}) = ?",
+EQUALS = {"kind": "kind_of(p.kind, p.looks_like) = ?", "answer": f"summary({of_files.REASONS}) = ?",
           "cure": "c.page IS NOT NULL AND cure_of(c.treatments) = ?"}
 
 
@@ -83,7 +83,7 @@ class StoreFacts(NamedTuple):
 
     version: int
     facts: Facts
-    groups: List[of_groups.GroupSummary]
+    groups: List[GroupSummary]
     numbers: Dict[Tuple[bytes, str], int]
     document: Document
 
@@ -94,10 +94,10 @@ class Questions:
     def __init__(self, store: str) -> None:
         self.store = store
         self.connection = open_to_read(store)
-        self.connection.create_function("told", 7, of_files.told)
+        self.connection.create_function("summary", 7, of_files.summary)
         self.connection.create_function("has", 2, self._has)
-        self.connection.create_function("kind_of", 2, choices.kind)
-        self.connection.create_function("cure_of", 1, choices.cure)
+        self.connection.create_function("kind_of", 2, kind)
+        self.connection.create_function("cure_of", 1, cure)
         self.connection.create_function("group_rank", 2, self._rank)
         self.connection.create_function("is_inside", 1, lambda folder: folder in self.inside)
         self.known: Optional[StoreFacts] = None
@@ -106,7 +106,7 @@ class Questions:
         self.part = ""
         self.inside: Set[int] = set()
         self.found: Tuple[object, ...] = ()
-        self.refusals = told_refusals()
+        self.refusals = refusal_texts()
         self.ways = {"files": self._files, "find": self._place, "groups": self._groups, "details": self._details}
 
     def close(self) -> None:
@@ -127,7 +127,7 @@ class Questions:
         """What is known, once more where the store has changed."""
         version = int(self.connection.execute("PRAGMA data_version").fetchone()[0])
         if self.known is None or self.known.version != version:
-            some = of_groups.load(self.connection)
+            some = load_groups(self.connection)
             facts = load_facts(self.connection, self.store, some)
             numbers = {group.key: number for number, group in enumerate(some, 1)}
             self.near = None
@@ -148,16 +148,16 @@ class Questions:
         first, count = _number(words, "from"), _number(words, "count", 1000)
         self._find(words)
         total = self.connection.execute("SELECT coalesce(max(rowid), 0) FROM hits").fetchone()[0]
-        some = list(of_files.read(self.connection.execute(PART, (first, first + count))))
-        says = words_of.first(self.connection, [file.page for file in some])
-        return {"total": total, "files": [self._told(file, says) for file in some]}
+        some = list(files_of(self.connection.execute(PART, (first, first + count))))
+        says = first_words_of(self.connection, [file.page for file in some])
+        return {"total": total, "files": [self._row(file, says) for file in some]}
 
     def _place(self, words: Words) -> Answer:
         """The first file with a page of a hash, and its position among the files that are found."""
-        wanted_hash = words.get("hash", "").lower()
-        if not HASH.fullmatch(wanted_hash):
+        hash_asked = words.get("hash", "").lower()
+        if not HASH.fullmatch(hash_asked):
             raise Unasked(messages.SHORT_HASH.format(digits=HASH_DIGITS))
-        ends = [bytes.fromhex((wanted_hash + digit * 64)[:64]) for digit in "0f"]
+        ends = [bytes.fromhex((hash_asked + digit * 64)[:64]) for digit in "0f"]
         found = one(self.connection.execute(OF_HASH, ends).fetchone(), FileNumber)
         if found is None:
             raise Unasked(messages.NO_PAGE_OF_HASH)
@@ -198,11 +198,11 @@ class Questions:
             values += self._key(int(group[1]))
         elif text:
             self.part = text.lower()
-            has_words, more = words_of.condition(text) if self._now().facts.has_words else ("0", [])
+            has_words, more = word_condition(text) if self._now().facts.has_words else ("0", [])
             conditions.append(f"(has(f.folder, f.name) OR {has_words})")
             values += more
         if folder:
-            self.inside = {number for number, name in self.folders.items() if choices.is_inside(name, folder)}
+            self.inside = {number for number, name in self.folders.items() if is_inside(name, folder)}
             conditions.append("is_inside(f.folder)")
         for name, condition in EQUALS.items():
             if words.get(name):
@@ -211,7 +211,7 @@ class Questions:
         if words.get("pages") == "1":
             conditions.append("p.id IS NOT NULL")
             if words.get("others") != "1" and not words.get("kind"):
-                conditions.append(choices.IS_SHOWN)
+                conditions.append(IS_SHOWN)
         return conditions, values
 
     def _key(self, number: int) -> Tuple[bytes, str]:
@@ -222,15 +222,15 @@ class Questions:
     def _groups(self, words: Words) -> Answer:
         first, count, names = _number(words, "from"), _number(words, "count", 100), _number(words, "names", 100)
         some = self._now().groups
-        total = len(some) if words.get("copies") == "1" else of_groups.of_spellings(some)
+        total = len(some) if words.get("copies") == "1" else of_spellings(some)
         return {"total": total, "groups": [self._group(number, names)
                                            for number in range(first + 1, min(first + count, total) + 1)]}
 
     def _group(self, number: int, names: int) -> Answer:
         group = self._now().groups[number - 1]
-        some = list(of_files.read(self.connection.execute(MEMBERS, (*group.key, max(names, 1)))))
+        some = list(files_of(self.connection.execute(MEMBERS, (*group.key, max(names, 1)))))
         if group.copies and len(some) < max(names, 1):
-            some += of_files.read(self.connection.execute(COPIES, (*group.key, max(names, 1) - len(some))))
+            some += files_of(self.connection.execute(COPIES, (*group.key, max(names, 1) - len(some))))
         members: List[Answer] = []
         last: Optional[bytes] = None
         for file in some[:names]:
@@ -248,20 +248,20 @@ class Questions:
     def _name(self, file: ReportFile) -> str:
         return joined(self.folders.get(file.folder, ""), file.name)
 
-    def _told(self, file: ReportFile, says: Dict[int, str]) -> Answer:
-        return {"key": key_of(file), "name": self._name(file), "size": file.size, "answer": file.told,
+    def _row(self, file: ReportFile, says: Dict[int, str]) -> Answer:
+        return {"key": key_of(file), "name": self._name(file), "size": file.size, "answer": file.summary,
                 "hash": file.own.hex() if file.own else "", "says": says.get(file.page or 0, ""),
-                "kind": choices.kind(file.kind, file.looks_like),
+                "kind": kind(file.kind, file.looks_like),
                 "treated": graded(file.treatments) if file.treatments else "",
                 "entries": file.at if file.entries is None else file.entries,
                 "group": self._now().numbers.get(file.drawn_key, 0) if file.drawn_key else 0}
 
     def _details(self, words: Words) -> Answer:
         file = self._file(words)
-        told = self._told(file, words_of.first(self.connection, [file.page]))
-        group = told["group"]
+        row = self._row(file, first_words_of(self.connection, [file.page]))
+        group = row["group"]
         assert isinstance(group, int)
-        return {**told, "refusal": self.refusals.get(file.told) or self.refusals.get(str(file.number or 0)),
+        return {**row, "refusal": self.refusals.get(file.summary) or self.refusals.get(str(file.number or 0)),
                 "cure": (graded(file.treatments) if file.treatments else "") if file.tried else None,
                 "equal": self._group(group, NAMES) if group else None, "near": self._near(file)}
 
@@ -273,21 +273,21 @@ class Questions:
         for each in self.near.of(file):
             place = one(self.connection.execute(OF_CANON, (each.canon,)).fetchone(), FileNumber)
             rows = self.connection.execute(ONE, place).fetchall() if place else []
-            found += [{"key": key_of(other), "name": self._name(other), "told": each.told}
-                      for other in of_files.read(rows)]
+            found += [{"key": key_of(other), "name": self._name(other), "told": each.text}
+                      for other in files_of(rows)]
         return found
 
-    def wanted(self, words: Words) -> Optional[WantedDrawing]:
+    def drawing_task(self, words: Words) -> Optional[DrawingTask]:
         """The page that is to be drawn; None where it has no answer to draw. Raises Unasked."""
         self._now()
-        return wanted(self._file(words))
+        return drawing_task(self._file(words))
 
     def _file(self, words: Words) -> ReportFile:
         found = KEY.fullmatch(words.get("key", ""))
         rows = self.connection.execute(ONE, (int(found[1]), bytes.fromhex(found[2]))).fetchall() if found else []
         if not rows:
             raise Unasked(messages.NO_SUCH_FILE)
-        return next(of_files.read(rows))
+        return next(files_of(rows))
 
 
 def key_of(file: ReportFile) -> str:

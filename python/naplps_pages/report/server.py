@@ -20,8 +20,8 @@ from typing import Callable, Dict, Mapping, Optional, Tuple
 from urllib.parse import parse_qsl
 
 from .. import messages
-from ..packs.naming import MOST_NAME
-from .drawing import Drawing, WantedDrawing
+from ..packs import MOST_NAME
+from .drawing import Drawing, DrawingTask
 from .questions import Questions, Unasked, Words
 from .sketch_workers import Desk, DrawingOptions
 
@@ -187,7 +187,7 @@ class Server(ThreadingHTTPServer):
 
     def __init__(self, port: int, one: ThreadPoolExecutor, questions: Questions, desk: Desk) -> None:
         self.one, self.questions, self.desk, self.connections = one, questions, desk, Connections()
-        # (whoever has no key is told nothing, and a browser doesn't send the address on)
+        # (whoever has no key learns nothing, and a browser doesn't send the address on)
         self.top = f"/{secrets.token_urlsafe(KEY_BYTES)}/"
         super().__init__((HERE, port), Handler)
 
@@ -298,20 +298,20 @@ class Handler(BaseHTTPRequestHandler):
             return "text/html", policy + "; frame-ancestors 'none'", page.encode("utf-8")
         name, _, query = self._name().partition("?")
         if name in (DRAWING, THUMBNAIL):
-            it = one.submit(questions.wanted, words(query)).result()
+            it = one.submit(questions.drawing_task, words(query)).result()
             is_small = name == THUMBNAIL
             drawing = (self.server.desk.drawing(it._replace(is_small=is_small)) if it else
                        Drawing(why=messages.NOTHING_TO_DRAW))
             answer: Mapping[str, object] = drawing.small() if is_small else drawing._asdict()
         elif name == PLAYED:
-            return "application/json", NOTHING, self._played(one.submit(questions.wanted, words(query)).result())
+            return "application/json", NOTHING, self._played(one.submit(questions.drawing_task, words(query)).result())
         elif name in questions.ways:
             answer = one.submit(questions.ask, name, words(query)).result()
         else:
             raise BadRequest(404, messages.NO_SUCH_NAME)
         return "application/json", NOTHING, json.dumps(answer).encode("ascii")
 
-    def _played(self, it: Optional[WantedDrawing]) -> bytes:
+    def _played(self, it: Optional[DrawingTask]) -> bytes:
         """What a player has of a page, or why it has nothing."""
         drawing = (self.server.desk.drawing(it._replace(is_played=True)) if it else
                    Drawing(why=messages.NOTHING_TO_DRAW))
@@ -341,7 +341,7 @@ class Handler(BaseHTTPRequestHandler):
         return "naplps-pages"
 
     def log_message(self, format: str, *args: object) -> None:  # pylint: disable=redefined-builtin
-        """Requests aren't told."""
+        """Requests aren't reported."""
 
 
 def words(query: str) -> Words:
@@ -357,10 +357,10 @@ def words(query: str) -> Words:
     return made
 
 
-def serve(store: str, how: DrawingOptions, port: int, began: Callable[[str], None]) -> None:
-    """Serves until a signal ends it; `began` is told the address. Raises StoreFailed, sqlite3.Error or NotServed."""
+def serve(store: str, options: DrawingOptions, port: int, began: Callable[[str], None]) -> None:
+    """Serves until a signal ends it; `began` gets the address. Raises StoreFailed, sqlite3.Error or NotServed."""
     one = ThreadPoolExecutor(max_workers=1)
-    questions, desk = one.submit(Questions, store).result(), Desk(how, MOST_DRAWERS)
+    questions, desk = one.submit(Questions, store).result(), Desk(options, MOST_DRAWERS)
     try:
         server = Server(port, one, questions, desk)
     except OSError as error:

@@ -15,7 +15,7 @@ from naplps.limits import MODEST
 
 from .. import interpreter
 from .drawing import (
-    Block, Drawing, DrawingLimits, DrawnBlock, DrawnPage, WantedDrawing, draw, draw_block, without_drawings,
+    Block, Drawing, DrawingLimits, DrawnBlock, DrawnPage, DrawingTask, draw, draw_block, without_drawings,
 )
 
 # A process that draws needs less memory than this.
@@ -40,11 +40,11 @@ class DrawingOptions(NamedTuple):
 class SketchWorker:
     """A process that draws the pages or the blocks that it is given, one after another."""
 
-    def __init__(self, how: DrawingOptions) -> None:
+    def __init__(self, options: DrawingOptions) -> None:
         self.connection, theirs = Pipe()
         with theirs:
             self.process = interpreter.start(__name__, theirs.fileno())
-        self._send(how)
+        self._send(options)
 
     def _send(self, what: object) -> None:
         try:
@@ -52,9 +52,9 @@ class SketchWorker:
         except OSError:
             pass  # it has ended, which is heard as that
 
-    def give(self, it: Union[WantedDrawing, Block]) -> None:
+    def give(self, task: Union[DrawingTask, Block]) -> None:
         """Gives it the next page, or a block."""
-        self._send(it)
+        self._send(task)
 
     def has_drawn(self, seconds: float) -> bool:
         """Whether it draws the page, or ends, within these seconds."""
@@ -63,18 +63,18 @@ class SketchWorker:
     def drawing(self) -> Optional[Drawing]:
         """The drawing of the page that it was given, when that is made; nothing where the process has ended."""
         try:
-            made = self.told()
+            made = self.receive()
         except EOFError:
             return None
         return made if isinstance(made, Drawing) else None
 
-    def told(self) -> object:
+    def receive(self) -> object:
         """What it tells next: a drawing, a page of a block, or the packed block. Raises EOFError where it has ended."""
         try:
-            told: object = self.connection.recv()
+            received: object = self.connection.recv()
         except OSError:
             raise EOFError from None
-        return told
+        return received
 
     def end(self) -> None:
         """Tells the process to end."""
@@ -98,13 +98,13 @@ def main(descriptor: int) -> None:
     gc.freeze()
     gc.set_threshold(OBJECTS)
     connection = Connection(descriptor)
-    how = connection.recv()
-    program = Client(how.program, limits=MODEST._replace(seconds=how.seconds))
-    draws = _drawer(program, how)
+    options = connection.recv()
+    program = Client(options.program, limits=MODEST._replace(seconds=options.seconds))
+    draws = _drawer(program, options)
     try:
         while True:
-            it = connection.recv()
-            made = draw_block(draws, it, connection.send) if isinstance(it, Block) else draws(it)
+            task = connection.recv()
+            made = draw_block(draws, task, connection.send) if isinstance(task, Block) else draws(task)
             connection.send(made)
     except (EOFError, OSError):
         pass  # nobody waits for it any more
@@ -112,12 +112,12 @@ def main(descriptor: int) -> None:
         program.close()
 
 
-def _drawer(program: Client, how: DrawingOptions) -> Callable[[WantedDrawing], Drawing]:
+def _drawer(program: Client, options: DrawingOptions) -> Callable[[DrawingTask], Drawing]:
     """What draws a page."""
-    if how.kept:
-        from ..box.kept_drawing import drawer  # (a report of no box doesn't wait for it)
-        return drawer(program, how.kept, how.most)
-    return lambda it: draw(program, it, how.most)
+    if options.kept:
+        from .drawing import kept_drawer  # (a report of no box doesn't wait for it)
+        return kept_drawer(program, options.kept, options.most)
+    return lambda task: draw(program, task, options.most)
 
 
 def _end(number: int, _: Optional[FrameType]) -> None:
@@ -149,8 +149,8 @@ class Room:
 class Share:
     """A process, the block that it has, and the pages of it that it has drawn."""
 
-    def __init__(self, how: DrawingOptions) -> None:
-        self.worker = SketchWorker(how)
+    def __init__(self, options: DrawingOptions) -> None:
+        self.worker = SketchWorker(options)
         self.block: Optional[Block] = None
         self.pages: List[DrawnPage] = []
         self.has_drawn = False
@@ -162,13 +162,13 @@ class Share:
 
     def hear(self, block: Block) -> Optional[DrawnBlock]:
         """Hears of a page of its block, or of the block; that, once it is drawn. Raises EOFError where it ended."""
-        told = self.worker.told()
-        if isinstance(told, DrawnPage):
+        received = self.worker.receive()
+        if isinstance(received, DrawnPage):
             self.has_drawn |= len(self.pages) not in block.without
-            self.pages.append(told)
+            self.pages.append(received)
             return None
         pages, self.block, self.pages = self.pages, None, []
-        return DrawnBlock(block, str(told), pages)
+        return DrawnBlock(block, str(received), pages)
 
     def left(self, block: Block) -> Block:
         """Its block, where it has ended: the page that it was at has no drawing then."""
@@ -180,9 +180,9 @@ class Share:
 class BlockQueue:
     """Blocks that wait for one of some processes. These begin at once, and are ended when the queue is left."""
 
-    def __init__(self, how: DrawingOptions, processes: int, room: Room) -> None:
-        self.how, self.room = how, room
-        self.shares = [Share(how) for _ in range(max(1, processes))]
+    def __init__(self, options: DrawingOptions, processes: int, room: Room) -> None:
+        self.options, self.room = options, room
+        self.shares = [Share(options) for _ in range(max(1, processes))]
         self.waiting: Deque[Block] = deque()
         self.done = self.stillborn = 0
 
@@ -244,7 +244,7 @@ class BlockQueue:
         self.waiting.appendleft(share.left(block))
         self.stillborn += not share.has_drawn
         if self.stillborn <= MOST_STILLBORN:
-            self.shares.append(Share(self.how))
+            self.shares.append(Share(self.options))
             return
         lost = list(self.waiting)
         self.waiting.clear()
@@ -259,9 +259,9 @@ CLOSED = "the server ends"
 class Desk:
     """Takes pages from many threads at the same time. One that takes long keeps one process alone."""
 
-    def __init__(self, how: DrawingOptions, most: int) -> None:
+    def __init__(self, options: DrawingOptions, most: int) -> None:
         """Of the processes there are at most a number; those that there aren't start when they are needed."""
-        self.how, self.most = how, most
+        self.options, self.most = options, most
         self._turns = threading.Semaphore(most)
         self._lock = threading.Lock()
         self._idle: List[SketchWorker] = []
@@ -270,25 +270,25 @@ class Desk:
 
     def begin(self) -> None:
         """Starts the processes, so that the first pages needn't wait for that."""
-        for drawer in [self._taken() for _ in range(self.most)]:
-            if drawer:
-                self._put_back(drawer, True)
+        for worker in [self._taken() for _ in range(self.most)]:
+            if worker:
+                self._put_back(worker, True)
 
-    def drawing(self, it: WantedDrawing) -> Drawing:
+    def drawing(self, task: DrawingTask) -> Drawing:
         """The drawing of a page, or why there is none. Its time begins when a process has it."""
         with self._turns:
-            drawer = self._taken()
-            if drawer is None:
+            worker = self._taken()
+            if worker is None:
                 return Drawing(why=CLOSED)
             made: Optional[Drawing] = None
             try:
-                drawer.give(it)
-                if not drawer.has_drawn(self.how.seconds):
-                    return Drawing(why=TOOK_TOO_LONG % self.how.seconds)
-                made = drawer.drawing()
+                worker.give(task)
+                if not worker.has_drawn(self.options.seconds):
+                    return Drawing(why=TOOK_TOO_LONG % self.options.seconds)
+                made = worker.drawing()
                 return made or Drawing(why=ENDED)
             finally:
-                self._put_back(drawer, made is not None)
+                self._put_back(worker, made is not None)
 
     def _taken(self) -> Optional[SketchWorker]:
         """A process that draws nothing yet; none once the desk is closed."""
@@ -297,27 +297,27 @@ class Desk:
                 return None
             if self._idle:
                 return self._idle.pop()
-            drawer = SketchWorker(self.how)
-            self._all.append(drawer)
-            return drawer
+            worker = SketchWorker(self.options)
+            self._all.append(worker)
+            return worker
 
-    def _put_back(self, drawer: SketchWorker, is_free: bool) -> None:
+    def _put_back(self, worker: SketchWorker, is_free: bool) -> None:
         """Keeps a process for the next page, if it has drawn the last one, and else ends it."""
         with self._lock:
             if is_free and not self._closed:
-                self._idle.append(drawer)
+                self._idle.append(worker)
                 return
-            if drawer in self._all:
-                self._all.remove(drawer)
-        drawer.close()
+            if worker in self._all:
+                self._all.remove(worker)
+        worker.close()
 
     def close(self) -> None:
         """Ends all processes, whatever they draw."""
         with self._lock:
             self._closed, some = True, self._all
             self._all = []
-        for drawer in some:
-            if drawer in self._idle:
-                drawer.close()
+        for worker in some:
+            if worker in self._idle:
+                worker.close()
             else:
-                drawer.end()  # (a thread waits for it yet, and closes it)
+                worker.end()  # (a thread waits for it yet, and closes it)

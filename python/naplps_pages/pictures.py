@@ -1,10 +1,32 @@
-"""A contact sheet: small pictures of many pages, with their names and answers, as one picture."""
+"""Pictures of pages: a sketch with a note on the page, contact sheets of many pages, and PNG of SVG."""
 import math
+import os
+import subprocess
 from typing import List, NamedTuple, Optional
 
+from naplps import drawing
+from naplps.answers import Accepted, Refusal
+from naplps.client import for_child, on_path
 from naplps.drawing import Drawn
 from naplps.drawing.measure import HEIGHT, WIDTH
 from naplps.drawing.paper import AROUND, MOST_BYTES, MOST_WEIGHT, escaped, is_tall, picture
+from naplps.limits import MOST_LISTED
+
+from . import messages
+from .listing import Listed
+
+
+def sketch_of(page: Listed, treated: str = "") -> drawing.Sketch:
+    """The sketch of a page that has this answer and these entries, of a copy that is treated so if it is one."""
+    answer, entries = page.answer, page.entries
+    note = f"then {answer.line}" if isinstance(answer, Refusal) else treated
+    if entries is not None:
+        return drawing.draw(entries, note)
+    if isinstance(answer, Accepted):
+        why = "" if answer.entries > MOST_LISTED else ", whose lines are too long"
+        return drawing.empty(f"No sketch: the page has {answer.entries} entries{why}")
+    return drawing.empty(f"No sketch: too much comes first, {note}")
+
 
 # The greatest number of pages of a sheet, which has as much to draw as one sketch may have.
 MOST_PAGES = 1000
@@ -42,11 +64,11 @@ class ContactSheet:
     def add(self, tile: Tile) -> None:
         """Adds a page. Where all would be more to draw than a picture may have, its picture is left out."""
         drawn = None if tile.drawn is None else self._room_for(tile.drawn)
-        told = '<title>%s</title>%s' % (escaped(f"{tile.name}: {tile.answer}"), drawn or _without(
+        content = '<title>%s</title>%s' % (escaped(f"{tile.name}: {tile.answer}"), drawn or _without(
             tile.answer if tile.drawn is None else TOO_MUCH))
         above = WIDTH - HEIGHT if tile.drawn and is_tall(tile.drawn.paper) else 0
         box = f"0 {-above} {WIDTH} {HEIGHT + above}"
-        markup = (f'<svg width="{WIDE}" height="{HIGH}" viewBox="{box}" role="img">{told}</svg>'
+        markup = (f'<svg width="{WIDE}" height="{HIGH}" viewBox="{box}" role="img">{content}</svg>'
                   + _line(1, "#111111", _end_of(tile.name)) + _line(2, "#555555", tile.answer))
         self.size += len(markup.encode("utf-8")) + 64
         self.tiles.append(markup)
@@ -104,3 +126,34 @@ def _cut(text: str) -> str:
         return text
     half = (MOST_SHOWN - 2) // 2
     return f"{text[:half]}..{text[-half:]}"
+
+
+RSVG_CONVERT = "rsvg-convert"
+
+
+class NoPng(Exception):
+    """There is no PNG, with the reason."""
+
+
+def find_converter() -> str:
+    """The program. Raises NoPng."""
+    path, why = on_path(RSVG_CONVERT)
+    if path is None:
+        raise NoPng(why or messages.NO_RSVG_CONVERT.format(program=RSVG_CONVERT))
+    return path
+
+
+def png_of(svg: bytes, seconds: float) -> bytes:
+    """The picture as PNG, made within a number of seconds. Raises NoPng."""
+    try:
+        # (a picture may have more bytes than libxml takes by itself)
+        process = subprocess.run([find_converter(), "--unlimited"], input=svg, stdout=subprocess.PIPE,
+                                 stderr=subprocess.PIPE, timeout=seconds, check=False, env=for_child())
+    except subprocess.TimeoutExpired:
+        raise NoPng(messages.PNG_LATE.format(program=RSVG_CONVERT, seconds=seconds)) from None
+    except OSError as error:
+        raise NoPng(f"{RSVG_CONVERT}: {error.strerror or error}") from None
+    if process.returncode or not process.stdout:
+        reason = process.stderr[:300].decode("utf-8", "replace").strip() or os.strerror(5)
+        raise NoPng(messages.PNG_FAILED.format(program=RSVG_CONVERT, reason=reason))
+    return process.stdout
