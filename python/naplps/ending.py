@@ -50,7 +50,7 @@ class Ending:
             number = ignored.exc_value.args[0]
             signal.signal(signal.SIGALRM, lambda *_: self._stop(number, None))
             signal.setitimer(signal.ITIMER_REAL, 0.001)
-        else:
+        elif not issubclass(ignored.exc_type, MemoryError):  # (whoever lacks memory next says so)
             sys.__unraisablehook__(ignored)
 
     def _stop(self, number: int, _: Optional[FrameType]) -> None:

@@ -29,10 +29,11 @@ def failure_message(error: Exception) -> str:
 
 def _place(error: Exception) -> str:
     """The last line of the tool or the module that it came through."""
-    import traceback  # (which takes long to be imported, and is needed here alone)
-    place = "outside of it"
-    for frame in traceback.extract_tb(error.__traceback__):
+    place, trace = "outside of it", error.__traceback__
+    while trace:  # (traceback's own walk makes objects, for which there may be no memory)
+        name = trace.tb_frame.f_code.co_filename
         for folder, start in ((PACKAGE, PACKAGE), (MODULE, os.path.dirname(MODULE))):
-            if frame.filename.startswith(folder + os.sep):
-                place = "%s line %d" % (os.path.relpath(frame.filename, start), frame.lineno or 0)
+            if name.startswith(folder + os.sep):
+                place = "%s line %d" % (os.path.relpath(name, start), trace.tb_lineno or 0)
+        trace = trace.tb_next
     return place

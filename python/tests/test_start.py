@@ -15,6 +15,8 @@ from samples import POINT
 LITTLE = (16_000, 18_000, 20_000, 22_000, 24_000, 26_000, 28_000, 30_000, 36_000, 44_000)
 # Python itself ends so where memory lacks amid an exception ("Cannot recover from MemoryErrors"), at some size.
 DIED = (-signal.SIGSEGV, -signal.SIGABRT)
+# It tells so of an object that goes, where memory lacks even for calling what the tool has set for that.
+IGNORED = b"Exception ignored "
 COMMANDS = (["--version"], ["--help"], ["check", "@"], ["list", "--json", "@"], ["look", "@"], ["text", "@"],
             ["play", "@", "-o", "out"], ["census", "@"], ["cures", "@"], ["explain", "@"],
             ["scan", ".", "--into", "../x.db"], ["files", "no.db"], ["find", "word", "no.db"],
@@ -29,16 +31,19 @@ def test_little_memory_is_one_line_and_status_3(naplps, tmp_path, words):
     folder.mkdir()
     page = file(folder, "a.nap", POINT)
     words = [page if each == "@" else each for each in words]
-    lines = died = 0
+    lines = died = ignored = 0
     for kib in LITTLE:
         said = subprocess.run(["prlimit", f"--as={kib << 10}", COMMAND, *words], cwd=folder, capture_output=True,
                               env=dict(os.environ, NAPLPS=naplps, PYTHONDONTWRITEBYTECODE="1"), timeout=600)
-        assert b"Traceback" not in said.stderr, (kib, said.stderr)
-        if said.returncode == 3:
-            lines += 1
-            assert said.stderr.startswith(b"naplps-pages: ") and said.stderr.count(b"\n") <= 2, (kib, said.stderr)
-        elif said.returncode in DIED:
+        assert IGNORED in said.stderr or b"Traceback" not in said.stderr, (kib, said)
+        lines += said.returncode == 3
+        if said.returncode in DIED:
             died += 1
+        elif IGNORED in said.stderr:
+            ignored += 1
+            assert said.returncode == 0 or b"naplps-pages: " in said.stderr, (kib, said)
+        elif said.returncode == 3:
+            assert said.stderr.startswith(b"naplps-pages: ") and said.stderr.count(b"\n") <= 2, (kib, said)
         elif words[0] == "scan" and said.returncode == 1:  # (a worker lacked it, for one file)
             assert said.stderr.count(b"\n") == 1 and page.encode() in said.stderr, (kib, said)
         else:
@@ -46,7 +51,7 @@ def test_little_memory_is_one_line_and_status_3(naplps, tmp_path, words):
         for made in ("out", "../x.db"):
             if (folder / made).exists():
                 (folder / made).unlink()
-    assert died <= 1
+    assert died <= 1 and ignored <= 1
     assert lines >= (0 if words[0].startswith("-") else 1)  # (Python alone may need more than these two do)
 
 
@@ -92,6 +97,16 @@ def test_a_signal_at_a_chosen_moment_ends_the_tool_without_a_word(naplps, tmp_pa
     assert (said.returncode, said.stderr) == (-signal.SIGINT, b"")
 
 
+AS_IT_GOES = """
+from naplps.ending import ENDING
+
+class Object:
+    def __del__(self):
+        raise %s
+
+ENDING.watch()
+Object()
+"""
 AMID_A_CALLBACK = """
 import os, signal, time, weakref
 from naplps.ending import ENDING, Stopped
@@ -108,6 +123,13 @@ try:
 except Stopped as stopped:
     print(stopped.args[0] == signal.SIGTERM)
 """
+
+
+@pytest.mark.parametrize("error, is_told", ((MemoryError, False), (ValueError, True)))
+def test_an_exception_that_python_ignores_is_told_but_for_a_lack_of_memory(error, is_told):
+    said = subprocess.run([sys.executable, "-c", AS_IT_GOES % error.__name__], capture_output=True, timeout=600,
+                          env=dict(os.environ, PYTHONPATH=PACKAGES))
+    assert (said.returncode, IGNORED in said.stderr, said.stderr == b"") == (0, is_told, not is_told)
 
 
 def test_a_signal_amid_a_callback_comes_again():
