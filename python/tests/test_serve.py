@@ -1,4 +1,5 @@
 """What a served report answers, and that it answers nothing else and nobody else."""
+import errno
 import hashlib
 import http.client
 import json
@@ -10,6 +11,7 @@ import socket
 import subprocess
 import time
 from concurrent.futures import ThreadPoolExecutor
+from contextlib import contextmanager
 
 import pytest
 
@@ -23,6 +25,16 @@ from test_client import BATCH
 
 HOST = "127.0.0.1"
 FILES = "/files?text=&answer=&from=0&count=100"
+CLOSED = (errno.ENOTCONN, errno.ECONNRESET, errno.EPIPE)
+
+
+@contextmanager
+def unless_closed():
+    """What is inside ends as soon as the other side has closed the connection."""
+    try:
+        yield
+    except OSError as error:
+        assert error.errno in CLOSED, error
 
 
 class Served:
@@ -63,11 +75,15 @@ class Served:
         return self.json("/drawing?key=" + key(self, name))
 
     def raw(self, data):
-        """What comes back for these bytes."""
+        """What comes back for these bytes, of which the server needn't read all."""
+        come = []
         with socket.create_connection((HOST, self.port), 300) as it:
-            it.sendall(data)
-            it.shutdown(socket.SHUT_WR)
-            return b"".join(iter(lambda: it.recv(65536), b""))
+            with unless_closed():
+                it.sendall(data)
+                it.shutdown(socket.SHUT_WR)
+            with unless_closed():
+                come.extend(iter(lambda: it.recv(65536), b""))
+        return b"".join(come)
 
 
 def archive(run, folder):
