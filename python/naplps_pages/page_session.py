@@ -122,29 +122,40 @@ class Session:
     def each(self, work: Callable[[Page], None], more: Sequence[str] = ()) -> int:
         """Does the work for each page; the status of the whole. `more` names what JSON has beside the answer."""
         for name in self.names:
-            page: Optional[Page] = None
             try:
-                page = self.reader(name, self.program.limits.seconds)
-                if self.of_store and is_store(page):
-                    raise Unread(self.of_store)
-                work(page)
+                self._work_on(name, work, more)
             except (OutputLost, BrokenPipeError):
                 raise
-            except Unread as error:
-                self._without(name, str(error), more)
-            except NotALine:
-                self._without(name, NONSENSE, more, was_read=True)
-            except NotWritten as error:
-                tell(str(error))
-                self.fail(FAILED)
             except Exception as error:  # pylint: disable=broad-except
                 from .unexpected import failure_message
                 self._without(name, failure_message(error), more)
-            finally:
-                if page and page.file:
-                    page.file.close()
         self.output.flush()
         return self.status
+
+    def _work_on(self, name: str, work: Callable[[Page], None], more: Sequence[str]) -> None:
+        """Does the work for a page, or answers why it has no answer."""
+        try:
+            self._read(name, work)
+        except (OutputLost, BrokenPipeError):
+            raise
+        except Unread as error:
+            self._without(name, str(error), more)
+        except NotALine:
+            self._without(name, NONSENSE, more, was_read=True)
+        except NotWritten as error:
+            tell(str(error))
+            self.fail(FAILED)
+
+    def _read(self, name: str, work: Callable[[Page], None]) -> None:
+        page: Optional[Page] = None
+        try:
+            page = self.reader(name, self.program.limits.seconds)
+            if self.of_store and is_store(page):
+                raise Unread(self.of_store)
+            work(page)
+        finally:
+            if page and page.file:
+                page.file.close()
 
     def _without(self, name: str, reason: str, more: Sequence[str], was_read: bool = False) -> None:
         """Tells of a page of which there is nothing to say."""
@@ -164,24 +175,28 @@ def on_pages(given: "Namespace", tool: str, work: Callable[[Session], int], limi
              on_store: Optional[OfStore] = None) -> int:
     """Runs a command on pages; the status. `of_store` is told where one of them is a store, `on_store` takes one that
     is named alone, and `tool` is the path of the tool, beside which naplps may stand."""
-    client = None
     try:
         client = Client(find(tool), given.budget, limits._replace(seconds=given.seconds))
-        after: Optional["Earlier"] = None
-        is_of_store = on_store is not None and _is_store(given.pages)
-        if getattr(given, "after", None):
-            from .listing import read_earlier
-            after = read_earlier(given.after, given.seconds)
-        if on_store is not None and is_of_store:
-            return on_store(given, client, after)
-        options = {name: value for name, value in vars(given).items() if name in OPTIONS}
-        return work(Session(client, given.pages, **options, of_store=of_store, after=after))
+        try:
+            return _work(client, given, work, of_store, on_store)
+        finally:
+            client.close()
     except (NoProgram, NotWritten, Unread) as error:
         tell(str(error))
         return FAILED
-    finally:
-        if client:
-            client.close()
+
+
+def _work(client: Client, given: "Namespace", work: Callable[[Session], int], of_store: str,
+          on_store: Optional[OfStore]) -> int:
+    after: Optional["Earlier"] = None
+    is_of_store = on_store is not None and _is_store(given.pages)
+    if getattr(given, "after", None):
+        from .listing import read_earlier
+        after = read_earlier(given.after, given.seconds)
+    if on_store is not None and is_of_store:
+        return on_store(given, client, after)
+    options = {name: value for name, value in vars(given).items() if name in OPTIONS}
+    return work(Session(client, given.pages, **options, of_store=of_store, after=after))
 
 
 def _is_store(pages: List[str]) -> bool:

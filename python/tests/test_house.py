@@ -128,7 +128,7 @@ sys.setprofile(hook)
 runpy.run_path(command, run_name="__main__")
 """
 # What a check may take: functions, files, modules of ours, and all modules.
-MOST = (50, 16, 19, 60)
+MOST = (55, 16, 19, 60)
 
 
 def test_a_check_takes_few_functions_and_modules_from_its_first_line_on(naplps, tmp_path):

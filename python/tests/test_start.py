@@ -1,4 +1,5 @@
 """How the command begins and ends: with little memory, and with a signal that comes at once or last."""
+import dis
 import os
 import re
 import signal
@@ -137,3 +138,20 @@ def test_a_signal_amid_a_callback_comes_again():
     said = subprocess.run([sys.executable, "-c", AMID_A_CALLBACK], env=dict(os.environ, PYTHONPATH=PACKAGES),
                           capture_output=True, timeout=600)
     assert (said.returncode, said.stdout, said.stderr) == (0, b"True\n", b"")
+
+
+HANDLERS = ("naplps_pages/__main__.py", "naplps_pages/cli.py", "naplps_pages/page_session.py", "naplps/ending.py")
+
+
+@pytest.mark.skipif(not hasattr(dis, "_parse_exception_table"), reason="this Python has no tables of handlers")
+@pytest.mark.parametrize("name", HANDLERS + (COMMAND,), ids=os.path.basename)
+def test_a_handler_needs_no_memory(name):
+    """Python numbers the instruction that failed for some handlers; beyond 256 that number needs memory, and where
+    there is none it tries without an end. These functions are left by every exception."""
+    path = os.path.join(os.path.dirname(os.path.dirname(os.path.abspath(__file__))), name)
+    with open(path, encoding="utf-8") as file_:
+        codes = [compile(file_.read(), path, "exec")]
+    for code in codes:
+        codes += [each for each in code.co_consts if hasattr(each, "co_code")]
+        beyond = [entry for entry in dis._parse_exception_table(code) if entry.lasti and entry.end // 2 > 256]
+        assert not beyond, (code.co_name, beyond)
