@@ -14,8 +14,10 @@ from samples import POINT
 
 # KiB of address space: from what Python itself needs to what a scan does.
 LITTLE = (16_000, 18_000, 20_000, 22_000, 24_000, 26_000, 28_000, 30_000, 36_000, 44_000)
-# Python itself ends so where memory lacks amid an exception ("Cannot recover from MemoryErrors"), at some size.
-DIED = (-signal.SIGSEGV, -signal.SIGABRT)
+# Python itself ends so where memory lacks amid an exception ("Cannot recover from MemoryErrors"), at some size; or,
+# where that is in a long function of its own imports, tries without an end, until its time of a processor is over.
+DIED = (-signal.SIGSEGV, -signal.SIGABRT, -signal.SIGXCPU)
+SECONDS = 20
 # It tells so of an object that goes, where memory lacks even for calling what the tool has set for that.
 IGNORED = b"Exception ignored "
 COMMANDS = (["--version"], ["--help"], ["check", "@"], ["list", "--json", "@"], ["look", "@"], ["text", "@"],
@@ -34,8 +36,9 @@ def test_little_memory_is_one_line_and_status_3(naplps, tmp_path, words):
     words = [page if each == "@" else each for each in words]
     lines = died = ignored = 0
     for kib in LITTLE:
-        said = subprocess.run(["prlimit", f"--as={kib << 10}", COMMAND, *words], cwd=folder, capture_output=True,
-                              env=dict(os.environ, NAPLPS=naplps, PYTHONDONTWRITEBYTECODE="1"), timeout=600)
+        limits = [f"--as={kib << 10}", f"--cpu={SECONDS}:{2 * SECONDS}"]
+        said = subprocess.run(["prlimit", *limits, COMMAND, *words], cwd=folder, capture_output=True,
+                              env=dict(os.environ, NAPLPS=naplps, PYTHONDONTWRITEBYTECODE="1"), timeout=3600)
         assert IGNORED in said.stderr or b"Traceback" not in said.stderr, (kib, said)
         lines += said.returncode == 3
         if said.returncode in DIED:
