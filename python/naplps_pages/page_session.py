@@ -135,7 +135,7 @@ class Session:
     def _work_on(self, name: str, work: Callable[[Page], None], more: Sequence[str]) -> None:
         """Does the work for a page, or answers why it has no answer."""
         try:
-            self._read(name, work)
+            self._hand(name, work)
         except (OutputLost, BrokenPipeError):
             raise
         except Unread as error:
@@ -146,7 +146,7 @@ class Session:
             tell(str(error))
             self.fail(FAILED)
 
-    def _read(self, name: str, work: Callable[[Page], None]) -> None:
+    def _hand(self, name: str, work: Callable[[Page], None]) -> None:
         page: Optional[Page] = None
         try:
             page = self.reader(name, self.program.limits.seconds)
