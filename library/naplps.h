@@ -119,7 +119,7 @@ struct naplps_answer naplps_places(uint32_t budget, const uint8_t *page, size_t 
 
 /* Why lines make no page. */
 enum naplps_line_fault {
-    NAPLPS_NO_LINE = 1,  /* a line is none that naplps_list gives; what is before the column begins one */
+    NAPLPS_NO_LINE = 1,  /* a line is none that naplps_list gives; its first wrong field begins at the column */
     NAPLPS_MISFIT = 2,   /* the entry of a line can't come behind those of the lines before */
     NAPLPS_UNCLOSED = 3, /* the lines end, and the definition that one of them opens isn't ended */
     NAPLPS_NO_MEMORY = 4 /* there was no memory, which says nothing of the lines */

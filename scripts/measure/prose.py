@@ -160,8 +160,7 @@ KINDS: Dict[str, Dict[str, Reader]] = {
         ("python/**/*.py", "scripts/**/*", "library/**/*", "examples/**/*.py", "pages/*", "vectors/run"), of_python),
     "users": {
         "python/naplps_pages/**/*.py": of_python_strings, "python/naplps_pages/*.txt": of_explanations,
-        "crates/nap_cli/src/*.rt": of_rattle_strings, "crates/nap_command/src/*.rt": of_rattle_strings,
-        "crates/nap_batch/src/*.rt": of_rattle_strings,
+        "crates/nap_cli/src/*.rt": of_rattle_strings, "crates/nap_command/src/**/*.rt": of_rattle_strings,
     },
 }
 

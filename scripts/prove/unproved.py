@@ -21,12 +21,14 @@ WORDS = Path("crates", "nap_cli", "src", "words.rt")
 TARGET = "x86_64-unknown-linux-gnu"
 # The mark of the call of clang that compiles the program.
 OF_PROGRAM = "-fsanitize=address"
-# As a proved build is compiled, but for fewer passes: clang takes half a minute in place of two.
+# As a proved build is compiled, but for fewer passes: clang takes half a minute in place of two. With none each call of
+# the sources stands in the program.
+FEW_PASSES, NO_PASSES = "-O1", "-O0"
 CLANG = (
     f"--target={TARGET}", "-march=x86-64-v2", "-mllvm", "-no-trap-after-noreturn", "-ffunction-sections",
     "-fdata-sections", "-mllvm", "-trap-unreachable", "-mllvm", "-no-x86-call-frame-opt", "-mllvm",
     "-disable-machine-licm", "-mllvm", "-disable-postra-machine-licm", "-mllvm", "-sink-common-insts=false",
-    "--no-default-config", "-no-canonical-prefixes", "-fintegrated-cc1", "-fPIE", "-O1",
+    "--no-default-config", "-no-canonical-prefixes", "-fintegrated-cc1", "-fPIE",
 )
 
 
@@ -79,17 +81,18 @@ def said(printed: str, tree: Path, top: Path) -> str:
     return "\n".join(line for line in lines if not re.match(r"run=|interpreter|checked:", line))
 
 
-def compile_module(kit: Path, module: Path, folder: Path, program: Path) -> None:
+def compile_module(kit: Path, module: Path, folder: Path, program: Path, passes: str) -> None:
     """Compiles and links the program; raises NotProved."""
     tools, compiled = kit / "toolchain", folder / "program.o"
-    clang: List[object] = [tools / "bin" / "clang", f"--sysroot={tools}", *CLANG]
+    clang: List[object] = [tools / "bin" / "clang", f"--sysroot={tools}", *CLANG, passes]
     ask(*clang, "-c", "-x", "ir", module, "-o", compiled, folder=folder, errors=subprocess.STDOUT)
     libraries = [kit / "c" / name for name in ("libos_c.a", "liblibc_c.a")]
     link: List[object] = [kit / "bin" / "rattle-link", "--target", TARGET, "--toolchain", tools]
     ask(*link, "-o", program, compiled, *libraries, folder=folder, errors=subprocess.STDOUT)
 
 
-def build(top: Path, folder: Path, change: Callable[[Path], None] = lambda tree: None) -> Path:
+def build(top: Path, folder: Path, change: Callable[[Path], None] = lambda tree: None,
+          passes: str = FEW_PASSES) -> Path:
     """Builds the program of the sources at `top` in an empty folder, with a change that is made in a copy of them;
     raises NotProved where they aren't a program's."""
     kit, tree, module, program = toolchain(), folder / "tree", folder / "module.bc", folder / "naplps"
@@ -104,7 +107,7 @@ def build(top: Path, folder: Path, change: Callable[[Path], None] = lambda tree:
     )
     if not module.is_file():
         raise NotProved(f"rt try compiles no program of these sources:\n{said(tried.stdout, tree, top)}")
-    compile_module(kit, module, folder, program)
+    compile_module(kit, module, folder, program, passes)
     version = ask(program, "--version")
     if not version.endswith(f", {NOT_PROVED}"):
         raise NotProved(f"the program's version doesn't say that it isn't proved: {version}")

@@ -136,9 +136,10 @@ class Suite:
 # Those that look at the sources alone; and those that are no parts, or parts of others.
 OF_SOURCES = (
     "scripts/prove/test-wrong-bodies", "scripts/prove/test-citations", "scripts/prove/test-repeated-clauses",
-    "scripts/prove/test-headline", "scripts/prove/test-promises", "scripts/test/test-public-items",
-    "scripts/test/test-counts", "scripts/test/test-stands-alone", "scripts/test/test-public-names",
-    "scripts/test/test-launcher", "scripts/shared/test-scripts",
+    "scripts/prove/test-names", "scripts/prove/test-headline", "scripts/prove/test-promises",
+    "scripts/test/test-public-items", "scripts/test/test-counts", "scripts/test/test-stands-alone",
+    "scripts/test/test-public-names", "scripts/test/test-inline-marks", "scripts/test/test-launcher",
+    "scripts/shared/test-scripts",
 )
 NO_PARTS = ("scripts/packages/test-kept", "scripts/vectors/test-rows")
 # The words of those of which a part alone is a part.

@@ -1,5 +1,5 @@
 """Runs a program with the library of faults.c: faults.py PROGRAM FOLDER [TESTS], with faults.so in the folder, and a
-program of nap_stream_tests. test-faults calls it."""
+program of nap_tests. test-faults calls it."""
 import errno
 import os
 import re

@@ -3,9 +3,9 @@ use Rattle.std.specs.Prelude.{MatchResult}
 use Rattle.nap_reader.specs.declared.fault.Fault.{Fault}
 use Rattle.nap_reader.specs.declared.fault.Fault.TheVariants as fault
 use Rattle.nap_reader.specs.declared.fault.Refusal.{Refusal}
-use Rattle.nap_batch.specs.Answers.{IsPlaced, places}
+use Rattle.nap_command.specs.Answers.{IsPlaced, places}
 use Rattle.nap_c.specs.declared.answer.Answer.{Answer}
-use Rattle.nap_c.specs.Answers.{IsAnswered, IsCounted, Offers, accepted_answer, ended_answer, refused_answer}
+use Rattle.nap_c.specs.Answers.{AnswersInBudget, CountsInBudget, Offers, accepted_answer, ended_answer, refused_answer}
 use Rattle.nap_c.specs.Texts.{IsRefusal, IsTextOf, LacksForText, LacksToCount}
 
 is_memory : (f : Fault) → (f ≡ fault.Memory) ⊎ (f ≢ fault.Memory)
@@ -16,7 +16,7 @@ is_memory f = inr (λ is. let bad : ⊥ = cc in bad)
 pub answers_text : {V : Type 0} (items : V → List ℕ) (budget : ℕ) (p : List ℕ) (CanLack : ℕ → Type 0) (whole old new : List ℕ) (a : Answer) (found : Result V Refusal) →
     MatchResult found (λ text. IsTextOf budget p whole (items text)) (IsRefusal budget p CanLack) →
     MatchResult found (λ text. Offers (items text) old new (accepted_answer (length (items text))) a) (λ r. (a ≡ refused_answer r 0) × (new ≡ old)) →
-    IsAnswered budget p CanLack whole [] old new a
+    AnswersInBudget budget p CanLack whole [] old new a
 answers_text items budget p CanLack whole old new a (Ok text) is offers =
     inl (record { accepted = is.accepted; offers = subst (λ (bytes : List ℕ). Offers bytes old new (accepted_answer (length bytes)) a) is.text_is offers })
 answers_text items budget p CanLack whole old new a (Err r) is says =
@@ -40,7 +40,7 @@ nothing_given old new whole a (inr wants) = absurd (omega (arith, wants.few))
 
 -- the answer with the places of a page
 pub answers_places : (budget : ℕ) (p text old new : List ℕ) (a : Answer) (ended : Result ℕ Refusal) → IsPlaced budget p text ended → Offers text old new (ended_answer ended (length text)) a →
-    IsAnswered budget p (LacksForText budget p) (places budget p) (places budget p) old new a
+    AnswersInBudget budget p (LacksForText budget p) (places budget p) (places budget p) old new a
 answers_places budget p text old new a (Ok n) is offers =
     inl (record { accepted = is.accepted; offers = subst (λ (bytes : List ℕ). Offers bytes old new (accepted_answer (length bytes)) a) is.text_is offers })
 answers_places budget p text old new a (Err r) is offers =
@@ -64,7 +64,7 @@ answers_places budget p text old new a (Err r) is offers =
 
 -- the answer with the reason why a page wasn't counted
 pub answers_uncounted : (budget : ℕ) (p : List ℕ) (f : Fault) (place : ℕ) (a : Answer) → IsRefusal budget p (LacksToCount budget p) (record { fault = f; place = place }) →
-    a ≡ refused_answer (record { fault = f; place = place }) 0 → IsCounted budget p a
+    a ≡ refused_answer (record { fault = f; place = place }) 0 → CountsInBudget budget p a
 answers_uncounted budget p f place a is says =
     elim (is_memory f) [
       | inl wanting ↦

@@ -5,11 +5,11 @@ use Rattle.nap_reader.specs.declared.fault.Refusal.{Refusal}
 use Rattle.nap_reader.specs.Budgets.{most_budget}
 use Rattle.nap_reader.specs.Stream.{means}
 use Rattle.nap_canon.specs.Streams.{IsAccepted}
-use Rattle.nap_batch.specs.declared.request.Question.{Question}
-use Rattle.nap_batch.specs.declared.request.Question.TheVariants as question
-use Rattle.nap_batch.specs.Answers.{AnswersPage, body_of, refused_body_of}
+use Rattle.nap_command.specs.declared.batch.request.Question.{Question}
+use Rattle.nap_command.specs.declared.batch.request.Question.TheVariants as question
+use Rattle.nap_command.specs.Answers.{AnswersPage, accepted_body_of, refused_body_of}
 use Rattle.nap_c.specs.declared.answer.Answer.{Answer}
-use Rattle.nap_c.specs.Answers.{Answers, AnswersCount, Denies, Offers, accepted_answer, refused_answer}
+use Rattle.nap_c.specs.Answers.{AnswersCall, AnswersCount, AnswersNoBudget, Offers, accepted_answer, refused_answer}
 use Rattle.nap_c.specs.Laws.{AgreeOnCount, AgreeOnText, LibraryAnswersAsBatch}
 
 module _ (budget : ℕ) (p : List ℕ) where
@@ -22,7 +22,7 @@ module _ (budget : ℕ) (p : List ℕ) where
   one_refusal r s first second = let same : Some r ≡ Some s = sym first ∙ second in cc
 
   -- there is such a budget
-  not_denied : (a : Answer) → budget ≤ most_budget → Denies budget a → ⊥
+  not_denied : (a : Answer) → budget ≤ most_budget → AnswersNoBudget budget a → ⊥
   not_denied a most h = absurd (omega (arith, most, h.above))
 
   module _ (line body old new : List ℕ) (a : Answer) (most : budget ≤ most_budget) where
@@ -38,7 +38,7 @@ module _ (budget : ℕ) (p : List ℕ) where
     count_alike (inr (inr h)) given = inr (inr (record { place = h.place; answer = inl h.line_is }))
     count_alike answered (inr denied) = absurd (not_denied a most denied)
 
-    text_alike : (q : Question) (CanLack : ℕ → Type 0) → AnswersPage q budget p line body → Answers budget p CanLack (body_of q budget p) (refused_body_of q budget p) old new a → AgreeOnText line body old new a
+    text_alike : (q : Question) (CanLack : ℕ → Type 0) → AnswersPage q budget p line body → AnswersCall budget p CanLack (accepted_body_of q budget p) (refused_body_of q budget p) old new a → AgreeOnText line body old new a
     text_alike q CanLack (inl h) (inl (fits, inl k)) =
         inl (record { count = _; line_is = h.line_is; answer = subst (λ (text : List ℕ). Offers text old new (accepted_answer (length text)) a) (sym h.body_is) k.offers })
     text_alike q CanLack (inl h) (inl (fits, inr (inl k))) = absurd (not_both k.refusal h.accepted k.refused)

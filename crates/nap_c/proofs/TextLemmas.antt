@@ -28,7 +28,7 @@ module _ (g : Ghosts CountSink) (s : CountSink) (none : s.count ≡ 0) (wants_is
   pub refused_to_count : (f : Fault) (place : ℕ) → IsRead g s budget p (Err (record { fault = f; place = place })) →
       IsRefusal budget p (LacksToCount budget p) (record { fault = f; place = place })
   refused_to_count fault.Memory place h = record { refused = λ no. absurd (no refl); memory = λ _. record { breaks = h.collects.0; own = own place h.collects.1 } }
-  refused_to_count fault.Sink place h = let (breaks, (t, failed)) = h.collects in absurd (true_isnt (sym (sound t) ∙ failed))
+  refused_to_count fault.Sink place h = let (breaks, (t, failed, took)) = h.collects in absurd (true_isnt (sym (sound t) ∙ failed))
   refused_to_count f place h = record { refused = λ _. h.collects; memory = λ is. let bad : ⊥ = cc in absurd bad }
 
 -- the canonical text of a page was made, or refused

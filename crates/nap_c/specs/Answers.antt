@@ -7,7 +7,7 @@ use Rattle.nap_reader.specs.Faults.{number_of}
 use Rattle.nap_reader.specs.Stream.{means}
 use Rattle.nap_canon.specs.Streams.{IsAccepted, list_of}
 use Rattle.nap_command.specs.Failures.{fault_text}
-use Rattle.nap_batch.specs.Answers.{places}
+use Rattle.nap_command.specs.Answers.{places}
 use Rattle.nap_c.specs.declared.answer.Answer.{Answer}
 use Rattle.nap_c.specs.Texts.{LacksForText, LacksToCount}
 
@@ -72,46 +72,46 @@ Offers text old new whole a = Gives text old new whole a ⊎ Wants text old new 
 -- The answer to a call on a page.
 
 -- the page is accepted, and this text was copied to the room
-pub record Accepts (budget : ℕ) (p text old new : List ℕ) (a : Answer) : Type 0 where
+pub record AnswersAccepted (budget : ℕ) (p text old new : List ℕ) (a : Answer) : Type 0 where
   pub accepted : IsAccepted budget p
   pub offers : Offers text old new (accepted_answer (length text)) a
 
 -- the page is refused, and this text was copied to the room
-pub record Refuses (budget : ℕ) (p text old new : List ℕ) (a : Answer) : Type 0 where
+pub record AnswersRefused (budget : ℕ) (p text old new : List ℕ) (a : Answer) : Type 0 where
   pub refusal : Refusal
   pub own : refusal.fault ≢ fault.Memory
   pub refused : (means budget p).refusal ≡ Some refusal
   pub offers : Offers text old new (refused_answer refusal (length text)) a
 
 -- memory ran out, at a place where the page can lack it
-pub record Lacks (CanLack : ℕ → Type 0) (a : Answer) : Type 0 where
+pub record AnswersMemory (CanLack : ℕ → Type 0) (a : Answer) : Type 0 where
   pub place : ℕ
   pub wanting : CanLack place
   pub answer : a ≡ memory_answer place
 
 -- there is no such budget
-pub record Denies (budget : ℕ) (a : Answer) : Type 0 where
+pub record AnswersNoBudget (budget : ℕ) (a : Answer) : Type 0 where
   pub above : most_budget < budget
   pub answer : a ≡ no_budget_answer
 
 -- The page is accepted, and its text was copied; or it is refused, and the text that it has was; or memory ran out, and
 -- the room is unchanged.
-abbrev pub IsAnswered : ℕ → List ℕ → (ℕ → Type 0) → List ℕ → List ℕ → List ℕ → List ℕ → Answer → Type 0
-IsAnswered budget p CanLack text part old new a =
-    Accepts budget p text old new a ⊎ Refuses budget p part old new a ⊎ (Lacks CanLack a × (new ≡ old))
+abbrev pub AnswersInBudget : ℕ → List ℕ → (ℕ → Type 0) → List ℕ → List ℕ → List ℕ → List ℕ → Answer → Type 0
+AnswersInBudget budget p CanLack text part old new a =
+    AnswersAccepted budget p text old new a ⊎ AnswersRefused budget p part old new a ⊎ (AnswersMemory CanLack a × (new ≡ old))
 
 -- The answer if there is such a budget; else the room is unchanged.
-abbrev pub Answers : ℕ → List ℕ → (ℕ → Type 0) → List ℕ → List ℕ → List ℕ → List ℕ → Answer → Type 0
-Answers budget p CanLack text part old new a =
-    ((budget ≤ most_budget) × IsAnswered budget p CanLack text part old new a) ⊎ (Denies budget a × (new ≡ old))
+abbrev pub AnswersCall : ℕ → List ℕ → (ℕ → Type 0) → List ℕ → List ℕ → List ℕ → List ℕ → Answer → Type 0
+AnswersCall budget p CanLack text part old new a =
+    ((budget ≤ most_budget) × AnswersInBudget budget p CanLack text part old new a) ⊎ (AnswersNoBudget budget a × (new ≡ old))
 
 -- the text of an accepted page was copied; a refused page has none
 abbrev pub AnswersText : ℕ → List ℕ → (ℕ → Type 0) → List ℕ → List ℕ → List ℕ → Answer → Type 0
-AnswersText budget p CanLack text old new a = Answers budget p CanLack text [] old new a
+AnswersText budget p CanLack text old new a = AnswersCall budget p CanLack text [] old new a
 
 -- the places of the entries were copied, also those before a refusal
 abbrev pub AnswersPlaces : ℕ → List ℕ → List ℕ → List ℕ → Answer → Type 0
-AnswersPlaces budget p old new a = Answers budget p (LacksForText budget p) (places budget p) (places budget p) old new a
+AnswersPlaces budget p old new a = AnswersCall budget p (LacksForText budget p) (places budget p) (places budget p) old new a
 
 -- the page is accepted, and has this number of entries
 pub record AnswersCountOf (budget : ℕ) (p : List ℕ) (a : Answer) : Type 0 where
@@ -126,9 +126,9 @@ pub record RefusesCount (budget : ℕ) (p : List ℕ) (a : Answer) : Type 0 wher
   pub answer : a ≡ refused_answer refusal 0
 
 -- the entries of a page were counted, or it is refused, or memory ran out
-abbrev pub IsCounted : ℕ → List ℕ → Answer → Type 0
-IsCounted budget p a = AnswersCountOf budget p a ⊎ RefusesCount budget p a ⊎ Lacks (LacksToCount budget p) a
+abbrev pub CountsInBudget : ℕ → List ℕ → Answer → Type 0
+CountsInBudget budget p a = AnswersCountOf budget p a ⊎ RefusesCount budget p a ⊎ AnswersMemory (LacksToCount budget p) a
 
 -- the entries of a page were counted, if there is such a budget
 abbrev pub AnswersCount : ℕ → List ℕ → Answer → Type 0
-AnswersCount budget p a = ((budget ≤ most_budget) × IsCounted budget p a) ⊎ Denies budget a
+AnswersCount budget p a = ((budget ≤ most_budget) × CountsInBudget budget p a) ⊎ AnswersNoBudget budget a

@@ -7,7 +7,7 @@ use Rattle.nap_reader.specs.ReaderAnswers.{HasRead, budget_of, fed_of, refusal_o
 use Rattle.nap_reader.specs.Stream.{begun}
 use Rattle.nap_c.specs.declared.answer.Answer.{Answer}
 use Rattle.nap_c.specs.declared.check.Check.{Check}
-use Rattle.nap_c.specs.Answers.{IsCounted, accepted_answer}
+use Rattle.nap_c.specs.Answers.{CountsInBudget, accepted_answer}
 
 -- A page that is checked in pieces.
 
@@ -33,7 +33,7 @@ pub record UnrefusedSoFar (budget : ℕ) (p : List ℕ) (a : Answer) : Type 0 wh
 -- the page is refused whatever follows, with this answer
 pub record StaysRefused (budget : ℕ) (p : List ℕ) (a : Answer) : Type 0 where
   pub status : a.status ≡ 1
-  pub whole : (more : List ℕ) → IsCounted budget (p ++ more) a
+  pub whole : (more : List ℕ) → CountsInBudget budget (p ++ more) a
 
 -- the answer for the bytes so far
 abbrev pub IsSoFar : ℕ → List ℕ → Answer → Type 0

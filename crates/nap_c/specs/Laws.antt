@@ -8,9 +8,9 @@ use Rattle.nap_reader.specs.Stream.{refusal}
 use Rattle.nap_canon.specs.Streams.{list_of}
 use Rattle.nap_canon.specs.Text.{text}
 use Rattle.nap_command.specs.Commands.{count_line}
-use Rattle.nap_batch.specs.declared.request.Question.{Question}
-use Rattle.nap_batch.specs.declared.request.Question.TheVariants as question
-use Rattle.nap_batch.specs.Answers.{IsAnswer, refused_line}
+use Rattle.nap_command.specs.declared.batch.request.Question.{Question}
+use Rattle.nap_command.specs.declared.batch.request.Question.TheVariants as question
+use Rattle.nap_command.specs.Answers.{IsAnswer, refused_line}
 use Rattle.nap_c.specs.declared.answer.Answer.{Answer}
 use Rattle.nap_c.specs.Answers.{AnswersCount, AnswersPlaces, AnswersText, Offers, accepted_answer, memory_answer, refused_answer}
 use Rattle.nap_c.specs.Texts.{LacksForText}

@@ -1,8 +1,8 @@
 use Rattle.std.specs.Prelude.{ℕ, ◌≡◌, ◌⊎◌, Bool, true, false, List, length}
-use Rattle.nap_line_reader.specs.declared.fault.MakeFault.{MakeFault}
-use Rattle.nap_line_reader.specs.declared.fault.MakeFault.TheVariants as faults
-use Rattle.nap_maker.specs.Making.{IsMadeOf}
-use Rattle.nap_maker.specs.Texts.{DeniesLines}
+use Rattle.nap_make.specs.declared.lines.fault.MakeFault.{MakeFault}
+use Rattle.nap_make.specs.declared.lines.fault.MakeFault.TheVariants as faults
+use Rattle.nap_make.specs.Making.{IsMadeOf}
+use Rattle.nap_make.specs.Texts.{DeniesLines}
 use Rattle.nap_c.specs.declared.made.Made.{Made}
 use Rattle.nap_c.specs.Answers.{IsGiven}
 
@@ -30,7 +30,7 @@ answer_of_fault faults.Memory = unmade_answer 4 0 0 0
 answer_of_fault faults.Write = unmade_answer 4 0 0 0
 
 -- The lines make a page, which was copied to the beginning of the room if it has as many bytes.
-pub record MakesPage (p old new : List ℕ) (answer : Made) : Type 0 where
+pub record AnswersMade (p old new : List ℕ) (answer : Made) : Type 0 where
   pub page : List ℕ
   pub made : IsMadeOf page p
   pub given : Bool
@@ -38,11 +38,11 @@ pub record MakesPage (p old new : List ℕ) (answer : Made) : Type 0 where
   pub answer_is : answer ≡ offered_answer given (length page) (length made.entries)
 
 -- The lines make no page, and the room is unchanged.
-pub record MakesNone (p old new : List ℕ) (answer : Made) : Type 0 where
+pub record AnswersUnmade (p old new : List ℕ) (answer : Made) : Type 0 where
   pub fault : MakeFault
   pub denied : DeniesLines p fault
   pub room : new ≡ old
   pub answer_is : answer ≡ answer_of_fault fault
 
-abbrev pub AnswersLines : List ℕ → List ℕ → List ℕ → Made → Type 0
-AnswersLines p old new answer = MakesPage p old new answer ⊎ MakesNone p old new answer
+abbrev pub AnswersMaking : List ℕ → List ℕ → List ℕ → Made → Type 0
+AnswersMaking p old new answer = AnswersMade p old new answer ⊎ AnswersUnmade p old new answer

@@ -3,7 +3,7 @@ ghost use Rattle.std.specs.Prelude.{◌≡◌, length, MatchResult};
 ghost use Rattle.nap_c.specs.Answers.{IsGiven, Offers, accepted_answer, no_budget_answer, ended_answer, not_begun_answer, refused_answer};
 
 use crate::name::{NAME, padded_name};
-use nap_batch::PlacesText;
+use nap_command::batch::PlacesText;
 use nap_reader::Refusal;
 
 /// Status: the page is accepted.

@@ -10,7 +10,7 @@ ghost use Rattle.nap_c.specs.Texts.{LacksForText};
 
 use crate::answer::{Answer, answer_placed, answer_text};
 use crate::text::{canon_text, form1_text, list_text, memory_refusal_at_end};
-use nap_batch::read_places;
+use nap_command::batch::read_places;
 use nap_list::CountSink;
 use nap_reader::{Budget, read_stream};
 use std::alloc::{AllocError, Global};

@@ -13,7 +13,7 @@ pub struct Check {
 }
 
 impl Check {
-    ghost use Rattle.nap_c.specs.Answers.{IsCounted};
+    ghost use Rattle.nap_c.specs.Answers.{CountsInBudget};
     ghost use Rattle.nap_c.specs.Checks.{IsSoFar, HasChecked, fed};
 
     /// Returns the check of a page of which no byte has come.
@@ -39,7 +39,7 @@ impl Check {
 
     /// Ends the page.
     pub(crate) fn finish(self) -> Answer
-        ensures { (budget : ℕ) (p : List ℕ) → HasChecked self budget p → IsCounted budget p result }
+        ensures { (budget : ℕ) (p : List ℕ) → HasChecked self budget p → CountsInBudget budget p result }
     {
         let Check { reader } = self;
         match reader.finish() {

@@ -1,10 +1,9 @@
 //! Answers for lines that make a page.
 ghost use Rattle.std.specs.Prelude.{◌≡◌};
-ghost use Rattle.nap_c.specs.Lines.{AnswersLines, made_answer, answer_of_fault, unmade_answer};
+ghost use Rattle.nap_c.specs.Lines.{AnswersMaking, made_answer, answer_of_fault, unmade_answer};
 
 use crate::answer::{ACCEPTED, REFUSED, SMALL, copy_if_fits};
-use nap_line_reader::MakeFault;
-use nap_maker::page_of_lines;
+use nap_make::{MakeFault, page_of_lines};
 use std::alloc::Global;
 
 /// Fault: a line is no entry's.
@@ -94,7 +93,7 @@ impl Made {
 /// Copies the page that lines make to a room.
 #[unsafe(no_mangle)]
 pub extern "C" fn naplps_make(alloc: Global, lines: &[u8], room: &mut [u8]) -> Made
-    ensures { AnswersLines lines.now room.old room.new result }
+    ensures { AnswersMaking lines.now room.old room.new result }
 {
     match page_of_lines(alloc, lines) {
         Ok(page) => {

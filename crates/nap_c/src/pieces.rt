@@ -1,7 +1,7 @@
 //! The calls of the library on a page in pieces (docs/LIBRARY.md).
 ghost use Rattle.std.specs.Prelude.{◌≡◌, ◌+◌, ◌<◌, ◌^◌, None, IfSome, length};
 ghost use Rattle.nap_c.specs.Checks.{fed};
-ghost use Rattle.nap_c.specs.Pieces.{Begins, Feeds, Finishes};
+ghost use Rattle.nap_c.specs.Pieces.{BeginsPage, FeedsPiece, FinishesPage};
 
 use crate::answer::Answer;
 use crate::check::Check;
@@ -12,7 +12,7 @@ use std::alloc::Global;
 /// Begins a page in pieces, and drops the one that was begun.
 #[unsafe(no_mangle)]
 pub extern "C" fn naplps_check_begin(page: &mut Checking, alloc: Global, budget: u32) -> Answer
-    ensures { Begins budget page.new.check result }
+    ensures { BeginsPage budget page.new.check result }
 {
     drop(page.take(alloc));
     let Some(budget) = Budget::new(budget) else {
@@ -37,7 +37,7 @@ pub extern "C" fn naplps_check_begin(page: &mut Checking, alloc: Global, budget:
 #[unsafe(no_mangle)]
 pub extern "C" fn naplps_check_feed(page: &mut Checking, alloc: Global, piece: &[u8]) -> Answer
     requires { IfSome page.old.check (λ check. fed check + length piece.now < 2 ^ 63) }
-    ensures { Feeds page.old.check page.new.check piece.now result }
+    ensures { FeedsPiece page.old.check page.new.check piece.now result }
 {
     let Some(mut check) = page.take(alloc) else {
         return Answer::not_begun_answer();
@@ -51,7 +51,7 @@ pub extern "C" fn naplps_check_feed(page: &mut Checking, alloc: Global, piece: &
 #[unsafe(no_mangle)]
 pub extern "C" fn naplps_check_finish(page: &mut Checking, alloc: Global) -> Answer
     ensures none { page.new.check ≡ None }
-    ensures answer { Finishes page.old.check result }
+    ensures answer { FinishesPage page.old.check result }
 {
     match page.take(alloc) {
         Some(check) => Box::into_inner(check).finish(),

@@ -9,7 +9,7 @@ use Rattle.nap_codes.specs.Front as codes
 use Rattle.nap_codes.specs.LexResults.{lex_result}
 use Rattle.nap_reader.specs.Bodies.{Mode, between, in_body}
 use Rattle.nap_reader.specs.Course as course
-use Rattle.nap_reader.specs.Stream.{Placed, Machine, Front, bytes_of, front, left_of, start_machine, placed_from}
+use Rattle.nap_reader.specs.Stream.{Placed, Machine, StreamFront, bytes_of, stream_front, steps_left, start_machine, placed_from}
 
 -- an opcode, and the operand lengths under which it acts
 pub record Acting : Type 0 where
@@ -27,20 +27,20 @@ acting_in between m xs = acting_at m (codes.front m.sets (bytes_of xs))
 acting_in (in_body name show) m xs = []
 
 -- the acting opcodes after a front that acts, given those of every later part of the list
-abbrev pub acting_after : (Machine → List Placed → List Acting) → Front → List Acting
+abbrev pub acting_after : (Machine → List Placed → List Acting) → StreamFront → List Acting
 acting_after later (course.act entries m xs) = later m xs
 acting_after later _ = []
 
 -- front after front, up to a number of them
 unfoldable pub acting_within : ℕ → Machine → List Placed → List Acting
 acting_within zero m xs = []
-acting_within (suc most) m xs = acting_in m.mode m xs ++ acting_after (acting_within most) (front m xs)
+acting_within (suc most) m xs = acting_in m.mode m xs ++ acting_after (acting_within most) (stream_front m xs)
 
 -- The acting opcodes of a list, front after front, until no complete code is left. Each front that acts lessens the sum
 -- of the unread bytes and of what is left to charge, with one for the end of a body, so the number of fronts is at most
 -- that sum.
 abbrev pub acting_from : Machine → List Placed → List Acting
-acting_from m xs = acting_within (suc (length xs + left_of m)) m xs
+acting_from m xs = acting_within (suc (length xs + steps_left m)) m xs
 
 -- the opcodes that act in a stream, one after another: also one whose run the end of the stream ends
 abbrev pub acting : ℕ → List ℕ → List Acting

@@ -1,8 +1,24 @@
 use Rattle.std.specs.Prelude.{◌≡◌, ℕ, Bool, true, false, Result, Ok, Err}
+use Rattle.std.specs.Io.KnownBytes.{Keeps}
+use Rattle.nap_list.specs.Flushing.{flush_count}
+use Rattle.nap_list.specs.declared.device.outlet.Outlet as outlet
 use Rattle.nap_reader.specs.declared.feeding.FeedFault.{FeedFault}
 use Rattle.nap_reader.specs.declared.feeding.FeedFault.TheVariants as feed_fault
 use Rattle.nap_canon.specs.declared.conversion.ConvertFault.{ConvertFault}
 use Rattle.nap_canon.specs.declared.conversion.ConvertFault.TheVariants as fault
+
+-- an output before its end and after it: nothing more was written, and it was flushed unless a write had failed
+pub record EndsOutput {O : Type 0} (o : outlet.Ghosts O) (old new : O) : Type 0 where
+  pub taken : Keeps (o.taken old) (o.taken new)
+  pub failed : o.failed old ≡ true → o.failed new ≡ true
+  pub sent : o.failed new ≡ false → o.sent new ≡ true
+  pub flushes : o.flushes new ≡ flush_count (o.failed old) (o.flushes old)
+  pub write_failed : o.write_failed new ≡ o.write_failed old
+
+-- the number of bytes that an output took, as an error where it failed
+abbrev pub bytes_taken : Bool → ℕ → Result ℕ ℕ
+bytes_taken true n = Err n
+bytes_taken false n = Ok n
 
 -- the answer of a conversion that was fed with this result, where n bytes were written
 abbrev pub answer_of : ℕ → Result (Unit {0}) FeedFault → Result ℕ ConvertFault

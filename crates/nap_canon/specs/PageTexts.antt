@@ -10,13 +10,13 @@ use Rattle.nap_canon.specs.Streams.{list_of, IsCanonicalOf}
 
 -- The canonical text of a page, which is written in memory as the page is read.
 
-abbrev pub fault_of_text : Fault → Fault
-fault_of_text fault.Sink = fault.Memory
-fault_of_text f = f
+abbrev pub text_fault : Fault → Fault
+text_fault fault.Sink = fault.Memory
+text_fault f = f
 
 -- the refusal of a page whose text was taken, where a failed sink is lack of memory
 abbrev pub refusal_of_text : Refusal → Refusal
-refusal_of_text r = record r { fault = fault_of_text r.fault }
+refusal_of_text r = record r { fault = text_fault r.fault }
 
 -- The refusal is that of the page. One for lack of memory has a place where an act of the page can lack it.
 pub record RefusesPage (budget : ℕ) (p : List ℕ) (r : Refusal) : Type 0 where

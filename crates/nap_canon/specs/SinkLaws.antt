@@ -1,7 +1,7 @@
 use Rattle.std.proofs.Common.{ℕ, ◌≡◌, ◌+◌, ◌<◌, Bool, true, false, List, [], ◌++◌, length, take, refl, ap, sym, subst, ◌∙◌, append_assoc, length-append, arith}
 use Rattle.std.proofs.lemmas.List.{take-append-le}
 use Rattle.std.proofs.Math.Seq.{take-append-add}
-use Rattle.nap_list.specs.Sending.{Sending, Grows, grows_none, grows_more}
+use Rattle.nap_list.specs.Sending.{Sending, Grows, grows_none, grows_more, SendsAll, Sends}
 use Rattle.nap_canon.specs.declared.text_end.TextEnd.{TextEnd}
 use Rattle.nap_canon.specs.declared.form.Form.{Form}
 use Rattle.nap_list.specs.declared.device.outlet.Outlet as outlet
@@ -11,7 +11,7 @@ use Rattle.nap_list.specs.State.{walk}
 use Rattle.nap_list.proofs.PublicLaws.{walks_join}
 use Rattle.nap_canon.specs.Spelling.{Piece}
 use Rattle.nap_canon.specs.Text.{pieces_bytes, text_end_after, pieces, entry_pieces}
-use Rattle.nap_canon.specs.Sinking.{TakesAll, Sends, Canonical, sending_of, entry_bytes, entry_bytes_after, Took, Broke}
+use Rattle.nap_canon.specs.Sinking.{Canonical, sending_of, entry_bytes, entry_bytes_after, Took, Broke}
 use Rattle.nap_canon.specs.TextParts.{pieces_bytes-append, text_end_after-append, pieces-append}
 
 -- laws of sending: no bytes, and bytes after others
@@ -75,7 +75,7 @@ module _ {O : Type 0} (o : outlet.Ghosts O) where
 
   pub took_more : (s t u : Canonical O) (d e : List Entry) → Took o s d t → Took o t e u → Took o s (d ++ e) u
   took_more s t u d e first second = record {
-    bytes = subst (λ (bytes : List ℕ). TakesAll (sending_of o s) bytes (sending_of o u)) (bytes_join s t d first.form first.text_end first.state e)
+    bytes = subst (λ (bytes : List ℕ). SendsAll (sending_of o s) bytes (sending_of o u)) (bytes_join s t d first.form first.text_end first.state e)
         (sends_more (sending_of o s) (sending_of o t) (sending_of o u) (entry_bytes s d) (entry_bytes t e) false first.bytes second.bytes);
     form = second.form ∙ first.form;
     text_end = second.text_end ∙ text_end_join s t d first.form first.text_end first.state e;

@@ -1,30 +1,13 @@
-use Rattle.std.specs.Prelude.{ℕ, ◌≡◌, ◌<◌, Bool, true, false, List, ◌++◌, length, take}
+use Rattle.std.specs.Prelude.{ℕ, ◌≡◌, ◌<◌, true, false, List, ◌++◌, length, take}
 use Rattle.nap_canon.specs.declared.text_end.TextEnd.{TextEnd}
 use Rattle.nap_canon.specs.declared.form.Form.{Form}
 use Rattle.nap_canon.specs.declared.form.Form.TheVariants.{Two}
 use Rattle.nap_list.specs.declared.device.outlet.Outlet as outlet
 use Rattle.nap_list.specs.declared.entry.Entry.{Entry}
 use Rattle.nap_list.specs.declared.state.State.{State}
-use Rattle.nap_list.specs.Sending.{Sending, sending, Grows}
+use Rattle.nap_list.specs.Sending.{Grows, Sending, Sends, SendsAll, sending}
 use Rattle.nap_list.specs.State.{start, walk}
 use Rattle.nap_canon.specs.Text.{header, text_end_after_header, pieces_bytes, text_end_after, pieces, entry_pieces, text}
-
--- all of the bytes were taken, and no write failed
-pub record TakesAll (s : Sending) (bytes : List ℕ) (t : Sending) : Type 0 where
-  pub grows : Grows s bytes t
-  pub failed : t.failed ≡ s.failed
-
--- a proper prefix of the bytes was taken, and then a write failed
-pub record TakesPart (s : Sending) (bytes : List ℕ) (t : Sending) : Type 0 where
-  pub part : ℕ
-  pub less : part < length bytes
-  pub grows : Grows s (take part bytes) t
-  pub failed : t.failed ≡ true
-
--- the bytes were written, or a write failed during them
-abbrev pub Sends : Sending → List ℕ → Bool → Sending → Type 0
-Sends s bytes true t = TakesPart s bytes t
-Sends s bytes false t = TakesAll s bytes t
 
 -- A canonical sink: its outlet, the number of bytes that it took, the form of the text and its end, and the state that
 -- the next entry has to fit.
@@ -59,7 +42,7 @@ StartsText = StartsTextIn Two
 
 -- the outlet took the bytes of all these entries
 pub record Took {O : Type 0} (o : outlet.Ghosts O) (s : Canonical O) (d : List Entry) (t : Canonical O) : Type 0 where
-  pub bytes : TakesAll (sending_of o s) (entry_bytes s d) (sending_of o t)
+  pub bytes : SendsAll (sending_of o s) (entry_bytes s d) (sending_of o t)
   pub form : t.form ≡ s.form
   pub text_end : t.text_end ≡ text_end_after s.text_end (pieces s.form s.state d)
   pub state : t.state ≡ walk s.state d
@@ -75,4 +58,4 @@ pub record Broke {O : Type 0} (o : outlet.Ghosts O) (s : Canonical O) (d : List 
 -- A canonical sink that took these entries and hasn't failed has written their canonical text.
 abbrev pub WritesText : {O : Type 0} → outlet.Ghosts O → Type 0
 WritesText {O = O} o = (w : O) (s t : Canonical O) (d : List Entry) → StartsText o w s → o.failed s.outlet ≡ false → Took o s d t →
-    TakesAll (sending o w 0) (text d) (sending_of o t)
+    SendsAll (sending o w 0) (text d) (sending_of o t)

@@ -12,7 +12,7 @@ use Rattle.nap_canon.specs.Text.{text_in}
 
 -- the answer for a list: its text in this form, which is plain and is read as the list; or where it isn't legal; or
 -- lack of memory
-pub record AnswersText (form : Form) (es : List Entry) (r : Result (Vec ℕ Global) CanonFault) : Type 0 where
+pub record IsTextAnswer (form : Form) (es : List Entry) (r : Result (Vec ℕ Global) CanonFault) : Type 0 where
   pub illegal : (index : ℕ) → IsErrOf r (Illegal index) ↔ IsIllegalAt index es
   pub legal : IfOk r (λ bytes. Legal es)
   pub range : IfOk r (λ bytes. AllInRange es)

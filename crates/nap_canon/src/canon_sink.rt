@@ -3,6 +3,7 @@ ghost use Rattle.std.specs.Prelude.{◌≡◌, ◌<◌, ◌≤◌, [], ◌∷◌
 ghost use Rattle.nap_list.specs.Batches.{EachIsCurrent, FirstIsCurrent, batch_entries};
 ghost use Rattle.nap_list.specs.State.{AllFit, Fits, after};
 ghost use Rattle.nap_canon.specs.Batches.{PutsAfter, PutsFirst, PutsSome};
+ghost use Rattle.nap_canon.specs.Concluding.{EndsOutput, bytes_taken};
 ghost use Rattle.nap_canon.specs.Sinking.{StartsTextIn, StartsText, Took, Broke};
 ghost use Rattle.nap_canon.specs.SinkLaws.{took_none, took_more, took_broke};
 
@@ -50,6 +51,7 @@ impl<O: Outlet + Drop> CanonSink<O> {
 
     /// Takes one entry: writes its prelude and its spelling. The only error is `Write`, after which a proper prefix of
     /// these bytes is written.
+    #[inline(always)]
     pub fn put_ref(&mut self, entry: &Entry) -> Result<(), SinkFault>
         requires { Fits self.old.state entry.now }
         ensures took { OnOk result (Took O.Outlet self.old (entry.now ∷ []) self.new) }
@@ -166,6 +168,21 @@ impl<O: Outlet + Drop> CanonSink<O> {
         let Output { outlet, .. } = writer.into_inner();
         outlet
     }
+
+    /// Flushes the outlet, unless a write has failed, and returns it. Returns the number of bytes that it took,
+    /// saturating at the greatest `u64`, as the error where a write or the flush failed.
+    pub fn finish(self) -> (O, Result<u64, u64>)
+        ensures ends { EndsOutput O.Outlet self.outlet result.0 }
+        ensures answer { result.1 ≡ bytes_taken (O.failed result.0) self.written }
+    {
+        let written = self.written();
+        let failed = self.failed();
+        let mut outlet = self.close();
+        if failed || outlet.flush().is_err() {
+            return (outlet, Err(written));
+        }
+        (outlet, Ok(written))
+    }
 }
 
 impl<O: Outlet + Drop> Sink for CanonSink<O> {
@@ -179,6 +196,7 @@ impl<O: Outlet + Drop> Sink for CanonSink<O> {
 
     ghost broke = { λ s d e t. Broke O.Outlet s d e t };
 
+    #[inline(always)]
     fn put(&mut self, entry: Entry) -> Result<(), SinkFault> {
         self.put_ref(&entry)
     }

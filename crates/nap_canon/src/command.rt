@@ -116,7 +116,7 @@ pub(crate) fn is_colour(old: &Colour, colour: &Colour) -> bool
     old == colour
 }
 
-#[inline]
+#[inline(always)]
 fn colour_commands(base: Base, old: Colour, colour: Colour) -> (Option<Command>, Option<Command>)
     ensures { option_commands result.0 ++ option_commands result.1 ≡ colour_commands base old colour }
 {
@@ -130,7 +130,7 @@ fn colour_commands(base: Base, old: Colour, colour: Colour) -> (Option<Command>,
 }
 
 /// Returns the commands that set the colour, if it has to be set.
-#[inline]
+#[inline(always)]
 #[tactic(auto, unfolding(crate::specs::Preludes::colour_prelude))]
 pub(crate) fn colour_prelude(
     base: Base,

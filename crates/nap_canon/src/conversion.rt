@@ -1,20 +1,17 @@
 //! Conversion of a stream to its canonical stream as it is read (PROFILE.md, Streaming).
 ghost use Rattle.std.specs.Prelude.{◌≡◌, ◌+◌, ◌^◌, ◌<◌, ◌≤◌, ℕ, List, true, false};
-ghost use Rattle.std.specs.Io.KnownBytes.{Appends, Consumes, Keeps};
-ghost use Rattle.nap_list.specs.Flushing.{FlushedOnce, flush_count};
+ghost use Rattle.std.specs.Io.KnownBytes.{Appends, Consumes};
+ghost use Rattle.nap_list.specs.Flushing.{FlushedOnce};
 ghost use Rattle.nap_list.specs.Limits.{reads_limit};
 ghost use Rattle.nap_list.specs.Reading.{reading};
 ghost use Rattle.nap_canon.specs.Converting.{Converts, StopsAtOnce};
-ghost use Rattle.nap_canon.specs.Concluding.{Concludes};
+ghost use Rattle.nap_canon.specs.Concluding.{Concludes, EndsOutput};
 
 use crate::canon_sink::CanonSink;
-use nap_list::{Inlet, Outlet};
+use nap_list::{Inlet, Outlet, STREAM_READ_SIZE};
 use nap_reader::{Budget, FeedFault, Reader, Refusal, feed_from};
 use std::alloc::Global;
 use thiserror::Error;
-
-/// The greatest number of bytes of one read.
-const READ_SIZE: usize = 4_096;
 
 /// Why a stream wasn't converted to its end, and how many bytes the output took before, saturating at the greatest
 /// `u64`.
@@ -47,23 +44,17 @@ fn conclude<O: Outlet + Drop>(
     sink: CanonSink<O>,
     fed: Result<(), FeedFault>,
 ) -> (O, Result<u64, ConvertFault>)
-    ensures taken { Keeps (O.taken sink.outlet) (O.taken result.0) }
-    ensures failed { O.failed sink.outlet ≡ true → O.failed result.0 ≡ true }
-    ensures sent { O.failed result.0 ≡ false → O.sent result.0 ≡ true }
-    ensures flushes { O.flushes result.0 ≡ flush_count (O.failed sink.outlet) (O.flushes sink.outlet) }
-    ensures write_failed { O.write_failed result.0 ≡ O.write_failed sink.outlet }
+    ensures ends { EndsOutput O.Outlet sink.outlet result.0 }
     ensures answer { Concludes sink.written fed (O.failed result.0) result.1 }
 {
-    let written = sink.written();
-    let failed = sink.failed();
-    let mut output = sink.close();
-    if failed || output.flush().is_err() {
-        return (output, Err(ConvertFault::Write { written }));
-    }
-    let answer = match fed {
-        Ok(()) => Ok(written),
-        Err(FeedFault::Refused(refusal)) => Err(ConvertFault::Refused { refusal, written }),
-        Err(FeedFault::Read) => Err(ConvertFault::Read { written }),
+    let (output, ended) = sink.finish();
+    let answer = match ended {
+        Err(written) => Err(ConvertFault::Write { written }),
+        Ok(written) => match fed {
+            Ok(()) => Ok(written),
+            Err(FeedFault::Refused(refusal)) => Err(ConvertFault::Refused { refusal, written }),
+            Err(FeedFault::Read) => Err(ConvertFault::Read { written }),
+        },
     };
     (output, answer)
 }
@@ -91,7 +82,7 @@ pub fn convert<I: Inlet, O: Outlet + Drop>(
     if reader.sink().failed() {
         return conclude(reader.into_sink(), Ok(()));
     }
-    match feed_from(&mut reader, input, &mut [0; READ_SIZE]) {
+    match feed_from(&mut reader, input, &mut [0; STREAM_READ_SIZE]) {
         Ok(()) => match reader.finish() {
             Ok(sink) => conclude(sink, Ok(())),
             Err(stopped) => conclude(stopped.sink, Err(FeedFault::Refused(stopped.refusal))),

@@ -1,6 +1,6 @@
 //! Entries whose attributes are already current.
 ghost use Rattle.std.specs.Prelude.{◌≡◌, ◌↔◌, IsTrue, true};
-ghost use Rattle.nap_list.specs.declared.entry.Entry.TheVariants.{Rect};
+ghost use Rattle.nap_list.specs.declared.entry.Entry.TheVariants.{Line, Rect};
 ghost use Rattle.nap_list.specs.Agreement.{AreCurrent};
 ghost use Rattle.nap_list.specs.Batches.{FirstIsCurrent};
 ghost use Rattle.nap_list.specs.Entry.{colour_only, ink_attributes};
@@ -56,6 +56,25 @@ pub(crate) fn step_shape(state: &mut State, shape: &Shape, is_current: bool)
         return;
     }
     state.step_shape(shape);
+}
+
+/// Advances past a line, whose attributes may be known to be current.
+#[inline(always)]
+pub(crate) fn step_line(state: &mut State, from: Point, to: Point, ink: &Ink, is_current: bool)
+    requires fits { Fits state.old (Line from to ink.now) }
+    requires current { is_current ≡ true → AreCurrent (ink_attributes ink.now) state.old.drawing }
+    ensures { state.new ≡ after state.old (Line from to ink.now) }
+{
+    if is_current {
+        state.drawing.pen = Pen::At(to);
+        state.last = None;
+        return;
+    }
+    state.step(&Entry::Line {
+        from,
+        to,
+        ink: *ink,
+    });
 }
 
 /// Advances past a rectangle, whose attributes may be known to be current.

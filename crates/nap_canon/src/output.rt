@@ -1,13 +1,12 @@
 //! An outlet with a count of its bytes.
 ghost use Rattle.std.specs.Prelude.{◌≤◌, false, length, take};
-ghost use Rattle.nap_list.specs.Sending.{sending};
+ghost use Rattle.nap_list.specs.Sending.{Sends, sending};
 ghost use Rattle.nap_canon.specs.declared.output.Output.{Output};
 ghost use Rattle.nap_canon.specs.Batches.{SentUpTo};
-ghost use Rattle.nap_canon.specs.Sinking.{Sends};
 ghost use Rattle.nap_canon.specs.SinkLaws.{sends_none, sends_more, sends_cut};
 
 use crate::byte_sink::ByteSink;
-use nap_list::{DeviceFault, Outlet};
+use nap_list::{DeviceFault, Outlet, send_all};
 
 /// An outlet, and the number of bytes that it took, saturating at the greatest `u64`.
 #[derive(Drop)]
@@ -25,16 +24,10 @@ impl<O: Outlet + Drop> Output<O> {
         ensures { (s : Output O) → Sends (sending O.Outlet s.outlet s.written) (take first bytes.now) false (sending O.Outlet self.old.outlet self.old.written) →
             SentUpTo (λ x bytes broke y. Sends (sending O.Outlet x.outlet x.written) bytes broke (sending O.Outlet y.outlet y.written)) s bytes.now self.new result }
     {
-        let mut taken = first;
-        while taken < bytes.len() {
-            let count = match self.outlet.write(&bytes[taken..]) {
-                Ok(count) => count,
-                Err(_) => return Err(taken),
-            };
-            self.written = self.written.saturating_add(count as u64);
-            taken += count;
+        match send_all(&mut self.outlet, &mut self.written, &bytes[first..]) {
+            Ok(()) => Ok(()),
+            Err(taken) => Err(first + taken),
         }
-        Ok(())
     }
 }
 

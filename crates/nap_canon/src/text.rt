@@ -2,7 +2,7 @@
 ghost use Rattle.std.specs.Prelude.{◌≡◌, ◌↔◌, ℕ, IsErrOf, IfOk, OnOk};
 ghost use Rattle.nap_list.specs.State.{Legal, AllFit, IsIllegalAt, start};
 ghost use Rattle.nap_list.specs.Range.{AllInRange};
-ghost use Rattle.nap_canon.specs.TextAnswers.{AnswersText};
+ghost use Rattle.nap_canon.specs.TextAnswers.{IsTextAnswer};
 ghost use Rattle.nap_canon.specs.Laws.{IsReadAs};
 ghost use Rattle.nap_canon.specs.Plain.{IsPlain};
 ghost use Rattle.nap_canon.specs.Text.{text_in, text, text1};
@@ -43,7 +43,7 @@ fn text_in_form(alloc: Global, form: Form, entries: &[Entry]) -> Result<Vec<u8>,
 /// Returns the text of a legal display list, in this form. Any other fault than `Memory` is found before any memory is
 /// taken.
 fn canon_in(alloc: Global, form: Form, entries: &[Entry]) -> Result<Vec<u8>, CanonFault>
-    ensures { AnswersText form entries.now result }
+    ensures { IsTextAnswer form entries.now result }
 {
     if let Err(index) = legal(entries) {
         return Err(CanonFault::Illegal(index));

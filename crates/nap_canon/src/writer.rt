@@ -2,26 +2,28 @@
 ghost use Rattle.std.specs.Prelude.{◌≡◌, ◌≤◌, ◌+◌, ◌∷◌, length};
 ghost use Rattle.nap_codes.specs.declared.code_set.GSet.TheVariants.{G1};
 ghost use Rattle.nap_canon.specs.declared.text_end.TextEnd.TheVariants.{NoRun};
-ghost use Rattle.nap_list.specs.declared.entry.Entry.TheVariants.{Rect};
+ghost use Rattle.nap_list.specs.declared.entry.Entry.TheVariants.{Line, Rect, Char, Map};
 ghost use Rattle.nap_list.specs.Entry.{attributes};
 ghost use Rattle.nap_list.specs.Shapes.{entry_of_shape, circle_closed};
 ghost use Rattle.nap_list.specs.State.{start, with_attributes, Fits};
-ghost use Rattle.nap_canon.specs.Spelling.{displacement_bytes, opcode, rect_piece, shape_bytes, shape, spelling_pieces};
+ghost use Rattle.nap_canon.specs.Spelling.{displacement_bytes, opcode, shape_bytes, shape, spelling_pieces};
 ghost use Rattle.nap_canon.specs.Text.{header, gl_of, text_end_after_header};
 ghost use Rattle.nap_canon.specs.Writing.{Puts, WritesBytes, WritesPendingAnd, WritesPieces};
-ghost use Rattle.nap_canon.specs.Buffers.{piece_limit, buffer_limit};
+ghost use Rattle.nap_canon.specs.Buffers.{buffer_limit};
 
 use crate::byte_buffer::ByteBuffer;
 use crate::byte_sink::ByteSink;
-use crate::current::{step_rect, step_shape};
+use crate::current::step_shape;
 use crate::form::Form;
 use crate::pending::{Path, Pending, opcodes, path_of, shape_opcode};
 use crate::text_end::TextEnd;
 use nap_codes::GSet;
-use nap_list::{Entry, Ink, Shape, ShapeKind, State, line_start};
+use nap_list::{Entry, Shape, ShapeKind, State, line_start};
 use nap_values::Point;
 
+mod figures;
 mod joining;
+mod single;
 
 /// The greatest number of displacements that are buffered for one write.
 const MAX_DISPLACEMENTS: usize = 128;
@@ -165,16 +167,6 @@ impl<T: ByteSink + Drop> Writer<T> {
         }
     }
 
-    /// Writes the pending text, and the spelling of a rectangle whose attributes are current.
-    #[inline(always)]
-    fn spell_rect(&mut self, filled: bool, from: Point, to: Point) -> Result<(), T::Fault>
-        requires { length self.old.pending.bytes + piece_limit ≤ buffer_limit }
-        ensures { WritesPendingAnd T.sent (rect_piece self.old.form filled from to) self.old self.new result }
-    {
-        self.pending.append_rect(self.form, filled, from, to);
-        self.target.write_all(self.pending.bytes.as_slice())
-    }
-
     /// Writes the pending text, and the spelling of an entry whose attributes are current.
     #[inline(always)]
     fn write_spelling(&mut self, entry: &Entry) -> Result<(), T::Fault>
@@ -189,8 +181,8 @@ impl<T: ByteSink + Drop> Writer<T> {
         self.target.write_all(self.pending.bytes.as_slice())
     }
 
-    /// Writes an entry that fits and isn't a rectangle: its prelude and its spelling.
-    #[inline(always)]
+    /// Writes an entry that fits, as `put_ref` writes it.
+    #[inline(never)]
     fn put_other(&mut self, entry: &Entry) -> Result<(), T::Fault>
         requires { Fits self.old.state entry.now }
         ensures { Puts T.sent entry.now self.old self.new result }
@@ -202,31 +194,24 @@ impl<T: ByteSink + Drop> Writer<T> {
         Ok(())
     }
 
-    /// Writes a rectangle that fits, as `put_ref` writes its entry.
+    /// Writes an entry that fits: its prelude and its spelling. On failure the state is unchanged. Where the kind of
+    /// entry is known, this is one call, and no entry is made.
     #[inline(always)]
-    fn put_rect(&mut self, filled: bool, from: Point, to: Point, ink: &Ink) -> Result<(), T::Fault>
-        requires { Fits self.old.state (Rect filled from to ink.now) }
-        ensures { Puts T.sent (Rect filled from to ink.now) self.old self.new result }
-    {
-        self.pending.bytes.clear();
-        let is_current = self.pending.append_ink_prelude(&self.state.drawing, ink);
-        self.spell_rect(filled, from, to)?;
-        step_rect(&mut self.state, filled, from, to, ink, is_current);
-        Ok(())
-    }
-
-    /// Writes an entry that fits: its prelude and its spelling. On failure the state is unchanged.
     pub(crate) fn put_ref(&mut self, entry: &Entry) -> Result<(), T::Fault>
         requires { Fits self.old.state entry.now }
         ensures { Puts T.sent entry.now self.old self.new result }
     {
         match entry {
+            Entry::Point { at, pel, colour } => self.put_point(*at, pel, colour),
+            Entry::Line { from, to, ink } => self.put_line(*from, *to, ink),
             Entry::Rect {
                 filled,
                 from,
                 to,
                 ink,
             } => self.put_rect(*filled, *from, *to, ink),
+            Entry::Char { set, code, hand } => self.put_char(*set, *code, hand),
+            Entry::Map { addr, grb } => self.put_map(*addr, *grb),
             _ => self.put_other(entry),
         }
     }

@@ -11,7 +11,7 @@ use Rattle.clap.specs.declared.error.Error.{Error}
 use Rattle.clap.proofs.OnLiterals.{clap_on_literals}
 use Rattle.nap_cli.specs.declared.words.Job.{Job}
 use Rattle.nap_cli.specs.declared.words.Job.TheVariants as job
-use Rattle.nap_cli.specs.CommandLine.{Chooses, ChoosesJob, IsFault, SaysJob, action_name, command_line, flag_text, job_name}
+use Rattle.nap_cli.specs.CommandLine.{Chooses, ChoosesJob, IsFault, SaysJob, action_name, command_line, option_text, job_name}
 
 pub line_is_simple : is_simple command_line ≡ true
 unfolding clap_on_literals
@@ -72,7 +72,7 @@ nothing_chosen words name rows entered none (job.Page c) says =
     none (job.Page c) same.0 (subst (λ (x : List Row). Chooses x c) same.1 says.chooses)
 nothing_chosen words name rows entered none (job.Make stream) says =
     let same = some_pair (codes "make") name says.rows rows (sym says.entered ∙ entered) in
-    none (job.Make stream) same.0 (subst (λ (x : List Row). one_of (codes "stream") x ≡ Some (flag_text stream)) same.1 says.chooses)
+    none (job.Make stream) same.0 (subst (λ (x : List Row). one_of (codes "stream") x ≡ Some (option_text stream)) same.1 says.chooses)
 nothing_chosen words name rows entered none job.Batch says =
     let same = some_pair (codes "batch") name says.rows rows (sym says.entered ∙ entered) in
     none job.Batch same.0 tt

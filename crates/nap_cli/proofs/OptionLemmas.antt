@@ -3,7 +3,7 @@ use Rattle.std.specs.Bool.{MatchBool}
 use Rattle.std.specs.Str.Parse.{IsNumeral, ParsesBool, ParsesUnsigned, digits_value, without_leading_plus}
 use Rattle.clap.specs.Words.{Text}
 use Rattle.nap_reader.specs.Budgets.{most_budget}
-use Rattle.nap_cli.specs.CommandLine.{IsBudget, flag_text}
+use Rattle.nap_cli.specs.CommandLine.{IsBudget, option_text}
 use Rattle.nap_cli.proofs.CommandLineLemmas.{none_or_some}
 
 -- What options say about the text that clap found.
@@ -11,12 +11,12 @@ use Rattle.nap_cli.proofs.CommandLineLemmas.{none_or_some}
 pub true_or_false : (b : Bool) → b ≡ false → b ≡ true → ⊥
 true_or_false b h k = let bad : ⊥ = cc in bad
 
-flag_is : (t : Text) (b : Bool) → MatchBool b (t ≡ codes "true") (t ≡ codes "false") → t ≡ flag_text b
+flag_is : (t : Text) (b : Bool) → MatchBool b (t ≡ codes "true") (t ≡ codes "false") → t ≡ option_text b
 flag_is t true h = h
 flag_is t false h = h
 
 -- the flag that a text names was parsed
-pub flag_read : (o : Option Text) (b : Bool) → (o ≡ None → Some b ≡ None) → ((t : Text) → o ≡ Some t → MatchBool b (t ≡ codes "true") (t ≡ codes "false")) → o ≡ Some (flag_text b)
+pub flag_read : (o : Option Text) (b : Bool) → (o ≡ None → Some b ≡ None) → ((t : Text) → o ≡ Some t → MatchBool b (t ≡ codes "true") (t ≡ codes "false")) → o ≡ Some (option_text b)
 flag_read None b none value = absurd (none_or_some b (sym (none refl)))
 flag_read (Some t) b none value = ap Some (flag_is t b (value t refl))
 
@@ -34,14 +34,14 @@ number_read (Some t) n none value most = let h = value t refl in (t, refl, (h.0.
 pub number_same : (o : Option Text) (m : ℕ) → ((t : Text) → o ≡ Some t → IsNumber t m) → (t : Text) (n : ℕ) → o ≡ Some t → IsBudget t n → m ≤ most_budget
 number_same o m value t n is h = omega (arith, h.1, h.2, (value t is).1)
 
-flag_isnt : (b : Bool) → (flag_text b ≢ codes "true") × (flag_text b ≢ codes "false") → ⊥
+flag_isnt : (b : Bool) → (option_text b ≢ codes "true") × (option_text b ≢ codes "false") → ⊥
 flag_isnt true h = h.0 refl
 flag_isnt false h = h.1 refl
 
 module _ {E : Type 0} where
   -- the text of a flag is parsed
-  pub flag_unread : (o : Option Text) → ((t : Text) → o ≡ Some t → (e : E) × ParsesBool {E = E} t (Err e)) → (b : Bool) → o ≡ Some (flag_text b) → ⊥
-  flag_unread o value b is = flag_isnt b (value (flag_text b) is).1
+  pub flag_unread : (o : Option Text) → ((t : Text) → o ≡ Some t → (e : E) × ParsesBool {E = E} t (Err e)) → (b : Bool) → o ≡ Some (option_text b) → ⊥
+  flag_unread o value b is = flag_isnt b (value (option_text b) is).1
 
   -- the text of a budget is parsed
   pub number_unread : (o : Option Text) → ((t : Text) → o ≡ Some t → (e : E) × ParsesUnsigned {E = E} 32 10 t (Err e)) → (t : Text) (n : ℕ) → o ≡ Some t → IsBudget t n → ⊥

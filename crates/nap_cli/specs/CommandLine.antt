@@ -13,7 +13,7 @@ use Rattle.nap_command.specs.Devices.{Devices}
 use Rattle.nap_list.specs.declared.device.inlet.Inlet as inlet
 use Rattle.nap_command.specs.Commands.{Ran}
 use Rattle.nap_command.specs.Making.{Made}
-use Rattle.nap_batch.specs.Sessions.{Served}
+use Rattle.nap_command.specs.Sessions.{Served}
 use Rattle.nap_cli.specs.declared.words.Job.{Job}
 use Rattle.nap_cli.specs.declared.words.Job.TheVariants as job
 use Rattle.nap_cli.specs.Explaining.{Explains, Unread, outputs_of}
@@ -75,9 +75,9 @@ action_name action.Check = codes "check"
 action_name action.Canon = codes "canon"
 
 -- the text of an option that is given or not
-abbrev pub flag_text : Bool → Text
-flag_text true = codes "true"
-flag_text false = codes "false"
+abbrev pub option_text : Bool → Text
+option_text true = codes "true"
+option_text false = codes "false"
 
 -- decimal digits, after a plus or not, that write this budget
 abbrev pub IsBudget : Text → ℕ → Type 0
@@ -86,12 +86,12 @@ IsBudget text n =
 
 -- only `canon` has `--stream`
 abbrev pub ChoosesStream : Action → List Row → Bool → Type 0
-ChoosesStream action.Canon rows stream = one_of (codes "stream") rows ≡ Some (flag_text stream)
+ChoosesStream action.Canon rows stream = one_of (codes "stream") rows ≡ Some (option_text stream)
 ChoosesStream _ rows stream = stream ≡ false
 
 -- the options that clap parsed are those of this command
 pub record Chooses (rows : List Row) (c : Command) : Type 0 where
-  pub hex : one_of (codes "hex") rows ≡ Some (flag_text c.hex)
+  pub hex : one_of (codes "hex") rows ≡ Some (option_text c.hex)
   pub number : Text
   pub found : one_of (codes "budget") rows ≡ Some number
   pub budget : IsBudget number c.budget
@@ -115,7 +115,7 @@ pub record SaysMake (words : List Text) (stream : Bool) : Type 0 where
   pub right : fault_of command_line words ≡ []
   pub rows : List Row
   pub entered : subcommand_of command_line words ≡ Some (codes "make", rows)
-  pub chooses : one_of (codes "stream") rows ≡ Some (flag_text stream)
+  pub chooses : one_of (codes "stream") rows ≡ Some (option_text stream)
 
 -- words that ask for a command on one page, `make` or `batch`
 abbrev pub SaysJob : List Text → Job → Type 0
@@ -131,7 +131,7 @@ job_name job.Batch = codes "batch"
 -- the options that clap parsed are those of this job
 abbrev pub ChoosesJob : List Row → Job → Type 0
 ChoosesJob rows (job.Page c) = Chooses rows c
-ChoosesJob rows (job.Make stream) = one_of (codes "stream") rows ≡ Some (flag_text stream)
+ChoosesJob rows (job.Make stream) = one_of (codes "stream") rows ≡ Some (option_text stream)
 ChoosesJob rows job.Batch = Unit {0}
 
 -- what clap finds in words that ask for no command: this kind of error, or lack of memory
@@ -141,8 +141,8 @@ IsFault words k =
 
 -- The program ran on an input, from the devices before to those after: it executed the command that the words ask for;
 -- or they ask for none, nothing was read, and what clap found was printed or reported.
-abbrev pub Answers : {I : Type 0} → inlet.Ghosts I → List Text → I → I → Devices → Devices → ℕ → Type 0
-Answers i words start end before after status =
+abbrev pub AnswersWords : {I : Type 0} → inlet.Ghosts I → List Text → I → I → Devices → Devices → ℕ → Type 0
+AnswersWords i words start end before after status =
     ((c : Command) × Says words c × Ran i c start end before after status)
     ⊎ (((stream : Bool) × SaysMake words stream × Made stream before after status)
     ⊎ ((SaysBatch words × Served before after status) ⊎ ((k : ErrorKind) × IsFault words k × Unread before after × Explains k (outputs_of before) (outputs_of after) status)))

@@ -8,9 +8,9 @@ use Rattle.nap_command.specs.declared.answer.Verdict.{Verdict}
 use Rattle.nap_command.specs.declared.answer.Verdict.TheVariants as verdict
 use Rattle.nap_command.specs.declared.failure.Failure.{Failure}
 use Rattle.nap_command.specs.declared.failure.Failure.TheVariants as failure
-use Rattle.nap_command.specs.Devices.{Devices, Takes}
+use Rattle.nap_command.specs.Devices.{Devices, TakesText}
 use Rattle.nap_command.specs.Commands.{Reports}
-use Rattle.nap_cli.specs.Plain.{IsPlain}
+use Rattle.nap_cli.specs.Plain.{IsPlainText}
 
 -- The two outputs of a command: the bytes that they took, if they tell them; whether the first was flushed after its
 -- last write, and the number of flushes; which have failed, and whether a write of the first has.
@@ -65,23 +65,23 @@ FlushesOnce before after = before.write_failed ≡ false → after.flushes ≡ f
 
 -- The output took help, which has this text, and the command ended like this: the output took all of it and was
 -- flushed, or it failed after a prefix, or memory ran out for the text.
-abbrev pub ShowsText : Outputs → Outputs → List ℕ → Result Verdict Failure → Type 0
-ShowsText before after text (Ok verdict.Accepted) = Takes before.taken after.taken text (Ok tt) × (after.failed ≡ before.failed) × (after.sent ≡ true) × FlushesOnce before after
-ShowsText before after text (Err (failure.Write taken)) = Takes before.taken after.taken text (Err (failure.Write taken)) × (after.failed ≡ true) × FlushesOnce before after
-ShowsText before after text (Err failure.Memory) = Unprinted before after
-ShowsText before after text _ = ⊥
+abbrev pub PrintsHelp : Outputs → Outputs → List ℕ → Result Verdict Failure → Type 0
+PrintsHelp before after text (Ok verdict.Accepted) = TakesText before.taken after.taken text (Ok tt) × (after.failed ≡ before.failed) × (after.sent ≡ true) × FlushesOnce before after
+PrintsHelp before after text (Err (failure.Write taken)) = TakesText before.taken after.taken text (Err (failure.Write taken)) × (after.failed ≡ true) × FlushesOnce before after
+PrintsHelp before after text (Err failure.Memory) = Unprinted before after
+PrintsHelp before after text _ = ⊥
 
 -- help was printed, or failed to be
 pub record ShowsHelp (before after : Outputs) (status : ℕ) : Type 0 where
   pub text : List ℕ
   pub e : List ℕ
   pub ended : Result Verdict Failure
-  pub shown : ShowsText before after text ended
+  pub shown : PrintsHelp before after text ended
   pub reported : Appends before.reported after.reported e
   pub tells : Reports e after.errors_failed ended status
 
 -- Memory ran out, as standard error reports; nothing was printed.
-pub record LacksMemory (before after : Outputs) (status : ℕ) : Type 0 where
+pub record ReportsNoMemory (before after : Outputs) (status : ℕ) : Type 0 where
   pub unprinted : Unprinted before after
   pub e : List ℕ
   pub reported : Appends before.reported after.reported e
@@ -92,12 +92,12 @@ pub record ReportsWrong (before after : Outputs) (status : ℕ) : Type 0 where
   pub unprinted : Unprinted before after
   pub e : List ℕ
   pub reported : Appends before.reported after.reported e
-  pub plain : IsPlain e
+  pub plain : IsPlainText e
   pub status_is : status ≡ 2
 
 -- the answer to words that ask for no command, by what clap finds: help, lack of memory, or what is wrong
 abbrev pub Explains : ErrorKind → Outputs → Outputs → ℕ → Type 0
 Explains kind.DisplayHelp before after status = ShowsHelp before after status
 Explains kind.DisplayVersion before after status = ShowsHelp before after status
-Explains kind.OutOfMemory before after status = LacksMemory before after status
-Explains _ before after status = ReportsWrong before after status ⊎ LacksMemory before after status
+Explains kind.OutOfMemory before after status = ReportsNoMemory before after status
+Explains _ before after status = ReportsWrong before after status ⊎ ReportsNoMemory before after status

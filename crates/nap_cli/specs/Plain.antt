@@ -7,8 +7,8 @@ abbrev pub is_printable : ℕ → Bool
 is_printable b = nat_le 32 b && nat_le b 126
 
 -- the escape of a byte, as `\x1b`: a backslash, an x, and two lower-case hexadecimal digits
-abbrev pub escape : ℕ → List ℕ
-escape b = 92 ∷ 120 ∷ digit_char (b / 16) ∷ digit_char (b % 16) ∷ []
+abbrev pub byte_escape : ℕ → List ℕ
+byte_escape b = 92 ∷ 120 ∷ digit_char (b / 16) ∷ digit_char (b % 16) ∷ []
 
 -- whether a byte is shown as itself: a printable character of ASCII, and LF where line ends stay
 abbrev pub stays : Bool → ℕ → Bool
@@ -16,7 +16,7 @@ stays lines b = is_printable b || (lines && (b == 10))
 
 -- how a byte is shown: as itself, or as its escape
 abbrev pub shown : Bool → ℕ → List ℕ
-shown lines b = if stays lines b then b ∷ [] else escape b
+shown lines b = if stays lines b then b ∷ [] else byte_escape b
 
 -- how a text is shown: each of its bytes in turn
 abbrev pub shown_text : Bool → List ℕ → List ℕ
@@ -31,5 +31,5 @@ abbrev pub is_plain : ℕ → Bool
 is_plain b = (b == 10) || is_printable b
 
 -- text that a terminal shows: each byte is plain
-abbrev pub IsPlain : List ℕ → Type 0
-IsPlain text = list_all is_plain text ≡ true
+abbrev pub IsPlainText : List ℕ → Type 0
+IsPlainText text = list_all is_plain text ≡ true

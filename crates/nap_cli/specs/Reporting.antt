@@ -4,7 +4,7 @@ use Rattle.nap_list.specs.declared.device.inlet.Inlet as inlet
 use Rattle.nap_command.specs.declared.failure.Failure.TheVariants as failure
 use Rattle.nap_command.specs.Commands.{Reports}
 use Rattle.nap_command.specs.Devices.{Devices}
-use Rattle.nap_cli.specs.CommandLine.{Answers}
+use Rattle.nap_cli.specs.CommandLine.{AnswersWords}
 
 -- Standard error took e of what is reported, and the program ends with this status: that the output failed, with the
 -- number of bytes that its writer took; that memory ran out for the notes; or the notes, with the status that went with
@@ -15,8 +15,8 @@ Tells false true count notes ended e errors_failed status = Reports e errors_fai
 Tells false false count notes ended e errors_failed status = (take (length e) notes ≡ e) × (errors_failed ≡ false → e ≡ notes) × (status ≡ ended)
 
 -- the devices at the start: an output that took these bytes, and notes that are empty
-abbrev pub begun : {I : Type 0} → inlet.Ghosts I → I → Option (List ℕ) → Devices
-begun i start taken = record {
+abbrev pub devices_at_start : {I : Type 0} → inlet.Ghosts I → I → Option (List ℕ) → Devices
+devices_at_start i start taken = record {
   left = i.left start;
   reads = i.calls start;
   input_failed = i.failed start;
@@ -36,7 +36,7 @@ pub record AnswersBuffered {I : Type 0} (i : inlet.Ghosts I) (words : List (List
     (reported reported_after : Option (List ℕ)) (errors_failed : Bool) (status : ℕ) : Type 0 where
   pub after : Devices
   pub ended : ℕ
-  pub answers : Answers i words start end before after ended
+  pub answers : AnswersWords i words start end before after ended
   pub rest : List ℕ
   pub taken : after.taken ≡ append_known sent rest
   pub notes : List ℕ

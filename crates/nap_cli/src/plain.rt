@@ -1,7 +1,7 @@
 //! Text that a terminal shows and doesn't act on.
 ghost use Rattle.std.specs.Prelude.{◌≡◌, ◌++◌, ◌<◌, true, IfOk};
 ghost use Rattle.std.specs.Char.{digit_char};
-ghost use Rattle.nap_cli.specs.Plain.{escape, is_plain, is_printable, shown_text, IsPlain};
+ghost use Rattle.nap_cli.specs.Plain.{byte_escape, is_plain, is_printable, shown_text, IsPlainText};
 
 use std::alloc::{AllocError, Global};
 
@@ -27,8 +27,8 @@ fn digit(number: u8) -> u8
 
 /// Appends the escape of a byte.
 fn push_escape(plain: &mut Vec<u8>, byte: u8) -> Result<(), AllocError>
-    ensures value { IfOk result (λ done. plain.new.items ≡ plain.old.items ++ escape byte) }
-    ensures plain { IsPlain plain.old.items → IfOk result (λ done. IsPlain plain.new.items) }
+    ensures value { IfOk result (λ done. plain.new.items ≡ plain.old.items ++ byte_escape byte) }
+    ensures plain { IsPlainText plain.old.items → IfOk result (λ done. IsPlainText plain.new.items) }
 {
     plain.extend_from_slice(&[b'\\', b'x', digit(byte / 16), digit(byte % 16)])
 }
@@ -37,7 +37,7 @@ fn push_escape(plain: &mut Vec<u8>, byte: u8) -> Result<(), AllocError>
 /// stay if they end `lines`.
 pub fn escaped(alloc: Global, text: &[u8], lines: bool) -> Result<Vec<u8>, AllocError>
     ensures shown { IfOk result (λ plain. plain.items ≡ shown_text lines text.now) }
-    ensures plain { IfOk result (λ plain. IsPlain plain.items) }
+    ensures plain { IfOk result (λ plain. IsPlainText plain.items) }
 {
     let mut plain = Vec::with_capacity(alloc, text.len())?;
     for &byte in text {

@@ -3,13 +3,13 @@ ghost use Rattle.std.specs.Prelude.{◌≡◌, ◌<◌, ◌^◌, false, map, str
 ghost use Rattle.clap.specs.Values.{kind_of};
 ghost use Rattle.nap_command.specs.Devices.{devices};
 ghost use Rattle.nap_cli.specs.Explaining.{Explains, outputs};
-ghost use Rattle.nap_cli.specs.CommandLine.{Answers};
+ghost use Rattle.nap_cli.specs.CommandLine.{AnswersWords};
 
 use crate::words::{Job, parse};
 use crate::wrong::text_of;
 use clap::Error;
 use clap::error::ErrorKind;
-use nap_batch::batch;
+use nap_command::batch::batch;
 use nap_command::{Failure, execute, execute_make, report, write_whole};
 use nap_list::{Inlet, Outlet};
 use std::alloc::Global;
@@ -57,7 +57,7 @@ pub fn run<I: Inlet, O: Outlet + Drop, E: Outlet>(
     requires calls { I.calls input.old < 2 ^ 63 }
     requires works { O.failed output ≡ false }
     ensures { let seen = devices I.Inlet O.Outlet E.Outlet in
-        Answers I.Inlet (map string_bytes words.now) input.old input.new (seen input.old output errors.old) (seen input.new result.0 errors.new) result.1 }
+        AnswersWords I.Inlet (map string_bytes words.now) input.old input.new (seen input.old output errors.old) (seen input.new result.0 errors.new) result.1 }
 {
     match parse(alloc, words) {
         Ok(Job::Page(command)) => execute(alloc, &command, input, output, errors),

@@ -2,7 +2,7 @@
 ghost use Rattle.std.specs.Prelude.{◌≡◌, ◌<◌, ◌^◌, ◌||◌, [], List, ℕ, map, string_bytes};
 ghost use Rattle.std.specs.Io.Buffered.{writer_contents};
 ghost use Rattle.std.specs.Io.KnownBytes.{Appends};
-ghost use Rattle.nap_cli.specs.Reporting.{AnswersBuffered, Tells, begun};
+ghost use Rattle.nap_cli.specs.Reporting.{AnswersBuffered, Tells, devices_at_start};
 
 use crate::counted::Counted;
 use crate::program::run;
@@ -44,7 +44,7 @@ pub fn run_buffered<I: Inlet, W: Write + Drop, E: Outlet>(
 ) -> (Counted<W>, u8)
     requires calls { I.calls input.old < 2 ^ 63 }
     requires empty { notes.items ≡ [] }
-    ensures { AnswersBuffered I.Inlet (map string_bytes words.now) input.old input.new (begun I.Inlet input.old (writer_contents ⟦<Counted<W> as Write>⟧.contents output))
+    ensures { AnswersBuffered I.Inlet (map string_bytes words.now) input.old input.new (devices_at_start I.Inlet input.old (writer_contents ⟦<Counted<W> as Write>⟧.contents output))
         (⟦<Counted<W> as Write>⟧.contents result.0) result.0.count (E.taken errors.old) (E.taken errors.new) (E.failed errors.new) result.1 }
 {
     let mut notes = Target::new(notes);

@@ -3,7 +3,7 @@ ghost use Rattle.std.specs.Prelude.{◌≡◌, ◌≢◌, ◌⊎◌, Bool, false
 ghost use Rattle.clap.specs.Words.{app_of, found_of, kind_of, one_of, rows_of};
 ghost use Rattle.clap.specs.declared.builder.command.Command.TheViews.{out-Command as fields_of};
 ghost use Rattle.nap_reader.specs.Budgets.{usual_budget};
-ghost use Rattle.nap_cli.specs.CommandLine.{Chooses, ChoosesJob, ChoosesStream, IsFault, SaysJob, action_name, canon_app, command_app, command_line_by, flag_text, job_name, make_app};
+ghost use Rattle.nap_cli.specs.CommandLine.{Chooses, ChoosesJob, ChoosesStream, IsFault, SaysJob, action_name, canon_app, command_app, command_line_by, option_text, job_name, make_app};
 
 use clap::error::ErrorKind;
 use clap::{Arg, ArgAction, ArgMatches, Error, value_parser};
@@ -31,7 +31,7 @@ const BATCH: &str = "batch";
 
 /// The version of the program, which is that of the file VERSION at the top, and the form of the canonical streams that it
 /// prints.
-const VERSION: &str = "0.4.0, canonical form 2";
+const VERSION: &str = "0.4.1, canonical form 2";
 
 const USAGE: &str = "naplps COMMAND [OPTIONS] < PAGE";
 
@@ -318,8 +318,8 @@ fn action_named(name: &str) -> Option<Action>
 
 /// Returns whether `--stream` is among the options.
 fn stream_chosen(options: &ArgMatches<'_>) -> Option<bool>
-    ensures { MatchOption result ((stream : Bool) → one_of (codes "stream") (rows_of (found_of options.now)) ≡ Some (flag_text stream) → ⊥)
-        (λ stream. one_of (codes "stream") (rows_of (found_of options.now)) ≡ Some (flag_text stream)) }
+    ensures { MatchOption result ((stream : Bool) → one_of (codes "stream") (rows_of (found_of options.now)) ≡ Some (option_text stream) → ⊥)
+        (λ stream. one_of (codes "stream") (rows_of (found_of options.now)) ≡ Some (option_text stream)) }
 {
     let stream = options.get_one(STREAM)?;
     Some(stream)

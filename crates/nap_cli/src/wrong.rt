@@ -1,6 +1,6 @@
 //! Reports of a wrong command line.
 ghost use Rattle.std.specs.Prelude.{◌≡◌, IfOk, map, string_bytes};
-ghost use Rattle.nap_cli.specs.Plain.{shown_words, IsPlain};
+ghost use Rattle.nap_cli.specs.Plain.{shown_words, IsPlainText};
 
 use crate::plain::{escaped, is_printable};
 use crate::words::parse;
@@ -82,7 +82,7 @@ fn said_of(alloc: Global, words: &[String], error: &Error) -> Result<String, All
 
 /// Returns clap's report of these words, followed by help.
 pub fn text_of(alloc: Global, words: &[String], error: &Error) -> Result<Vec<u8>, AllocError>
-    ensures { IfOk result (λ text. IsPlain text.items) }
+    ensures { IfOk result (λ text. IsPlainText text.items) }
 {
     let kind = error.kind();
     let mut text = said_of(alloc, words, error)?;

@@ -10,7 +10,7 @@ use Rattle.nap_codes.specs.declared.control.Row.TheVariants.{Whole}
 use Rattle.nap_codes.specs.CodeSets.{set_at}
 use Rattle.nap_codes.specs.Tables.{row_of, number_rows, control0_rows, control1_rows}
 use Rattle.nap_codes.specs.Front.{complete, non_pdi_code, front}
-use Rattle.nap_codes.specs.Laws.{IsGraphic, IsInRange, CodeRanges, OneByteOpcode, OneByteOperand}
+use Rattle.nap_codes.specs.Laws.{IsGraphic, IsCodeInRange, CodeRanges, OneByteOpcode, OneByteOperand}
 use Rattle.nap_codes.specs.Spelling.{Spells}
 use Rattle.nap_codes.specs.Spelling as spelling
 use Rattle.nap_codes.proofs.RowLemmas.{row_found}
@@ -27,7 +27,7 @@ is_pdi _ = false
 
 -- the range of a code's parameters, for a code that isn't of the PDI set
 abbrev IsPlain : Code → Type 0
-IsPlain code = IsInRange code × (is_pdi code ≡ false)
+IsPlain code = IsCodeInRange code × (is_pdi code ≡ false)
 
 -- The codes of the tables of controls have no parameters.
 abbrev PlainRow : ℕ → Row → Type 0
@@ -54,7 +54,7 @@ plain_code_is_plain _ byte range = (range, refl)
 -- The parameters of a code that is spelled are in range, and a code of the PDI set has one byte.
 data IsSound (sets : CodeSets) (xs : List ℕ) (code : Code) (after : CodeSets) : Type 0 where
   plain : IsPlain code → IsSound sets xs code after
-  pdi : IsInRange code → length xs ≡ 1 → after ≡ sets → IsSound sets xs code after
+  pdi : IsCodeInRange code → length xs ≡ 1 → after ≡ sets → IsSound sets xs code after
 
 spelled_is_sound : (sets : CodeSets) (xs : List ℕ) (code : Code) (after : CodeSets) → Spells sets xs code after →
     IsSound sets xs code after
@@ -78,7 +78,7 @@ spelled_is_sound sets _ _ _ (spelling.single_shift2 {byte = byte} range e) = pla
 spelled_is_sound sets _ _ _ (spelling.single_shift3 {byte = byte} range e) = plain (rw e at (plain_code_is_plain sets.g3 byte range))
 spelled_is_sound sets _ _ _ _ = plain (tt, refl)
 
-sound_range : {sets : CodeSets} {xs : List ℕ} {code : Code} {after : CodeSets} → IsSound sets xs code after → IsInRange code
+sound_range : {sets : CodeSets} {xs : List ℕ} {code : Code} {after : CodeSets} → IsSound sets xs code after → IsCodeInRange code
 sound_range (plain is) = is.0
 sound_range (pdi range one same) = range
 

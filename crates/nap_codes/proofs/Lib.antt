@@ -6,6 +6,7 @@ pub mod FrontIsSteady
 pub mod FrontLaws
 pub mod FrontBegins
 pub mod HalfLemmas
+pub mod NextLemmas
 pub mod FrontIsSpelled
 pub mod SpelledIsFront
 pub mod SpellingLaws

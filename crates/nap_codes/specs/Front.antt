@@ -37,12 +37,12 @@ abbrev pub is_graphic : ℕ → Bool
 is_graphic byte = nat_le 0x20 byte && nat_lt byte 0x80
 
 -- the fault of a byte that continues no code: EighthBit from 80 on, else this one
-abbrev pub fault_of : CodeFault → ℕ → CodeFault
-fault_of fault byte = if nat_le 0x80 byte then EighthBit else fault
+abbrev pub byte_fault : CodeFault → ℕ → CodeFault
+byte_fault fault byte = if nat_le 0x80 byte then EighthBit else fault
 
 -- the front at a byte that continues no code
 unfoldable pub bad_byte : CodeFault → ℕ → Front
-bad_byte fault byte = refused (fault_of fault byte) 0
+bad_byte fault byte = refused (byte_fault fault byte) 0
 
 -- the front at the last byte of a code, or at a byte that continues none
 unfoldable pub last_byte : CodeSets → CodeFault → ℕ → Option Code → Front

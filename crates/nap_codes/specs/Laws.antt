@@ -54,22 +54,22 @@ abbrev pub IsGraphic : ℕ → Type 0
 IsGraphic byte = (0x20 ≤ byte) × (byte < 0x80)
 
 -- the parameters of a code are in range, and its opcode isn't one that is left out
-abbrev pub IsInRange : Code → Type 0
-IsInRange (codes.Step (steps.Aps row column)) = IsGraphic row × IsGraphic column
-IsInRange (codes.Designated number set) = number < 4
-IsInRange (codes.Char set byte) = IsGraphic byte
-IsInRange (codes.Call byte) = IsGraphic byte
-IsInRange (codes.Op op) = left_out_opcode op ≡ None
-IsInRange (codes.Operand word) = word < 64
-IsInRange (codes.DefMacro name show) = IsGraphic name
-IsInRange (codes.DefGlyph byte) = IsGraphic byte
-IsInRange (codes.Repeat count) = count < 64
-IsInRange _ = Unit {0}
+abbrev pub IsCodeInRange : Code → Type 0
+IsCodeInRange (codes.Step (steps.Aps row column)) = IsGraphic row × IsGraphic column
+IsCodeInRange (codes.Designated number set) = number < 4
+IsCodeInRange (codes.Char set byte) = IsGraphic byte
+IsCodeInRange (codes.Call byte) = IsGraphic byte
+IsCodeInRange (codes.Op op) = left_out_opcode op ≡ None
+IsCodeInRange (codes.Operand word) = word < 64
+IsCodeInRange (codes.DefMacro name show) = IsGraphic name
+IsCodeInRange (codes.DefGlyph byte) = IsGraphic byte
+IsCodeInRange (codes.Repeat count) = count < 64
+IsCodeInRange _ = Unit {0}
 
 -- The parameters of a code at the front are in range, and its opcode isn't one that is left out.
 abbrev pub CodeRanges : Type 0
 CodeRanges = (sets : CodeSets) (xs : List ℕ) (code : Code) (n : ℕ) (after : CodeSets) →
-    front sets xs ≡ complete code n after → IsInRange code
+    front sets xs ≡ complete code n after → IsCodeInRange code
 
 -- An opcode has one byte, and changes no code set.
 abbrev pub OneByteOpcode : Type 0

@@ -7,3 +7,4 @@ pub mod SpellingLaws
 pub mod Lexer
 pub mod LexResults
 pub mod HalfReadCodes
+pub mod NextCodes

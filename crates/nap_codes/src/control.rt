@@ -171,6 +171,7 @@ pub fn format_effector(byte: u8) -> Option<TextStep>
 
 /// Returns the row of the C1 set for the byte after ESC, or `None` outside `40` to `5F` (PROFILE.md, The C1 set).
 #[tactic(auto, unfolding(crate::specs::Tables::row_of, crate::specs::Tables::control1_rows))]
+#[inline(always)]
 pub fn control1(byte: u8) -> Option<Row>
     ensures { result ≡ row_of control1_rows byte }
 {

@@ -2,15 +2,17 @@
 
 ghost use Rattle.std.specs.Prelude.{ℕ, ◌≡◌, ◌↔◌, ◌≤◌, ◌<◌, [], ◌∷◌, Some, IfSome, IsTrue};
 ghost use Rattle.nap_codes.specs.CodeSets.{set_at, start_sets};
-ghost use Rattle.nap_codes.specs.Front.{argument_front, column_front, fault_of, final_front, front, gl_front, non_pdi_code, single_shift_front, unfinished, complete};
+ghost use Rattle.nap_codes.specs.Front.{argument_front, column_front, byte_fault, final_front, front, gl_front, non_pdi_code, single_shift_front, unfinished, complete};
 ghost use Rattle.nap_codes.specs.HalfReadCodes.{IsLastOutcome, half_read_after, IsHalfRead, IsOutcomeOf};
 ghost use Rattle.nap_codes.specs.Laws.{IsGraphic};
 ghost use Rattle.nap_codes.specs.Lexer.{IsCharacter, IsFormatEffector, IsOpcode, IsShift, Steps};
+ghost use Rattle.nap_codes.specs.NextCodes.{IsNext};
 ghost use Rattle.nap_codes.specs.declared.code.Code.TheVariants as codes;
 
 use crate::code::{Code, CodeFault, Step};
 use crate::code_set::{CharSet, CodeSet, CodeSets, GSet, designate};
 use crate::control::{Argument, Row, TextStep, control0, control1};
+use crate::next_code::{NextCode, next_control};
 use crate::opcode::{Opcode, opcode_of};
 use nap_values::Word;
 use std::marker::Model;
@@ -166,6 +168,21 @@ impl Lexer {
         ensures { Steps self.old byte (Step.Code codes.Shifted) self.new }
     {
         self.sets = self.sets.after_control0(byte);
+    }
+
+    /// Consumes the code at the beginning of the bytes if it begins with a control of the C0 set and is complete, and
+    /// no code is incomplete before it.
+    #[inline(always)]
+    pub fn next(&mut self, bytes: &[u8]) -> NextCode
+        ensures { IsNext self.old bytes.now result self.new }
+    {
+        let Some((byte, rest)) = bytes.split_first() else {
+            return NextCode::Other;
+        };
+        if *byte >= 0x20 || !self.at_rest() {
+            return NextCode::Other;
+        }
+        next_control(&mut self.sets, *byte, rest)
     }
 
     /// Consumes the next byte. On a fault the lexer is unchanged.
@@ -359,7 +376,7 @@ fn non_pdi_code(set: CodeSet, byte: u8) -> Option<Code>
 
 /// Returns the refusal of a byte that continues no code: EighthBit from `80` on, else this fault.
 fn bad_byte(fault: CodeFault, byte: u8) -> ByteOutcome
-    ensures { result ≡ ByteOutcome.Fault (fault_of fault byte) }
+    ensures { result ≡ ByteOutcome.Fault (byte_fault fault byte) }
 {
     if byte >= 0x80 {
         ByteOutcome::Fault(CodeFault::EighthBit)

@@ -27,25 +27,25 @@ use Rattle.nap_command.specs.declared.command.Command.{Command}
 use Rattle.nap_command.specs.declared.failure.Failure.{Failure}
 use Rattle.nap_command.specs.declared.failure.Failure.TheVariants as failure
 use Rattle.nap_reader.specs.Collecting.{Collects, IsRead, LacksMemoryFor, RefusedBy}
-use Rattle.nap_command.specs.Commands.{Denies, Fails, Finds, IsRefusal, LacksToCount, PrintsBy, PrintsCount, canon_text, count_line}
+use Rattle.nap_command.specs.Commands.{Denies, Fails, Finds, IsStreamRefusal, CountLacksMemory, PrintsBy, PrintsCount, canon_text, count_line}
 
 -- What was read of a page gives the answer of a command.
 
 -- A page was counted.
 module _ (g : Ghosts CountSink) (s : CountSink) (none : s.count ≡ 0) (took_is : (t : CountSink) (d : List Entry) → g.took s d t → CountsEntries s d t)
     (wants_is : (d : List Entry) → g.wants s d → Uncounted s d) (sound : (t : CountSink) → g.failed t ≡ false) (c : Command) (p : List ℕ) (check : c.action ≡ action.Check) where
-  refused : (f : Fault) (place : ℕ) → RefusedBy g s c.budget p (record { fault = f; place = place }) (cause_of f) → IsRefusal c p (record { fault = f; place = place })
+  refused : (f : Fault) (place : ℕ) → RefusedBy g s c.budget p (record { fault = f; place = place }) (cause_of f) → IsStreamRefusal c p (record { fault = f; place = place })
   refused fault.Memory place h = record { refused = λ no. absurd (no refl); memory = λ _. h.0 }
-  refused fault.Sink place (h, (t, failed)) = cc (sound t)
+  refused fault.Sink place (h, (t, failed, took)) = cc (sound t)
   refused f place h = record { refused = λ _. h; memory = λ is. let bad : ⊥ = cc in absurd bad }
 
   uncounted : (place : ℕ) → LacksMemoryFor g s c.budget p place → LacksWithin c.budget p place ⊎ (2 ^ 64 ≤ length (means c.budget p).entries)
   uncounted place (inl own) = inl own
   uncounted place (inr (first, rest, parts, wants)) = inr (let all = ap length parts in omega (arith, wants_is first wants, none, all, length-append first rest))
 
-  wanting : (f : Fault) (place : ℕ) → RefusedBy g s c.budget p (record { fault = f; place = place }) (cause_of f) → LacksToCount c p (record { fault = f; place = place })
+  wanting : (f : Fault) (place : ℕ) → RefusedBy g s c.budget p (record { fault = f; place = place }) (cause_of f) → CountLacksMemory c p (record { fault = f; place = place })
   wanting fault.Memory place h = λ _. uncounted place h.1
-  wanting fault.Sink place (h, (t, failed)) = cc (sound t)
+  wanting fault.Sink place (h, (t, failed, took)) = cc (sound t)
   wanting f place h = λ is. let bad : ⊥ = cc in absurd bad
 
   counted : (found : Result CountSink Refusal) (q : List ℕ) (v : Verdict) → Collects g s c.budget p found → PrintsCount found q v → PrintsBy action.Check c p q v
@@ -91,9 +91,9 @@ module _ {O : Type 0} (o : outlet.Ghosts O) (w : O) (s : Canonical O) (begins : 
       reported ∙ ap (λ (bytes : List ℕ). bytes ++ text d) empty
 
   lacks : (f : Fault) (place : ℕ) → RefusedBy g s c.budget p (record { fault = f; place = place }) (cause_of f) →
-      IsRefusal c p (refusal_of_text (record { fault = f; place = place }))
+      IsStreamRefusal c p (refusal_of_text (record { fault = f; place = place }))
   lacks fault.Memory place h = record { refused = λ no. absurd (no refl); memory = λ _. h.0 }
-  lacks fault.Sink place (h, (t, failed)) = record { refused = λ no. absurd (no refl); memory = λ _. h }
+  lacks fault.Sink place (h, (t, failed, took)) = record { refused = λ no. absurd (no refl); memory = λ _. h }
   lacks f place h = record { refused = λ _. h; memory = λ is. let bad : ⊥ = cc in absurd bad }
 
   pub prints_text : (hex : Bool) (found : Result (Canonical O) Refusal) (result : Result Printout Failure) → c.hex ≡ hex → IsRead g s c.budget p found →

@@ -5,7 +5,7 @@ use Rattle.nap_command.specs.declared.failure.Failure.{Failure}
 use Rattle.nap_command.specs.declared.failure.Failure.TheVariants as failure
 use Rattle.nap_command.specs.declared.answer.Verdict.{Verdict}
 use Rattle.nap_list.specs.Reading.{Reading}
-use Rattle.nap_command.specs.Devices.{Takes}
+use Rattle.nap_command.specs.Devices.{TakesText}
 use Rattle.nap_command.specs.Commands.{EndsWhole, Fails, Finds, IsPartly}
 
 -- The end of a command whose output fails.
@@ -19,7 +19,7 @@ take_of_nothing (suc n) = refl
 
 -- the output failed after n bytes of a text
 broken : (c : Command) (p : List ℕ) (a : Reading) (text : List ℕ) (old new : Option (List ℕ)) (b : Bool) (n : ℕ)
-    → Takes old new text (Err (failure.Write n)) → b ≡ true → IsPartly c p a (take n text) → (q : List ℕ) × Appends old new q × EndsWhole c p a q b (Err (failure.Write n))
+    → TakesText old new text (Err (failure.Write n)) → b ≡ true → IsPartly c p a (take n text) → (q : List ℕ) × Appends old new q × EndsWhole c p a q b (Err (failure.Write n))
 broken c p a text old new b n k e partly = (
   take n text,
   k.1,
@@ -28,7 +28,7 @@ broken c p a text old new b n k e partly = (
 
 -- the output failed during a printout
 pub ends_amid : (c : Command) (p : List ℕ) (a : Reading) (text : List ℕ) (v : Verdict) (old new : Option (List ℕ)) (b : Bool) (f : Failure)
-    → Finds c p a text v → Takes old new text (Err f) → b ≡ true → (q : List ℕ) × Appends old new q × EndsWhole c p a q b (Err f)
+    → Finds c p a text v → TakesText old new text (Err f) → b ≡ true → (q : List ℕ) × Appends old new q × EndsWhole c p a q b (Err f)
 ends_amid c p a text v old new b (failure.Write n) h k e =
     broken c p a text old new b n k e
     (inl (text, v, h, subst (λ (m : ℕ). take m text ≡ take n text) (sym (prefix_length n text k.0)) refl))
@@ -36,6 +36,6 @@ ends_amid c p a text v old new b _ h k e = absurd k
 
 -- the output failed after the command had failed
 pub ends_after : (c : Command) (p : List ℕ) (a : Reading) (before : Failure) (old new : Option (List ℕ)) (b : Bool) (f : Failure)
-    → Fails c p a before → Takes old new [] (Err f) → b ≡ true → (q : List ℕ) × Appends old new q × EndsWhole c p a q b (Err f)
+    → Fails c p a before → TakesText old new [] (Err f) → b ≡ true → (q : List ℕ) × Appends old new q × EndsWhole c p a q b (Err f)
 ends_after c p a before old new b (failure.Write n) h k e = broken c p a [] old new b n k e (inr (before, h, take_of_nothing n))
 ends_after c p a before old new b _ h k e = absurd k

@@ -13,7 +13,7 @@ use Rattle.nap_list.specs.Reading.{Reading, IsReadWhole}
 use Rattle.nap_list.specs.State.{start}
 use Rattle.nap_list.specs.Sending.{Grows, grows_none, sending}
 use Rattle.nap_lines.specs.Listing.{lines, lines_join}
-use Rattle.nap_lines.specs.Printing.{Broke, Closes, SendsPart, Printing, Took, sending_of}
+use Rattle.nap_lines.specs.Printing.{BrokeLines, Closes, SendsPart, Printing, TookLines, sending_by}
 use Rattle.nap_lines.specs.PrintingLaws.{passes_more}
 use Rattle.nap_reader.specs.declared.fault.Fault.{Fault}
 use Rattle.nap_reader.specs.declared.fault.Fault.TheVariants as fault
@@ -29,8 +29,8 @@ use Rattle.nap_command.specs.declared.command.Action.TheVariants as action
 use Rattle.nap_command.specs.declared.command.Command.{Command}
 use Rattle.nap_command.specs.declared.failure.Failure.{Failure}
 use Rattle.nap_command.specs.declared.failure.Failure.TheVariants as failure
-use Rattle.nap_command.specs.Commands.{EndsListed, EndsSo, ended_so, Fails, Finds, IsPartly, IsRefusal, IsStream}
-use Rattle.nap_command.specs.Devices.{Takes}
+use Rattle.nap_command.specs.Commands.{EndsListed, EndsSo, ended_so, Fails, Finds, IsPartly, IsStreamRefusal, IsStream}
+use Rattle.nap_command.specs.Devices.{TakesText}
 
 -- What `list` prints of a page that it reads twice.
 
@@ -43,18 +43,18 @@ memory_fault _ is = cc
 
 -- a page that was counted is refused for this reason
 refusal_by : {S : Type 0} (g : Ghosts S) (s : S) (sound : (t : S) → g.failed t ≡ false) (c : Command) (page : List ℕ) (f : Fault) (place : ℕ) →
-    RefusedBy g s c.budget page (record { fault = f; place = place }) (cause_of f) → IsRefusal c page (record { fault = f; place = place })
+    RefusedBy g s c.budget page (record { fault = f; place = place }) (cause_of f) → IsStreamRefusal c page (record { fault = f; place = place })
 refusal_by g s sound c page fault.Memory place h = record { refused = λ no. absurd (no refl); memory = λ _. h.0 }
-refusal_by g s sound c page fault.Sink place (h, (t, failed)) = cc (sound t)
+refusal_by g s sound c page fault.Sink place (h, (t, failed, took)) = cc (sound t)
 refusal_by g s sound c page f place h = record { refused = λ _. h; memory = λ is. let bad : ⊥ = cc in absurd bad }
 
-pub list_refuses : (c : Command) (p page : List ℕ) (seen : Reading) (r : Refusal) → c.action ≡ action.List → IsReadWhole seen p → IsStream c.hex p page → IsRefusal c page r →
+pub list_refuses : (c : Command) (p page : List ℕ) (seen : Reading) (r : Refusal) → c.action ≡ action.List → IsReadWhole seen p → IsStream c.hex p page → IsStreamRefusal c page r →
     Fails c p seen (failure.Refused r)
 list_refuses c p page seen r list whole streams refusal = (whole, (page, streams, ((λ other. let bad : ⊥ = cc (list, other) in bad), refusal)))
 
 -- the output failed after the command had failed
 pub listed_after : (c : Command) (p : List ℕ) (seen : Reading) (before : Failure) (old new : Option (List ℕ)) (b : Bool) (f : Failure) → Fails c p seen before →
-    Takes old new [] (Err f) → b ≡ true → (q : List ℕ) × Appends old new q × EndsListed c p seen q b (Err f)
+    TakesText old new [] (Err f) → b ≡ true → (q : List ℕ) × Appends old new q × EndsListed c p seen q b (Err f)
 listed_after c p seen before old new b (failure.Write n) h k e = (
   [],
   subst (Appends old new) (nothing n) k.1,
@@ -82,7 +82,7 @@ module _ {O : Type 0} (o : outlet.Ghosts O) (w : O) (works : o.failed w ≡ fals
     pub ends : o.failed u ≡ false → ForPage (λ p seen. EndsListed c p seen q false (ended_so read))
 
   -- the page is refused, and nothing was printed
-  none_printed : (u : O) (n : ℕ) (r : Refusal) → u ≡ w → n ≡ 0 → IsRefusal c page r → Leaves u n (Err r)
+  none_printed : (u : O) (n : ℕ) (r : Refusal) → u ≡ w → n ≡ 0 → IsStreamRefusal c page r → Leaves u n (Err r)
   none_printed u n r output written refusal =
       let fails : ForPage (λ p seen. Fails c p seen (failure.Refused r)) = λ p seen whole streams. list_refuses c p page seen r list whole streams refusal in
       record {
@@ -100,9 +100,9 @@ module _ {O : Type 0} (o : outlet.Ghosts O) (w : O) (works : o.failed w ≡ fals
     partly_of q left is p seen whole streams =
         inl (lines (list_of c.budget page), verdict.Accepted, finds p seen whole streams, prefix_taken q left (lines (list_of c.budget page)) is)
 
-    all_printed : (t : CountSink) → Took o begun (list_of c.budget page) v → Closes o v u n → Leaves u n (Ok t)
+    all_printed : (t : CountSink) → TookLines o begun (list_of c.budget page) v → Closes o v u n → Leaves u n (Ok t)
     all_printed t took closes =
-        let all = passes_more (sending o w 0) (sending_of o v) (sending o u n) [] v.buffered closes.left (lines (list_of c.budget page)) [] took.passes closes.passes in
+        let all = passes_more (sending o w 0) (sending_by o v) (sending o u n) [] v.buffered closes.left (lines (list_of c.budget page)) [] took.passes closes.passes in
         let parts = sym (append-nil (lines (list_of c.budget page))) ∙ all.parts in
         record {
           q = all.sent;
@@ -118,7 +118,7 @@ module _ {O : Type 0} (o : outlet.Ghosts O) (w : O) (works : o.failed w ≡ fals
       refuses is p seen whole streams = list_refuses c p page seen r list whole streams (record { refused = λ no. absurd (no is); memory = λ _. place })
 
       -- a prefix of the lines was printed
-      some_printed : (first rest : List Entry) (left : List ℕ) → list_of c.budget page ≡ first ++ rest → SendsPart (sending o w 0) [] (lines first) left (sending_of o v) →
+      some_printed : (first rest : List Entry) (left : List ℕ) → list_of c.budget page ≡ first ++ rest → SendsPart (sending o w 0) [] (lines first) left (sending_by o v) →
           (o.failed v.outlet ≡ false → r.fault ≡ fault.Memory) → Leaves u n (Err r)
       some_printed first rest left entries passes fault_is =
           let parts : lines (list_of c.budget page) ≡ passes.sent ++ (left ++ lines rest) =
@@ -136,7 +136,7 @@ module _ {O : Type 0} (o : outlet.Ghosts O) (w : O) (works : o.failed w ≡ fals
 
   -- The results of both readings, the second into a printer.
   module _ (g : Ghosts CountSink) (s : CountSink) (sound : (t : CountSink) → g.failed t ≡ false) (k : Ghosts (Printing O)) (fresh : k.failed begun ≡ false)
-      (took_is : (t : Printing O) (d : List Entry) → k.took begun d t → Took o begun d t) (broke_is : (t : Printing O) (d : List Entry) (e : Entry) → k.broke begun d e t → Broke o begun d e t)
+      (took_is : (t : Printing O) (d : List Entry) → k.took begun d t → TookLines o begun d t) (broke_is : (t : Printing O) (d : List Entry) (e : Entry) → k.broke begun d e t → BrokeLines o begun d e t)
       (u : O) (n : ℕ) (v : Printing O) where
     breaks : (accepted : (means c.budget page).refusal ≡ None) (r : Refusal) (cause : Cause) → cause_of r.fault ≡ cause → BreaksWithin c.budget page r.place →
         TookPrefix k begun [] (means c.budget page).entries v cause → u ≡ v.outlet → n ≡ v.written → Leaves u n (Err r)

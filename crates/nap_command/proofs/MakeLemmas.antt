@@ -3,13 +3,13 @@
 use Rattle.std.proofs.Common.{◌≡◌, ◌≤◌, inl, inr, ℕ, zero, suc, List, [], Bool, true, false, Option, Ok, Err, refl, sym, subst, take, length, length-take, arith}
 use Rattle.std.specs.Io.KnownBytes.{Appends}
 use Rattle.nap_list.specs.Reading.{Reading}
-use Rattle.nap_line_reader.specs.declared.fault.MakeFault.{MakeFault}
-use Rattle.nap_line_reader.specs.declared.fault.MakeFault.TheVariants as make_faults
-use Rattle.nap_line_reader.specs.declared.making.ListFault.TheVariants as list_faults
-use Rattle.nap_maker.specs.Texts.{DeniesInput}
+use Rattle.nap_make.specs.declared.lines.fault.MakeFault.{MakeFault}
+use Rattle.nap_make.specs.declared.lines.fault.MakeFault.TheVariants as make_faults
+use Rattle.nap_make.specs.declared.lines.fault.ListFault.TheVariants as list_faults
+use Rattle.nap_make.specs.Texts.{DeniesInput}
 use Rattle.nap_command.specs.declared.failure.Failure.{Failure}
 use Rattle.nap_command.specs.declared.failure.Failure.TheVariants as failure
-use Rattle.nap_command.specs.Devices.{Takes}
+use Rattle.nap_command.specs.Devices.{TakesText}
 use Rattle.nap_command.specs.Making.{EndsMadeWhole, FailsToMake, FindsPage, IsPartlyMade, failure_of}
 
 -- the lines make no page
@@ -30,7 +30,7 @@ take_of_nothing zero = refl
 take_of_nothing (suc n) = refl
 
 module _ (p : List ℕ) (seen : Reading) where
-  broken : (text : List ℕ) (old new : Option (List ℕ)) (b : Bool) (n : ℕ) → Takes old new text (Err (failure.Write n)) → b ≡ true → IsPartlyMade p seen (take n text) →
+  broken : (text : List ℕ) (old new : Option (List ℕ)) (b : Bool) (n : ℕ) → TakesText old new text (Err (failure.Write n)) → b ≡ true → IsPartlyMade p seen (take n text) →
       (q : List ℕ) × Appends old new q × EndsMadeWhole p seen q b (Err (failure.Write n))
   broken text old new b n k e partly = (
     take n text,
@@ -39,13 +39,13 @@ module _ (p : List ℕ) (seen : Reading) where
   )
 
   -- the output failed during the page
-  pub page_amid : (text : List ℕ) (old new : Option (List ℕ)) (b : Bool) (f : Failure) → FindsPage p seen text → Takes old new text (Err f) → b ≡ true →
+  pub page_amid : (text : List ℕ) (old new : Option (List ℕ)) (b : Bool) (f : Failure) → FindsPage p seen text → TakesText old new text (Err f) → b ≡ true →
       (q : List ℕ) × Appends old new q × EndsMadeWhole p seen q b (Err f)
   page_amid text old new b (failure.Write n) h k e = broken text old new b n k e (inl (text, h, subst (λ (m : ℕ). take m text ≡ take n text) (sym (prefix_length n text k.0)) refl))
   page_amid text old new b _ h k e = absurd k
 
   -- the output failed after the lines were refused
-  pub page_after : (before : Failure) (old new : Option (List ℕ)) (b : Bool) (f : Failure) → FailsToMake p seen before → Takes old new [] (Err f) → b ≡ true →
+  pub page_after : (before : Failure) (old new : Option (List ℕ)) (b : Bool) (f : Failure) → FailsToMake p seen before → TakesText old new [] (Err f) → b ≡ true →
       (q : List ℕ) × Appends old new q × EndsMadeWhole p seen q b (Err f)
   page_after before old new b (failure.Write n) h k e = broken [] old new b n k e (inr (before, h, take_of_nothing n))
   page_after before old new b _ h k e = absurd k

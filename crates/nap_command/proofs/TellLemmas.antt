@@ -4,7 +4,7 @@ use Rattle.std.proofs.Math.Bool.{or-true}
 use Rattle.std.specs.Io.KnownBytes.{Appends}
 use Rattle.nap_command.specs.declared.failure.Failure.{Failure}
 use Rattle.nap_command.specs.declared.failure.Failure.TheVariants as failure
-use Rattle.nap_command.specs.Devices.{Takes}
+use Rattle.nap_command.specs.Devices.{TakesText}
 use Rattle.nap_command.specs.Commands.{Reports}
 use Rattle.nap_command.specs.Failures.{status_of, reported_text}
 
@@ -16,7 +16,7 @@ prefix_of_prefix n xs h =
     subst (λ (m : ℕ). take m xs ≡ take n xs) (sym long) refl
 
 pub tells_written : (old new : Option (List ℕ)) (r : Result (Unit {0}) Failure) (was now : Bool) (f : Failure) (status : ℕ)
-    → Takes old new (reported_text (Err f)) r → now ≡ (was || is_err r) → status ≡ status_of f → (e : List ℕ) × Appends old new e × Reports e now (Err f) status
+    → TakesText old new (reported_text (Err f)) r → now ≡ (was || is_err r) → status ≡ status_of f → (e : List ℕ) × Appends old new e × Reports e now (Err f) status
 tells_written old new (Ok done) was now f status h flag is = (
   reported_text (Err f),
   h,

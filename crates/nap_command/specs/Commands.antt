@@ -58,19 +58,19 @@ PrintsCount found q v = ⊥
 
 -- The refusal is that of the stream. One for lack of memory has a place where the reader or an act of the stream can
 -- lack it.
-pub record IsRefusal (c : Command) (stream : List ℕ) (r : Refusal) : Type 0 where
+pub record IsStreamRefusal (c : Command) (stream : List ℕ) (r : Refusal) : Type 0 where
   pub refused : r.fault ≢ fault.Memory → (means c.budget stream).refusal ≡ Some r
   pub memory : r.fault ≡ fault.Memory → BreaksWithin c.budget stream r.place
 
 -- A count lacks memory if the reader itself does, or if the number of entries exceeds 64 bits.
-abbrev pub LacksToCount : Command → List ℕ → Refusal → Type 0
-LacksToCount c stream r = r.fault ≡ fault.Memory → LacksWithin c.budget stream r.place ⊎ (2 ^ 64 ≤ length (means c.budget stream).entries)
+abbrev pub CountLacksMemory : Command → List ℕ → Refusal → Type 0
+CountLacksMemory c stream r = r.fault ≡ fault.Memory → LacksWithin c.budget stream r.place ⊎ (2 ^ 64 ≤ length (means c.budget stream).entries)
 
 -- what an action prints of a stream, with its verdict; only `check` prints a refusal
 abbrev pub PrintsBy : Action → Command → List ℕ → List ℕ → Verdict → Type 0
 PrintsBy action.List c stream q verdict.Accepted = IsAccepted c.budget stream × (q ≡ lines (list_of c.budget stream))
 PrintsBy action.Check c stream q verdict.Accepted = IsAccepted c.budget stream × (q ≡ count_line (length (list_of c.budget stream)))
-PrintsBy action.Check c stream q verdict.Refused = (r : Refusal) × IsRefusal c stream r × LacksToCount c stream r × (q ≡ refusal_text r ++ 10 ∷ [])
+PrintsBy action.Check c stream q verdict.Refused = (r : Refusal) × IsStreamRefusal c stream r × CountLacksMemory c stream r × (q ≡ refusal_text r ++ 10 ∷ [])
 PrintsBy action.Canon c stream q verdict.Accepted = (text : List ℕ) × IsCanonicalOf c.budget text stream × (q ≡ canon_text c.hex text)
 PrintsBy _ c stream q verdict.Refused = ⊥
 
@@ -86,7 +86,7 @@ FailsToSpell text _ = ⊥
 
 -- why a command prints nothing of a stream: `list` and `canon` refuse it, or memory ran out
 abbrev pub Denies : Command → List ℕ → Failure → Type 0
-Denies c stream (failure.Refused r) = (c.action ≢ action.Check) × IsRefusal c stream r
+Denies c stream (failure.Refused r) = (c.action ≢ action.Check) × IsStreamRefusal c stream r
 Denies c stream failure.Memory = Unit {0}
 Denies c stream _ = ⊥
 
@@ -174,14 +174,14 @@ pub record EndsExcluded (p : List ℕ) (input : Reading) (q : List ℕ) (failed 
   pub ended_is : ended ≡ Err failure.Excluded
 
 -- a command with or without `--stream`, and with or without `--hex`
-abbrev pub EndsBy : Bool → Bool → Command → List ℕ → Reading → List ℕ → Bool → Result Verdict Failure → Type 0
-EndsBy false hex c p input q failed ended = EndsByAction c.action c p input q failed ended
-EndsBy true false c p input q failed ended = EndsStreamed c p input q failed ended
-EndsBy true true c p input q failed ended = EndsExcluded p input q failed ended
+abbrev pub EndsByOptions : Bool → Bool → Command → List ℕ → Reading → List ℕ → Bool → Result Verdict Failure → Type 0
+EndsByOptions false hex c p input q failed ended = EndsByAction c.action c p input q failed ended
+EndsByOptions true false c p input q failed ended = EndsStreamed c p input q failed ended
+EndsByOptions true true c p input q failed ended = EndsExcluded p input q failed ended
 
 -- a command read the bytes p, printed q, and ended like this
-abbrev pub Ends : Command → List ℕ → Reading → List ℕ → Bool → Result Verdict Failure → Type 0
-Ends c p input q failed ended = EndsBy c.stream c.hex c p input q failed ended
+abbrev pub CommandEnds : Command → List ℕ → Reading → List ℕ → Bool → Result Verdict Failure → Type 0
+CommandEnds c p input q failed ended = EndsByOptions c.stream c.hex c p input q failed ended
 
 -- A command that prints as it reads reads nothing after a failed write or a refusal.
 abbrev pub StreamsAtOnce : {I : Type 0} → inlet.Ghosts I → Command → List ℕ → I → I → List ℕ → Type 0
@@ -216,7 +216,7 @@ pub record Ran {I : Type 0} (i : inlet.Ghosts I) (c : Command) (start end : I) (
   pub printed : Appends before.taken after.taken q
   pub reported : Appends before.reported after.reported e
   pub few : after.reads ≤ before.reads + reads_limit
-  pub ends : Ends c p (reading_of before after) q after.output_failed ended
+  pub ends : CommandEnds c p (reading_of before after) q after.output_failed ended
   pub stops : StreamsAtOnce i c p start end q
   pub sends : SendsOn ended after.output_failed after.sent
   pub flushes : after.flushes ≡ flushed_by c.stream c.hex after.write_failed before.flushes

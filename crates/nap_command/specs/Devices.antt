@@ -44,13 +44,13 @@ reading_of before after = record {
 }
 
 -- why reading the bytes p gave no answer: the input was cut off, or memory ran out
-abbrev pub StopsReading : Reading → List ℕ → Failure → Type 0
-StopsReading r p failure.Read = IsCutOff r p
-StopsReading r p failure.Memory = NoneFailed r
-StopsReading r p _ = ⊥
+abbrev pub FailsReading : Reading → List ℕ → Failure → Type 0
+FailsReading r p failure.Read = IsCutOff r p
+FailsReading r p failure.Memory = NoneFailed r
+FailsReading r p _ = ⊥
 
 -- an output that had these bytes took all of the text, or failed after a number of bytes of it
-abbrev pub Takes : Option (List ℕ) → Option (List ℕ) → List ℕ → Result (Unit {0}) Failure → Type 0
-Takes old new text (Ok done) = Appends old new text
-Takes old new text (Err (failure.Write taken)) = (taken ≤ length text) × Appends old new (take taken text)
-Takes old new text (Err _) = ⊥
+abbrev pub TakesText : Option (List ℕ) → Option (List ℕ) → List ℕ → Result (Unit {0}) Failure → Type 0
+TakesText old new text (Ok done) = Appends old new text
+TakesText old new text (Err (failure.Write taken)) = (taken ≤ length text) × Appends old new (take taken text)
+TakesText old new text (Err _) = ⊥

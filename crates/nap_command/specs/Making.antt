@@ -3,12 +3,12 @@ use Rattle.std.specs.Io.KnownBytes.{Appends, Consumes}
 use Rattle.nap_list.specs.Flushing.{flush_count}
 use Rattle.nap_list.specs.Limits.{reads_limit}
 use Rattle.nap_list.specs.Reading.{Reading, NoneFailed, IsCutOff, IsReadWhole}
-use Rattle.nap_line_reader.specs.declared.fault.MakeFault.{MakeFault}
-use Rattle.nap_line_reader.specs.declared.fault.MakeFault.TheVariants as make_faults
-use Rattle.nap_maker.specs.declared.page.PageFault.{PageFault}
-use Rattle.nap_maker.specs.declared.page.PageFault.TheVariants as page_faults
-use Rattle.nap_maker.specs.Making.{IsMadeOf}
-use Rattle.nap_maker.specs.Pages.{MakesPage, RefusesBy, StopsAtOnce}
+use Rattle.nap_make.specs.declared.lines.fault.MakeFault.{MakeFault}
+use Rattle.nap_make.specs.declared.lines.fault.MakeFault.TheVariants as make_faults
+use Rattle.nap_make.specs.declared.page.PageFault.{PageFault}
+use Rattle.nap_make.specs.declared.page.PageFault.TheVariants as page_faults
+use Rattle.nap_make.specs.Making.{IsMadeOf}
+use Rattle.nap_make.specs.Pages.{MakesPage, RefusesLinesBy, ReadsNoMore}
 use Rattle.nap_command.specs.declared.answer.Verdict.{Verdict}
 use Rattle.nap_command.specs.declared.answer.Verdict.TheVariants as verdict
 use Rattle.nap_command.specs.declared.failure.Failure.{Failure}
@@ -31,10 +31,10 @@ abbrev pub FindsPage : List ℕ → Reading → List ℕ → Type 0
 FindsPage p seen q = IsReadWhole seen p × IsMadeOf q p
 
 -- The lines p make no page.
-pub record RefusesPage (p : List ℕ) (seen : Reading) (f : Failure) : Type 0 where
+pub record FindsNoPage (p : List ℕ) (seen : Reading) (f : Failure) : Type 0 where
   pub fault : MakeFault
   pub before : List ℕ
-  pub refuses : RefusesBy p seen before fault
+  pub refuses : RefusesLinesBy p seen before fault
   pub fails : f ≡ failure_of fault
 
 -- why nothing is printed of the lines p: the input failed or was read too often; memory ran out, and no read failed; or
@@ -42,7 +42,7 @@ pub record RefusesPage (p : List ℕ) (seen : Reading) (f : Failure) : Type 0 wh
 abbrev pub FailsToMake : List ℕ → Reading → Failure → Type 0
 FailsToMake p seen failure.Read = IsCutOff seen p
 FailsToMake p seen failure.Memory = NoneFailed seen
-FailsToMake p seen f = RefusesPage p seen f
+FailsToMake p seen f = FindsNoPage p seen f
 
 -- q is a prefix of the page that lines make, which is nothing if they make none
 abbrev pub IsPartlyMade : List ℕ → Reading → List ℕ → Type 0
@@ -68,7 +68,7 @@ verdict_of_page (Err (page_faults.Write n)) = Err (failure.Write n)
 pub record EndsMadeStreamed (p : List ℕ) (seen : Reading) (q : List ℕ) (failed broke : Bool) (ended : Result Verdict Failure) : Type 0 where
   pub made : Result ℕ PageFault
   pub makes : MakesPage p seen q failed made
-  pub stops : StopsAtOnce broke p seen
+  pub stops : ReadsNoMore broke p seen
   pub ended_is : ended ≡ verdict_of_page made
 
 -- `make` with or without `--stream`, by whether its output has failed, and whether by a write

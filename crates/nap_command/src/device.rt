@@ -4,21 +4,18 @@ ghost use Rattle.std.specs.Io.KnownBytes.{Consumes};
 ghost use Rattle.nap_list.specs.Flushing.{FlushedOnce};
 ghost use Rattle.nap_list.specs.Limits.{reads_limit};
 ghost use Rattle.nap_list.specs.Reading.{IsReadWhole, reading};
-ghost use Rattle.nap_command.specs.Devices.{StopsReading, Takes};
+ghost use Rattle.nap_command.specs.Devices.{FailsReading, TakesText};
 
 use crate::failure::Failure;
-use nap_list::{Inlet, Outlet, READS};
+use nap_list::{Inlet, Outlet, READ_SIZE, READS, send_all};
 use std::alloc::Global;
-
-/// The greatest number of bytes of one read.
-const READ_SIZE: usize = 65_536;
 
 /// Reads an input to its end and returns its bytes.
 pub fn read_whole<I: Inlet>(alloc: Global, input: &mut I) -> Result<Vec<u8>, Failure>
     requires { I.calls input.old < 2 ^ 63 }
     ensures read { let seen = reading I.Inlet input.old input.new in
         (p : List ℕ) × Consumes (I.left input.old) (I.left input.new) p
-        × MatchResult result (λ bytes. (bytes.items ≡ p) × IsReadWhole seen p) (StopsReading seen p) }
+        × MatchResult result (λ bytes. (bytes.items ≡ p) × IsReadWhole seen p) (FailsReading seen p) }
     ensures few { I.calls input.new ≤ I.calls input.old + reads_limit }
     ensures small { IfOk result (λ bytes. length bytes.items < 2 ^ 63) }
 {
@@ -38,20 +35,17 @@ pub fn read_whole<I: Inlet>(alloc: Global, input: &mut I) -> Result<Vec<u8>, Fai
 
 /// Writes all of a text, and flushes the output.
 pub fn write_whole<O: Outlet>(output: &mut O, text: &[u8]) -> Result<(), Failure>
-    ensures takes { Takes (O.taken output.old) (O.taken output.new) text.now result }
+    ensures takes { TakesText (O.taken output.old) (O.taken output.new) text.now result }
     ensures failed { O.failed output.new ≡ (O.failed output.old || is_err result) }
     ensures sent { IfOk result (λ done. O.sent output.new ≡ true) }
     ensures flushes { O.write_failed output.old ≡ false → FlushedOnce O.Outlet output.old output.new }
 {
     let mut taken = 0;
-    while taken < text.len() {
-        let Ok(count) = output.write(&text[taken..]) else {
-            return Err(Failure::Write(taken as u64));
-        };
-        taken += count;
-    }
-    match output.flush() {
-        Ok(()) => Ok(()),
-        Err(_) => Err(Failure::Write(taken as u64)),
+    match send_all(output, &mut taken, text) {
+        Ok(()) => match output.flush() {
+            Ok(()) => Ok(()),
+            Err(_) => Err(Failure::Write(taken)),
+        },
+        Err(_) => Err(Failure::Write(taken)),
     }
 }

@@ -1,12 +1,13 @@
-//! The commands of the program: what each reads, prints and reports, and its exit status (PROFILE.md, The command).
+//! The commands of the program: what each reads, prints and reports, and its exit status (PROFILE.md, The command); and
+//! many pages through one process.
 #![tactic(auto)]
 
 mod answer;
+pub mod batch;
 mod command;
 mod device;
 mod execution;
 mod failure;
-mod keeping;
 mod listing;
 mod make;
 mod name;

@@ -1,21 +1,46 @@
-//! `list` on its input and its output.
+//! `list` on its input, which it keeps since it reads it twice, and its output.
 ghost use Rattle.std.specs.Prelude.{◌≡◌, ◌+◌, ◌<◌, ◌≤◌, ◌^◌, ℕ, List, false, true, MatchResult};
 ghost use Rattle.std.specs.Io.KnownBytes.{Appends, Consumes, Keeps};
 ghost use Rattle.nap_list.specs.Flushing.{FlushedOnce, flush_count};
 ghost use Rattle.nap_list.specs.Limits.{reads_limit};
 ghost use Rattle.nap_list.specs.Reading.{IsReadWhole, Reading, reading};
 ghost use Rattle.nap_lines.specs.Printing.{Closes};
-ghost use Rattle.nap_command.specs.Commands.{EndsListed, EndsSo, IsStream};
+ghost use Rattle.nap_command.specs.Commands.{EndsListed, EndsSo, Fails, IsStream};
 
-use crate::answer::Verdict;
+use crate::answer::{Verdict, bytes_of_hex};
 use crate::command::{Action, Command};
-use crate::device::write_whole;
+use crate::device::{read_whole, write_whole};
 use crate::failure::Failure;
-use crate::keeping::{KeptPage, read_page};
-use nap_lines::LinePrinter;
+use nap_lines::{LINE_MEMORY, LinePrinter};
 use nap_list::{CountSink, Inlet, Outlet};
 use nap_reader::{Refusal, read_twice};
 use std::alloc::Global;
+
+/// A page, and the memory in which its lines are made.
+#[derive(Drop)]
+struct KeptPage {
+    page: Vec<u8>,
+    memory: Vec<u8>,
+}
+
+/// Returns the bytes of the page that a command reads, those of its input or those that its hexadecimal text spells,
+/// with the memory for its lines.
+fn read_page<I: Inlet>(alloc: Global, command: &Command, input: &mut I) -> Result<KeptPage, Failure>
+    requires { I.calls input.old < 2 ^ 63 }
+    ensures few { I.calls input.new ≤ I.calls input.old + reads_limit }
+    ensures read { let seen = reading I.Inlet input.old input.new in
+        (p : List ℕ) × Consumes (I.left input.old) (I.left input.new) p
+        × MatchResult result (λ kept. IsReadWhole seen p × IsStream command.now.hex p kept.page.items) (Fails command.now p seen) }
+{
+    let text = read_whole(alloc, input)?;
+    let page = if command.hex {
+        bytes_of_hex(alloc, text.as_slice())?
+    } else {
+        text
+    };
+    let memory = Vec::with_capacity(alloc, LINE_MEMORY)?;
+    Ok(KeptPage { page, memory })
+}
 
 /// Flushes the output of `list`, unless a write has failed, and returns how the command ends.
 fn end_list<O: Outlet>(

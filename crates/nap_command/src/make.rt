@@ -11,9 +11,8 @@ use crate::answer::Verdict;
 use crate::device::write_whole;
 use crate::execution::report_end;
 use crate::failure::Failure;
-use nap_line_reader::{ListFault, MakeFault};
 use nap_list::{Inlet, Outlet};
-use nap_maker::{PageFault, make_page, page_of_input};
+use nap_make::{ListFault, MakeFault, PageFault, make_page, page_of_input};
 use std::alloc::Global;
 
 /// Returns the failure of `make` whose lines make no page. A failed write to memory is lack of memory.

@@ -14,9 +14,9 @@ use Rattle.nap_draw.specs.declared.fault.DrawFault.TheVariants as faults
 use Rattle.nap_draw.specs.declared.work.Work.{Work}
 use Rattle.nap_codes.specs.declared.opcode.Opcode.{Opcode}
 use Rattle.nap_draw.specs.Rule.{RuleResult, rule}
-use Rattle.nap_draw.specs.Draws.{Cause, stream, memory, device, cause_of, fault_of, DrawsBy}
+use Rattle.nap_draw.specs.Draws.{Cause, stream, memory, device, draw_cause, fault_of, DrawsBy}
 use Rattle.nap_draw.specs.Acts.{Acts, WantsBy, GivesSome}
-use Rattle.nap_draw.specs.Execution.{Fills, Put, ActsByRule, AppliesControl, RefusedBy, SetsWork, clears_nothing}
+use Rattle.nap_draw.specs.Execution.{Fills, PutsList, ActsByRule, AppliesControl, RuleRefuses, SetsWork, clears_nothing}
 
 -- The steps in which a code is executed, put together.
 
@@ -26,13 +26,13 @@ passed P fault (Ok x) is holds = absurd is
 passed P fault (Err e) is holds = subst (λ (e : DrawFault). P (Err e)) (sym is) holds
 
 -- the rule refuses the code
-pub sets_refused : (by : Result RuleResult DrawFault) (w : Work) (fault : DrawFault) (r : Result (Unit {0}) DrawFault) → IsErrAnd r (λ e. e ≡ fault) → cause_of fault ≡ stream → by ≡ Err fault →
+pub sets_refused : (by : Result RuleResult DrawFault) (w : Work) (fault : DrawFault) (r : Result (Unit {0}) DrawFault) → IsErrAnd r (λ e. e ≡ fault) → draw_cause fault ≡ stream → by ≡ Err fault →
     SetsWork by w w r
-sets_refused by w fault r is cause refused = passed (SetsWork by w w) fault r is (refl, subst (RefusedBy by fault) (sym cause) refused)
+sets_refused by w fault r is cause refused = passed (SetsWork by w w) fault r is (refl, subst (RuleRefuses by fault) (sym cause) refused)
 
 -- a run wasn't decoded
 unfilled : {A : Type 0} (by : Result RuleResult DrawFault) (all : Option (List A)) (fault : DrawFault) (f : Option (List A) → Result RuleResult DrawFault) →
-    by ≡ f all → f None ≡ Err faults.Outside → ((xs : List A) → (d : RuleResult) × (f (Some xs) ≡ Ok d)) → Fills all [] (Err fault) → RefusedBy by fault (cause_of fault)
+    by ≡ f all → f None ≡ Err faults.Outside → ((xs : List A) → (d : RuleResult) × (f (Some xs) ≡ Ok d)) → Fills all [] (Err fault) → RuleRefuses by fault (draw_cause fault)
 unfilled by all faults.Outside f is outside inside fills = is ∙ (ap f fills ∙ outside)
 unfilled by all faults.Memory f is outside inside fills = let made = inside fills.0 in (made.0, is ∙ (ap f fills.1 ∙ made.1))
 unfilled by all _ f is outside inside fills = absurd fills
@@ -43,13 +43,13 @@ pub sets_unfilled : {A : Type 0} (by : Result RuleResult DrawFault) (w : Work) (
 sets_unfilled by w all fault r is f acts outside inside fills = passed (SetsWork by w w) fault r is (refl, unfilled by all fault f acts outside inside fills)
 
 module _ {S : Type 0} (g : Ghosts S) (s : S) (none : g.took s [] s) where
-  drawn_not : (by : Result RuleResult DrawFault) (fault : DrawFault) (cause : Cause) → RefusedBy by fault cause → DrawsBy g.took g.broke g.failed by s s fault cause
+  drawn_not : (by : Result RuleResult DrawFault) (fault : DrawFault) (cause : Cause) → RuleRefuses by fault cause → DrawsBy g.took g.broke g.failed by s s fault cause
   drawn_not by fault stream refused = (refused, refl)
   drawn_not by fault memory refused = (refused.0, refused.1, inl refl)
   drawn_not by fault device refused = absurd refused
 
-  never_device : (by : Result RuleResult DrawFault) (fault : DrawFault) → RefusedBy by fault (cause_of fault) → fault ≡ faults.Sink → g.failed s ≡ true
-  never_device by fault refused is = absurd (subst (λ (fault : DrawFault). RefusedBy by fault (cause_of fault)) is refused)
+  never_device : (by : Result RuleResult DrawFault) (fault : DrawFault) → RuleRefuses by fault (draw_cause fault) → fault ≡ faults.Sink → g.failed s ≡ true
+  never_device by fault refused is = absurd (subst (λ (fault : DrawFault). RuleRefuses by fault (draw_cause fault)) is refused)
 
   still : (fault : DrawFault) → g.failed s ≡ false → g.failed s ≡ true → fault ≡ faults.Sink
   still fault clear failed = let bad : ⊥ = cc in absurd bad
@@ -58,13 +58,13 @@ module _ {S : Type 0} (g : Ghosts S) (s : S) (none : g.took s [] s) where
   pub sets_does : (by : Result RuleResult DrawFault) (w v : Work) (r : Result (Unit {0}) DrawFault) → SetsWork by w v r → ActsByRule g clears_nothing by w v s s r
   unfolding walk
   sets_does by w v (Ok _) sets = ([], sets, none, refl, λ clear. clear)
-  sets_does by w v (Err fault) sets = (sets.0, drawn_not by fault (cause_of fault) sets.1, never_device by fault sets.1, still fault)
+  sets_does by w v (Err fault) sets = (sets.0, drawn_not by fault (draw_cause fault) sets.1, never_device by fault sets.1, still fault)
 
   -- the rule's row is that of the opcode
   pub sets_acts : (w v : Work) (op row : Opcode) (run : List ℕ) (r : Result (Unit {0}) DrawFault) → op ≡ row → SetsWork (rule w row run) w v r → ActsByRule g clears_nothing (rule w op run) w v s s r
   sets_acts w v op row run r is sets = sets_does (rule w op run) w v r (subst (λ (op : Opcode). SetsWork (rule w op run) w v r) (sym is) sets)
 
-  pub does_refused : (by : Result RuleResult DrawFault) (w : Work) (fault : DrawFault) (r : Result (Unit {0}) DrawFault) → IsErrAnd r (λ e. e ≡ fault) → cause_of fault ≡ stream → by ≡ Err fault →
+  pub does_refused : (by : Result RuleResult DrawFault) (w : Work) (fault : DrawFault) (r : Result (Unit {0}) DrawFault) → IsErrAnd r (λ e. e ≡ fault) → draw_cause fault ≡ stream → by ≡ Err fault →
       ActsByRule g clears_nothing by w w s s r
   does_refused by w fault r is cause refused = sets_does by w w r (sets_refused by w fault r is cause refused)
 
@@ -80,12 +80,12 @@ module _ {S : Type 0} (g : Ghosts S) (s : S) (none : g.took s [] s) where
 module _ {S : Type 0} (g : Ghosts S) where
   -- the rule's entries were put
   pub does_put : {A : Type 0} (clears : A → Bool) (by : Result RuleResult DrawFault) (w v : Work) (s t : S) (list : List Entry) (x : A) →
-      by ≡ Ok (record { entries = list; work = v; clears = clears x }) → Put {S = S} {A = Unit {0}} g list s t (Ok tt) → ActsByRule g clears by w v s t (Ok x)
+      by ≡ Ok (record { entries = list; work = v; clears = clears x }) → PutsList {S = S} {A = Unit {0}} g list s t (Ok tt) → ActsByRule g clears by w v s t (Ok x)
   does_put clears by w v s t list x is put = (list, is, put.took, put.state, put.works)
 
   -- one of the rule's entries wasn't taken
   stopped : {A : Type 0} (clears : A → Bool) (by : Result RuleResult DrawFault) (w : Work) (s t : S) (d : RuleResult) (e : SinkFault) →
-      by ≡ Ok d → Put {S = S} {A = Unit {0}} g d.entries s t (Err e) → ActsByRule g clears by w w s t (Err (fault_of e))
+      by ≡ Ok d → PutsList {S = S} {A = Unit {0}} g d.entries s t (Err e) → ActsByRule g clears by w w s t (Err (fault_of e))
   stopped clears by w s t d sink_faults.Memory is put = (
     refl,
     (d, is, inr (some_stops (sink_model_of g) (Unit {0}) s t d.entries put)),
@@ -95,7 +95,7 @@ module _ {S : Type 0} (g : Ghosts S) where
   stopped clears by w s t d sink_faults.Write is put = (refl, (d, is, some_breaks (sink_model_of g) (Unit {0}) s t d.entries put), λ _. put.2.write refl, λ clear failed. refl)
 
   pub does_stop : {A : Type 0} (clears : A → Bool) (by : Result RuleResult DrawFault) (w : Work) (s t : S) (d : RuleResult) (e : SinkFault) (r : Result A DrawFault) → IsErrAnd r (λ f. f ≡ fault_of e) →
-      by ≡ Ok d → Put {S = S} {A = Unit {0}} g d.entries s t (Err e) → ActsByRule g clears by w w s t r
+      by ≡ Ok d → PutsList {S = S} {A = Unit {0}} g d.entries s t (Err e) → ActsByRule g clears by w w s t r
   does_stop clears by w s t d e r is drawn put = passed (ActsByRule g clears by w w s t) (fault_of e) r is (stopped clears by w s t d e drawn put)
 
   -- the code acted by another form of its rule
@@ -112,7 +112,7 @@ module _ {S : Type 0} (g : Ghosts S) where
   -- a character or a control
 
   pub obeys_put : (by : Result RuleResult DrawFault) (w v : Work) (s t : S) (list : List Entry) →
-      by ≡ Ok (record { entries = list; work = v; clears = false }) → Put {S = S} {A = Unit {0}} g list s t (Ok tt) → AppliesControl g by w v s t (Ok tt)
+      by ≡ Ok (record { entries = list; work = v; clears = false }) → PutsList {S = S} {A = Unit {0}} g list s t (Ok tt) → AppliesControl g by w v s t (Ok tt)
   obeys_put by w v s t list is put = record {
     does = does_put clears_nothing by w v s t list (tt {0}) is put;
     wants = λ e. let bad : ⊥ = cc in absurd bad;
@@ -120,11 +120,11 @@ module _ {S : Type 0} (g : Ghosts S) where
   }
 
   pub obeys_stop : (by : Result RuleResult DrawFault) (w : Work) (s t : S) (d : RuleResult) (e : SinkFault) (r : Result (Unit {0}) DrawFault) → IsErrAnd r (λ f. f ≡ fault_of e) →
-      g.took s [] s → WantsMore (sink_model_of g) → by ≡ Ok d → d.entries ≢ [] → Put {S = S} {A = Unit {0}} g d.entries s t (Err e) → AppliesControl g by w w s t r
+      g.took s [] s → WantsMore (sink_model_of g) → by ≡ Ok d → d.entries ≢ [] → PutsList {S = S} {A = Unit {0}} g d.entries s t (Err e) → AppliesControl g by w w s t r
   obeys_stop by w s t d e r is none more drawn some put =
       passed (AppliesControl g by w w s t) (fault_of e) r is (record { does = stopped clears_nothing by w s t d e drawn put; wants = wanting e put; gives = λ _. subst GivesSome (sym drawn) some })
     where
-      wanting : (e : SinkFault) → Put {S = S} {A = Unit {0}} g d.entries s t (Err e) → IsErrOf {T = Unit {0}} (Err (fault_of e)) faults.Memory → WantsBy g by s t
+      wanting : (e : SinkFault) → PutsList {S = S} {A = Unit {0}} g d.entries s t (Err e) → IsErrOf {T = Unit {0}} (Err (fault_of e)) faults.Memory → WantsBy g by s t
       wanting sink_faults.Memory put _ = subst (λ (by : Result RuleResult DrawFault). WantsBy g by s t) (sym drawn) (record { wants = some_wants (sink_model_of g) (Unit {0}) s t d.entries none more put; stops = some_stops (sink_model_of g) (Unit {0}) s t d.entries put })
       wanting sink_faults.Write put e = let bad : ⊥ = cc in absurd bad
 

@@ -14,7 +14,7 @@ use Rattle.nap_list.specs.Batches.{IsTextByte, text_entry}
 use Rattle.nap_list.specs.State.{AllFit, after, walk, with_pen, hand_of}
 use Rattle.nap_list.specs.Agreement.{ModeZeroIsBase, StatesAgree, EqualCurrent}
 use Rattle.nap_draw.specs.declared.work.Work.{Work}
-use Rattle.nap_draw.specs.Codes.{char_on, repeated_chars, text, with_last, code_rule}
+use Rattle.nap_draw.specs.Codes.{char_on, repeated_chars, drawn_text, with_last, code_rule}
 use Rattle.nap_draw.specs.Rule.{rule_result}
 use Rattle.nap_draw.proofs.Texts.{text_fits}
 use Rattle.nap_draw.proofs.Walks.{left_by}
@@ -41,8 +41,8 @@ module _ (last : LastChar) where
   char_left s mode = left_by s (char_on s.drawing last) (char_holds s) mode
 
   -- the copies are a text of that code alone
-  copies_are : (s : State) (n : ℕ) → IsCode last.code → repeated_chars s last n ≡ text s last.set (replicate n last.code)
-  unfolding repeated_chars text
+  copies_are : (s : State) (n : ℕ) → IsCode last.code → repeated_chars s last n ≡ drawn_text s last.set (replicate n last.code)
+  unfolding repeated_chars drawn_text
   copies_are s zero made = refl
   copies_are s (suc n) made =
       let e = char_on s.drawing last in
@@ -56,8 +56,8 @@ module _ (last : LastChar) where
       AllFit shown (repeated_chars s last n) × StatesAgree (walk s (repeated_chars s last n)) (walk shown (repeated_chars s last n))
   copies_fit s shown n agrees made = rw (copies_are s n made) (text_fits s shown last.set (replicate n last.code) agrees (copies_typed n made))
 
-  copies_some : (s : State) (n : ℕ) → 0 < n → text s last.set (replicate n last.code) ≢ []
-  unfolding text
+  copies_some : (s : State) (n : ℕ) → 0 < n → drawn_text s last.set (replicate n last.code) ≢ []
+  unfolding drawn_text
   copies_some s zero some none = omega arith
   copies_some s (suc n) some none = cc
 
@@ -70,12 +70,12 @@ module _ (last : LastChar) where
     pub prefix_typed : IsCode last.code → All IsTextByte (take count (replicate 63 last.code))
     prefix_typed made = rw prefix_is (copies_typed n made)
 
-    pub prefix_some : (s : State) → 0 < n → text s last.set (take count (replicate 63 last.code)) ≢ []
+    pub prefix_some : (s : State) → 0 < n → drawn_text s last.set (take count (replicate 63 last.code)) ≢ []
     prefix_some s some = rw prefix_is (copies_some s n some)
 
     -- the rule of REPEAT, if the last entry is a character
     pub repeat_is : (work : Work) → work.state.last ≡ Some last → IsCode last.code →
-        code_rule work (codes.Repeat n) ≡ Ok (rule_result work (text work.state last.set (take count (replicate 63 last.code))))
+        code_rule work (codes.Repeat n) ≡ Ok (rule_result work (drawn_text work.state last.set (take count (replicate 63 last.code))))
     repeat_is work is made =
         let here = ap (λ (o : Option LastChar). with_last o (λ last. Ok (rule_result work (repeated_chars work.state last n)))) is in
         rw prefix_is (here ∙ ap (λ (list : List Entry). Ok (rule_result work list)) (copies_are work.state n made))

@@ -40,7 +40,7 @@ use Rattle.nap_draw.specs.Rule.{RuleResult, and_then, at_least_one, first_and_mo
 use Rattle.nap_list.specs.State.{hand_of}
 use Rattle.nap_draw.specs.Codes.{IsMade, repeated_chars, definition_ended, definition_ended_by, definition_opened, definition_result, one_entry_result, with_last, code_rule}
 use Rattle.nap_draw.specs.Laws.{RuleFits, CodeFits}
-use Rattle.nap_draw.specs.Execution.{MayFollow, with_pen_moved_to, shape_points, definition_start}
+use Rattle.nap_draw.specs.Execution.{MayFollow, with_pen_moved_to, displaced_points, definition_start}
 use Rattle.nap_draw.proofs.Copies.{copies_fit, last_is_code}
 use Rattle.nap_draw.proofs.Endings.{ended_closed}
 use Rattle.nap_draw.proofs.Walks.{Lands, one, point_lands, line_lands, rect_lands}
@@ -161,33 +161,33 @@ one_fits work entry None fits = tt
 one_fits work entry (Some x) fits = fits x refl
 
 shape_is_made : (kind : ShapeKind) (filled : Bool) (d : Drawing) (p : Coordinates) (ms : List Displacement) (ps : List Coordinates) → 0 < length ms → length ms ≤ steps_limit →
-    shape_points kind p ms ≡ Some ps → WellMade (shape_on kind filled d ps)
+    displaced_points kind p ms ≡ Some ps → WellMade (shape_on kind filled d ps)
 shape_is_made kinds.Arc filled d p ms ps some few is = arc_made p ms ps some few is
 shape_is_made kinds.Poly filled d p ms ps some few is = poly_made p ms ps some few is
 
 module _ (work : Work) (kind : ShapeKind) (filled : Bool) where
-  shape_fits : (p : Coordinates) (ms : List Displacement) → 0 < length ms → length ms ≤ steps_limit → IsFitting work (entry_result work (shape_on kind filled) (shape_points kind p ms))
+  shape_fits : (p : Coordinates) (ms : List Displacement) → 0 < length ms → length ms ≤ steps_limit → IsFitting work (entry_result work (shape_on kind filled) (displaced_points kind p ms))
   shape_fits p ms some few =
       let d = work.state.drawing in
-      one_fits work (shape_on kind filled) (shape_points kind p ms) (λ ps is.
+      one_fits work (shape_on kind filled) (displaced_points kind p ms) (λ ps is.
       single_fits work (shape_on kind filled d ps) (holds_shape kind filled d ps) (shape_is_made kind filled d p ms ps some few is) (shape_comes kind filled d ps work.state))
 
-  shape_pen_fits : (run : List ℕ) → IsFitting work (shape_from_pen work run (shape_on kind filled) (shape_points kind))
+  shape_pen_fits : (run : List ℕ) → IsFitting work (shape_from_pen work run (shape_on kind filled) (displaced_points kind))
   shape_pen_fits run =
       some_fit work (moves_of work run) _ (λ ms some. few_fit work ms _ (λ few. each_fits work (pen_point work.state.drawing.pen) _ (λ p. shape_fits p ms some few)))
 
   point_fits : (o : Option Coordinates) (ms : List Displacement) → 0 < length ms → length ms ≤ steps_limit →
-      IsFitting work (entry_result work (shape_on kind filled) (option_and_then (λ p. shape_points kind p ms) o))
+      IsFitting work (entry_result work (shape_on kind filled) (option_and_then (λ p. displaced_points kind p ms) o))
   point_fits None ms some few = fault_fits work faults.Outside
   point_fits (Some p) ms some few = shape_fits p ms some few
 
   first_fits : (xs : List Displacement) →
-      IsFitting work (and_then (first_and_more xs) (λ (m, ms). and_then (at_most_limit ms) (λ ms. entry_result work (shape_on kind filled) (option_and_then (λ p. shape_points kind p ms) (point_at m)))))
+      IsFitting work (and_then (first_and_more xs) (λ (m, ms). and_then (at_most_limit ms) (λ ms. entry_result work (shape_on kind filled) (option_and_then (λ p. displaced_points kind p ms) (point_at m)))))
   first_fits [] = fault_fits work faults.Missing
   first_fits (m ∷ []) = fault_fits work faults.Missing
   first_fits (m ∷ n ∷ ms) = few_fit work (n ∷ ms) _ (λ few. point_fits (point_at m) (n ∷ ms) (omega arith) few)
 
-  shape_point_fits : (run : List ℕ) → IsFitting work (shape_from_point work run (shape_on kind filled) (shape_points kind))
+  shape_point_fits : (run : List ℕ) → IsFitting work (shape_from_point work run (shape_on kind filled) (displaced_points kind))
   shape_point_fits run = first_fits (moves_of work run)
 
 field_fits : (work : Work) (ms : List Displacement) → IsFitting work (field_rule work ms)

@@ -20,7 +20,7 @@ use Rattle.nap_draw.specs.Operands.{operands, moves}
 use Rattle.nap_draw.specs.Geometry.{cons_if_all, points_at, polyline_spans, span, span_by, absolute_spans, relative_spans}
 use Rattle.nap_list.specs.State.{ink_of}
 use Rattle.nap_draw.specs.Rule.{RuleResult, and_then, rule_result, entries_result, moves_of, at_least_one, complete_pairs, pen_point}
-use Rattle.nap_draw.specs.Joining.{IsWhole, RunsJoin}
+use Rattle.nap_draw.specs.Joining.{AreWholeOperands, RunsJoin}
 use Rattle.nap_draw.proofs.Cuts.{moves_chunk}
 use Rattle.nap_draw.proofs.Outlines.{mapped_some}
 
@@ -174,7 +174,7 @@ module _ {A : Type 0} (entry : Ink → A → Entry) (keeps : Keeps entry) where
         let leads : shapes then_.0 ms ≡ Some last.0 = ap (shapes then_.0) (sym same) ∙ last.1 in
         record { passed = first.1 ∙ ap Ok same; start = then_.0; begins = then_.1; list = last.0; leads = leads; gives = last.2 }
 
-    rule_joins : (work : Work) (run more : List ℕ) (first second : RuleResult) → IsWhole work.domain.multi run →
+    rule_joins : (work : Work) (run more : List ℕ) (first second : RuleResult) → AreWholeOperands work.domain.multi run →
         of_run work run ≡ Ok first → of_run first.work more ≡ Ok second → of_run work (run ++ more) ≡ Ok (as_one first second)
     rule_joins work run more first second whole is then_ =
         let one = gave work run first is in
@@ -231,7 +231,7 @@ module _ {A : Type 0} (entry : Ink → A → Entry) (keeps : Keeps entry) (gate 
   abbrev of_run_alone : Work → List ℕ → Result RuleResult DrawFault
   of_run_alone work run = and_then (gate (moves_of work run)) (λ ms. entries_result work (λ d. entry (ink_of d)) (shapes ms))
 
-  alone : (work : Work) (run more : List ℕ) (first second : RuleResult) → IsWhole work.domain.multi run →
+  alone : (work : Work) (run more : List ℕ) (first second : RuleResult) → AreWholeOperands work.domain.multi run →
       of_run_alone work run ≡ Ok first → of_run_alone first.work more ≡ Ok second → of_run_alone work (run ++ more) ≡ Ok (as_one first second)
   alone = rule_joins entry keeps {B = Unit {0}} gate by (λ pen. Ok tt) (λ b ms. shapes ms) (λ s b c ms ns xs ys begins leads then_ more. onto ms ns xs ys leads more)
 

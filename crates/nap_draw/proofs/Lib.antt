@@ -4,6 +4,7 @@ pub mod Attributes
 pub mod ByteRuns
 pub mod CodeRanges
 pub mod Copies
+pub mod Counting
 pub mod Cuts
 pub mod Decoding
 pub mod Domains

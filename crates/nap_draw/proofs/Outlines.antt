@@ -18,7 +18,7 @@ use Rattle.nap_list.specs.Shapes.{outline, circle_closed, shape_end, shape_on}
 use Rattle.nap_draw.specs.declared.work.Work.{Work}
 use Rattle.nap_draw.specs.Rule.{RuleResult, moves_of, and_then, at_least_one, at_most_limit, first_and_more, pen_point, entry_result}
 use Rattle.nap_draw.proofs.Cuts.{moves_turn, run_some, one_at_most}
-use Rattle.nap_draw.specs.Execution.{shape_result, with_pen_moved, shape_points}
+use Rattle.nap_draw.specs.Execution.{shape_result, with_pen_moved, displaced_points}
 use Rattle.nap_list.specs.Limits.{points_limit, steps_limit}
 use Rattle.nap_draw.specs.Geometry.{cons_if_all, points_reached, arc_points, poly_points}
 use Rattle.nap_values.specs.Operands.{multi_of}
@@ -115,7 +115,7 @@ few_not ms many = let test : ltb steps_limit (length ms) ≡ true = grind (arith
 
 -- the points of a shape, by those after the first
 
-pub outlined : (kind : ShapeKind) (p : Coordinates) (ms : List Displacement) → shape_points kind p ms ≡ option_map (λ qs. outline kind (p ∷ qs)) (points_reached p ms)
+pub outlined : (kind : ShapeKind) (p : Coordinates) (ms : List Displacement) → displaced_points kind p ms ≡ option_map (λ qs. outline kind (p ∷ qs)) (points_reached p ms)
 outlined kinds.Arc p ms = refl
 outlined kinds.Poly p ms = refl
 
@@ -126,7 +126,7 @@ module _ (work : Work) (kind : ShapeKind) (filled : Bool) where
   on = shape_on kind filled
 
   abbrev from_pen : List Displacement → Result RuleResult DrawFault
-  from_pen ms = and_then (pen_point work.state.drawing.pen) (λ p. entry_result work on (shape_points kind p ms))
+  from_pen ms = and_then (pen_point work.state.drawing.pen) (λ p. entry_result work on (displaced_points kind p ms))
 
   abbrev checked : List Displacement → Result RuleResult DrawFault
   checked xs = and_then (at_least_one xs) (λ ms. and_then (at_most_limit ms) from_pen)
@@ -144,16 +144,16 @@ module _ (work : Work) (kind : ShapeKind) (filled : Bool) where
   pen_few (m ∷ ms) some few = ap (λ r. and_then r from_pen) (few_ok (m ∷ ms) few)
 
   pub pen_lost : (ms : List Displacement) (fault : DrawFault) → 0 < length ms → length ms ≤ steps_limit → Err fault ≡ pen_point work.state.drawing.pen → checked ms ≡ Err fault
-  pen_lost ms fault some few is = pen_few ms some few ∙ ap (λ r. and_then r (λ p. entry_result work on (shape_points kind p ms))) (sym is)
+  pen_lost ms fault some few is = pen_few ms some few ∙ ap (λ r. and_then r (λ p. entry_result work on (displaced_points kind p ms))) (sym is)
 
   pub pen_goes : (ms : List Displacement) (p : Coordinates) → 0 < length ms → length ms ≤ steps_limit → Ok p ≡ pen_point work.state.drawing.pen → checked ms ≡ shape_result work kind filled p (points_reached p ms)
   pen_goes ms p some few is =
-      pen_few ms some few ∙ (ap (λ r. and_then r (λ p. entry_result work on (shape_points kind p ms))) (sym is) ∙ ap (entry_result work on) (outlined kind p ms))
+      pen_few ms some few ∙ (ap (λ r. and_then r (λ p. entry_result work on (displaced_points kind p ms))) (sym is) ∙ ap (entry_result work on) (outlined kind p ms))
 
   -- the rules of a shape from the point of its first operand, which is cut off the run
 
   abbrev from_first : Displacement → List Displacement → Result RuleResult DrawFault
-  from_first m ms = entry_result work on (option_and_then (λ p. shape_points kind p ms) (point_at m))
+  from_first m ms = entry_result work on (option_and_then (λ p. displaced_points kind p ms) (point_at m))
 
   abbrev rest_checked : List Displacement → Result RuleResult DrawFault
   rest_checked xs = and_then (first_and_more xs) (λ (m, ms). and_then (at_most_limit ms) (from_first m))
@@ -181,10 +181,10 @@ module _ (work : Work) (kind : ShapeKind) (filled : Bool) where
     point_many many = cut (omega arith) ∙ ap (λ r. and_then r (from_first (multi_of front))) (few_not (moves_of work after) many)
 
     pub point_few : (o : Option Coordinates) → 0 < length (moves_of work after) → length (moves_of work after) ≤ steps_limit → point_at (multi_of front) ≡ o →
-        rest_checked (moves_of work run) ≡ entry_result work on (option_and_then (λ p. shape_points kind p (moves_of work after)) o)
+        rest_checked (moves_of work run) ≡ entry_result work on (option_and_then (λ p. displaced_points kind p (moves_of work after)) o)
     point_few o some few at =
         cut some ∙ (ap (λ r. and_then r (from_first (multi_of front))) (few_ok (moves_of work after) few)
-        ∙ ap (λ o. entry_result work on (option_and_then (λ p. shape_points kind p (moves_of work after)) o)) at)
+        ∙ ap (λ o. entry_result work on (option_and_then (λ p. displaced_points kind p (moves_of work after)) o)) at)
 
     pub point_goes : (p : Coordinates) → 0 < length (moves_of work after) → length (moves_of work after) ≤ steps_limit → point_at (multi_of front) ≡ Some p →
         rest_checked (moves_of work run) ≡ shape_result work kind filled p (points_reached p (moves_of work after))

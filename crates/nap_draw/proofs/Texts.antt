@@ -11,7 +11,7 @@ use Rattle.nap_list.specs.Batches.{IsTextByte, text_entries_in, text_entry, text
 use Rattle.nap_list.specs.State.{AllFit, MayCome, after, walk, with_pen, hand_of, start_drawing, last_after}
 use Rattle.nap_list.specs.Agreement.{EqualCurrent, ModeZeroIsBase, StatesAgree}
 use Rattle.nap_list.proofs.PublicLaws.{agreeing_fits, text_leaves, typed_made}
-use Rattle.nap_draw.specs.Codes.{code_as, code_rule, text}
+use Rattle.nap_draw.specs.Codes.{code_as, code_rule, drawn_text}
 use Rattle.nap_draw.specs.Laws.{TextByteRule}
 use Rattle.nap_draw.specs.Rule.{rule_result}
 use Rattle.nap_draw.proofs.Walks.{left_by}
@@ -55,21 +55,21 @@ typed_left s set code mode = by (format_effector code) (typed_holds s set code)
     by (Some step) holds = left_by s (text_entry_as (Some step) set (hand_of s.drawing) code) holds mode
     by None holds = left_by s (text_entry_as None set (hand_of s.drawing) code) holds mode
 
-pub text_is : (s : State) (set : CharSet) (codes : List ℕ) → ModeZeroIsBase s.drawing.base s.drawing.colour → text s set codes ≡ text_entries_in set (hand_of s.drawing) codes
-unfolding text text_entries_in after_byte
+pub text_is : (s : State) (set : CharSet) (codes : List ℕ) → ModeZeroIsBase s.drawing.base s.drawing.colour → drawn_text s set codes ≡ text_entries_in set (hand_of s.drawing) codes
+unfolding drawn_text text_entries_in after_byte
 text_is s set [] mode = refl
 text_is s set (code ∷ codes) mode =
     let e = text_entry set (hand_of s.drawing) code in
-    ap (λ (t : State). e ∷ text t set codes) (typed_left s set code mode) ∙ ap (λ (list : List Entry). e ∷ list) (text_is (after_byte s set code) set codes mode)
+    ap (λ (t : State). e ∷ drawn_text t set codes) (typed_left s set code mode) ∙ ap (λ (list : List Entry). e ∷ list) (text_is (after_byte s set code) set codes mode)
 
 pub text_left : (s : State) (set : CharSet) (codes front : List ℕ) (code : ℕ) (last : Option LastChar) → ModeZeroIsBase s.drawing.base s.drawing.colour → codes ≡ front ++ code ∷ [] →
-    last ≡ last_char_of_text set code → walk s (text s set codes) ≡ record s { drawing = with_pen pens.After s.drawing; last = last }
+    last ≡ last_char_of_text set code → walk s (drawn_text s set codes) ≡ record s { drawing = with_pen pens.After s.drawing; last = last }
 text_left s set codes front code last mode is leaves =
     ap (walk s) (text_is s set codes mode) ∙ (text_leaves s set (hand_of s.drawing) codes front code is ∙ rw leaves (typed_left s set code mode))
 
 pub text_fits : (s shown : State) (set : CharSet) (codes : List ℕ) → StatesAgree s shown → All IsTextByte codes →
-    AllFit shown (text s set codes) × StatesAgree (walk s (text s set codes)) (walk shown (text s set codes))
-unfolding text walk AllFit
+    AllFit shown (drawn_text s set codes) × StatesAgree (walk s (drawn_text s set codes)) (walk shown (drawn_text s set codes))
+unfolding drawn_text walk AllFit
 text_fits s shown set [] agrees made = (tt, agrees)
 text_fits s shown set (code ∷ codes) agrees made =
     let hand = hand_of s.drawing in
@@ -78,15 +78,15 @@ text_fits s shown set (code ∷ codes) agrees made =
     let then = text_fits (after s e) (after shown e) set codes here.1 (λ k d less. made (suc k) d (omega arith)) in
     ((here.0, then.0), then.1)
 
-pub text_none : (s : State) (set : CharSet) (codes : List ℕ) → codes ≡ [] → walk s (text s set codes) ≡ s
-unfolding text walk
-text_none s set codes is = ap (λ (codes : List ℕ). walk s (text s set codes)) is
+pub text_none : (s : State) (set : CharSet) (codes : List ℕ) → codes ≡ [] → walk s (drawn_text s set codes) ≡ s
+unfolding drawn_text walk
+text_none s set codes is = ap (λ (codes : List ℕ). walk s (drawn_text s set codes)) is
 
 -- the state after a text agrees with the one that its entries lead to
 pub text_agrees : (s shown there left : State) (set : CharSet) (codes : List ℕ) → StatesAgree s shown → All IsTextByte codes → there ≡ walk shown (text_entries_in set (hand_of s.drawing) codes) →
-    walk s (text s set codes) ≡ left → StatesAgree left there
+    walk s (drawn_text s set codes) ≡ left → StatesAgree left there
 text_agrees s shown there left set codes agrees made leads is =
-    rw (leads ∙ ap (walk shown) (sym (text_is s set codes agrees.drawing.mode))) (subst (λ (t : State). StatesAgree t (walk shown (text s set codes))) is (text_fits s shown set codes agrees made).1)
+    rw (leads ∙ ap (walk shown) (sym (text_is s set codes agrees.drawing.mode))) (subst (λ (t : State). StatesAgree t (walk shown (drawn_text s set codes))) is (text_fits s shown set codes agrees made).1)
 
 pub no_codes : (codes : List ℕ) → length codes ≡ 0 → codes ≡ []
 no_codes [] none = refl

@@ -1,13 +1,13 @@
 use Rattle.std.specs.Prelude.{◌≡◌, ◌≢◌, Bool, List, [], Result, Ok, Err, IfOk}
 use Rattle.nap_list.specs.declared.entry.Entry.{Entry}
 use Rattle.nap_list.specs.declared.sink.Sink.{Ghosts}
-use Rattle.nap_list.specs.Putting.{Stops}
+use Rattle.nap_list.specs.Putting.{StopsAmid}
 use Rattle.nap_list.specs.State.{AllFit}
 use Rattle.nap_list.specs.Agreement.{StatesAgree}
 use Rattle.nap_draw.specs.declared.fault.DrawFault.{DrawFault}
 use Rattle.nap_draw.specs.declared.work.Work.{Work}
 use Rattle.nap_draw.specs.Rule.{RuleResult}
-use Rattle.nap_draw.specs.Draws.{DrawsBy, cause_of}
+use Rattle.nap_draw.specs.Draws.{DrawsBy, draw_cause}
 
 -- a code acted on the work w and the sink s by the result of its rule, and left v and t with this answer, which says
 -- whether all macros are cleared: the sink took all entries, each fits, and the states agree again; or the work is
@@ -15,7 +15,7 @@ use Rattle.nap_draw.specs.Draws.{DrawsBy, cause_of}
 abbrev pub Acts : {S A : Type 0} → (g : Ghosts S) → (A → Bool) → Result RuleResult DrawFault → Work → Work → S → S → Result A DrawFault → Type 0
 Acts g clears by w v s t (Ok x) = (entries : List Entry) × (by ≡ Ok (record { entries = entries; work = v; clears = clears x })) × g.took s entries t
     × AllFit (g.state s) entries × StatesAgree v.state (g.state t)
-Acts g clears by w v s t (Err fault) = (v ≡ w) × DrawsBy g.took g.broke g.failed by s t fault (cause_of fault)
+Acts g clears by w v s t (Err fault) = (v ≡ w) × DrawsBy g.took g.broke g.failed by s t fault (draw_cause fault)
 
 -- the answer of RESET says whether all macros are cleared
 abbrev pub clears_macros : Bool → Bool
@@ -24,7 +24,7 @@ clears_macros clears = clears
 -- memory ran out for one of these entries, where the sink may lack it for them
 pub record WantsEntry {S : Type 0} (g : Ghosts S) (list : List Entry) (s t : S) : Type 0 where
   pub wants : g.wants s list
-  pub stops : Stops g.took s list t
+  pub stops : StopsAmid g.took s list t
 
 -- memory ran out for one of the entries of a rule's result
 abbrev pub WantsBy : {S : Type 0} → Ghosts S → Result RuleResult DrawFault → S → S → Type 0

@@ -33,9 +33,9 @@ repeated_chars s last zero = []
 repeated_chars s last (suc n) = char_on s.drawing last ∷ repeated_chars (after s (char_on s.drawing last)) last n
 
 -- the entries of the bytes of a text: each with the attributes of the state that the one before it leaves
-unfoldable pub text : State → CharSet → List ℕ → List Entry
-text s set [] = []
-text s set (code ∷ codes) = text_entry set (hand_of s.drawing) code ∷ text (after s (text_entry set (hand_of s.drawing) code)) set codes
+unfoldable pub drawn_text : State → CharSet → List ℕ → List Entry
+drawn_text s set [] = []
+drawn_text s set (code ∷ codes) = text_entry set (hand_of s.drawing) code ∷ drawn_text (after s (text_entry set (hand_of s.drawing) code)) set codes
 
 -- the code that a byte of a text is: a format effector of one byte, else a character of the set
 abbrev pub code_as : Option TextStep → CharSet → ℕ → Code

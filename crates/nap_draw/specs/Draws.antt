@@ -6,7 +6,7 @@ use Rattle.nap_draw.specs.declared.work.Effects.{Effects}
 use Rattle.nap_draw.specs.declared.work.Work.{Work}
 use Rattle.nap_draw.specs.declared.fault.DrawFault.{DrawFault}
 use Rattle.nap_draw.specs.declared.fault.DrawFault.TheVariants as faults
-use Rattle.nap_list.specs.Putting.{Stops, Breaks}
+use Rattle.nap_list.specs.Putting.{StopsAmid, BreaksAmid}
 use Rattle.nap_draw.specs.Rule.{RuleResult}
 
 -- the fault of a code whose entry a sink didn't take
@@ -23,22 +23,22 @@ pub data Cause : Type 0 where
   -- the sink's device
   device : Cause
 
-abbrev pub cause_of : DrawFault → Cause
-cause_of faults.Memory = memory
-cause_of faults.Sink = device
-cause_of _ = stream
+abbrev pub draw_cause : DrawFault → Cause
+draw_cause faults.Memory = memory
+draw_cause faults.Sink = device
+draw_cause _ = stream
 
 -- What a sink took of the entries of a rule's result when this fault was answered. Memory can run out before the first
 -- of them or for one of them.
 abbrev pub DrawsBy : {S : Type 0} → (S → List Entry → S → Type 0) → (S → List Entry → Entry → S → Type 0) → (S → Bool) → Result RuleResult DrawFault → S → S → DrawFault → Cause → Type 0
 DrawsBy took broke failed by s t fault stream = (by ≡ Err fault) × (t ≡ s)
-DrawsBy took broke failed by s t fault memory = (drawn : RuleResult) × (by ≡ Ok drawn) × ((t ≡ s) ⊎ Stops took s drawn.entries t)
-DrawsBy took broke failed by s t fault device = (drawn : RuleResult) × (by ≡ Ok drawn) × (((failed s ≡ true) × (t ≡ s)) ⊎ Breaks broke s drawn.entries t)
+DrawsBy took broke failed by s t fault memory = (drawn : RuleResult) × (by ≡ Ok drawn) × ((t ≡ s) ⊎ StopsAmid took s drawn.entries t)
+DrawsBy took broke failed by s t fault device = (drawn : RuleResult) × (by ≡ Ok drawn) × (((failed s ≡ true) × (t ≡ s)) ⊎ BreaksAmid broke s drawn.entries t)
 
 -- what a sink took of the entries of a rule's result when this was answered
 abbrev pub Draws : {S : Type 0} → (S → List Entry → S → Type 0) → (S → List Entry → Entry → S → Type 0) → (S → Bool) → Result RuleResult DrawFault → S → S → Result Effects DrawFault → Type 0
 Draws took broke failed by s t (Ok effects) = (entries : List Entry) × (by ≡ Ok (record { entries = entries; work = effects.work; clears = effects.clears })) × took s entries t
-Draws took broke failed by s t (Err fault) = DrawsBy took broke failed by s t fault (cause_of fault)
+Draws took broke failed by s t (Err fault) = DrawsBy took broke failed by s t fault (draw_cause fault)
 
 -- an answer of a code that clears no macros
 abbrev pub without_clear : Result Work DrawFault → Result Effects DrawFault

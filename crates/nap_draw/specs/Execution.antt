@@ -29,7 +29,7 @@ use Rattle.nap_draw.specs.declared.shapes.ShapeStart.TheVariants as starts
 use Rattle.nap_draw.specs.declared.work.Work.{Work}
 use Rattle.nap_draw.specs.Rule.{RuleResult, entry_result, shape_from_pen, shape_from_point}
 use Rattle.nap_draw.specs.Geometry.{polyline_spans, arc_points, poly_points}
-use Rattle.nap_draw.specs.Draws.{Cause, stream, memory, device, DrawsBy, cause_of}
+use Rattle.nap_draw.specs.Draws.{Cause, stream, memory, device, DrawsBy, draw_cause}
 use Rattle.nap_draw.specs.Acts.{WantsBy, GivesSome}
 
 -- The steps in which a code is executed: its run is decoded into the scratch list, its entries are put, and the work is
@@ -63,9 +63,9 @@ abbrev pub figure_entry : Figure → Drawing → Span → Entry
 figure_entry figure d s = figure_with_ink figure (ink_of d) s
 
 -- the points of an arc or polygon from this point by displacements
-abbrev pub shape_points : ShapeKind → Coordinates → List Displacement → Option (List Coordinates)
-shape_points kinds.Arc p ms = arc_points p ms
-shape_points kinds.Poly p ms = poly_points p ms
+abbrev pub displaced_points : ShapeKind → Coordinates → List Displacement → Option (List Coordinates)
+displaced_points kinds.Arc p ms = arc_points p ms
+displaced_points kinds.Poly p ms = poly_points p ms
 
 -- the result of a shape, by the kind of its start
 abbrev pub shape_from : ShapeStart → Work → List ℕ → (Drawing → List Coordinates → Entry) → (Coordinates → List Displacement → Option (List Coordinates)) → Result RuleResult DrawFault
@@ -118,18 +118,18 @@ chain_spans figures.Line p qs = polyline_spans p qs
 chain_spans (figures.Rect filled) p qs = rect_spans p qs
 
 -- the list was put: the sink took all of it, or a prefix up to an entry that it didn't take
-abbrev pub Put : {S A : Type 0} → Ghosts S → List Entry → S → S → Result A SinkFault → Type 0
-Put g list s t r = puts.PutSome (sink_model_of g) list s t r
+abbrev pub PutsList : {S A : Type 0} → Ghosts S → List Entry → S → S → Result A SinkFault → Type 0
+PutsList g list s t r = puts.PutSome (sink_model_of g) list s t r
 
 -- the progress of putting a list
-abbrev pub Putting : {S : Type 0} → Ghosts S → S → S → List Entry → List Entry → Type 0
-Putting g s t whole rest = puts.Putting (sink_model_of g) s t whole rest
+abbrev pub PutsSoFar : {S : Type 0} → Ghosts S → S → S → List Entry → List Entry → Type 0
+PutsSoFar g s t whole rest = puts.Putting (sink_model_of g) s t whole rest
 
 -- a code acted by the result of its rule, and all macros were cleared exactly if the answer says so
 abbrev pub ActsByRule : {S A : Type 0} → (g : Ghosts S) → (A → Bool) → Result RuleResult DrawFault → Work → Work → S → S → Result A DrawFault → Type 0
 ActsByRule g clears by w v s t (Ok x) = (entries : List Entry) × (by ≡ Ok (record { entries = entries; work = v; clears = clears x })) × g.took s entries t
     × (g.state t ≡ walk (g.state s) entries) × (g.failed s ≡ false → g.failed t ≡ false)
-ActsByRule g clears by w v s t (Err fault) = (v ≡ w) × DrawsBy g.took g.broke g.failed by s t fault (cause_of fault) × (fault ≡ faults.Sink → g.failed t ≡ true)
+ActsByRule g clears by w v s t (Err fault) = (v ≡ w) × DrawsBy g.took g.broke g.failed by s t fault (draw_cause fault) × (fault ≡ faults.Sink → g.failed t ≡ true)
     × (g.failed s ≡ false → g.failed t ≡ true → fault ≡ faults.Sink)
 
 -- the answer says nothing about macros, which stay
@@ -143,15 +143,15 @@ pub record AppliesControl {S : Type 0} (g : Ghosts S) (by : Result RuleResult Dr
   pub gives : IsErrOf r faults.Sink → GivesSome by
 
 -- the rule refuses the code with this fault, if the cause is the stream
-abbrev pub RefusedBy : Result RuleResult DrawFault → DrawFault → Cause → Type 0
-RefusedBy by fault stream = by ≡ Err fault
-RefusedBy by fault memory = (d : RuleResult) × (by ≡ Ok d)
-RefusedBy by fault device = ⊥
+abbrev pub RuleRefuses : Result RuleResult DrawFault → DrawFault → Cause → Type 0
+RuleRefuses by fault stream = by ≡ Err fault
+RuleRefuses by fault memory = (d : RuleResult) × (by ≡ Ok d)
+RuleRefuses by fault device = ⊥
 
 -- an opcode without entries changed the work by the result of its rule
 abbrev pub SetsWork : Result RuleResult DrawFault → Work → Work → Result (Unit {0}) DrawFault → Type 0
 SetsWork by w v (Ok _) = by ≡ Ok (record { entries = []; work = v; clears = false })
-SetsWork by w v (Err fault) = (v ≡ w) × RefusedBy by fault (cause_of fault)
+SetsWork by w v (Err fault) = (v ≡ w) × RuleRefuses by fault (draw_cause fault)
 
 -- an entry with the current attributes of this state, which fits every state that agrees with it
 pub record MayFollow (s : State) (e : Entry) : Type 0 where

@@ -14,11 +14,11 @@ CanJoin opcodes.SetRectFilled = ⊤
 CanJoin _ = ⊥
 
 -- the run is complete operands of k words
-abbrev pub IsWhole : ℕ → List ℕ → Type 0
-IsWhole k run = (operands : ℕ) × (length run ≡ operands * k)
+abbrev pub AreWholeOperands : ℕ → List ℕ → Type 0
+AreWholeOperands k run = (operands : ℕ) × (length run ≡ operands * k)
 
 -- an opcode on a run of complete operands, and then on a second run, does what it does on both runs joined
 abbrev pub RunsJoin : Type 0
 RunsJoin = (work : Work) (op : Opcode) (run more : List ℕ) (first second : RuleResult) →
-    CanJoin op → IsWhole work.domain.multi run → rule work op run ≡ Ok first → rule first.work op more ≡ Ok second →
+    CanJoin op → AreWholeOperands work.domain.multi run → rule work op run ≡ Ok first → rule first.work op more ≡ Ok second →
     rule work op (run ++ more) ≡ Ok (record { entries = first.entries ++ second.entries; work = second.work; clears = false })

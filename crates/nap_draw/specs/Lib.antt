@@ -9,3 +9,4 @@ pub mod Execution
 pub mod Joining
 pub mod Laws
 pub mod Limits
+pub mod Counted

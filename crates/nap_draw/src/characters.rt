@@ -6,7 +6,7 @@ ghost use Rattle.nap_list.specs.Batches.{IsTextByte};
 ghost use Rattle.nap_list.specs.Agreement.{StatesAgree};
 ghost use Rattle.nap_list.specs.Putting.{Put};
 ghost use Rattle.nap_list.specs.SinkModels.{sink_model_of};
-ghost use Rattle.nap_draw.specs.Codes.{code_rule, text};
+ghost use Rattle.nap_draw.specs.Codes.{code_rule, drawn_text};
 ghost use Rattle.nap_draw.specs.Rule.{rule_result};
 ghost use Rattle.nap_draw.specs.Execution.{AppliesControl};
 
@@ -27,8 +27,8 @@ impl Work {
     ) -> Result<(), BatchFault>
         requires agrees { StatesAgree self.old.state (S.state sink.old) }
         requires made { All IsTextByte codes.now }
-        ensures put { Put (sink_model_of S.Sink) (text self.old.state set codes.now) sink.old sink.new result }
-        ensures work { MatchResult result (λ _. self.new ≡ (rule_result self.old (text self.old.state set codes.now)).work) (λ _. self.new ≡ self.old) }
+        ensures put { Put (sink_model_of S.Sink) (drawn_text self.old.state set codes.now) sink.old sink.new result }
+        ensures work { MatchResult result (λ _. self.new ≡ (rule_result self.old (drawn_text self.old.state set codes.now)).work) (λ _. self.new ≡ self.old) }
         ensures agree { OnOk result (StatesAgree self.new.state (S.state sink.new)) }
     {
         let drawing = &self.state.drawing;

@@ -3,7 +3,7 @@ ghost use Rattle.std.specs.Prelude.{◌≡◌, ◌∷◌, [], ◌++◌, Ok};
 ghost use Rattle.nap_list.specs.Entry.{WellMade};
 ghost use Rattle.nap_list.specs.Agreement.{StatesAgree};
 ghost use Rattle.nap_draw.specs.Codes.{definition_ended, definition_result};
-ghost use Rattle.nap_draw.specs.Execution.{AppliesControl, Put, definition_start};
+ghost use Rattle.nap_draw.specs.Execution.{AppliesControl, PutsList, definition_start};
 
 use crate::fault::DrawFault;
 use crate::work::Work;
@@ -54,7 +54,7 @@ impl Work {
     fn put_start<S: Sink>(&self, what: Definition, sink: &mut S) -> Result<(), SinkFault>
         requires agrees { StatesAgree self.now.state (S.state sink.old) }
         requires made { WellMade (definition_start what) }
-        ensures { Put S.Sink ((definition_ended self.now).entries ++ definition_start what ∷ []) sink.old sink.new result }
+        ensures { PutsList S.Sink ((definition_ended self.now).entries ++ definition_start what ∷ []) sink.old sink.new result }
     {
         let start = definition_start(what);
         if self.state.definition.is_none() {

@@ -10,6 +10,7 @@ mod codes;
 mod colours;
 mod controls;
 mod copied;
+mod counted;
 mod definitions;
 mod domain;
 mod fault;
@@ -27,6 +28,7 @@ mod repeating;
 mod scratch;
 mod shapes;
 mod spans;
+mod steps;
 mod times;
 mod work;
 

@@ -5,7 +5,7 @@ ghost use Rattle.nap_values.specs.Coordinates.{Coordinates, Displacement};
 ghost use Rattle.nap_draw.specs.declared.fault.DrawFault.{DrawFault};
 ghost use Rattle.nap_draw.specs.Operands.{moves};
 ghost use Rattle.nap_draw.specs.Rule.{RuleResult, moves_of, with_operands, with_pairs, from_pen};
-ghost use Rattle.nap_draw.specs.Draws.{stream, cause_of};
+ghost use Rattle.nap_draw.specs.Draws.{stream, draw_cause};
 
 use crate::fault::DrawFault;
 use crate::work::Work;
@@ -14,7 +14,7 @@ use nap_values::{Domain, Move, Point, Word, multi_bytes};
 /// Refuses a run without operands as Missing.
 pub(crate) fn require_operand(work: &Work, run: &[u8]) -> Result<(), DrawFault>
     ensures ok { IfOk result (λ _. (f : List Displacement → Result RuleResult DrawFault) → with_operands work.now (operand_words run.now) f ≡ f (moves_of work.now (operand_words run.now))) }
-    ensures err { IfErr result (λ fault. (cause_of fault ≡ stream) × ((f : List Displacement → Result RuleResult DrawFault) → with_operands work.now (operand_words run.now) f ≡ Err fault)) }
+    ensures err { IfErr result (λ fault. (draw_cause fault ≡ stream) × ((f : List Displacement → Result RuleResult DrawFault) → with_operands work.now (operand_words run.now) f ≡ Err fault)) }
 {
     if run.is_empty() {
         return Err(DrawFault::Missing);
@@ -26,7 +26,7 @@ pub(crate) fn require_operand(work: &Work, run: &[u8]) -> Result<(), DrawFault>
 pub(crate) fn require_pairs(work: &Work, run: &[u8]) -> Result<(), DrawFault>
     ensures ok { IfOk result (λ _. (f : List Displacement → Result RuleResult DrawFault) → with_pairs work.now (operand_words run.now) f ≡ f (moves_of work.now (operand_words run.now))) }
     ensures even { OnOk result (length (moves_of work.now (operand_words run.now)) % 2 ≡ 0) }
-    ensures err { IfErr result (λ fault. (cause_of fault ≡ stream) × ((f : List Displacement → Result RuleResult DrawFault) → with_pairs work.now (operand_words run.now) f ≡ Err fault)) }
+    ensures err { IfErr result (λ fault. (draw_cause fault ≡ stream) × ((f : List Displacement → Result RuleResult DrawFault) → with_pairs work.now (operand_words run.now) f ≡ Err fault)) }
 {
     let count = operand_count(work.domain, run);
     if count == 0 || count % 2 == 1 {
@@ -38,7 +38,7 @@ pub(crate) fn require_pairs(work: &Work, run: &[u8]) -> Result<(), DrawFault>
 /// Returns the point of the pen. Refuses a run without operands as Missing, and then an unknown pen as PenUnknown.
 pub(crate) fn require_start(work: &Work, run: &[u8]) -> Result<Point, DrawFault>
     ensures ok { IfOk result (λ p. (f : Coordinates → List Displacement → Result RuleResult DrawFault) → from_pen work.now (operand_words run.now) f ≡ f p (moves_of work.now (operand_words run.now))) }
-    ensures err { IfErr result (λ fault. (cause_of fault ≡ stream) × ((f : Coordinates → List Displacement → Result RuleResult DrawFault) → from_pen work.now (operand_words run.now) f ≡ Err fault)) }
+    ensures err { IfErr result (λ fault. (draw_cause fault ≡ stream) × ((f : Coordinates → List Displacement → Result RuleResult DrawFault) → from_pen work.now (operand_words run.now) f ≡ Err fault)) }
 {
     require_operand(work, run)?;
     work.pen_point()

@@ -6,7 +6,7 @@ ghost use Rattle.nap_draw.specs.Execution.{ActsByRule, SetsWork, clears_nothing}
 
 use crate::fault::DrawFault;
 use crate::operands::{require_operand, require_start};
-use crate::scratch::{points_into, steps_into};
+use crate::scratch::points_into;
 use crate::work::Work;
 use nap_codes::Opcode;
 use nap_list::{Pen, Sink};
@@ -83,7 +83,9 @@ impl Work {
         ensures { ActsByRule S.Sink clears_nothing (rule self.old Opcode.PointRel (operand_words run.now)) self.old self.new sink.old sink.new result }
     {
         let from = require_start(self, run)?;
-        steps_into(scratch, from, self.domain, run)?;
-        self.draw_points(scratch, sink)
+        if self.count_points(from, run, sink) {
+            return Ok(());
+        }
+        self.draw_steps(scratch, from, run, sink)
     }
 }

@@ -6,7 +6,7 @@ ghost use Rattle.nap_list.specs.declared.entry.Entry.TheVariants.{Wait};
 ghost use Rattle.nap_draw.specs.Operands.{operands};
 ghost use Rattle.nap_draw.specs.Geometry.{last_or};
 ghost use Rattle.nap_draw.specs.Rule.{blink};
-ghost use Rattle.nap_draw.specs.Execution.{Put, chain_spans, pair_spans, figure_entry};
+ghost use Rattle.nap_draw.specs.Execution.{PutsList, chain_spans, pair_spans, figure_entry};
 
 use crate::operands::word_at;
 use crate::spans::{Figure, Span};
@@ -22,7 +22,7 @@ pub(crate) fn put_chain<S: Sink>(
     sink: &mut S,
 ) -> Result<Option<Span>, SinkFault>
     requires { AllFit (S.state sink.old) (map (figure_entry figure drawing.now) (chain_spans figure from points.now)) }
-    ensures put { Put S.Sink (map (figure_entry figure drawing.now) (chain_spans figure from points.now)) sink.old sink.new result }
+    ensures put { PutsList S.Sink (map (figure_entry figure drawing.now) (chain_spans figure from points.now)) sink.old sink.new result }
     ensures last { IfOk result (λ last. last ≡ last_or None (chain_spans figure from points.now)) }
 {
     let mut at = from;
@@ -43,7 +43,7 @@ pub(crate) fn put_pairs<S: Sink>(
     sink: &mut S,
 ) -> Result<Option<Span>, SinkFault>
     requires { AllFit (S.state sink.old) (map (figure_entry figure drawing.now) (pair_spans points.now)) }
-    ensures put { Put S.Sink (map (figure_entry figure drawing.now) (pair_spans points.now)) sink.old sink.new result }
+    ensures put { PutsList S.Sink (map (figure_entry figure drawing.now) (pair_spans points.now)) sink.old sink.new result }
     ensures last { IfOk result (λ last. last ≡ last_or None (pair_spans points.now)) }
 {
     let mut last = None;
@@ -58,7 +58,7 @@ pub(crate) fn put_pairs<S: Sink>(
 /// Puts a Wait for each word.
 pub(crate) fn put_pauses<S: Sink>(run: &[u8], sink: &mut S) -> Result<(), SinkFault>
     requires { AllFit (S.state sink.old) (map Wait (operand_words run.now)) }
-    ensures { Put S.Sink (map Wait (operand_words run.now)) sink.old sink.new result }
+    ensures { PutsList S.Sink (map Wait (operand_words run.now)) sink.old sink.new result }
 {
     for byte in run {
         sink.put(Entry::Wait(Word::of_byte(*byte)))?;
@@ -74,7 +74,7 @@ pub(crate) fn put_blinks<S: Sink>(
     sink: &mut S,
 ) -> Result<(), SinkFault>
     requires { AllFit (S.state sink.old) (map (blink domain.single drawing.now.colour) (operands (domain.single + 3) (operand_words run.now))) }
-    ensures { Put S.Sink (map (blink domain.single drawing.now.colour) (operands (domain.single + 3) (operand_words run.now))) sink.old sink.new result }
+    ensures { PutsList S.Sink (map (blink domain.single drawing.now.colour) (operands (domain.single + 3) (operand_words run.now))) sink.old sink.new result }
 {
     for group in run.chunks(usize::from(domain.single()) + 3) {
         sink.put(blink_of(domain, drawing, group))?;

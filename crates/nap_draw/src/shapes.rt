@@ -8,8 +8,8 @@ ghost use Rattle.nap_list.specs.Shapes.{shape_on};
 ghost use Rattle.nap_draw.specs.Operands.{moves};
 ghost use Rattle.nap_draw.specs.Geometry.{points_reached};
 ghost use Rattle.nap_draw.specs.Rule.{moves_of};
-ghost use Rattle.nap_draw.specs.Draws.{stream, cause_of};
-ghost use Rattle.nap_draw.specs.Execution.{ActsByRule, clears_nothing, shape_from, shape_points, shape_result, start_size};
+ghost use Rattle.nap_draw.specs.Draws.{stream, draw_cause};
+ghost use Rattle.nap_draw.specs.Execution.{ActsByRule, clears_nothing, shape_from, displaced_points, shape_result, start_size};
 
 use crate::fault::DrawFault;
 use crate::scratch::steps_into;
@@ -53,10 +53,10 @@ fn shape_start<'a>(
     start: ShapeStart,
     run: &'a [u8],
 ) -> Result<(Point, &'a [u8]), DrawFault>
-    ensures ok { IfOk result (λ (p, steps). (kind : ShapeKind) (filled : Bool) → shape_from start work.now (operand_words run.now) (shape_on kind filled) (shape_points kind) ≡ shape_result work.now kind filled p (points_reached p (moves_of work.now (operand_words steps.now)))) }
+    ensures ok { IfOk result (λ (p, steps). (kind : ShapeKind) (filled : Bool) → shape_from start work.now (operand_words run.now) (shape_on kind filled) (displaced_points kind) ≡ shape_result work.now kind filled p (points_reached p (moves_of work.now (operand_words steps.now)))) }
     ensures some { IfOk result (λ (p, steps). 0 < length (moves_of work.now (operand_words steps.now))) }
     ensures few { IfOk result (λ (p, steps). length (moves_of work.now (operand_words steps.now)) ≤ steps_limit) }
-    ensures err { IfErr result (λ fault. (cause_of fault ≡ stream) × ((kind : ShapeKind) (filled : Bool) → shape_from start work.now (operand_words run.now) (shape_on kind filled) (shape_points kind) ≡ Err fault)) }
+    ensures err { IfErr result (λ fault. (draw_cause fault ≡ stream) × ((kind : ShapeKind) (filled : Bool) → shape_from start work.now (operand_words run.now) (shape_on kind filled) (displaced_points kind) ≡ Err fault)) }
 {
     let size = work.domain.multi();
     let (first, steps) = run.split_at(start_size(start, size, run.len()));
@@ -93,7 +93,7 @@ impl Work {
         sink: &mut S,
     ) -> Result<(), DrawFault>
         requires { StatesAgree self.old.state (S.state sink.old) }
-        ensures { ActsByRule S.Sink clears_nothing (shape_from start self.old (operand_words run.now) (shape_on kind filled) (shape_points kind)) self.old self.new sink.old sink.new result }
+        ensures { ActsByRule S.Sink clears_nothing (shape_from start self.old (operand_words run.now) (shape_on kind filled) (displaced_points kind)) self.old self.new sink.old sink.new result }
     {
         let (from, steps) = match shape_start(self, start, run) {
             Ok(begun) => begun,

@@ -4,7 +4,7 @@ ghost use Rattle.nap_list.specs.State.{after};
 ghost use Rattle.nap_list.specs.Agreement.{StatesAgree};
 ghost use Rattle.nap_list.specs.State.{hand_of};
 ghost use Rattle.nap_draw.specs.Rule.{start_work, pen_point, with_drawing, rule_result};
-ghost use Rattle.nap_draw.specs.Execution.{MayFollow, AppliesControl, Put, with_pen_moved_to, with_pen_moved};
+ghost use Rattle.nap_draw.specs.Execution.{MayFollow, AppliesControl, PutsList, with_pen_moved_to, with_pen_moved};
 
 use crate::fault::DrawFault;
 use nap_list::{Base, Colour, Entry, Hand, Pen, Sink, SinkFault, State, TextLook, Texture};
@@ -130,7 +130,7 @@ impl Work {
     pub(crate) fn put<S: Sink>(&self, entry: Entry, sink: &mut S) -> Result<(), SinkFault>
         requires agrees { StatesAgree self.now.state (S.state sink.old) }
         requires follows { MayFollow self.now.state entry }
-        ensures { Put S.Sink (entry ∷ []) sink.old sink.new result }
+        ensures { PutsList S.Sink (entry ∷ []) sink.old sink.new result }
     {
         sink.put(entry)
     }

@@ -1,4 +1,4 @@
-//! Values, entries, sinks and devices that the crates of tests share.
+//! Values, entries, sinks and devices that the program of rows and the tests beside it share.
 #![tactic(auto)]
 
 pub mod devices;

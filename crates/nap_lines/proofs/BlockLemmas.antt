@@ -8,7 +8,7 @@ use Rattle.std.proofs.Math.Seq.{take-add, take-append-add, drop-append-add, take
 use Rattle.nap_codes.specs.declared.code_set.CharSet.{CharSet}
 use Rattle.nap_lines.specs.Lines.{code_text}
 use Rattle.nap_lines.specs.Batches.{text_byte_front}
-use Rattle.nap_lines.specs.Blocks.{with_bytes_at, recoded, repeated}
+use Rattle.nap_lines.specs.Blocks.{patched, recoded, repeated}
 use Rattle.nap_lines.proofs.BatchLemmas.{char_start, letter_typed}
 
 -- Blocks of lines.
@@ -21,7 +21,7 @@ line_size : (start end : List ℕ) (code : ℕ) → length (start ++ (code_text 
 line_size start end code = omega (arith, length-append start (code_text code ++ end), length-append (code_text code) end)
 
 -- bytes that are copied to an index after a prefix
-with_bytes_after_prefix : (prefix bytes more : List ℕ) (at n : ℕ) → at ≡ length prefix + n → with_bytes_at (prefix ++ bytes) at more ≡ prefix ++ with_bytes_at bytes n more
+with_bytes_after_prefix : (prefix bytes more : List ℕ) (at n : ℕ) → at ≡ length prefix + n → patched (prefix ++ bytes) at more ≡ prefix ++ patched bytes n more
 with_bytes_after_prefix prefix bytes more at n is =
     let ends : at + length more ≡ length prefix + (n + length more) = omega (arith, is) in
     ap (λ (m : ℕ). take m (prefix ++ bytes) ++ (more ++ drop (at + length more) (prefix ++ bytes))) is
@@ -32,7 +32,7 @@ with_bytes_after_prefix prefix bytes more at n is =
 
 -- one more copy of a line
 pub one_more_line : (line block : List ℕ) (i at : ℕ) → at ≡ length (repeated i line) → at + length line ≤ length block →
-    with_bytes_at (repeated i line ++ drop at block) at line ≡ repeated (i + 1) line ++ drop (at + length line) block
+    patched (repeated i line ++ drop at block) at line ≡ repeated (i + 1) line ++ drop (at + length line) block
 unfolding repeated
 one_more_line line block i at is within =
     let so_far = repeated i line in
@@ -101,7 +101,7 @@ recoded_line_size size place code lines within long =
 
 -- the digits of one more code
 pub recoded_next : (size place code : ℕ) (codes lines : List ℕ) (at : ℕ) → place + 2 ≤ size → length codes * size + size ≤ length lines → at ≡ length codes * size + place →
-    with_bytes_at (recoded size place codes lines) at (code_text code) ≡ recoded size place (codes ++ code ∷ []) lines
+    patched (recoded size place codes lines) at (code_text code) ≡ recoded size place (codes ++ code ∷ []) lines
 unfolding recoded recoded_line
 recoded_next size place code [] lines at within long is =
     let here : at ≡ place = omega (arith, is) in
@@ -109,7 +109,7 @@ recoded_next size place code [] lines at within long is =
     let rest_is : drop (place + 2) lines ≡ drop (place + 2) (take size lines) ++ drop size lines =
     ap (drop (place + 2)) (sym (take-append-drop size lines))
     ∙ drop-append-le (place + 2) (take size lines) (drop size lines) (omega (arith, within, length-take-le size lines whole)) in
-    ap (λ (n : ℕ). with_bytes_at lines n (code_text code)) here
+    ap (λ (n : ℕ). patched lines n (code_text code)) here
     ∙ ap (λ (rest : List ℕ). take place lines ++ (code_text code ++ rest)) rest_is
     ∙ regroup (take place lines) (code_text code) (drop (place + 2) (take size lines)) (drop size lines)
 recoded_next size place code (c ∷ cs) lines at within long is =

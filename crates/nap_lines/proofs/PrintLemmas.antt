@@ -10,43 +10,33 @@ use Rattle.nap_list.specs.declared.sink.SinkFault.TheVariants as faults
 use Rattle.nap_list.specs.declared.state.State.{State}
 use Rattle.nap_list.specs.Putting.{SinkModel, Put, BreaksAfter, HaltsAfter, PutSome, FaultMatchesDevice, TakesAll, sink_model}
 use Rattle.nap_list.specs.PuttingLaws.{stops_after, wanting_put}
-use Rattle.nap_list.specs.Sending.{Sending, sending, Grows}
+use Rattle.nap_list.specs.Sending.{Sending, SendsAll, FailsAfter, sending, stopped_grows}
 use Rattle.nap_list.specs.State.{walk}
 use Rattle.nap_lines.specs.Lines.{line}
 use Rattle.nap_lines.specs.Listing.{lines, lines_join}
-use Rattle.nap_lines.specs.Printing.{SendsPart, SendsBuffered, Closes, Printing, sending_of, Took, Broke, StopsAt, Prints, taken_count}
+use Rattle.nap_lines.specs.Printing.{SendsPart, SendsBuffered, Closes, Printing, sending_by, TookLines, BrokeLines, PrintsUpTo, PrintsLines, taken_count}
 use Rattle.nap_lines.specs.PrintingLaws.{passes_none, passes_more, passes_on, took_none}
 
--- a prefix was sent
-pub part_passes : (s : Sending) (t : Sending) (i : ℕ) (xs : List ℕ) → Grows s (take i xs) t → SendsPart s [] xs (drop i xs) t
-part_passes s t i xs sent = record { sent = take i xs; parts = sym (take-append-drop i xs); grows = sent }
-
--- the piece from i on is the rest
-pub rest_of : (i : ℕ) (xs : List ℕ) → take (length xs - i) (drop i xs) ≡ drop i xs
-rest_of i xs = take_all (length xs - i) (drop i xs) (omega (arith, length-drop i xs))
-
 -- The buffered bytes are sent.
-
--- the first bytes sent are the buffered ones
-buffered_first : (s t : Sending) (buffered left : List ℕ) → SendsPart s [] buffered left t → SendsPart s buffered [] left t
-buffered_first s t buffered left h = record { sent = h.sent; parts = append-nil buffered ∙ h.parts; grows = h.grows }
 
 module _ {O : Type 0} (o : outlet.Ghosts O) (w u : O) (m n : ℕ) (buffered bytes : List ℕ) (v : State) (is : bytes ≡ buffered) where
   abbrev before : Printing O
   before = record { outlet = w; written = m; buffered = buffered; state = v }
 
-  pub sent_all : (now : List ℕ) → now ≡ [] → Grows (sending o w m) bytes (sending o u n) × (o.failed u ≡ o.failed w) → SendsBuffered o before (record { outlet = u; written = n; buffered = now; state = v }) (Ok tt)
+  pub sent_all : (now : List ℕ) → now ≡ [] → SendsAll (sending o w m) bytes (sending o u n) → SendsBuffered o before (record { outlet = u; written = n; buffered = now; state = v }) (Ok tt)
   sent_all now none sent = (
-    record { sent = bytes; parts = append-nil buffered ∙ sym is ∙ sym (append-nil bytes) ∙ ap (λ (left : List ℕ). bytes ++ left) (sym none); grows = sent.0 },
-    sent.1,
+    record { sent = bytes; parts = append-nil buffered ∙ sym is ∙ sym (append-nil bytes) ∙ ap (λ (left : List ℕ). bytes ++ left) (sym none); grows = sent.grows },
+    sent.failed,
     refl,
   )
 
-  pub sent_part : (f : DeviceFault) → ((left : List ℕ) × SendsPart (sending o w m) [] bytes left (sending o u n)) × (o.failed u ≡ true) →
-      SendsBuffered o before (record { outlet = u; written = n; buffered = buffered; state = v }) (Err f)
-  sent_part f sent = (
-    (sent.0.0, buffered_first (sending o w m) (sending o u n) buffered sent.0.0 (subst (λ (bytes : List ℕ). SendsPart (sending o w m) [] bytes sent.0.0 (sending o u n)) is sent.0.1)),
-    sent.1,
+  pub sent_part : (taken : ℕ) → FailsAfter o w m bytes taken u n → (f : DeviceFault) → SendsBuffered o before (record { outlet = u; written = n; buffered = buffered; state = v }) (Err f)
+  sent_part taken stops f = (
+    (
+      drop taken bytes,
+      record { sent = take taken bytes; parts = append-nil buffered ∙ sym is ∙ sym (take-append-drop taken bytes); grows = stopped_grows o w m bytes taken u n stops },
+    ),
+    stops.failed,
     refl,
   )
 
@@ -55,7 +45,7 @@ module _ {O : Type 0} (o : outlet.Ghosts O) (w u : O) (m n : ℕ) (buffered byte
 pub closes_failed : {O : Type 0} (o : outlet.Ghosts O) (s : Printing O) → o.failed s.outlet ≡ true → Closes o s s.outlet s.written
 closes_failed o s set = record {
   left = s.buffered;
-  passes = passes_none (sending_of o s) s.buffered;
+  passes = passes_none (sending_by o s) s.buffered;
   all = λ works. (let bad : true ≡ false = sym set ∙ works in cc);
   still = λ _. (refl, refl);
 }
@@ -99,20 +89,20 @@ sent_on s t u buffered mid left bytes first second =
 
 -- the buffered bytes are sent, and then the lines of more entries are made
 pub chunk : {O : Type 0} (o : outlet.Ghosts O) (s t m : Printing O) (list : List Entry) (n more : ℕ) (buffered now : List ℕ) (w : O) (k : ℕ) →
-    SendsPart (sending_of o s) s.buffered (lines (take n list)) t.buffered (sending_of o t) → SendsPart (sending_of o t) t.buffered [] m.buffered (sending_of o m) → w ≡ m.outlet → k ≡ m.written → buffered ≡ m.buffered →
-    now ≡ buffered ++ lines (take more (drop n list)) → SendsPart (sending_of o s) s.buffered (lines (take (n + more) list)) now (sending o w k)
+    SendsPart (sending_by o s) s.buffered (lines (take n list)) t.buffered (sending_by o t) → SendsPart (sending_by o t) t.buffered [] m.buffered (sending_by o m) → w ≡ m.outlet → k ≡ m.written → buffered ≡ m.buffered →
+    now ≡ buffered ++ lines (take more (drop n list)) → SendsPart (sending_by o s) s.buffered (lines (take (n + more) list)) now (sending o w k)
 chunk o s t m list n more buffered now w k passes sent outlet written same is =
-    rw (outlet, written) (lines_on (sending_of o s) (sending_of o m) s.buffered m.buffered now list n more (sent_on (sending_of o s) (sending_of o t) (sending_of o m) s.buffered t.buffered m.buffered (lines (take n list)) passes sent)
+    rw (outlet, written) (lines_on (sending_by o s) (sending_by o m) s.buffered m.buffered now list n more (sent_on (sending_by o s) (sending_by o t) (sending_by o m) s.buffered t.buffered m.buffered (lines (take n list)) passes sent)
     (is ∙ ap (λ (buffered : List ℕ). buffered ++ lines (take more (drop n list))) same))
 
-pub prints_state : {O : Type 0} (o : outlet.Ghosts O) (s t : Printing O) (d : List Entry) (r : Result (Unit {0}) BatchFault) → Prints o s d t r → t.state ≡ s.state
+pub prints_state : {O : Type 0} (o : outlet.Ghosts O) (s t : Printing O) (d : List Entry) (r : Result (Unit {0}) BatchFault) → PrintsLines o s d t r → t.state ≡ s.state
 prints_state o s t d (Ok done) prints = prints.2
 prints_state o s t d (Err stop) prints = prints.2
 
 module _ {O : Type 0} (o : outlet.Ghosts O) where
   -- the model of a printer
   abbrev pub printer_shows : SinkModel (Printing O)
-  printer_shows = sink_model (λ s. s.state) (λ s d. Unit {0}) (λ s. o.failed s.outlet) (Took o) (Broke o)
+  printer_shows = sink_model (λ s. s.state) (λ s d. Unit {0}) (λ s. o.failed s.outlet) (TookLines o) (BrokeLines o)
 
   -- The lines of a list were printed, and the state advances.
   module _ (s t : Printing O) (v : State) (d : List Entry) (works : o.failed s.outlet ≡ false) where
@@ -122,12 +112,12 @@ module _ {O : Type 0} (o : outlet.Ghosts O) where
     not_failed : {A : Type 0} → o.failed s.outlet ≡ true → A
     not_failed set = let bad : ⊥ = cc in absurd bad
 
-    took_front : (n : ℕ) → SendsPart (sending_of o s) s.buffered (lines (take n d)) t.buffered (sending_of o t) → o.failed t.outlet ≡ false → v ≡ walk s.state (take n d) → Took o s (take n d) u
+    took_front : (n : ℕ) → SendsPart (sending_by o s) s.buffered (lines (take n d)) t.buffered (sending_by o t) → o.failed t.outlet ≡ false → v ≡ walk s.state (take n d) → TookLines o s (take n d) u
     took_front n passes clear is = record { passes = passes; failed = clear ∙ sym works; state = is }
 
     -- a write failed after the lines of n entries
-    breaks : (n : ℕ) (left : List ℕ) → n < length d → SendsPart (sending_of o s) s.buffered (lines (take n d)) left (sending_of o t) → o.failed t.outlet ≡ true → v ≡ walk s.state (take n d) →
-        (rest : List Entry) → d ≡ take n d ++ rest → BreaksAfter (Broke o) s d n u
+    breaks : (n : ℕ) (left : List ℕ) → n < length d → SendsPart (sending_by o s) s.buffered (lines (take n d)) left (sending_by o t) → o.failed t.outlet ≡ true → v ≡ walk s.state (take n d) →
+        (rest : List Entry) → d ≡ take n d ++ rest → BreaksAfter (BrokeLines o) s d n u
     breaks n left less passes failed is [] parts = absurd (omega (arith, less, length-take-le n d (omega (arith, less)), ap length parts, ap length (append-nil (take n d))))
     breaks n left less passes failed is (x ∷ rest) parts = record {
       prefix = take n d;
@@ -137,25 +127,25 @@ module _ {O : Type 0} (o : outlet.Ghosts O) where
       count = length-take-le n d (omega (arith, less));
       broken = record {
         left = left ++ lines (x ∷ []);
-        passes = rw (lines_join (take n d) (x ∷ [])) (passes_on (sending_of o s) (sending_of o t) s.buffered left (lines (take n d)) (lines (x ∷ [])) passes);
+        passes = rw (lines_join (take n d) (x ∷ [])) (passes_on (sending_by o s) (sending_by o t) s.buffered left (lines (take n d)) (lines (x ∷ [])) passes);
         failed = failed;
         state = is;
       };
     }
 
     -- memory ran out, or a write failed, after the lines of n entries
-    stopped : (n : ℕ) (fault : SinkFault) → StopsAt o s d n t fault → n < length d → v ≡ walk s.state (take n d) → HaltsAfter printer_shows d s u n fault × FaultMatchesDevice printer_shows s u n fault
+    stopped : (n : ℕ) (fault : SinkFault) → PrintsUpTo o s d n t fault → n < length d → v ≡ walk s.state (take n d) → HaltsAfter printer_shows d s u n fault × FaultMatchesDevice printer_shows s u n fault
     stopped n faults.Memory (passes, clear) less is = stops_after printer_shows s u d n less works clear (took_front n passes clear is) (λ x. tt)
     stopped n faults.Write ((left, passes), failed) less is = (
       inr (breaks n left less passes failed is (drop n d) (sym (take-append-drop n d))),
       record { write = λ _. failed; memory = λ e. (let bad : ⊥ = cc in absurd bad); none = λ set. not_failed set },
     )
 
-    put_by : (r : Result (Unit {0}) BatchFault) → Prints o s d t r → v ≡ walk s.state (take (taken_count (length d) r) d) → Put printer_shows d s u r
+    put_by : (r : Result (Unit {0}) BatchFault) → PrintsLines o s d t r → v ≡ walk s.state (take (taken_count (length d) r) d) → Put printer_shows d s u r
     put_by (Ok done) (passes, clear, _) is =
         let all = take_all (length d) d (omega arith) in
         record {
-          took = record { passes = subst (λ (d : List Entry). SendsPart (sending_of o s) s.buffered (lines d) t.buffered (sending_of o t)) refl passes; failed = clear ∙ sym works; state = is ∙ ap (walk s.state) all };
+          took = record { passes = subst (λ (d : List Entry). SendsPart (sending_by o s) s.buffered (lines d) t.buffered (sending_by o t)) refl passes; failed = clear ∙ sym works; state = is ∙ ap (walk s.state) all };
           state = is ∙ ap (walk s.state) all;
           works = λ _. clear;
           none = λ set. not_failed set;
@@ -163,32 +153,32 @@ module _ {O : Type 0} (o : outlet.Ghosts O) where
     put_by (Err stop) (stops, less, _) is = stopped stop.taken stop.fault stops less is
 
     -- a batch was put into a printer
-    pub put_at : (w : O) (m : ℕ) (buffered : List ℕ) (r : Result (Unit {0}) BatchFault) → w ≡ t.outlet → m ≡ t.written → buffered ≡ t.buffered → Prints o s d t r →
+    pub put_at : (w : O) (m : ℕ) (buffered : List ℕ) (r : Result (Unit {0}) BatchFault) → w ≡ t.outlet → m ≡ t.written → buffered ≡ t.buffered → PrintsLines o s d t r →
         v ≡ walk s.state (take (taken_count (length d) r) d) → Put printer_shows d s (record { outlet = w; written = m; buffered = buffered; state = v }) r
     put_at w m buffered r outlet written same prints is = rw (outlet, written, same) (put_by r prints is)
 
   -- One entry's line was buffered too, and then the buffer was sent if it was large.
-  module _ (s m t : Printing O) (e : Entry) (shown_is : sending_of o m ≡ sending_of o s) (buffered_is : m.buffered ≡ s.buffered ++ lines (e ∷ [])) where
+  module _ (s m t : Printing O) (e : Entry) (shown_is : sending_by o m ≡ sending_by o s) (buffered_is : m.buffered ≡ s.buffered ++ lines (e ∷ [])) where
     pub took_one : (w : O) (n : ℕ) (buffered : List ℕ) (v : State) (f : Unit {0}) → SendsBuffered o m t (Ok f) → o.failed m.outlet ≡ o.failed s.outlet → w ≡ t.outlet → n ≡ t.written → buffered ≡ t.buffered →
-        v ≡ walk s.state (e ∷ []) → Took o s (e ∷ []) (record { outlet = w; written = n; buffered = buffered; state = v })
+        v ≡ walk s.state (e ∷ []) → TookLines o s (e ∷ []) (record { outlet = w; written = n; buffered = buffered; state = v })
     took_one w n buffered v f sent same outlet written left state = rw (outlet, written, left) (record {
-      passes = buffered_too (sending_of o s) (sending_of o t) s.buffered m.buffered (lines (e ∷ [])) t.buffered buffered_is (subst (λ (x : Sending). SendsPart x m.buffered [] t.buffered (sending_of o t)) shown_is sent.0);
+      passes = buffered_too (sending_by o s) (sending_by o t) s.buffered m.buffered (lines (e ∷ [])) t.buffered buffered_is (subst (λ (x : Sending). SendsPart x m.buffered [] t.buffered (sending_by o t)) shown_is sent.0);
       failed = sent.1 ∙ same;
       state = state;
     })
 
-    pub broke_one : (f : DeviceFault) → SendsBuffered o m t (Err f) → t.state ≡ s.state → Broke o s [] e t
+    pub broke_one : (f : DeviceFault) → SendsBuffered o m t (Err f) → t.state ≡ s.state → BrokeLines o s [] e t
     unfolding walk
     broke_one f sent state = record {
       left = sent.0.0;
-      passes = buffered_too (sending_of o s) (sending_of o t) s.buffered m.buffered (lines (e ∷ [])) sent.0.0 buffered_is (subst (λ (x : Sending). SendsPart x m.buffered [] sent.0.0 (sending_of o t)) shown_is sent.0.1);
+      passes = buffered_too (sending_by o s) (sending_by o t) s.buffered m.buffered (lines (e ∷ [])) sent.0.0 buffered_is (subst (λ (x : Sending). SendsPart x m.buffered [] sent.0.0 (sending_by o t)) shown_is sent.0.1);
       failed = sent.1;
       state = state;
     }
 
   -- a shape was taken, or why it wasn't
 
-  pub shape_taken : (s u : Printing O) (e : Entry) → o.failed s.outlet ≡ false → Took o s (e ∷ []) u → TakesAll printer_shows (e ∷ []) s u
+  pub shape_taken : (s u : Printing O) (e : Entry) → o.failed s.outlet ≡ false → TookLines o s (e ∷ []) u → TakesAll printer_shows (e ∷ []) s u
   shape_taken s u e works took = record {
     took = took;
     state = took.state;
@@ -196,7 +186,7 @@ module _ {O : Type 0} (o : outlet.Ghosts O) where
     none = λ set. (let bad : ⊥ = cc in absurd bad);
   }
 
-  pub shape_broken : (s u : Printing O) (e : Entry) → o.failed s.outlet ≡ false → Broke o s [] e u → PutSome {A = Unit {0}} printer_shows (e ∷ []) s u (Err faults.Write)
+  pub shape_broken : (s u : Printing O) (e : Entry) → o.failed s.outlet ≡ false → BrokeLines o s [] e u → PutSome {A = Unit {0}} printer_shows (e ∷ []) s u (Err faults.Write)
   shape_broken s u e works broke = (
     0,
     inr (record { prefix = []; next = e; rest = []; parts = refl; count = refl; broken = broke }),

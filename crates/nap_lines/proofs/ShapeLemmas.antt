@@ -12,7 +12,7 @@ use Rattle.nap_list.specs.State.{ink_of}
 use Rattle.nap_list.specs.declared.attribute.Ink.{Ink}
 use Rattle.nap_lines.specs.Lines.{fill_text, ink_text, line, point_text, points_text}
 use Rattle.nap_lines.specs.Shapes.{closing_points, shape_name}
-use Rattle.nap_lines.specs.Writing.{Writes}
+use Rattle.nap_lines.specs.Writing.{AppendsText}
 
 -- The line of a shape, part by part.
 
@@ -21,7 +21,7 @@ pub both_written : (old mid new a b : List ℕ) → mid ≡ old ++ a → new ≡
 both_written old mid new a b first second = second ∙ ap (λ (bytes : List ℕ). bytes ++ b) first ∙ append_assoc old a b
 
 -- what stood before both still stands where the second wasn't written
-pub text_kept : {E : Type 0} (old mid new a bytes : List ℕ) (r : Result (Unit {0}) E) → mid ≡ old ++ a → take (length mid) new ≡ mid → IsErr r → Writes old bytes new r
+pub text_kept : {E : Type 0} (old mid new a bytes : List ℕ) (r : Result (Unit {0}) E) → mid ≡ old ++ a → take (length mid) new ≡ mid → IsErr r → AppendsText old bytes new r
 text_kept old mid new a bytes (Ok done) is kept fails = let bad : ⊥ = cc in absurd bad
 text_kept old mid new a bytes (Err fault) is kept fails =
     sym (take-take (length old) (length mid) new (omega (arith, ap length is, length-append old a)))

@@ -4,8 +4,8 @@ use Rattle.nap_lines.specs.Lines.{code_text}
 -- Blocks of lines, which differ only in the digits of a code.
 
 -- a block with these bytes at an index
-abbrev pub with_bytes_at : List ℕ → ℕ → List ℕ → List ℕ
-with_bytes_at block at bytes = take at block ++ (bytes ++ drop (at + length bytes) block)
+abbrev pub patched : List ℕ → ℕ → List ℕ → List ℕ
+patched block at bytes = take at block ++ (bytes ++ drop (at + length bytes) block)
 
 -- n copies of a line
 unfoldable pub repeated : ℕ → List ℕ → List ℕ

@@ -18,11 +18,6 @@ pub record SendsPart (s : Sending) (buffered bytes left : List ℕ) (t : Sending
   pub parts : buffered ++ bytes ≡ sent ++ left
   pub grows : Grows s sent t
 
--- all bytes were sent and no write failed, or a prefix was sent and then a write failed
-abbrev pub SentUpTo : Sending → List ℕ → Sending → Result (Unit {0}) DeviceFault → Type 0
-SentUpTo s bytes t (Ok done) = Grows s bytes t × (t.failed ≡ s.failed)
-SentUpTo s bytes t (Err fault) = ((left : List ℕ) × SendsPart s [] bytes left t) × (t.failed ≡ true)
-
 -- A printer: its outlet, the number of bytes that it took, the buffered bytes, and the state that the next entry has to
 -- fit.
 pub record Printing (O : Type 0) : Type 0 where
@@ -31,19 +26,19 @@ pub record Printing (O : Type 0) : Type 0 where
   pub buffered : List ℕ
   pub state : State
 
-abbrev pub sending_of : {O : Type 0} → outlet.Ghosts O → Printing O → Sending
-sending_of o s = sending o s.outlet s.written
+abbrev pub sending_by : {O : Type 0} → outlet.Ghosts O → Printing O → Sending
+sending_by o s = sending o s.outlet s.written
 
 -- a printer took these entries: their lines were sent, or are buffered
-pub record Took {O : Type 0} (o : outlet.Ghosts O) (s : Printing O) (d : List Entry) (t : Printing O) : Type 0 where
-  pub passes : SendsPart (sending_of o s) s.buffered (lines d) t.buffered (sending_of o t)
+pub record TookLines {O : Type 0} (o : outlet.Ghosts O) (s : Printing O) (d : List Entry) (t : Printing O) : Type 0 where
+  pub passes : SendsPart (sending_by o s) s.buffered (lines d) t.buffered (sending_by o t)
   pub failed : o.failed t.outlet ≡ o.failed s.outlet
   pub state : t.state ≡ walk s.state d
 
 -- a printer took these entries, and a write failed in their lines or in the line of one more entry
-pub record Broke {O : Type 0} (o : outlet.Ghosts O) (s : Printing O) (d : List Entry) (e : Entry) (t : Printing O) : Type 0 where
+pub record BrokeLines {O : Type 0} (o : outlet.Ghosts O) (s : Printing O) (d : List Entry) (e : Entry) (t : Printing O) : Type 0 where
   pub left : List ℕ
-  pub passes : SendsPart (sending_of o s) s.buffered (lines (d ++ e ∷ [])) left (sending_of o t)
+  pub passes : SendsPart (sending_by o s) s.buffered (lines (d ++ e ∷ [])) left (sending_by o t)
   pub failed : o.failed t.outlet ≡ true
   pub state : t.state ≡ walk s.state d
 
@@ -51,7 +46,7 @@ pub record Broke {O : Type 0} (o : outlet.Ghosts O) (s : Printing O) (d : List E
 -- outlet had failed before.
 pub record Closes {O : Type 0} (o : outlet.Ghosts O) (s : Printing O) (w : O) (count : ℕ) : Type 0 where
   pub left : List ℕ
-  pub passes : SendsPart (sending_of o s) s.buffered [] left (sending o w count)
+  pub passes : SendsPart (sending_by o s) s.buffered [] left (sending o w count)
   pub all : o.failed w ≡ false → left ≡ []
   pub still : o.failed s.outlet ≡ true → (w ≡ s.outlet) × (count ≡ s.written)
 
@@ -59,20 +54,20 @@ pub record Closes {O : Type 0} (o : outlet.Ghosts O) (s : Printing O) (w : O) (c
 
 -- the buffered bytes were sent, or are still buffered, or a write failed in them
 abbrev pub SendsBuffered : {O : Type 0} → outlet.Ghosts O → Printing O → Printing O → Result (Unit {0}) DeviceFault → Type 0
-SendsBuffered o s t (Ok done) = SendsPart (sending_of o s) s.buffered [] t.buffered (sending_of o t) × (o.failed t.outlet ≡ o.failed s.outlet) × (t.state ≡ s.state)
-SendsBuffered o s t (Err fault) = ((left : List ℕ) × SendsPart (sending_of o s) s.buffered [] left (sending_of o t)) × (o.failed t.outlet ≡ true) × (t.state ≡ s.state)
+SendsBuffered o s t (Ok done) = SendsPart (sending_by o s) s.buffered [] t.buffered (sending_by o t) × (o.failed t.outlet ≡ o.failed s.outlet) × (t.state ≡ s.state)
+SendsBuffered o s t (Err fault) = ((left : List ℕ) × SendsPart (sending_by o s) s.buffered [] left (sending_by o t)) × (o.failed t.outlet ≡ true) × (t.state ≡ s.state)
 
 -- n lines of a list were printed, and then memory ran out or a write failed, with an outlet that hadn't failed
 -- before
-abbrev pub StopsAt : {O : Type 0} → outlet.Ghosts O → Printing O → List Entry → ℕ → Printing O → SinkFault → Type 0
-StopsAt o s d n t faults.Memory = SendsPart (sending_of o s) s.buffered (lines (take n d)) t.buffered (sending_of o t) × (o.failed t.outlet ≡ false)
-StopsAt o s d n t faults.Write = ((left : List ℕ) × SendsPart (sending_of o s) s.buffered (lines (take n d)) left (sending_of o t)) × (o.failed t.outlet ≡ true)
+abbrev pub PrintsUpTo : {O : Type 0} → outlet.Ghosts O → Printing O → List Entry → ℕ → Printing O → SinkFault → Type 0
+PrintsUpTo o s d n t faults.Memory = SendsPart (sending_by o s) s.buffered (lines (take n d)) t.buffered (sending_by o t) × (o.failed t.outlet ≡ false)
+PrintsUpTo o s d n t faults.Write = ((left : List ℕ) × SendsPart (sending_by o s) s.buffered (lines (take n d)) left (sending_by o t)) × (o.failed t.outlet ≡ true)
 
 -- the lines of a list were printed, all of them or as many as the error says, with an outlet that hadn't failed before;
 -- the state is unchanged
-abbrev pub Prints : {O : Type 0} → outlet.Ghosts O → Printing O → List Entry → Printing O → Result (Unit {0}) BatchFault → Type 0
-Prints o s d t (Ok done) = SendsPart (sending_of o s) s.buffered (lines d) t.buffered (sending_of o t) × (o.failed t.outlet ≡ false) × (t.state ≡ s.state)
-Prints o s d t (Err stop) = StopsAt o s d stop.taken t stop.fault × (stop.taken < length d) × (t.state ≡ s.state)
+abbrev pub PrintsLines : {O : Type 0} → outlet.Ghosts O → Printing O → List Entry → Printing O → Result (Unit {0}) BatchFault → Type 0
+PrintsLines o s d t (Ok done) = SendsPart (sending_by o s) s.buffered (lines d) t.buffered (sending_by o t) × (o.failed t.outlet ≡ false) × (t.state ≡ s.state)
+PrintsLines o s d t (Err stop) = PrintsUpTo o s d stop.taken t stop.fault × (stop.taken < length d) × (t.state ≡ s.state)
 
 -- how many of a number of entries were taken
 abbrev pub taken_count : ℕ → Result (Unit {0}) BatchFault → ℕ

@@ -6,7 +6,7 @@ use Rattle.nap_list.specs.Sending.{Sending, grows_none, grows_more}
 use Rattle.nap_list.specs.State.{walk}
 use Rattle.nap_list.proofs.PublicLaws.{walks_join}
 use Rattle.nap_lines.specs.Listing.{lines, lines_join}
-use Rattle.nap_lines.specs.Printing.{SendsPart, Printing, sending_of, Took, Broke}
+use Rattle.nap_lines.specs.Printing.{SendsPart, Printing, sending_by, TookLines, BrokeLines}
 
 -- Bytes that are sent in two steps are sent.
 
@@ -36,25 +36,25 @@ passes_on s t buffered left a b first = record {
 -- The members of the trait for a printer.
 
 module _ {O : Type 0} (o : outlet.Ghosts O) where
-  pub took_none : (s : Printing O) → Took o s [] s
+  pub took_none : (s : Printing O) → TookLines o s [] s
   unfolding walk
-  took_none s = record { passes = passes_none (sending_of o s) s.buffered; failed = refl; state = refl }
+  took_none s = record { passes = passes_none (sending_by o s) s.buffered; failed = refl; state = refl }
 
   state_join : (s t : Printing O) (d e : List Entry) → t.state ≡ walk s.state d → walk t.state e ≡ walk s.state (d ++ e)
   state_join s t d e is = ap (λ (state : State). walk state e) is ∙ sym (walks_join s.state d e)
 
-  pub took_more : (s t u : Printing O) (d e : List Entry) → Took o s d t → Took o t e u → Took o s (d ++ e) u
+  pub took_more : (s t u : Printing O) (d e : List Entry) → TookLines o s d t → TookLines o t e u → TookLines o s (d ++ e) u
   took_more s t u d e first second = record {
-    passes = rw (lines_join d e) (passes_more (sending_of o s) (sending_of o t) (sending_of o u) s.buffered t.buffered u.buffered (lines d) (lines e) first.passes second.passes);
+    passes = rw (lines_join d e) (passes_more (sending_by o s) (sending_by o t) (sending_by o u) s.buffered t.buffered u.buffered (lines d) (lines e) first.passes second.passes);
     failed = second.failed ∙ first.failed;
     state = second.state ∙ state_join s t d e first.state;
   }
 
-  pub took_broke : (s t u : Printing O) (d e : List Entry) (x : Entry) → Took o s d t → Broke o t e x u → Broke o s (d ++ e) x u
+  pub took_broke : (s t u : Printing O) (d e : List Entry) (x : Entry) → TookLines o s d t → BrokeLines o t e x u → BrokeLines o s (d ++ e) x u
   took_broke s t u d e x first second = record {
     left = second.left;
     passes = rw (append_assoc d e (x ∷ []), lines_join d (e ++ x ∷ []))
-        (passes_more (sending_of o s) (sending_of o t) (sending_of o u) s.buffered t.buffered second.left (lines d) (lines (e ++ x ∷ [])) first.passes second.passes);
+        (passes_more (sending_by o s) (sending_by o t) (sending_by o u) s.buffered t.buffered second.left (lines d) (lines (e ++ x ∷ [])) first.passes second.passes);
     failed = second.failed;
     state = second.state ∙ state_join s t d e first.state;
   }

@@ -1,6 +1,6 @@
 //! Blocks of lines of characters, which differ only in the digits of their codes.
 ghost use Rattle.std.specs.Prelude.{◌≡◌, ◌+◌, ◌*◌, ◌≤◌, ◌++◌, All, drop, length, take};
-ghost use Rattle.nap_lines.specs.Blocks.{with_bytes_at, recoded, repeated};
+ghost use Rattle.nap_lines.specs.Blocks.{patched, recoded, repeated};
 ghost use Rattle.nap_lines.specs.Lines.{code_text};
 
 use crate::backward_buffer::digit;
@@ -12,7 +12,7 @@ pub(crate) const BLOCK: usize = 1_024;
 #[inline(always)]
 fn copy_at(block: &mut [u8], at: usize, bytes: &[u8])
     requires within { at + length bytes.now ≤ length block.old }
-    ensures { block.new ≡ with_bytes_at block.old at bytes.now }
+    ensures { block.new ≡ patched block.old at bytes.now }
 {
     block[at..at + bytes.len()].copy_from_slice(bytes);
 }
@@ -21,7 +21,7 @@ fn copy_at(block: &mut [u8], at: usize, bytes: &[u8])
 #[inline(always)]
 fn put_code(block: &mut [u8], at: usize, code: u8)
     requires within { at + 2 ≤ length block.old }
-    ensures { block.new ≡ with_bytes_at block.old at (code_text code) }
+    ensures { block.new ≡ patched block.old at (code_text code) }
 {
     block[at] = digit(code / 16);
     block[at + 1] = digit(code % 16);

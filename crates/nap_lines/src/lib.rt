@@ -9,7 +9,6 @@ mod letters;
 mod line;
 mod line_sink;
 mod printer;
-mod sending;
 mod shape;
 mod slices;
 

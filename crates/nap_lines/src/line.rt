@@ -3,7 +3,7 @@ ghost use Rattle.std.specs.Prelude.{◌≡◌, ◌+◌, ◌≤◌, [], ◌∷◌
 ghost use Rattle.std.specs.Str.{IsUtf8};
 ghost use Rattle.nap_lines.specs.Lines.{line, points_text, fill_text, ink_text};
 ghost use Rattle.nap_lines.specs.Parts.{first_part, last_part};
-ghost use Rattle.nap_lines.specs.Writing.{Writes, line_limit};
+ghost use Rattle.nap_lines.specs.Writing.{AppendsText, line_limit};
 
 use crate::backward_buffer::BackwardBuffer;
 use crate::field::{POINTS_AT_ONCE, fill_name, mark_name};
@@ -232,7 +232,7 @@ pub(crate) fn write_points(
     text: &mut Vec<u8>,
     points: &[Point],
 ) -> Result<(), AllocError>
-    ensures { Writes text.old.items (points_text points.now) text.new.items result }
+    ensures { AppendsText text.old.items (points_text points.now) text.new.items result }
 {
     let mut written = 0;
     while written < points.len() {
@@ -254,7 +254,7 @@ fn write_shape(
     points: &Points,
 ) -> Result<(), AllocError>
     requires { length name.now ≤ 5 }
-    ensures { Writes text.old.items (name.now ++ fill_text filled ++ points_text points.now) text.new.items result }
+    ensures { AppendsText text.old.items (name.now ++ fill_text filled ++ points_text points.now) text.new.items result }
 {
     buffer.clear();
     buffer.push(fill_name(filled));
@@ -270,7 +270,7 @@ fn write_first_part(
     text: &mut Vec<u8>,
     entry: &Entry,
 ) -> Result<(), AllocError>
-    ensures { Writes text.old.items (first_part entry.now) text.new.items result }
+    ensures { AppendsText text.old.items (first_part entry.now) text.new.items result }
 {
     match entry {
         Entry::Arc { filled, points, .. } => write_shape(buffer, text, "ARC-", *filled, points),
@@ -287,7 +287,7 @@ fn write_parts(
     end: &str,
 ) -> Result<(), AllocError>
     requires { length end.now ≤ 1 }
-    ensures { Writes text.old.items (line entry.now ++ end.now) text.new.items result }
+    ensures { AppendsText text.old.items (line entry.now ++ end.now) text.new.items result }
 {
     write_first_part(buffer, text, entry)?;
     buffer.clear();

@@ -2,15 +2,16 @@
 ghost use Rattle.std.specs.Prelude.{◌≡◌, [], false, OnOk};
 ghost use Rattle.nap_list.specs.Batches.{batch_entries};
 ghost use Rattle.nap_list.specs.State.{start};
-ghost use Rattle.nap_lines.specs.Printing.{Broke, Closes, Prints, SendsBuffered, Took, taken_count};
+ghost use Rattle.nap_lines.specs.Printing.{BrokeLines, Closes, PrintsLines, SendsBuffered, TookLines, taken_count};
 ghost use Rattle.nap_lines.specs.PrintingLaws.{took_broke, took_more, took_none};
 
 use crate::backward_buffer::BackwardBuffer;
 use crate::batch::write_batch;
 use crate::line::write_line;
-use crate::sending::send_all;
 use crate::shape::write_shape_line;
-use nap_list::{Batch, BatchFault, DeviceFault, Entry, GhostState, Outlet, Shape, Sink, SinkFault};
+use nap_list::{
+    Batch, BatchFault, DeviceFault, Entry, GhostState, Outlet, Shape, Sink, SinkFault, send_all,
+};
 use std::alloc::Global;
 use std::marker::Model;
 
@@ -94,7 +95,7 @@ impl<O: Outlet + Drop> LinePrinter<O> {
                 self.buffered.clear();
                 Ok(())
             }
-            Err(fault) => Err(fault),
+            Err(_) => Err(DeviceFault),
         }
     }
 
@@ -113,7 +114,7 @@ impl<O: Outlet + Drop> LinePrinter<O> {
     #[inline(always)]
     fn print_batch(&mut self, batch: &Batch) -> Result<(), BatchFault>
         requires { O.failed self.old.outlet ≡ false }
-        ensures { Prints O.Outlet self.old (batch_entries batch.now) self.new result }
+        ensures { PrintsLines O.Outlet self.old (batch_entries batch.now) self.new result }
     {
         let mut taken = 0;
         while taken < batch.len() {
@@ -183,9 +184,9 @@ impl<O: Outlet + Drop> Sink for LinePrinter<O> {
 
     ghost failed = { λ s. O.failed s.outlet };
 
-    ghost took = { λ s d t. Took O.Outlet s d t };
+    ghost took = { λ s d t. TookLines O.Outlet s d t };
 
-    ghost broke = { λ s d e t. Broke O.Outlet s d e t };
+    ghost broke = { λ s d e t. BrokeLines O.Outlet s d e t };
 
     fn put(&mut self, entry: Entry) -> Result<(), SinkFault> {
         if self.failed() {

@@ -4,7 +4,7 @@ ghost use Rattle.nap_list.specs.State.{ink_of};
 ghost use Rattle.nap_list.specs.Shapes.{entry_of_shape, shape_points};
 ghost use Rattle.nap_lines.specs.Lines.{fill_text, ink_text, line, points_text};
 ghost use Rattle.nap_lines.specs.Shapes.{closing_points, shape_name};
-ghost use Rattle.nap_lines.specs.Writing.{Writes};
+ghost use Rattle.nap_lines.specs.Writing.{AppendsText};
 
 use crate::backward_buffer::BackwardBuffer;
 use crate::field::fill_name;
@@ -39,7 +39,7 @@ fn write_name(
     text: &mut Vec<u8>,
     shape: &Shape,
 ) -> Result<(), AllocError>
-    ensures { Writes text.old.items (shape_name shape.now.kind ++ fill_text shape.now.filled) text.new.items result }
+    ensures { AppendsText text.old.items (shape_name shape.now.kind ++ fill_text shape.now.filled) text.new.items result }
 {
     buffer.clear();
     buffer.push(fill_name(shape.filled));
@@ -54,7 +54,7 @@ fn write_closing(
     text: &mut Vec<u8>,
     shape: &Shape,
 ) -> Result<(), AllocError>
-    ensures { Writes text.old.items (points_text (closing_points shape.now.kind shape.now.from shape.now.others.now)) text.new.items result }
+    ensures { AppendsText text.old.items (points_text (closing_points shape.now.kind shape.now.from shape.now.others.now)) text.new.items result }
 {
     if !returns_to_start(shape) {
         return Ok(());
@@ -69,7 +69,7 @@ fn write_other_points(
     text: &mut Vec<u8>,
     shape: &Shape,
 ) -> Result<(), AllocError>
-    ensures { Writes text.old.items (points_text shape.now.others.now ++ points_text (closing_points shape.now.kind shape.now.from shape.now.others.now)) text.new.items result }
+    ensures { AppendsText text.old.items (points_text shape.now.others.now ++ points_text (closing_points shape.now.kind shape.now.from shape.now.others.now)) text.new.items result }
 {
     write_points(buffer, text, shape.others)?;
     write_closing(buffer, text, shape)?;
@@ -82,7 +82,7 @@ fn write_shape_points(
     text: &mut Vec<u8>,
     shape: &Shape,
 ) -> Result<(), AllocError>
-    ensures { Writes text.old.items (points_text (shape_points shape.now)) text.new.items result }
+    ensures { AppendsText text.old.items (points_text (shape_points shape.now)) text.new.items result }
 {
     write_points(buffer, text, &[shape.from])?;
     write_other_points(buffer, text, shape)?;
@@ -95,7 +95,7 @@ fn write_ink(
     text: &mut Vec<u8>,
     shape: &Shape,
 ) -> Result<(), AllocError>
-    ensures { Writes text.old.items (codes " " ++ ink_text (ink_of shape.now.drawing.now) ++ 10 ∷ []) text.new.items result }
+    ensures { AppendsText text.old.items (codes " " ++ ink_text (ink_of shape.now.drawing.now) ++ 10 ∷ []) text.new.items result }
 {
     buffer.clear();
     buffer.push("\n");
@@ -110,7 +110,7 @@ fn write_points_and_ink(
     text: &mut Vec<u8>,
     shape: &Shape,
 ) -> Result<(), AllocError>
-    ensures { Writes text.old.items (points_text (shape_points shape.now) ++ (codes " " ++ ink_text (ink_of shape.now.drawing.now) ++ 10 ∷ [])) text.new.items result }
+    ensures { AppendsText text.old.items (points_text (shape_points shape.now) ++ (codes " " ++ ink_text (ink_of shape.now.drawing.now) ++ 10 ∷ [])) text.new.items result }
 {
     write_shape_points(buffer, text, shape)?;
     write_ink(buffer, text, shape)?;
@@ -123,7 +123,7 @@ fn write_shape_parts(
     text: &mut Vec<u8>,
     shape: &Shape,
 ) -> Result<(), AllocError>
-    ensures { Writes text.old.items (line (entry_of_shape shape.now) ++ 10 ∷ []) text.new.items result }
+    ensures { AppendsText text.old.items (line (entry_of_shape shape.now) ++ 10 ∷ []) text.new.items result }
 {
     write_name(buffer, text, shape)?;
     write_points_and_ink(buffer, text, shape)?;

@@ -8,7 +8,7 @@ use Rattle.nap_codes.specs.declared.control.TextStep.{TextStep}
 use Rattle.nap_codes.specs.declared.control.TextStep.TheVariants as steps
 use Rattle.nap_codes.specs.declared.code.Code.TheVariants as codes
 use Rattle.nap_codes.specs.CodeSets.{start_sets}
-use Rattle.nap_codes.specs.Laws.{IsInRange}
+use Rattle.nap_codes.specs.Laws.{IsCodeInRange}
 use Rattle.nap_codes.specs.Tables.{format_effector}
 use Rattle.nap_codes.proofs.PublicLaws.{code_ranges, format_effector_front}
 use Rattle.nap_list.specs.declared.attribute.Base.{Base}
@@ -90,7 +90,7 @@ typed_mark set hand code s = by (format_effector code)
     by None = refl
 
 -- the entry of a byte of a text is well made: a move of one byte has no bytes of its own
-step_made : (step : TextStep) → IsInRange (codes.Step step) → StepMade step
+step_made : (step : TextStep) → IsCodeInRange (codes.Step step) → StepMade step
 step_made (steps.Aps a b) range = ((range.0.0, omega (arith, range.0.1)), (range.1.0, omega (arith, range.1.1)))
 step_made _ range = tt
 

@@ -15,6 +15,10 @@ steps_limit = 2000
 abbrev pub reads_limit : ℕ
 reads_limit = 1048576
 
+-- the greatest number of bytes of one read
+abbrev pub read_limit : ℕ
+read_limit = 65536
+
 -- the greatest number of known colours
 abbrev pub known_limit : ℕ
 known_limit = 16

@@ -20,12 +20,12 @@ abbrev pub sink_model : {S : Type 0} → (S → State) → (S → List Entry →
 sink_model state wants failed took broke = record { state = state; wants = wants; failed = failed; took = took; broke = broke }
 
 -- the sink took a prefix of the list, and not the next entry
-abbrev pub Stops : {S : Type 0} → (S → List Entry → S → Type 0) → S → List Entry → S → Type 0
-Stops took s list t = (prefix : List Entry) × (next : Entry) × (rest : List Entry) × (list ≡ prefix ++ next ∷ rest) × took s prefix t
+abbrev pub StopsAmid : {S : Type 0} → (S → List Entry → S → Type 0) → S → List Entry → S → Type 0
+StopsAmid took s list t = (prefix : List Entry) × (next : Entry) × (rest : List Entry) × (list ≡ prefix ++ next ∷ rest) × took s prefix t
 
 -- the sink took a prefix of the list, and its device failed during the next entry
-abbrev pub Breaks : {S : Type 0} → (S → List Entry → Entry → S → Type 0) → S → List Entry → S → Type 0
-Breaks broke s list t = (prefix : List Entry) × (next : Entry) × (rest : List Entry) × (list ≡ prefix ++ next ∷ rest) × broke s prefix next t
+abbrev pub BreaksAmid : {S : Type 0} → (S → List Entry → Entry → S → Type 0) → S → List Entry → S → Type 0
+BreaksAmid broke s list t = (prefix : List Entry) × (next : Entry) × (rest : List Entry) × (list ≡ prefix ++ next ∷ rest) × broke s prefix next t
 
 -- the progress of putting a list: the sink took these entries, and the rest is left
 pub record Putting {S : Type 0} (h : SinkModel S) (s t : S) (whole rest : List Entry) : Type 0 where

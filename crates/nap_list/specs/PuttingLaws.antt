@@ -9,7 +9,7 @@ use Rattle.nap_list.specs.declared.sink.SinkFault.TheVariants.{Memory, Write}
 use Rattle.nap_list.specs.declared.sink.BatchFault.{BatchFault}
 use Rattle.nap_list.specs.State.{Fits, AllFit, after, walk}
 use Rattle.nap_list.specs.Walks.{walks_join, fits_join}
-use Rattle.nap_list.specs.Putting.{SinkModel, Put, PutSome, Putting, Stops, Breaks, StopsAfter, HaltsAfter, TakesAll, TookMore, TookBroke, WantsMore, NotTaken, UnlessAll}
+use Rattle.nap_list.specs.Putting.{SinkModel, Put, PutSome, Putting, StopsAmid, BreaksAmid, StopsAfter, HaltsAfter, TakesAll, TookMore, TookBroke, WantsMore, NotTaken, UnlessAll}
 
 -- Laws about what a sink took of a list, part by part.
 
@@ -189,7 +189,7 @@ module _ {S : Type 0} (g : SinkModel S) where
 
   -- an error without the number of entries taken
 
-  pub some_stops : (A : Type 0) (s t : S) (list : List Entry) → PutSome {A = A} g list s t (Err Memory) → Stops g.took s list t
+  pub some_stops : (A : Type 0) (s t : S) (list : List Entry) → PutSome {A = A} g list s t (Err Memory) → StopsAmid g.took s list t
   some_stops A s t list put = let stops = put.1 in (stops.prefix, stops.next, stops.rest, stops.parts, stops.taken)
 
   pub some_wants : (A : Type 0) (s t : S) (list : List Entry) → g.took s [] s → WantsMore g → PutSome {A = A} g list s t (Err Memory) → g.wants s list
@@ -197,10 +197,10 @@ module _ {S : Type 0} (g : SinkModel S) where
       let stops = put.1 in
       subst (g.wants s) (append_assoc stops.prefix (stops.next ∷ []) stops.rest ∙ sym stops.parts) (wants s s [] (stops.prefix ++ stops.next ∷ []) stops.rest none stops.wants)
 
-  pub some_breaks : (A : Type 0) (s t : S) (list : List Entry) → PutSome {A = A} g list s t (Err Write) → ((g.failed s ≡ true) × (t ≡ s)) ⊎ Breaks g.broke s list t
+  pub some_breaks : (A : Type 0) (s t : S) (list : List Entry) → PutSome {A = A} g list s t (Err Write) → ((g.failed s ≡ true) × (t ≡ s)) ⊎ BreaksAmid g.broke s list t
   some_breaks A s t list put = by put.1
     where
-      by : HaltsAfter g list s t put.0 Write → ((g.failed s ≡ true) × (t ≡ s)) ⊎ Breaks g.broke s list t
+      by : HaltsAfter g list s t put.0 Write → ((g.failed s ≡ true) × (t ≡ s)) ⊎ BreaksAmid g.broke s list t
       by (inl still) = inl (still.0, still.1)
       by (inr breaks) = inr (breaks.prefix, breaks.next, breaks.rest, breaks.parts, breaks.broken)
 

@@ -1,4 +1,4 @@
-use Rattle.std.proofs.Common.{ℕ, ◌≡◌, ◌+◌, ◌-◌, ◌^◌, ◌≤◌, ◌||◌, Bool, true, false, Option, List, [], ◌++◌, length, take, drop, take-add, min, refl, ap, sym, subst, ◌∙◌, length-append, arith}
+use Rattle.std.proofs.Common.{ℕ, ◌≡◌, ◌+◌, ◌-◌, ◌^◌, ◌<◌, ◌≤◌, ◌||◌, Bool, true, false, Option, Result, Ok, Err, List, [], ◌++◌, length, take, drop, take-add, min, refl, ap, sym, subst, ◌∙◌, length-append, length-drop, append-nil, take_all, arith}
 use Rattle.std.proofs.lemmas.List.{length-take-le}
 use Rattle.std.specs.Io.KnownBytes.{Appends, Keeps}
 use Rattle.std.proofs.KnownBytes.{Appends-kept, Appends-nil, Appends-trans}
@@ -29,6 +29,37 @@ pub record Grows (s : Sending) (bytes : List ℕ) (t : Sending) : Type 0 where
   pub taken : Appends s.taken t.taken bytes
   pub count : t.count ≡ s.count + min (length bytes) (2 ^ 64 - 1 - s.count)
   pub writes : Writes s t
+
+-- all of the bytes were taken, and no write failed
+pub record SendsAll (s : Sending) (bytes : List ℕ) (t : Sending) : Type 0 where
+  pub grows : Grows s bytes t
+  pub failed : t.failed ≡ s.failed
+
+-- a proper prefix of the bytes was taken, and then a write failed
+pub record SendsSome (s : Sending) (bytes : List ℕ) (t : Sending) : Type 0 where
+  pub part : ℕ
+  pub less : part < length bytes
+  pub grows : Grows s (take part bytes) t
+  pub failed : t.failed ≡ true
+
+-- the bytes were written, or a write failed during them
+abbrev pub Sends : Sending → List ℕ → Bool → Sending → Type 0
+Sends s bytes true t = SendsSome s bytes t
+Sends s bytes false t = SendsAll s bytes t
+
+-- The outlet took so many of the bytes, not all, and then a write failed, which took none.
+pub record FailsAfter {O : Type 0} (o : outlet.Ghosts O) (before : O) (n : ℕ) (bytes : List ℕ) (taken : ℕ) (after : O) (count : ℕ) : Type 0 where
+  pub less : taken < length bytes
+  pub mid : O
+  pub prefix : SendsAll (sending o before n) (take taken bytes) (sending o mid count)
+  pub grows : Grows (sending o mid count) [] (sending o after count)
+  pub failed : o.failed after ≡ true
+  pub write_failed : o.write_failed after ≡ true
+
+-- all of the bytes were taken, or as many as the error says before a write failed
+abbrev pub SendsBytes : {O : Type 0} → outlet.Ghosts O → O → ℕ → List ℕ → O → ℕ → Result (Unit {0}) ℕ → Type 0
+SendsBytes o before n bytes after count (Ok done) = SendsAll (sending o before n) bytes (sending o after count) × (o.write_failed after ≡ o.write_failed before)
+SendsBytes o before n bytes after count (Err taken) = FailsAfter o before n bytes taken after count
 
 -- Laws of sending: no bytes, and bytes after others.
 
@@ -95,3 +126,14 @@ write_fails o t u n kept failed write_failed flushes = record {
   count = omega arith;
   writes = record { fails = true; failed = failed; write_failed = write_failed; flushes = flushes };
 }
+
+-- the piece from i on is the rest
+pub rest_of : (i : ℕ) (xs : List ℕ) → take (length xs - i) (drop i xs) ≡ drop i xs
+rest_of i xs = take_all (length xs - i) (drop i xs) (omega (arith, length-drop i xs))
+
+-- what was taken before a write failed
+pub stopped_grows : {O : Type 0} (o : outlet.Ghosts O) (before : O) (n : ℕ) (bytes : List ℕ) (taken : ℕ) (after : O) (count : ℕ) → FailsAfter o before n bytes taken after count →
+    Grows (sending o before n) (take taken bytes) (sending o after count)
+stopped_grows o before n bytes taken after count h =
+    subst (λ (sent : List ℕ). Grows (sending o before n) sent (sending o after count)) (append-nil (take taken bytes))
+    (grows_more (sending o before n) (sending o h.mid count) (sending o after count) (take taken bytes) [] h.prefix.grows h.grows)

@@ -67,6 +67,11 @@ impl Sink for CountSink {
 
     #[inline(always)]
     fn put_batch(&mut self, batch: &Batch) -> Result<(), BatchFault> {
+        if let Some(count) = self.count.checked_add(batch.len() as u64) {
+            self.count = count;
+            self.state = self.state.after_first(batch, batch.len());
+            return Ok(());
+        }
         let taken = (batch.len() as u64).min(self.space_left()) as usize;
         self.count += taken as u64;
         self.state = self.state.after_first(batch, taken);
@@ -81,6 +86,21 @@ impl Sink for CountSink {
         self.count = count;
         self.state = self.state.after_shape(shape);
         Ok(())
+    }
+
+    #[inline(always)]
+    fn counts_only(&self) -> bool {
+        true
+    }
+
+    #[inline(always)]
+    fn put_alike(&mut self, count: usize, last: &Entry) -> bool {
+        let Some(sum) = self.count.checked_add(count as u64) else {
+            return false;
+        };
+        self.count = sum;
+        self.state = self.state.after(last);
+        true
     }
 
     ghost took_none = { λ s. counts_none s };

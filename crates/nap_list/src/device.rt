@@ -3,11 +3,13 @@ use thiserror::Error;
 
 mod inlet;
 mod outlet;
+mod sending;
 mod source;
 mod target;
 
-pub use inlet::{Inlet, READS};
+pub use inlet::{Inlet, READ_SIZE, READS, STREAM_READ_SIZE};
 pub use outlet::Outlet;
+pub use sending::send_all;
 pub use source::Source;
 pub use target::Target;
 

@@ -2,8 +2,8 @@
 ghost use Rattle.std.specs.Prelude.{◌≡◌};
 ghost use Rattle.nap_list.specs.Laws.{WalksJoin, FitsJoin, StartAgrees, CurrentAttributesChangeNothing, LegalIsNowhereIllegal, BatchIsCurrent, TextLeaves, TextEntriesAreWellMade};
 ghost use Rattle.nap_list.specs.Agreement.{AgreeingFits};
-ghost use Rattle.nap_list.specs.Limits.{points_limit, reads_limit, known_limit};
-ghost use Rattle.nap_list.specs.declared.device.inlet.TheConstants.{READS};
+ghost use Rattle.nap_list.specs.Limits.{points_limit, read_limit, reads_limit, known_limit};
+ghost use Rattle.nap_list.specs.declared.device.inlet.TheConstants.{READ_SIZE, READS};
 ghost use Rattle.nap_list.specs.declared.known.TheConstants.{KNOWN};
 ghost use Rattle.nap_list.specs.declared.points.TheConstants.{SHAPE_POINTS};
 
@@ -53,11 +53,12 @@ pub fn text_leaves()
     ensures { TextLeaves }
 {}
 
-/// The constants have the values of the profile: 2,001 points, 1,048,576 reads and 16 known colours (PROFILE.md,
-/// Limits).
+/// The constants have the values of the profile: 2,001 points, 1,048,576 reads of 65,536 bytes and 16 known
+/// colours (PROFILE.md, Limits).
 pub fn limits()
     ensures points { SHAPE_POINTS ≡ points_limit }
     ensures reads { READS ≡ reads_limit }
+    ensures read { READ_SIZE ≡ read_limit }
     ensures known { KNOWN ≡ known_limit }
 {}
 

@@ -21,7 +21,9 @@ pub use attribute::{
 };
 pub use batch::{Batch, last_char_of_text, line_start};
 pub use count_sink::CountSink;
-pub use device::{DeviceFault, Inlet, Outlet, READS, Source, Target};
+pub use device::{
+    DeviceFault, Inlet, Outlet, READ_SIZE, READS, STREAM_READ_SIZE, Source, Target, send_all,
+};
 pub use entry::Entry;
 pub use ghost_state::GhostState;
 pub use known::{KNOWN, Known, MapColour};

@@ -6,7 +6,7 @@ ghost use Rattle.nap_list.specs.declared.entry.Entry.{Entry};
 ghost use Rattle.nap_list.specs.declared.sink.SinkFault.TheVariants.{Memory};
 ghost use Rattle.nap_list.specs.State.{AllFit, Fits, after, start, walk};
 ghost use Rattle.nap_list.specs.Batches.{batch_entries};
-ghost use Rattle.nap_list.specs.Putting.{Put, PutSome, UnlessAll, sink_model};
+ghost use Rattle.nap_list.specs.Putting.{Put, PutSome, TakesAll, UnlessAll, sink_model};
 ghost use Rattle.nap_list.specs.Shapes.{entry_of_shape};
 
 use crate::batch::Batch;
@@ -118,6 +118,20 @@ pub trait Sink {
     fn put_shape(&mut self, alloc: Global, shape: &Shape) -> Result<(), SinkFault>
         requires { Fits (state self.old) (entry_of_shape shape.now) }
         ensures { PutSome (sink_model state wants failed took broke) (entry_of_shape shape.now ∷ []) self.old self.new result };
+
+    /// Whether it is worth calling `put_alike`: of entries that leave the same state, this sink needs only the number.
+    fn counts_only(&self) -> bool {
+        false
+    }
+
+    /// Takes any list of `count` entries that leaves the state that its last entry leaves by itself. Returns false and
+    /// takes none if it needs the entries.
+    fn put_alike(&mut self, count: usize, last: &Entry) -> bool
+        ensures took { result ≡ true → (list : List Entry) → length list ≡ count → walk (state self.old) list ≡ after (state self.old) last.now → TakesAll (sink_model state wants failed took broke) list self.old self.new }
+        ensures none { result ≡ false → self.new ≡ self.old }
+    {
+        false
+    }
 
     /// Taking nothing changes nothing.
     ghost took_none: { (s : Self) → took s [] s };

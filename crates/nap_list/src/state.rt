@@ -104,7 +104,8 @@ impl TextLook {
             && self.scroll == wanted.scroll
     }
 
-    pub(crate) fn is_look(&self, wanted: &TextLook) -> bool
+    /// Whether these are the text attributes that are wanted.
+    pub fn is_look(&self, wanted: &TextLook) -> bool
         ensures { IsTrue result ↔ wanted.now ≡ self.now }
     {
         self.first == wanted.first

@@ -88,33 +88,3 @@ pen_field_visible = key_spells PenInRange pen_text (codes "pen=") (omega arith) 
 
 pub look_field_visible : Spells IsVisible TextInRange look_field
 look_field_visible = key_spells TextInRange look_text (codes "text=") (omega arith) look_visible
-
--- The parts INK and HAND.
-
-pub ink_end : Layout ColourInRange colour_field 32 TextureInRange texture_field
-ink_end = record { apart = spaceless ColourInRange colour_field colour_field_visible }
-
-pub ink_parts : Layout IsInRange pel_field 32 (BothFit ColourInRange TextureInRange) (pair_text colour_field 32 texture_field)
-ink_parts = record { apart = spaceless IsInRange pel_field pel_field_visible }
-
-pub ink_triple : Alike (λ (i : Ink). (i.pel, (i.colour, i.texture))) InkInRange ink_text
-    (BothFit IsInRange (BothFit ColourInRange TextureInRange)) (pair_text pel_field 32 (pair_text colour_field 32 texture_field))
-ink_triple = record {
-  there = λ i fits. (fits.pel, (fits.colour, fits.texture));
-  back = λ i fits. record { pel = fits.0; colour = fits.1.0; texture = fits.1.1 };
-  same = λ i. ap (λ (s : List ℕ). codes "pel=" ++ s) (from_right (move_text i.pel) (codes " colour=") (colour_text i.colour) (codes " texture=") (texture_text i.texture));
-}
-
-pub hand_end : Layout ColourInRange colour_field 32 TextInRange look_field
-hand_end = record { apart = spaceless ColourInRange colour_field colour_field_visible }
-
-pub hand_parts : Layout PenInRange pen_field 32 (BothFit ColourInRange TextInRange) (pair_text colour_field 32 look_field)
-hand_parts = record { apart = spaceless PenInRange pen_field pen_field_visible }
-
-pub hand_triple : Alike (λ (h : Hand). (h.pen, (h.colour, h.text))) HandInRange hand_text
-    (BothFit PenInRange (BothFit ColourInRange TextInRange)) (pair_text pen_field 32 (pair_text colour_field 32 look_field))
-hand_triple = record {
-  there = λ h fits. (fits.pen, (fits.colour, fits.text));
-  back = λ h fits. record { pen = fits.0; colour = fits.1.0; text = fits.1.1 };
-  same = λ h. ap (λ (s : List ℕ). codes "pen=" ++ s) (from_right (pen_text h.pen) (codes " colour=") (colour_text h.colour) (codes " text=") (look_text h.text));
-}

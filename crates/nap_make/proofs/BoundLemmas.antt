@@ -1,5 +1,5 @@
-use Rattle.std.proofs.Common.{ℕ, pos, negsuc, ◌+◌, ◌*◌, ◌<◌, ◌≤◌, ◌≡◌, ◌⊎◌, inl, inr, List, [], ◌∷◌, ◌++◌, length, ap, arith, codes, length-append}
-use Rattle.std.specs.Prelude.{All, Some, None}
+use Rattle.std.proofs.Common.{ℕ, pos, negsuc, ◌+◌, ◌*◌, ◌<◌, ◌≤◌, ◌≡◌, inl, inr, List, [], ◌∷◌, ◌++◌, length, ap, arith, codes, length-append}
+use Rattle.std.specs.Prelude.{All, Option, Some, None}
 use Rattle.std.specs.Fmt.{decimal, signed_decimal}
 use Rattle.std.proofs.lemmas.Fmt.{length-decimal-le, length_signed_le}
 use Rattle.std.proofs.lemmas.List.Elements.{All-head, All-tail}
@@ -13,33 +13,35 @@ use Rattle.nap_codes.specs.declared.control.CursorKind.TheVariants as cursors
 use Rattle.nap_codes.specs.declared.control.Mask.{Mask}
 use Rattle.nap_codes.specs.declared.control.Mask.TheVariants as masks
 use Rattle.nap_codes.specs.declared.control.Size.TheVariants as named_sizes
-use Rattle.nap_codes.specs.declared.control.TextStep.{TextStep}
 use Rattle.nap_codes.specs.declared.control.TextStep.TheVariants as steps
-use Rattle.nap_list.specs.declared.attribute.Area.TheVariants as areas
 use Rattle.nap_list.specs.declared.attribute.CharSize.TheVariants as sizes
 use Rattle.nap_list.specs.declared.attribute.Colour.TheVariants as colours
 use Rattle.nap_list.specs.declared.attribute.Origin.TheVariants as origins
 use Rattle.nap_list.specs.declared.attribute.Pen.TheVariants as pens
 use Rattle.nap_list.specs.declared.attribute.Preset.TheVariants as presets
 use Rattle.nap_list.specs.declared.entry.Entry.{Entry}
-use Rattle.nap_list.specs.declared.entry.Entry.TheVariants as entry
-use Rattle.nap_list.specs.Range.{AreaInRange, ColourInRange, HandInRange, InkInRange, IsAddress, PenInRange, SizeInRange, TextInRange, TextureInRange}
-use Rattle.nap_lines.specs.Lines.{area_text, code_text, colour_text, cursor_text, grb_text, hand_text, ink_text, line, look_text, mask_size_text, mask_text, move_text, pen_text, point_text, set_text, size_text, step_text, texture_text}
-use Rattle.nap_make.specs.declared.name.Name.{Name}
-use Rattle.nap_make.specs.declared.name.Name.TheVariants as names
-use Rattle.nap_make.specs.Entries.{IsProper, line_from}
-use Rattle.nap_make.specs.Fields.{MaskInRange, colour_field, look_field, modes_text, pel_field, pen_field, points_before, texture_field}
-use Rattle.nap_make.specs.Names.{name_of, name_text}
+use Rattle.nap_list.specs.Range.{ColourInRange, IsAddress, PenInRange, SizeInRange, TextInRange, TextureInRange}
+use Rattle.nap_lines.specs.Lines.{colour_text, cursor_text, grb_text, line, look_text, mask_size_text, mask_text, move_text, pen_text, point_text, set_text, size_text, step_text, texture_text}
+use Rattle.nap_make.specs.declared.field.Sort.{Sort}
+use Rattle.nap_make.specs.declared.field.Sort.TheVariants as sorts
+use Rattle.nap_make.specs.declared.field.Value.{Value}
+use Rattle.nap_make.specs.declared.field.Value.TheVariants as values
+use Rattle.nap_make.specs.declared.kind.Kind.{Kind}
+use Rattle.nap_make.specs.declared.kind.Kind.TheVariants as kinds
+use Rattle.nap_make.specs.Entries.{IsProper}
+use Rattle.nap_make.specs.Fields.{IsPlainStep, MaskInRange, colour_field, look_field, modes_text, pel_field, pen_field, texture_field}
+use Rattle.nap_make.specs.Kinds.{line_name, kind_row, with_word}
 use Rattle.nap_make.specs.Numbers.{IsSigned}
 use Rattle.nap_make.specs.Reading.{AnyValue, BothFit, pair_text}
-use Rattle.nap_make.proofs.AttributeLemmas.{hand_end, hand_parts, hand_triple, ink_end, ink_parts, ink_triple, texture_pair, texture_parts}
+use Rattle.nap_make.specs.Rows.{Fields, fields_line, fields_of, fields_text, points_before}
+use Rattle.nap_make.specs.Sorts.{field_text}
+use Rattle.nap_make.proofs.AttributeLemmas.{texture_pair, texture_parts}
 use Rattle.nap_make.proofs.ColourLemmas.{grb_triple, part_pair, part_triple}
-use Rattle.nap_make.proofs.EntryLemmas.{rest_or_alone}
-use Rattle.nap_make.proofs.KindLayouts.{blink_end, blink_parts, dot_end, dot_parts, map_parts, reset_end, reset_parts, stretch_end, stretch_parts}
-use Rattle.nap_make.proofs.KindLemmas.{HasRest, line_named, rest_of}
+use Rattle.nap_make.proofs.EntryLemmas.{FieldsFit, LineIs, PointsFit, fields_fit, line_is}
 use Rattle.nap_make.proofs.LayoutLemmas.{Alike, Layout}
 use Rattle.nap_make.proofs.LookLemmas.{look_parts, look_triple, modes_bytes, size_modes}
 use Rattle.nap_make.proofs.PlaceLemmas.{coordinates, move_pair, point_pair, signs, word_pair, word_triple}
+use Rattle.nap_make.proofs.SortLemmas.{AreOf, InType, fits_are}
 use Rattle.nap_make.proofs.SpellLemmas.{low_neg, low_pos}
 
 -- The greatest lengths of texts.
@@ -142,123 +144,136 @@ pen_field_bound = key_bound 15 PenInRange pen_text (codes "pen=") pen_bound
 look_field_bound : AtMost 33 TextInRange look_field
 look_field_bound = key_bound 28 TextInRange look_text (codes "text=") look_bound
 
-ink_bound : AtMost 82 InkInRange ink_text
-ink_bound = alike_bound 82 ink_triple (both_bound 21 60 ink_parts pel_field_bound (both_bound 31 28 ink_end colour_field_bound texture_field_bound))
-
-hand_bound : AtMost 85 HandInRange hand_text
-hand_bound = alike_bound 85 hand_triple (both_bound 19 65 hand_parts pen_field_bound (both_bound 31 33 hand_end colour_field_bound look_field_bound))
-
-stretch_bound : AtMost 114 (BothFit IsInSquare (BothFit IsInSquare InkInRange)) (pair_text point_text 32 (pair_text point_text 32 ink_text))
-stretch_bound = both_bound 15 98 stretch_parts point_bound (both_bound 15 82 stretch_end point_bound ink_bound)
-
-points_bound : (points : List Coordinates) (last : List ℕ) → All IsInSquare points → length (points_before points last) ≤ 16 * length points + length last
-points_bound [] last fit = omega arith
-points_bound (p ∷ points) last fit =
-    let size : length (point_text p ++ 32 ∷ points_before points last) ≡ length (point_text p) + length (32 ∷ points_before points last) = length-append (point_text p) (32 ∷ points_before points last) in
-    omega (arith, size, point_bound p (All-head IsInSquare p points fit), points_bound points last (All-tail IsInSquare p points fit))
-
 set_bound : (set : CharSet) → length (set_text set) ≤ 13
 set_bound char_sets.Primary = omega arith
 set_bound char_sets.Supplementary = omega arith
 set_bound char_sets.Mosaic = omega arith
 set_bound char_sets.Drcs = omega arith
 
-step_bound : (s : TextStep) → length (step_text s) ≤ 9
-step_bound (steps.Aps row column) = omega arith
-step_bound steps.Apb = omega arith
-step_bound steps.Apf = omega arith
-step_bound steps.Apd = omega arith
-step_bound steps.Apu = omega arith
-step_bound steps.Apr = omega arith
-step_bound steps.Aph = omega arith
+step_bound : AtMost 3 IsPlainStep step_text
+step_bound (steps.Aps row column) fits = absurd fits
+step_bound steps.Apb fits = omega arith
+step_bound steps.Apf fits = omega arith
+step_bound steps.Apd fits = omega arith
+step_bound steps.Apu fits = omega arith
+step_bound steps.Apr fits = omega arith
+step_bound steps.Aph fits = omega arith
 
-area_bound : AtMost 31 AreaInRange area_text
-area_bound areas.Whole fits = omega arith
-area_bound (areas.Part from to) fits =
-    let one : length (point_text from ++ codes " " ++ point_text to) ≡ length (point_text from ++ codes " ") + length (point_text to) = length-append (point_text from ++ codes " ") (point_text to) in
-    let two : length (point_text from ++ codes " ") ≡ length (point_text from) + 1 = length-append (point_text from) (codes " ") in
-    omega (arith, one, two, point_bound from fits.0, point_bound to fits.1)
-
-cursor_bound : (kind : CursorKind) → length (cursor_text kind) ≤ 6
+cursor_bound : (state : CursorKind) → length (cursor_text state) ≤ 6
 cursor_bound cursors.Flash = omega arith
 cursor_bound cursors.Steady = omega arith
 cursor_bound cursors.Off = omega arith
 
-mask_text_bound : (mask : Mask) → length (mask_text mask) ≤ 1
-mask_text_bound masks.A = omega arith
-mask_text_bound masks.B = omega arith
-mask_text_bound masks.C = omega arith
-mask_text_bound masks.D = omega arith
+letter_bound : (mask : Mask) → length (mask_text mask) ≤ 1
+letter_bound masks.A = omega arith
+letter_bound masks.B = omega arith
+letter_bound masks.C = omega arith
+letter_bound masks.D = omega arith
+
+-- Fields, rows and lines.
+
+-- the greatest length of a field, and a space
+abbrev bound_of : Sort → ℕ
+bound_of sorts.Addr = 9
+bound_of sorts.Code = 3
+bound_of sorts.Colour = 32
+bound_of sorts.Cursor = 7
+bound_of sorts.Look = 34
+bound_of sorts.Mask = 2
+bound_of sorts.Parts = 18
+bound_of sorts.Pel = 22
+bound_of sorts.Pen = 20
+bound_of sorts.Point = 16
+bound_of sorts.Set = 14
+bound_of sorts.Step = 4
+bound_of sorts.Texture = 29
+bound_of sorts.Times = 9
+bound_of sorts.Word = 3
+
+field_bound : (s : Sort) (v : Value) → InType s v → length (field_text v) < bound_of s
+field_bound sorts.Addr (values.Addr number) fits = omega (arith, addr_bound number fits)
+field_bound sorts.Code (values.Code code) fits = omega arith
+field_bound sorts.Colour (values.Colour colour) fits = omega (arith, colour_field_bound colour fits)
+field_bound sorts.Cursor (values.Cursor state) fits = omega (arith, cursor_bound state)
+field_bound sorts.Look (values.Look look) fits = omega (arith, look_field_bound look fits)
+field_bound sorts.Mask (values.Mask mask) fits = omega (arith, letter_bound mask)
+field_bound sorts.Parts (values.Parts grb) fits = omega (arith, grb_bound grb fits)
+field_bound sorts.Pel (values.Pel pel) fits = omega (arith, pel_field_bound pel fits)
+field_bound sorts.Pen (values.Pen pen) fits = omega (arith, pen_field_bound pen fits)
+field_bound sorts.Point (values.Point point) fits = omega (arith, point_bound point fits)
+field_bound sorts.Set (values.Set set) fits = omega (arith, set_bound set)
+field_bound sorts.Step (values.Step step) fits = omega (arith, step_bound step fits)
+field_bound sorts.Texture (values.Texture texture) fits = omega (arith, texture_field_bound texture fits)
+field_bound sorts.Times (values.Times on off delay) fits =
+    omega (arith, both_bound 2 5 word_triple word_bound (both_bound 2 2 word_pair word_bound word_bound) (on, (off, delay)) (fits.0, (fits.1, fits.2)))
+field_bound sorts.Word (values.Word number) fits = omega (arith, word_bound number fits)
+field_bound _ _ fits = absurd fits
+
+abbrev row_bound : List Sort → ℕ
+row_bound [] = 0
+row_bound (s ∷ row) = bound_of s + row_bound row
 
 -- two lists and a byte between them
 around : (xs ys : List ℕ) (b : ℕ) → length (xs ++ b ∷ ys) ≡ length xs + 1 + length ys
 around xs ys b = let size : length (xs ++ b ∷ ys) ≡ length xs + length (b ∷ ys) = length-append xs (b ∷ ys) in omega (arith, size)
 
-rest_bound : (e : Entry) → IsProper e → length (rest_of e) ≤ 32098
-rest_bound (entry.Point at pel colour) proper =
-    omega (arith, both_bound 15 53 dot_parts point_bound (both_bound 21 31 dot_end pel_field_bound colour_field_bound) (at, (pel, colour)) (proper.in_range.0, (proper.in_range.1, proper.in_range.2)))
-rest_bound (entry.Line from to ink) proper = omega (arith, stretch_bound (from, (to, ink)) (proper.in_range.0, (proper.in_range.1, proper.in_range.2)))
-rest_bound (entry.Arc filled points ink) proper = omega (arith, points_bound points (ink_text ink) proper.in_range.0, ink_bound ink proper.in_range.1, proper.well_made.1)
-rest_bound (entry.Rect filled from to ink) proper = omega (arith, stretch_bound (from, (to, ink)) (proper.in_range.0, (proper.in_range.1, proper.in_range.2)))
-rest_bound (entry.Poly filled points ink) proper = omega (arith, points_bound points (ink_text ink) proper.in_range.0, ink_bound ink proper.in_range.1, proper.well_made.1)
-rest_bound (entry.Char set code hand) proper =
-    omega (arith, around (set_text set) (code_text code ++ 32 ∷ hand_text hand) 32, around (code_text code) (hand_text hand) 32, set_bound set, hand_bound hand proper.in_range.1)
-rest_bound (entry.TextMove step hand) proper = omega (arith, around (step_text step) (hand_text hand) 32, step_bound step, hand_bound hand proper.in_range.1)
-rest_bound (entry.ToEol hand) proper = omega (arith, hand_bound hand proper.in_range)
-rest_bound (entry.Map addr grb) proper = omega (arith, both_bound 8 17 map_parts addr_bound grb_bound (addr, grb) proper.in_range)
-rest_bound (entry.Blink addr on off delay colour) proper =
-    omega (
-      arith,
-      both_bound 8 40 blink_parts addr_bound (both_bound 8 31 blink_end (both_bound 2 5 word_triple word_bound (both_bound 2 2 word_pair word_bound word_bound)) colour_field_bound)
-          (addr, ((on, (off, delay)), colour)) (proper.in_range.0, ((proper.in_range.1, (proper.in_range.2, proper.in_range.3)), proper.in_range.4)),
-    )
-rest_bound (entry.BlinkEnd colour) proper = omega (arith, colour_field_bound colour proper.in_range)
-rest_bound (entry.BlinkMark on colour) proper = omega (arith, colour_field_bound colour proper.in_range)
-rest_bound (entry.Wait tenths) proper = omega (arith, word_bound tenths proper.in_range)
-rest_bound entry.Bell proper = omega arith
-rest_bound (entry.Cursor kind) proper = omega (arith, cursor_bound kind)
-rest_bound (entry.Field area pen) proper = omega (arith, around (area_text area) (pen_field pen) 32, area_bound area proper.in_range.0, pen_field_bound pen proper.in_range.1)
-rest_bound (entry.Reset first second pen) proper =
-    omega (arith, both_bound 2 22 reset_parts word_bound (both_bound 2 19 reset_end word_bound pen_field_bound) (first, (second, pen)) (proper.in_range.0, (proper.in_range.1, proper.in_range.2)))
-rest_bound (entry.Clear pen) proper = omega (arith, pen_field_bound pen proper.in_range)
-rest_bound (entry.GlyphStart code) proper = omega arith
-rest_bound (entry.MaskStart mask) proper = omega (arith, mask_text_bound mask)
-rest_bound entry.DefEnd proper = omega arith
+fields_bound : (row : List Sort) (vs : List Value) → AreOf row vs → length (fields_text vs) ≤ row_bound row
+fields_bound [] [] are = omega arith
+fields_bound (s ∷ row) (v ∷ []) are = omega (arith, field_bound s v are.0)
+fields_bound (s ∷ row) (v ∷ w ∷ vs) are = omega (arith, around (field_text v) (fields_text (w ∷ vs)) 32, field_bound s v are.0, fields_bound row (w ∷ vs) are.1)
+fields_bound [] (v ∷ vs) are = absurd are
+fields_bound (s ∷ row) [] are = absurd are
 
-name_bound : (n : Name) → length (name_text n) ≤ 13
-name_bound names.Point = omega arith
-name_bound names.Line = omega arith
-name_bound names.ArcOutlined = omega arith
-name_bound names.ArcFilled = omega arith
-name_bound names.RectOutlined = omega arith
-name_bound names.RectFilled = omega arith
-name_bound names.PolyOutlined = omega arith
-name_bound names.PolyFilled = omega arith
-name_bound names.Char = omega arith
-name_bound names.Move = omega arith
-name_bound names.ToEol = omega arith
-name_bound names.Map = omega arith
-name_bound names.Blink = omega arith
-name_bound names.BlinkEnd = omega arith
-name_bound names.BlinkStart = omega arith
-name_bound names.BlinkStop = omega arith
-name_bound names.Wait = omega arith
-name_bound names.Bell = omega arith
-name_bound names.Cursor = omega arith
-name_bound names.Field = omega arith
-name_bound names.Reset = omega arith
-name_bound names.Clear = omega arith
-name_bound names.Glyph = omega arith
-name_bound names.Mask = omega arith
-name_bound names.End = omega arith
+-- and with the space behind the last field
+fields_below : (row : List Sort) (vs : List Value) → AreOf row vs → 0 < length vs → length (fields_text vs) < row_bound row
+fields_below (s ∷ row) (v ∷ []) are some = omega (arith, field_bound s v are.0)
+fields_below (s ∷ row) (v ∷ w ∷ vs) are some = omega (arith, around (field_text v) (fields_text (w ∷ vs)) 32, field_bound s v are.0, fields_below row (w ∷ vs) are.1 (omega arith))
+fields_below [] [] are some = absurd (omega (arith, some))
+fields_below (s ∷ row) [] are some = absurd are
+fields_below [] (v ∷ vs) are some = absurd are
+
+points_bound : (points : List Coordinates) (last : List ℕ) → All IsInSquare points → length (points_before points last) ≤ 16 * length points + length last
+points_bound [] last fit = omega arith
+points_bound (p ∷ points) last fit = omega (arith, around (point_text p) (points_before points last) 32, point_bound p (All-head IsInSquare p points fit), points_bound points last (All-tail IsInSquare p points fit))
+
+name_bound : (k : Kind) → length (line_name k) ≤ 13
+name_bound kinds.Point = omega arith
+name_bound _ = omega arith
+
+word_bound_of : (k : Kind) (rest : List ℕ) → length (with_word k rest) ≤ 6 + length rest
+word_bound_of kinds.Position rest = omega arith
+word_bound_of kinds.Whole rest = omega arith
+word_bound_of _ rest = omega arith
+
+-- the fields of a kind without points, and those of a shape
+plain_bound : (k : Kind) → row_bound (kind_row k) ≤ 115
+plain_bound kinds.Point = omega arith
+plain_bound _ = omega arith
+
+shape_bound : (points : List Coordinates) (vs : List Value) → All IsInSquare points → length points ≤ 2001 → AreOf (sorts.Pel ∷ sorts.Colour ∷ sorts.Texture ∷ []) vs → length (points_before points (fields_text vs)) ≤ 32098
+shape_bound points vs inside few are = omega (arith, points_bound points (fields_text vs) inside, fields_below (sorts.Pel ∷ sorts.Colour ∷ sorts.Texture ∷ []) vs are (some vs are), few)
+  where
+    some : (vs : List Value) → AreOf (sorts.Pel ∷ sorts.Colour ∷ sorts.Texture ∷ []) vs → 0 < length vs
+    some [] are = absurd are
+    some (v ∷ vs) are = omega arith
+
+rest_bound : (k : Kind) (points : List Coordinates) (vs : List Value) → PointsFit k points → AreOf (kind_row k) vs → length (with_word k (points_before points (fields_text vs))) ≤ 32098
+rest_bound kinds.ArcOutlined points vs fit are = shape_bound points vs fit.0 fit.2 are
+rest_bound kinds.ArcFilled points vs fit are = shape_bound points vs fit.0 fit.2 are
+rest_bound kinds.PolyOutlined points vs fit are = shape_bound points vs fit.0 fit.2 are
+rest_bound kinds.PolyFilled points vs fit are = shape_bound points vs fit.0 fit.2 are
+rest_bound k points vs fit are =
+    let size : length (points_before points (fields_text vs)) ≡ length (fields_text vs) = ap (λ (ps : List Coordinates). length (points_before ps (fields_text vs))) fit in
+    omega (arith, size, word_bound_of k (points_before points (fields_text vs)), fields_bound (kind_row k) vs are, plain_bound k)
 
 -- no line of a well-made entry in range is longer than that of the longest polygon
 pub line_bounded : (e : Entry) → IsProper e → length (line e) ≤ 32112
-line_bounded e proper = by (rest_or_alone e)
+line_bounded e proper = by (fields_of e) (line_is e) (fields_fit e proper)
   where
-    by : HasRest e ⊎ ((line e ≡ codes "BELL") ⊎ (line e ≡ codes "END")) → length (line e) ≤ 32112
-    by (inl has) =
-        let size : length (line e) ≡ length (line_from (name_of e) (rest_of e)) = ap (λ (s : List ℕ). length s) (line_named e has) in
-        omega (arith, size, around (name_text (name_of e)) (rest_of e) 32, name_bound (name_of e), rest_bound e proper)
-    by (inr (inl is)) = let size : length (line e) ≡ 4 = ap (λ (s : List ℕ). length s) is in omega (arith, size)
-    by (inr (inr is)) = let size : length (line e) ≡ 3 = ap (λ (s : List ℕ). length s) is in omega (arith, size)
+    by : (o : Option Fields) → LineIs e o → FieldsFit o → length (line e) ≤ 32112
+    by None (inl is) fit = let size : length (line e) ≡ 4 = ap (λ (s : List ℕ). length s) is in omega (arith, size)
+    by None (inr is) fit = let size : length (line e) ≡ 3 = ap (λ (s : List ℕ). length s) is in omega (arith, size)
+    by (Some f) is fit =
+        let rest = points_before f.points (fields_text f.values) in
+        let size : length (line e) ≡ length (fields_line f) = ap (λ (s : List ℕ). length s) is in
+        omega (arith, size, around (line_name f.kind) (with_word f.kind rest) 32, name_bound f.kind, rest_bound f.kind f.points f.values fit.points (fits_are (kind_row f.kind) f.values fit.row))

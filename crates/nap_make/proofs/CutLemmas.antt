@@ -1,6 +1,6 @@
-use Rattle.std.proofs.Common.{ℕ, ◌≡◌, ◌≢◌, List, [], ◌∷◌, ◌++◌, refl, sym, subst, ◌∙◌}
+use Rattle.std.proofs.Common.{ℕ, ◌≡◌, ◌≢◌, List, [], ◌∷◌, ◌++◌, refl, ap, sym, subst, ◌∙◌}
 use Rattle.std.specs.Prelude.{All}
-use Rattle.std.proofs.lemmas.List.Elements.{All-head, All-tail}
+use Rattle.std.proofs.lemmas.List.Elements.{All-cons, All-head, All-nil, All-tail}
 use Rattle.nap_make.specs.Cutting.{SplitsAtByte}
 
 -- A list is split at the first byte of a value in one way.
@@ -24,3 +24,11 @@ no_cut b xs f k none is = never f (subst (λ (ys : List ℕ). All (λ x. x ≢ b
     never : (f : List ℕ) → All (λ x. x ≢ b) (f ++ b ∷ k) → ⊥
     never [] none = All-head (λ x. x ≢ b) b k none refl
     never (x ∷ f) none = never f (All-tail (λ z. z ≢ b) x (f ++ b ∷ k) none)
+
+-- a list that isn't split doesn't contain the byte
+pub uncut : (b : ℕ) (xs : List ℕ) → ((f k : List ℕ) → SplitsAtByte b xs f k → ⊥) → All (λ x. x ≢ b) xs
+uncut b [] none = All-nil (λ x. x ≢ b)
+uncut b (x ∷ xs) none =
+    let head : x ≢ b = λ is. none [] xs (record { joins = ap (λ (y : ℕ). y ∷ xs) is; first = All-nil (λ z. z ≢ b) }) in
+    All-cons (λ z. z ≢ b) x xs head
+    (uncut b xs (λ f k cuts. none (x ∷ f) k (record { joins = ap (λ (ys : List ℕ). x ∷ ys) cuts.joins; first = All-cons (λ z. z ≢ b) x f head cuts.first })))

@@ -2,7 +2,7 @@ use Rattle.std.proofs.Common.{ℕ, ◌≡◌, ◌≢◌, List, ◌∷◌, ◌++�
 use Rattle.std.specs.Prelude.{Option, Some, None, All, IsSome, IfSome, ◌↔◌}
 use Rattle.std.proofs.lemmas.List.{append_cancel_left}
 use Rattle.nap_make.specs.Cutting.{SplitsAtByte}
-use Rattle.nap_make.specs.Reading.{WritesNone, IsWritten, Reads, BothFit, pair_text}
+use Rattle.nap_make.specs.Reading.{WritesNone, IsWritten, IsParsed, BothFit, pair_text}
 use Rattle.nap_make.proofs.CutLemmas.{one_cut, cut_text}
 
 -- A text of two parts, separated by a byte that the first doesn't contain.
@@ -48,12 +48,12 @@ pub written_alike : {V W : Type 0} {to : V → W} {P : V → Type 0} {f : V → 
 written_alike alike v ensured = record { fitting = alike.back v ensured.fitting; written = ensured.written ∙ sym (alike.same v) }
 
 -- a value with this text, tried whether it is in range
-pub reads_tried : {V : Type 0} (P : V → Type 0) (f : V → List ℕ) (xs : List ℕ) (v : V) (r : Option V) → IsWritten P f xs v → (IsSome r ↔ P v) → IfSome r (λ w. w ≡ v) → Reads P f xs r
+pub reads_tried : {V : Type 0} (P : V → Type 0) (f : V → List ℕ) (xs : List ℕ) (v : V) (r : Option V) → IsWritten P f xs v → (IsSome r ↔ P v) → IfSome r (λ w. w ≡ v) → IsParsed P f xs r
 reads_tried P f xs v None ensured found value = let bad = found.1 ensured.fitting in let no : ⊥ = cc (bad) in absurd no
 reads_tried P f xs v (Some w) ensured found value = subst (λ u. IsWritten P f xs u) (sym value) ensured
 
 -- the value after a key
-pub reads_keyed : {V : Type 0} (P : V → Type 0) (f : V → List ℕ) (key xs rest : List ℕ) (r : Option V) → xs ≡ key ++ rest → Reads P f rest r → Reads P (λ v. key ++ f v) xs r
+pub reads_keyed : {V : Type 0} (P : V → Type 0) (f : V → List ℕ) (key xs rest : List ℕ) (r : Option V) → xs ≡ key ++ rest → IsParsed P f rest r → IsParsed P (λ v. key ++ f v) xs r
 reads_keyed P f key xs rest None is ensured = λ v fits also. ensured v fits (append_cancel_left key rest (f v) (sym is ∙ also))
 reads_keyed P f key xs rest (Some v) is ensured = record { fitting = ensured.fitting; written = is ∙ ap (λ (s : List ℕ). key ++ s) ensured.written }
 

@@ -3,7 +3,7 @@ use Rattle.std.specs.Char.{digit_value}
 use Rattle.std.specs.Fmt.{decimal}
 use Rattle.std.specs.Str.Parse.{AllDigits, digits_value}
 use Rattle.std.proofs.Math.Nat.{pow-le-pow_right}
-use Rattle.std.proofs.lemmas.Fmt.{decimal_digit, decimal_injective, decimal_is_IsNumeral, decimal_nonempty, decimal-digits_value, first_decimal, length-decimal-le}
+use Rattle.std.proofs.lemmas.Fmt.{decimal_digit, decimal_injective, decimal_is_IsNumeral, decimal-digits_value, first_decimal, length-decimal-le}
 use Rattle.std.proofs.lemmas.Int.Digits.{digits_value-lt}
 use Rattle.std.proofs.lemmas.List.{length-take-le}
 use Rattle.std.proofs.lemmas.Str.Parse.{numerals_by_value, tells_digits}
@@ -14,25 +14,17 @@ fits64 n short = omega (arith, short)
 
 -- The text of a number.
 
-pub not_empty : (ds : List ℕ) (n : ℕ) → IsShort n → ds ≡ decimal n → length ds ≡ 0 → ⊥
-not_empty ds n short is none =
-    let some = decimal_nonempty n (fits64 n short) in
-    let same : length ds ≡ length (decimal n) = ap (λ (xs : List ℕ). length xs) is in
-    omega (arith, some, same, none)
-
-pub not_long : (ds : List ℕ) (n : ℕ) → IsShort n → ds ≡ decimal n → 8 < length ds → ⊥
-not_long ds n short is long =
-    let few = length-decimal-le 8 n (omega arith) short (fits64 n short) in
-    let same : length ds ≡ length (decimal n) = ap (λ (xs : List ℕ). length xs) is in
-    omega (arith, few, same, long)
+-- the decimal digits of a number are a numeral of it
+pub numeral_of : (ds : List ℕ) (n : ℕ) → IsShort n → ds ≡ decimal n → IsNumeralOf ds n
+numeral_of ds n short is =
+    let P : List ℕ → Type 0 = λ xs. IsNumeralOf xs n in
+    let written = decimal_is_IsNumeral n (fits64 n short) in
+    subst P (sym is) (record { numeral = written.0; few = length-decimal-le 8 n (omega arith) short (fits64 n short); value = written.1 })
 
 pub digit_at : (ds : List ℕ) (i : ℕ) → AllDigits 10 ds → i < length ds → digit_value (get_or ds i 0) < 10
 digit_at [] i all within = absurd (omega (arith, within))
 digit_at (d ∷ ds) zero all within = all.0
 digit_at (d ∷ ds) (suc i) all within = digit_at ds i all.1 (omega (arith, within))
-
-pub a_digit : (ds : List ℕ) (n i : ℕ) → IsShort n → ds ≡ decimal n → i < length ds → digit_value (get_or ds i 0) < 10
-a_digit ds n i short is within = digit_at ds i (subst (λ (xs : List ℕ). AllDigits 10 xs) (sym is) (decimal_is_IsNumeral n (fits64 n short)).0.1) within
 
 -- The value of fewer than eight digits.
 
@@ -60,7 +52,7 @@ numeral_tells ds m n ensured short is = sym ensured.value ∙ ap (λ (xs : List 
 -- digits without leading zeros are the decimal digits of their value
 pub no_zero : (ds : List ℕ) (n : ℕ) → IsNumeralOf ds n → (get_or ds 0 0 ≡ 48 → length ds ≡ 1) → ds ≡ decimal n
 no_zero ds n ensured lone =
-    sym (ap decimal (sym ensured.value) ∙ decimal-digits_value (numerals_by_value (AllDigits 10) tells_digits) ds ensured.numeral.1 ensured.numeral.0 lone (subst (λ (m : ℕ). m < 2 ^ 64) (sym ensured.value) (fits64 n ensured.short)))
+    sym (ap decimal (sym ensured.value) ∙ decimal-digits_value (numerals_by_value (AllDigits 10) tells_digits) ds ensured.numeral.1 ensured.numeral.0 lone (subst (λ (m : ℕ). m < 2 ^ 64) (sym ensured.value) (fits64 n (subst (λ (m : ℕ). IsShort m) ensured.value (short_value ds ensured.numeral.1 (omega (arith, ensured.few)))))))
 
 -- digits with a leading zero are the decimal digits of no number
 pub zero_first : (ds : List ℕ) (n : ℕ) → IsShort n → ds ≡ decimal n → get_or ds 0 0 ≡ 48 → length ds ≢ 1 → ⊥

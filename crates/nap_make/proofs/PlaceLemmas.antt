@@ -7,7 +7,7 @@ use Rattle.nap_values.specs.Laws.{IsWord}
 use Rattle.nap_list.specs.Range.{IsAddress}
 use Rattle.nap_lines.specs.Lines.{point_text, move_text}
 use Rattle.nap_make.specs.Numbers.{IsSigned}
-use Rattle.nap_make.specs.Reading.{IsWritten, Reads, BothFit, pair_text}
+use Rattle.nap_make.specs.Reading.{IsWritten, IsParsed, BothFit, pair_text}
 use Rattle.nap_make.proofs.LayoutLemmas.{Alike, Layout, Tells, alike_tell, both_tell, reads_tried}
 use Rattle.nap_make.proofs.SignedLemmas.{signed_tells}
 use Rattle.nap_make.proofs.SpellLemmas.{IsVisible, OfDigits, Spells, both_spell, decimal_spells, signed_spells}
@@ -43,7 +43,7 @@ move_pair = record {
 
 -- a displacement that equals one with this text, tried whether it is in range
 pub move_tried : (xs : List ℕ) (m n : Displacement) (r : Option Displacement) → n ≡ m → IsWritten IsInRange move_text xs m → (IsSome r ↔ IsInRange n) → IfSome r (λ d. d ≡ n) →
-    Reads IsInRange move_text xs r
+    IsParsed IsInRange move_text xs r
 move_tried xs m n r same ensured found value = reads_tried IsInRange move_text xs n r (subst (λ (d : Displacement). IsWritten IsInRange move_text xs d) (sym same) ensured) found value
 
 -- Bytes of points and displacements.

@@ -1,119 +1,139 @@
-use Rattle.std.proofs.Common.{ℕ, ◌+◌, ◌<◌, ◌≤◌, ◌≡◌, ◌≢◌, List, [], ◌∷◌, ◌++◌, length, refl, ap, ap₂, sym, subst, ◌∙◌, arith, length-append}
+use Rattle.std.proofs.Common.{ℕ, ◌+◌, ◌<◌, ◌≤◌, ◌≡◌, ◌≢◌, ◌⊎◌, inl, inr, List, [], ◌∷◌, ◌++◌, length, refl, ap, sym, subst, ◌∙◌, arith, append_assoc, length-append, codes}
 use Rattle.std.specs.Prelude.{All}
 use Rattle.std.proofs.lemmas.List.Elements.{All-append, All-cons, All-head, All-nil, All-tail}
 use Rattle.nap_values.specs.Coordinates.{Coordinates, IsInSquare}
-use Rattle.nap_list.specs.declared.attribute.Ink.{Ink}
 use Rattle.nap_list.specs.Limits.{points_limit}
-use Rattle.nap_list.specs.Range.{InkInRange}
-use Rattle.nap_lines.specs.Lines.{ink_text, point_text}
-use Rattle.nap_make.specs.Fields.{ShapeFits, points_before, shape_text}
-use Rattle.nap_make.specs.Reading.{WritesNone, IsWritten}
-use Rattle.nap_make.proofs.CutLemmas.{one_cut}
-use Rattle.nap_make.proofs.KindLayouts.{other_start, point_without}
-use Rattle.nap_make.proofs.PlaceLemmas.{point_tells, point_visible}
+use Rattle.nap_lines.specs.Lines.{line, point_text}
+use Rattle.nap_make.specs.Cutting.{SplitsAtByte}
+use Rattle.nap_make.specs.declared.field.Sort.{Sort}
+use Rattle.nap_make.specs.declared.field.Sort.TheVariants as sorts
+use Rattle.nap_make.specs.declared.field.Value.{Value}
+use Rattle.nap_make.specs.declared.field.Value.TheVariants as values
+use Rattle.nap_make.specs.declared.kind.Kind.{Kind}
+use Rattle.nap_make.specs.declared.kind.Kind.TheVariants as kinds
+use Rattle.nap_make.specs.Entries.{IsProper}
+use Rattle.nap_make.specs.Kinds.{HasPoints, IsChosen, least_points, line_from, kind_row}
+use Rattle.nap_make.specs.Reading.{WritesNone}
+use Rattle.nap_make.specs.Rows.{BeginsNoPoint, EndsPoints, FitsSort, IsFirstWrong, fields_text, points_before}
+use Rattle.nap_make.proofs.CutLemmas.{cut_text, one_cut}
+use Rattle.nap_make.proofs.EntryLemmas.{PointsFit}
+use Rattle.nap_make.proofs.LineLemmas.{of_kind, other_start, point_without}
+use Rattle.nap_make.proofs.PlaceLemmas.{point_visible}
+use Rattle.nap_make.proofs.RowLemmas.{none_in_row, stays}
+use Rattle.nap_make.proofs.SortLemmas.{AreOf, fits_are}
 use Rattle.nap_make.proofs.SpellLemmas.{spaceless}
 
--- no text of a point and a space begins the part INK
-pub no_point : (p : Coordinates) (more : List ℕ) (ink : Ink) → IsInSquare p → point_text p ++ 32 ∷ more ≡ ink_text ink → ⊥
-no_point p more ink fits is = other_start 112 (point_text p) more _ (omega arith) (point_without 112 (omega arith) p fits) is
+-- Points before fields.
 
--- one more point is read
-pub one_more : (points : List Coordinates) (p : Coordinates) (more : List ℕ) → points_before (points ++ p ∷ []) more ≡ points_before points (point_text p ++ 32 ∷ more)
-one_more [] p more = refl
-one_more (q ∷ points) p more = ap (λ (s : List ℕ). point_text q ++ 32 ∷ s) (one_more points p more)
+pub point_apart : (p : Coordinates) → IsInSquare p → All (λ x. x ≢ 32) (point_text p)
+point_apart = spaceless IsInSquare point_text point_visible
 
--- the points read so far are the first of a text's points, and the others are in its rest
-pub points_continue : (done points : List Coordinates) (rest : List ℕ) (ink : Ink) → All IsInSquare done → All IsInSquare points → points_before done rest ≡ points_before points (ink_text ink) →
-    (others : List Coordinates) × (points ≡ done ++ others) × (rest ≡ points_before others (ink_text ink))
-points_continue [] points rest ink done_fit fit is = (points, refl, is)
-points_continue (p ∷ done) [] rest ink done_fit fit is = absurd (no_point p (points_before done rest) ink (All-head IsInSquare p done done_fit) is)
-points_continue (p ∷ done) (q ∷ points) rest ink done_fit fit is =
-    let p_fits = All-head IsInSquare p done done_fit in
-    let q_fits = All-head IsInSquare q points fit in
-    let same = one_cut 32 (point_text p) (points_before done rest) (point_text q) (points_before points (ink_text ink))
-    (spaceless IsInSquare point_text point_visible p p_fits) (spaceless IsInSquare point_text point_visible q q_fits) is in
-    let more = points_continue done points rest ink (All-tail IsInSquare p done done_fit) (All-tail IsInSquare q points fit) same.1 in
-    (more.0, ap₂ (λ (x : Coordinates) (xs : List Coordinates). x ∷ xs) (sym (point_tells p q p_fits q_fits same.0)) more.1, more.2)
+pub points_grow : (points : List Coordinates) (p : Coordinates) (more : List ℕ) → points_before (points ++ p ∷ []) more ≡ points_before points (point_text p ++ 32 ∷ more)
+points_grow [] p more = refl
+points_grow (q ∷ points) p more = ap (λ (s : List ℕ). point_text q ++ 32 ∷ s) (points_grow points p more)
 
--- the last points of a list are in the unit screen
-others_fit : (done points others : List Coordinates) → points ≡ done ++ others → All IsInSquare points → All IsInSquare others
-others_fit done points others is fit = rest_fits done (subst (λ (xs : List Coordinates). All IsInSquare xs) is fit)
-  where
-    rest_fits : (done : List Coordinates) → All IsInSquare (done ++ others) → All IsInSquare others
-    rest_fits [] fit = fit
-    rest_fits (p ∷ done) fit = rest_fits done (All-tail IsInSquare p (done ++ others) fit)
+pub points_append : (points : List Coordinates) (a b : List ℕ) → points_before points (a ++ b) ≡ points_before points a ++ b
+points_append [] a b = refl
+points_append (q ∷ points) a b = ap (λ (s : List ℕ). point_text q ++ 32 ∷ s) (points_append points a b) ∙ sym (append_assoc (point_text q) (32 ∷ points_before points a) b)
 
--- these points were read, and this is the rest
-pub record HasPoints (bytes : List ℕ) (done : List Coordinates) (rest : List ℕ) : Type 0 where
-  pub so_far : bytes ≡ points_before done rest
-  pub fit : All IsInSquare done
-  pub few : length done ≤ points_limit
+pub points_join : (ps qs : List Coordinates) (last : List ℕ) → points_before (ps ++ qs) last ≡ points_before ps (points_before qs last)
+points_join [] qs last = refl
+points_join (p ∷ ps) qs last = ap (λ (s : List ℕ). point_text p ++ 32 ∷ s) (points_join ps qs last)
 
--- a shape doesn't have a further point above its limit
-pub too_many : (bytes : List ℕ) (done : List Coordinates) (rest : List ℕ) (p : Coordinates) (more : List ℕ) → HasPoints bytes done rest → length done ≡ points_limit →
-    IsInSquare p → rest ≡ point_text p ++ 32 ∷ more → WritesNone ShapeFits shape_text bytes
-too_many bytes done rest p more has full fits next s shape is =
-    let goes = points_continue done s.0 rest s.1 has.fit shape.points (sym has.so_far ∙ is) in
-    by goes.0 goes.1 (sym next ∙ goes.2)
-  where
-    by : (others : List Coordinates) → s.0 ≡ done ++ others → point_text p ++ 32 ∷ more ≡ points_before others (ink_text s.1) → ⊥
-    by [] joins also = no_point p more s.1 fits also
-    by (q ∷ others) joins also =
-        let size : length s.0 ≡ length done + length (q ∷ others) = ap (λ (xs : List Coordinates). length xs) joins ∙ length-append done (q ∷ others) in
-        omega (arith, size, full, shape.few)
+-- The walk.
 
--- no point follows, and no part INK
-pub no_shape : (bytes : List ℕ) (done : List Coordinates) (rest : List ℕ) → HasPoints bytes done rest → ((p : Coordinates) (more : List ℕ) → IsInSquare p → rest ≢ point_text p ++ 32 ∷ more) →
-    WritesNone InkInRange ink_text rest → WritesNone ShapeFits shape_text bytes
-no_shape bytes done rest has last none s shape is =
-    let goes = points_continue done s.0 rest s.1 has.fit shape.points (sym has.so_far ∙ is) in
-    by goes.0 (others_fit done s.0 goes.0 goes.1 shape.points) goes.2
-  where
-    by : (others : List Coordinates) → All IsInSquare others → rest ≡ points_before others (ink_text s.1) → ⊥
-    by [] fit also = none s.1 shape.ink also
-    by (q ∷ others) fit also = last q (points_before others (ink_text s.1)) (All-head IsInSquare q others fit) also
+pub record HasPointsSo (bytes : List ℕ) (points : List Coordinates) (rest : List ℕ) : Type 0 where
+  pub parts : bytes ≡ points_before points rest
+  pub inside : All IsInSquare points
+  pub few : length points ≤ points_limit
 
--- all points were read, and the part INK
-pub shape_written : (bytes : List ℕ) (done : List Coordinates) (rest : List ℕ) (ink : Ink) → HasPoints bytes done rest → IsWritten InkInRange ink_text rest ink → IsWritten ShapeFits shape_text bytes (done, ink)
-shape_written bytes done rest ink has ensured = record {
-  fitting = record { points = has.fit; few = has.few; ink = ensured.fitting };
-  written = has.so_far ∙ ap (λ (s : List ℕ). points_before done s) ensured.written;
+pub point_read : (bytes : List ℕ) (points : List Coordinates) (rest : List ℕ) (p : Coordinates) (more : List ℕ) → HasPointsSo bytes points rest → length points < points_limit →
+    IsInSquare p × (rest ≡ point_text p ++ 32 ∷ more) → HasPointsSo bytes (points ++ p ∷ []) more
+point_read bytes points rest p more has below next = record {
+  parts = has.parts ∙ ap (points_before points) next.1 ∙ sym (points_grow points p more);
+  inside = All-append IsInSquare points (p ∷ []) has.inside (All-cons IsInSquare p [] next.0 (All-nil IsInSquare));
+  few = let size : length (points ++ p ∷ []) ≡ length points + 1 = length-append points (p ∷ []) in omega (arith, size, below);
 }
 
--- one more point was read
-pub point_read : (bytes : List ℕ) (done : List Coordinates) (rest : List ℕ) (p : Coordinates) (more : List ℕ) → HasPoints bytes done rest → length done ≢ points_limit →
-    IsInSquare p → rest ≡ point_text p ++ 32 ∷ more → HasPoints bytes (done ++ p ∷ []) more
-point_read bytes done rest p more has below_limit fits next = record {
-  so_far = has.so_far ∙ ap (λ (s : List ℕ). points_before done s) next ∙ sym (one_more done p more);
-  fit = All-append IsInSquare done (p ∷ []) has.fit (All-cons IsInSquare p [] fits (All-nil IsInSquare));
-  few =
-      let size : length (done ++ p ∷ []) ≡ length done + 1 = length-append done (p ∷ []) in
-      omega (arith, size, below_limit, has.few);
-}
+pub points_end : (bytes : List ℕ) (points : List Coordinates) (rest : List ℕ) → HasPointsSo bytes points rest → BeginsNoPoint rest → EndsPoints bytes points rest
+points_end bytes points rest has none = record { parts = has.parts; inside = has.inside; few = has.few; ends = inr none }
 
--- shapes with equal texts have the same points
-pub shape_tells : (s t : List Coordinates × Ink) → All IsInSquare s.0 → InkInRange s.1 → All IsInSquare t.0 → InkInRange t.1 → shape_text s ≡ shape_text t → s.0 ≡ t.0
-shape_tells s t s_fit s_ink t_fit t_ink is = by s.0 t.0 s_fit t_fit is
+pub points_full : (bytes : List ℕ) (points : List Coordinates) (rest : List ℕ) → HasPointsSo bytes points rest → points_limit ≤ length points → EndsPoints bytes points rest
+points_full bytes points rest has full = record { parts = has.parts; inside = has.inside; few = has.few; ends = inl (omega (arith, has.few, full)) }
+
+pub no_space_behind : (bytes : List ℕ) → ((x y : List ℕ) → SplitsAtByte 32 bytes x y → ⊥) → BeginsNoPoint bytes
+no_space_behind bytes none p more fits is = none (point_text p) more (record { joins = is; first = point_apart p fits })
+
+pub no_point_first : (bytes word more : List ℕ) → SplitsAtByte 32 bytes word more → WritesNone IsInSquare point_text word → BeginsNoPoint bytes
+no_point_first bytes word more cuts none p others fits is = none p fits (cut_text 32 bytes word more (point_text p) others cuts (point_apart p fits) is).0
+
+-- No shape has a line with a wrong point or field.
+
+-- the fields behind the points of a shape begin no point
+pub fields_no_point : (k : Kind) (vs : List Value) → HasPoints k → AreOf (kind_row k) vs → BeginsNoPoint (fields_text vs)
+fields_no_point k vs has fits = by vs (row_is k has fits)
   where
-    by : (ps qs : List Coordinates) → All IsInSquare ps → All IsInSquare qs → points_before ps (ink_text s.1) ≡ points_before qs (ink_text t.1) → ps ≡ qs
-    by [] [] ps_fit qs_fit also = refl
-    by [] (q ∷ qs) ps_fit qs_fit also = absurd (no_point q (points_before qs (ink_text t.1)) s.1 (All-head IsInSquare q qs qs_fit) (sym also))
-    by (p ∷ ps) [] ps_fit qs_fit also = absurd (no_point p (points_before ps (ink_text s.1)) t.1 (All-head IsInSquare p ps ps_fit) also)
-    by (p ∷ ps) (q ∷ qs) ps_fit qs_fit also =
-        let p_fits = All-head IsInSquare p ps ps_fit in
-        let q_fits = All-head IsInSquare q qs qs_fit in
-        let same = one_cut 32 (point_text p) (points_before ps (ink_text s.1)) (point_text q) (points_before qs (ink_text t.1))
-        (spaceless IsInSquare point_text point_visible p p_fits) (spaceless IsInSquare point_text point_visible q q_fits) also in
-        ap₂ (λ (x : Coordinates) (xs : List Coordinates). x ∷ xs) (point_tells p q p_fits q_fits same.0) (by ps qs (All-tail IsInSquare p ps ps_fit) (All-tail IsInSquare q qs qs_fit) same.1)
+    row_is : (k : Kind) → HasPoints k → AreOf (kind_row k) vs → AreOf (sorts.Pel ∷ sorts.Colour ∷ sorts.Texture ∷ []) vs
+    row_is kinds.ArcOutlined has fits = fits
+    row_is kinds.ArcFilled has fits = fits
+    row_is kinds.PolyOutlined has fits = fits
+    row_is kinds.PolyFilled has fits = fits
+    row_is _ has fits = absurd has
 
--- a text with fewer points than a shape requires is that of no such shape
-pub other_count : (least : ℕ) (bytes : List ℕ) (done : List Coordinates) (ink : Ink) → IsWritten ShapeFits shape_text bytes (done, ink) → length done < least →
-    WritesNone (λ s. ShapeFits s × (least ≤ length s.0)) shape_text bytes
-other_count least bytes done ink ensured less s fits is =
-    let same = shape_tells (done, ink) s ensured.fitting.points ensured.fitting.ink fits.0.points fits.0.ink (sym ensured.written ∙ is) in
-    let size : length done ≡ length s.0 = ap (λ (ps : List Coordinates). length ps) same in
-    omega (arith, size, less, fits.1)
+    by : (vs : List Value) → AreOf (sorts.Pel ∷ sorts.Colour ∷ sorts.Texture ∷ []) vs → BeginsNoPoint (fields_text vs)
+    by [] fits = absurd fits
+    by (v ∷ []) fits = absurd fits.1
+    by (values.Pel pel ∷ w ∷ vs) fits = λ p more inside is. other_start 112 (point_text p) more _ (omega arith) (point_without 112 (omega arith) p inside) (sym is)
+    by (_ ∷ w ∷ vs) fits = absurd fits.0
 
--- a text of no shape is that of no shape with a least number of points
-pub no_more : (least : ℕ) (bytes : List ℕ) → WritesNone ShapeFits shape_text bytes → WritesNone (λ s. ShapeFits s × (least ≤ length s.0)) shape_text bytes
-no_more least bytes none s fits is = none s fits.0 is
+-- a shape with this line has the points read, and then others
+record GoesOn (points ps : List Coordinates) (rest last : List ℕ) : Type 0 where
+  others : List Coordinates
+  size : length ps ≡ length points + length others
+  inside : All IsInSquare others
+  follows : rest ≡ points_before others last
+
+goes_on : (points ps : List Coordinates) (rest last : List ℕ) → All IsInSquare points → All IsInSquare ps → BeginsNoPoint last → points_before points rest ≡ points_before ps last → GoesOn points ps rest last
+goes_on [] ps rest last fit also none is = record { others = ps; size = omega arith; inside = also; follows = is }
+goes_on (p ∷ points) [] rest last fit also none is = absurd (none p (points_before points rest) (All-head IsInSquare p points fit) (sym is))
+goes_on (p ∷ points) (q ∷ ps) rest last fit also none is =
+    let same = one_cut 32 (point_text p) (points_before points rest) (point_text q) (points_before ps last) (point_apart p (All-head IsInSquare p points fit)) (point_apart q (All-head IsInSquare q ps also)) is in
+    let more = goes_on points ps rest last (All-tail IsInSquare p points fit) (All-tail IsInSquare q ps also) none same.1 in
+    record { others = more.others; size = omega (arith, more.size); inside = more.inside; follows = more.follows }
+
+-- what is wrong behind the points of a shape: there are too few, or a field of the row is
+abbrev pub IsWrongAfter : Kind → List Coordinates → List ℕ → List ℕ → Type 0
+IsWrongAfter k points rest left = ((length points < least_points k) × (left ≡ rest)) ⊎ ((least_points k ≤ length points) × IsFirstWrong (kind_row k) rest left)
+
+shape_points : (k : Kind) (points : List Coordinates) → HasPoints k → PointsFit k points → All IsInSquare points × (least_points k ≤ length points) × (length points ≤ points_limit)
+shape_points kinds.ArcOutlined points has fit = fit
+shape_points kinds.ArcFilled points has fit = fit
+shape_points kinds.PolyOutlined points has fit = fit
+shape_points kinds.PolyFilled points has fit = fit
+shape_points _ points has fit = absurd has
+
+pub shape_fit : (k : Kind) (points : List Coordinates) → HasPoints k → All IsInSquare points → least_points k ≤ length points → length points ≤ points_limit → PointsFit k points
+shape_fit kinds.ArcOutlined points has inside least few = (inside, least, few)
+shape_fit kinds.ArcFilled points has inside least few = (inside, least, few)
+shape_fit kinds.PolyOutlined points has inside least few = (inside, least, few)
+shape_fit kinds.PolyFilled points has inside least few = (inside, least, few)
+shape_fit _ points has inside least few = absurd has
+
+pub shape_chosen : (k : Kind) (rest : List ℕ) → HasPoints k → IsChosen k rest
+shape_chosen kinds.Move rest has = absurd has
+shape_chosen kinds.Field rest has = absurd has
+shape_chosen _ rest has = tt
+
+pub none_shape : (k : Kind) (bytes : List ℕ) (points : List Coordinates) (rest left : List ℕ) → HasPoints k → EndsPoints bytes points rest → IsWrongAfter k points rest left → WritesNone IsProper line (line_from k bytes)
+none_shape k bytes points rest left has ended wrong e proper is =
+    let own = of_kind e k bytes proper (shape_chosen k bytes has) is in
+    let fit = shape_points k own.points has own.points_fit in
+    let goes = goes_on points own.points rest (fields_text own.values) ended.inside fit.0 (fields_no_point k own.values has (fits_are (kind_row k) own.values own.row)) (sym ended.parts ∙ own.follows) in
+    by own.values own.row goes.others (omega (arith, goes.size, fit.1)) (omega (arith, goes.size, fit.2)) goes.inside goes.follows wrong ended.ends
+  where
+    by : (vs : List Value) → FitsSort (kind_row k) vs → (others : List Coordinates) → least_points k ≤ length points + length others → length points + length others ≤ points_limit → All IsInSquare others →
+        rest ≡ points_before others (fields_text vs) → IsWrongAfter k points rest left → (length points ≡ points_limit) ⊎ BeginsNoPoint rest → ⊥
+    by vs row [] least few inside follows (inl short) ends = omega (arith, least, short.0)
+    by vs row [] least few inside follows (inr first) ends = none_in_row (kind_row k) rest left vs first.1 row follows
+    by vs row (q ∷ others) least few inside follows wrong (inl full) = omega (arith, few, full)
+    by vs row (q ∷ others) least few inside follows wrong (inr none) = none q (points_before others (fields_text vs)) (All-head IsInSquare q others inside) follows

@@ -9,7 +9,7 @@ use Rattle.std.proofs.lemmas.Str.Parse.{digit_from_value}
 use mir.Val.{SFits}
 use mir.Syntax.{w32}
 use Rattle.nap_make.specs.Numbers.{IsSigned}
-use Rattle.nap_make.specs.Reading.{WritesNone, Reads}
+use Rattle.nap_make.specs.Reading.{WritesNone, IsParsed}
 use Rattle.nap_make.proofs.SpellLemmas.{low_pos, low_neg}
 
 -- no digits begin with a minus
@@ -21,7 +21,7 @@ no_minus n ds fits is =
 
 pub with_minus : (bytes digits : List ℕ) (r : Option ℤ) → bytes ≡ 45 ∷ digits →
     MatchOption r ((n : ℕ) → IsSigned (negsuc n) → digits ≢ decimal (suc n)) (λ z. IsSigned z × (45 ∷ digits ≡ signed_decimal z)) →
-    Reads IsSigned signed_decimal bytes r
+    IsParsed IsSigned signed_decimal bytes r
 with_minus bytes digits None joins ensured = none
   where
     none : WritesNone IsSigned signed_decimal bytes
@@ -31,7 +31,7 @@ with_minus bytes digits (Some z) joins ensured = record { fitting = ensured.0; w
 
 pub without_minus : (bytes : List ℕ) (r : Option ℤ) → get_or bytes 0 0 ≢ 45 →
     MatchOption r ((n : ℕ) → IsSigned (pos n) → bytes ≢ decimal n) (λ z. IsSigned z × (bytes ≡ signed_decimal z)) →
-    Reads IsSigned signed_decimal bytes r
+    IsParsed IsSigned signed_decimal bytes r
 without_minus bytes None other ensured = none
   where
     none : WritesNone IsSigned signed_decimal bytes

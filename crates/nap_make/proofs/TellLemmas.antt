@@ -30,12 +30,12 @@ use Rattle.nap_lines.specs.Lines.{code_text, colour_text, cursor_text, grb_text,
 use Rattle.nap_make.specs.declared.look.TextModes.{TextModes}
 use Rattle.nap_make.specs.Fields.{MaskInRange, colour_field, look_field, modes_text, pel_field, pen_field, texture_field}
 use Rattle.nap_make.specs.Reading.{AnyValue, BothFit, pair_text}
-use Rattle.nap_make.proofs.AttributeLemmas.{hand_end, hand_parts, hand_triple, ink_end, ink_parts, ink_triple, texture_pair, texture_parts}
+use Rattle.nap_make.proofs.AttributeLemmas.{texture_pair, texture_parts}
 use Rattle.nap_make.proofs.CodeLemmas.{digit_tells}
 use Rattle.nap_make.proofs.ColourLemmas.{grb_triple, part_pair, part_triple}
 use Rattle.nap_make.proofs.LayoutLemmas.{Tells, alike_tell, both_tell}
 use Rattle.nap_make.proofs.LookLemmas.{look_parts, look_triple, modes_bytes, size_modes}
-use Rattle.nap_make.proofs.NameLemmas.{value_in_table}
+use Rattle.nap_make.proofs.KindLemmas.{value_in_table}
 use Rattle.nap_make.proofs.PlaceLemmas.{addr_pair, move_spells, move_tells, point_spells, point_tells, word_pair, word_triple}
 
 -- Values with equal texts are equal, field by field.
@@ -224,21 +224,11 @@ pel_field_tells = key_tells IsInRange move_text (codes "pel=") move_tells
 pub colour_field_tells : Tells ColourInRange colour_field
 colour_field_tells = key_tells ColourInRange colour_text (codes "colour=") colour_tells
 
-texture_field_tells : Tells TextureInRange texture_field
+pub texture_field_tells : Tells TextureInRange texture_field
 texture_field_tells = key_tells TextureInRange texture_text (codes "texture=") texture_tells
 
 pub pen_field_tells : Tells PenInRange pen_field
 pen_field_tells = key_tells PenInRange pen_text (codes "pen=") pen_tells
 
-look_field_tells : Tells TextInRange look_field
+pub look_field_tells : Tells TextInRange look_field
 look_field_tells = key_tells TextInRange look_text (codes "text=") look_tells
-
-pub ink_tells : Tells InkInRange ink_text
-ink_tells =
-    alike_tell ink_triple (λ (t : Displacement × (Colour × Texture)). record { pel = t.0; colour = t.1.0; texture = t.1.1 }) (λ i. refl)
-    (both_tell ink_parts pel_field_tells (both_tell ink_end colour_field_tells texture_field_tells))
-
-pub hand_tells : Tells HandInRange hand_text
-hand_tells =
-    alike_tell hand_triple (λ (t : Pen × (Colour × TextLook)). record { pen = t.0; colour = t.1.0; text = t.1.1 }) (λ h. refl)
-    (both_tell hand_parts pen_field_tells (both_tell hand_end colour_field_tells look_field_tells))

@@ -1,33 +1,33 @@
-use Rattle.std.specs.Prelude.{ℕ, ◌≡◌, ◌≤◌, ◌+◌, ◌-◌, List, ◌∷◌, ◌++◌, Option, Result, Ok, Err, length, take}
+use Rattle.std.specs.Prelude.{ℕ, ◌≡◌, ◌≢◌, ◌⊎◌, ◌+◌, List, [], ◌∷◌, ◌++◌, Option, Result, Ok, Err, codes, length}
 use Rattle.nap_list.specs.declared.entry.Entry.{Entry}
 use Rattle.nap_list.specs.Entry.{WellMade}
 use Rattle.nap_list.specs.Range.{InRange}
 use Rattle.nap_lines.specs.Lines.{line}
 use Rattle.nap_make.specs.declared.fault.LineFault.{LineFault}
 use Rattle.nap_make.specs.declared.fault.LineFault.TheVariants as faults
-use Rattle.nap_make.specs.declared.name.Name.{Name}
-use Rattle.nap_make.specs.Names.{name_text, NamesShape}
-use Rattle.nap_make.specs.Reading.{WritesNone, IsWritten, Reads}
+use Rattle.nap_make.specs.declared.kind.Kind.{Kind}
+use Rattle.nap_make.specs.Kinds.{HasPoints, line_from}
+use Rattle.nap_make.specs.Reading.{WritesNone, IsWritten, IsParsed}
 
 -- a well-made entry in range
 pub record IsProper (e : Entry) : Type 0 where
   pub in_range : InRange e
   pub well_made : WellMade e
 
--- a line by its name and what follows it
-abbrev pub line_from : Name → List ℕ → List ℕ
-line_from name rest = name_text name ++ 32 ∷ rest
-
 -- the entry whose line these bytes are was returned, or none if no entry has it
 abbrev pub ReadsLine : List ℕ → Option Entry → Type 0
-ReadsLine bytes result = Reads IsProper line bytes result
+ReadsLine bytes result = IsParsed IsProper line bytes result
+
+-- a well-made entry in range has this line
+abbrev pub IsEntryLine : List ℕ → Type 0
+IsEntryLine bytes = (e : Entry) × IsWritten IsProper line bytes e
 
 -- The bytes begin as the line of an arc or polygon does.
 pub record BeginsShape (bytes : List ℕ) : Type 0 where
-  pub name : Name
+  pub kind : Kind
   pub rest : List ℕ
-  pub shape : NamesShape name
-  pub begins : bytes ≡ line_from name rest
+  pub shape : HasPoints kind
+  pub begins : bytes ≡ line_from kind rest
 
 -- the bytes begin the line of a well-made entry in range
 pub record BeginsLine (prefix : List ℕ) : Type 0 where
@@ -36,20 +36,46 @@ pub record BeginsLine (prefix : List ℕ) : Type 0 where
   pub proper : IsProper entry
   pub begins : line entry ≡ prefix ++ more
 
--- what is before this column, counted from 1, begins the line of an entry
-pub record TellsColumn (bytes : List ℕ) (column : ℕ) : Type 0 where
-  pub low : 1 ≤ column
-  pub high : column ≤ length bytes + 1
-  pub before : BeginsLine (take (column - 1) bytes)
+-- The column of a fault.
 
--- The answer for a line: its entry; or the column before which it begins the line of an entry, where no entry has it;
--- or lack of memory, which only points take.
+-- the lines that are a name alone
+abbrev pub IsNameAlone : List ℕ → Type 0
+IsNameAlone bytes = (bytes ≡ codes "BELL") ⊎ (bytes ≡ codes "END")
+
+-- the entry whose line is this name alone
+abbrev pub IsWrittenAlone : List ℕ → Entry → Type 0
+IsWrittenAlone bytes e = IsNameAlone bytes × IsWritten IsProper line bytes e
+
+-- the column of a fault where a first word that is no kind's name and a space begin a line
+abbrev pub IsColumnAtName : List ℕ → ℕ → Type 0
+IsColumnAtName name column = (IsNameAlone name × (column ≡ length name + 1)) ⊎ ((IsNameAlone name → ⊥) × (column ≡ 1))
+
+-- bytes whose first is a space, and bytes whose last is one
+abbrev pub BeginsWithSpace : List ℕ → Type 0
+BeginsWithSpace bytes = (back : List ℕ) × (bytes ≡ 32 ∷ back)
+
+abbrev pub EndsWithSpace : List ℕ → Type 0
+EndsWithSpace bytes = (front : List ℕ) × (bytes ≡ front ++ 32 ∷ [])
+
+-- Where a fault may be told, by what is before it and what is left: where a name or a field begins; at a space behind a
+-- name that stands alone; where a line of an entry ends without LF.
+abbrev pub IsPlace : List ℕ → List ℕ → Type 0
+IsPlace right left = (right ≡ []) ⊎ (EndsWithSpace right ⊎ ((IsNameAlone right × BeginsWithSpace left) ⊎ (IsEntryLine right × (left ≡ []))))
+
+-- The column of a fault, counted from 1: what is before it begins the line of an entry, and at no later place does it. So
+-- the first field that is wrong with what has to stand behind it begins there.
+pub record TellsColumn (bytes : List ℕ) (column : ℕ) : Type 0 where
+  pub right : List ℕ
+  pub left : List ℕ
+  pub parts : bytes ≡ right ++ left
+  pub column_is : column ≡ length right + 1
+  pub place : IsPlace right left
+  pub begins : BeginsLine right
+  pub longest : (more rest : List ℕ) → left ≡ more ++ rest → IsPlace (right ++ more) rest → BeginsLine (right ++ more) → more ≡ []
+
+-- The answer for a line: its entry; or the column of its fault, where no entry has it; or lack of memory, which only points
+-- take.
 abbrev pub TellsLine : List ℕ → Result Entry LineFault → Type 0
 TellsLine bytes (Ok e) = IsWritten IsProper line bytes e
 TellsLine bytes (Err (faults.Line column)) = WritesNone IsProper line bytes × TellsColumn bytes column
 TellsLine bytes (Err faults.Memory) = BeginsShape bytes
-
--- the first bytes are a prefix of the others
-pub record Extends (prefix whole : List ℕ) : Type 0 where
-  pub more : List ℕ
-  pub parts : whole ≡ prefix ++ more

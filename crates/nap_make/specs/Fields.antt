@@ -1,18 +1,16 @@
-use Rattle.std.specs.Prelude.{ℕ, ◌≤◌, List, [], ◌∷◌, ◌++◌, All, Option, IfSome, ⊤, length, codes}
-use Rattle.nap_values.specs.Coordinates.{Coordinates, Displacement, IsInSquare, IsInRange}
+use Rattle.std.specs.Prelude.{ℕ, List, ◌++◌, Option, IfSome, ⊤, codes}
+use Rattle.nap_values.specs.Coordinates.{Displacement, IsInRange}
 use Rattle.nap_codes.specs.declared.control.Size.{Size}
 use Rattle.nap_codes.specs.declared.control.TextStep.{TextStep}
 use Rattle.nap_codes.specs.declared.control.TextStep.TheVariants as steps
 use Rattle.nap_list.specs.declared.attribute.CharSize.TheVariants as sizes
 use Rattle.nap_list.specs.declared.attribute.Colour.{Colour}
 use Rattle.nap_list.specs.declared.attribute.Colour.TheVariants as colours
-use Rattle.nap_list.specs.declared.attribute.Ink.{Ink}
 use Rattle.nap_list.specs.declared.attribute.Pen.{Pen}
 use Rattle.nap_list.specs.declared.attribute.TextLook.{TextLook}
 use Rattle.nap_list.specs.declared.attribute.Texture.{Texture}
-use Rattle.nap_list.specs.Limits.{points_limit}
-use Rattle.nap_list.specs.Range.{ColourInRange, InkInRange}
-use Rattle.nap_lines.specs.Lines.{point_text, move_text, colour_text, pen_text, texture_text, ink_text, look_text, flag_text, size_text}
+use Rattle.nap_list.specs.Range.{ColourInRange}
+use Rattle.nap_lines.specs.Lines.{move_text, colour_text, pen_text, texture_text, look_text, flag_text, size_text}
 use Rattle.nap_make.specs.declared.colour.ColourKind.{ColourKind}
 use Rattle.nap_make.specs.declared.colour.ColourKind.TheVariants as kinds
 use Rattle.nap_make.specs.declared.look.TextModes.{TextModes}
@@ -64,18 +62,3 @@ size_name size = size_text (sizes.Named size)
 -- the four flags: the letter of each that is on, else `-`
 abbrev pub modes_text : TextModes → List ℕ
 modes_text m = flag_text m.reverse (codes "r") ++ flag_text m.underline (codes "u") ++ flag_text m.wrap (codes "w") ++ flag_text m.scroll (codes "s")
-
--- points, a space after each, and then these bytes
-abbrev pub points_before : List Coordinates → List ℕ → List ℕ
-points_before [] last = last
-points_before (p ∷ points) last = point_text p ++ 32 ∷ points_before points last
-
--- the points and the part INK of a shape
-abbrev pub shape_text : List Coordinates × Ink → List ℕ
-shape_text s = points_before s.0 (ink_text s.1)
-
--- the points and the attributes of a shape are in range, and not more than a shape may have
-pub record ShapeFits (s : List Coordinates × Ink) : Type 0 where
-  pub points : All IsInSquare s.0
-  pub few : length s.0 ≤ points_limit
-  pub ink : InkInRange s.1

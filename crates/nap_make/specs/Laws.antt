@@ -3,7 +3,7 @@ use Rattle.nap_list.specs.declared.entry.Entry.{Entry}
 use Rattle.nap_list.specs.Range.{InRange, AllInRange}
 use Rattle.nap_lines.specs.Lines.{line}
 use Rattle.nap_lines.specs.Listing.{lines}
-use Rattle.nap_make.specs.Entries.{IsProper}
+use Rattle.nap_make.specs.Entries.{IsProper, TellsColumn}
 
 -- entries in range with equal lines are equal
 abbrev pub LineTellsEntry : Type 0
@@ -24,3 +24,7 @@ LinesAreBounded = (e : Entry) → IsProper e → length (line e) ≤ longest_lin
 -- No line of a well-made entry in range contains LF.
 abbrev pub LinesHaveNoEnds : Type 0
 LinesHaveNoEnds = (e : Entry) → IsProper e → All (λ b. b ≢ 10) (line e)
+
+-- The fault of a line has one column.
+abbrev pub ColumnsAreOne : Type 0
+ColumnsAreOne = (bytes : List ℕ) (c d : ℕ) → TellsColumn bytes c → TellsColumn bytes d → c ≡ d

@@ -1,15 +1,19 @@
-use Rattle.std.specs.Prelude.{ℕ, ℤ, ◌≡◌, ◌<◌, ◌≤ℤ◌, ◌<ℤ◌, pos, negsuc, List}
+use Rattle.std.specs.Prelude.{ℕ, ℤ, ◌≡◌, ◌<◌, ◌≤◌, ◌≤ℤ◌, ◌<ℤ◌, pos, negsuc, List, length}
 use Rattle.std.specs.Str.Parse.{IsNumeral, digits_value}
 
 -- a number of at most eight decimal digits
 abbrev pub IsShort : ℕ → Type 0
 IsShort n = n < 100000000
 
+-- the greatest number of digits of a number
+abbrev pub digits_limit : ℕ
+digits_limit = 8
+
 -- at most eight decimal digits write this number, with leading zeros or without
 pub record IsNumeralOf (digits : List ℕ) (n : ℕ) : Type 0 where
   pub numeral : IsNumeral 10 digits
+  pub few : length digits ≤ digits_limit
   pub value : digits_value 10 digits ≡ n
-  pub short : IsShort n
 
 -- a signed number of 24 bits
 abbrev pub IsSigned : ℤ → Type 0

@@ -1,22 +1,22 @@
 //! Parsing of the attributes of an entry, each with its key (PROFILE.md, Lines of list).
 ghost use Rattle.std.specs.Prelude.{◌≡◌, ◌≢◌, IfSome, MatchOption, codes};
 ghost use Rattle.nap_values.specs.Coordinates.{IsInRange};
-ghost use Rattle.nap_list.specs.Range.{ColourInRange, HandInRange, InkInRange, PenInRange, TextInRange, TextureInRange};
-ghost use Rattle.nap_lines.specs.Lines.{hand_text, ink_text, mask_size_text, texture_text};
+ghost use Rattle.nap_list.specs.Range.{ColourInRange, PenInRange, TextInRange, TextureInRange};
+ghost use Rattle.nap_lines.specs.Lines.{mask_size_text, texture_text};
 ghost use Rattle.nap_make.specs.Fields.{MaskInRange, colour_field, look_field, pel_field, pen_field, texture_field};
-ghost use Rattle.nap_make.specs.Reading.{Reads};
+ghost use Rattle.nap_make.specs.Reading.{IsParsed};
 
 use crate::colour::colour;
 use crate::cutting::{rest_after, split_at_byte};
 use crate::look::look;
 use crate::number::word;
 use crate::place::{displacement, pen};
-use nap_list::{Colour, Hand, Ink, Pen, TextLook, Texture};
+use nap_list::{Colour, Pen, TextLook, Texture};
 use nap_values::Move;
 
 /// Parses the size of a texture's mask, or `none`.
 fn mask_size(bytes: &[u8]) -> Option<Option<Move>>
-    ensures { Reads MaskInRange mask_size_text bytes.now result }
+    ensures { IsParsed MaskInRange mask_size_text bytes.now result }
 {
     match bytes {
         b"none" => Some(None),
@@ -29,7 +29,7 @@ fn mask_size(bytes: &[u8]) -> Option<Option<Move>>
 
 /// Parses a texture.
 fn texture(bytes: &[u8]) -> Option<Texture>
-    ensures { Reads TextureInRange texture_text bytes.now result }
+    ensures { IsParsed TextureInRange texture_text bytes.now result }
 {
     let (number, size) = split_at_byte(bytes, b'/')?;
     let word = word(number)?;
@@ -39,7 +39,7 @@ fn texture(bytes: &[u8]) -> Option<Texture>
 
 /// Parses the field `pel=`.
 pub(crate) fn pel_field(bytes: &[u8]) -> Option<Move>
-    ensures { Reads IsInRange pel_field bytes.now result }
+    ensures { IsParsed IsInRange pel_field bytes.now result }
 {
     let text = rest_after(bytes, b"pel=")?;
     displacement(text)
@@ -47,7 +47,7 @@ pub(crate) fn pel_field(bytes: &[u8]) -> Option<Move>
 
 /// Parses the field `colour=`.
 pub(crate) fn colour_field(bytes: &[u8]) -> Option<Colour>
-    ensures { Reads ColourInRange colour_field bytes.now result }
+    ensures { IsParsed ColourInRange colour_field bytes.now result }
 {
     let text = rest_after(bytes, b"colour=")?;
     colour(text)
@@ -55,7 +55,7 @@ pub(crate) fn colour_field(bytes: &[u8]) -> Option<Colour>
 
 /// Parses the field `texture=`.
 pub(crate) fn texture_field(bytes: &[u8]) -> Option<Texture>
-    ensures { Reads TextureInRange texture_field bytes.now result }
+    ensures { IsParsed TextureInRange texture_field bytes.now result }
 {
     let text = rest_after(bytes, b"texture=")?;
     texture(text)
@@ -63,7 +63,7 @@ pub(crate) fn texture_field(bytes: &[u8]) -> Option<Texture>
 
 /// Parses the field `pen=`.
 pub(crate) fn pen_field(bytes: &[u8]) -> Option<Pen>
-    ensures { Reads PenInRange pen_field bytes.now result }
+    ensures { IsParsed PenInRange pen_field bytes.now result }
 {
     let text = rest_after(bytes, b"pen=")?;
     pen(text)
@@ -71,36 +71,8 @@ pub(crate) fn pen_field(bytes: &[u8]) -> Option<Pen>
 
 /// Parses the field `text=`.
 pub(crate) fn look_field(bytes: &[u8]) -> Option<TextLook>
-    ensures { Reads TextInRange look_field bytes.now result }
+    ensures { IsParsed TextInRange look_field bytes.now result }
 {
     let text = rest_after(bytes, b"text=")?;
     look(text)
-}
-
-/// Parses the part INK: pel, colour and texture.
-pub(crate) fn ink(bytes: &[u8]) -> Option<Ink>
-    ensures { Reads InkInRange ink_text bytes.now result }
-{
-    let (pel, others) = split_at_byte(bytes, b' ')?;
-    let (colour, texture) = split_at_byte(others, b' ')?;
-    let pel = pel_field(pel)?;
-    let colour = colour_field(colour)?;
-    let texture = texture_field(texture)?;
-    Some(Ink {
-        pel,
-        colour,
-        texture,
-    })
-}
-
-/// Parses the part HAND: pen, colour and text attributes.
-pub(crate) fn hand(bytes: &[u8]) -> Option<Hand>
-    ensures { Reads HandInRange hand_text bytes.now result }
-{
-    let (pen, others) = split_at_byte(bytes, b' ')?;
-    let (colour, text) = split_at_byte(others, b' ')?;
-    let pen = pen_field(pen)?;
-    let colour = colour_field(colour)?;
-    let text = look_field(text)?;
-    Some(Hand { pen, colour, text })
 }

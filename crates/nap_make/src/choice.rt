@@ -2,13 +2,13 @@
 ghost use Rattle.std.specs.Prelude.{◌≡◌, ◌≢◌, MatchOption};
 ghost use Rattle.nap_lines.specs.Lines.{set_text, cursor_text, mask_text, step_text};
 ghost use Rattle.nap_make.specs.Fields.{IsPlainStep};
-ghost use Rattle.nap_make.specs.Reading.{Reads, AnyValue};
+ghost use Rattle.nap_make.specs.Reading.{IsParsed, AnyValue};
 
 use nap_codes::{CharSet, CursorKind, Mask, TextStep};
 
 /// Parses the name of a character set.
 pub(crate) fn char_set(bytes: &[u8]) -> Option<CharSet>
-    ensures { Reads AnyValue set_text bytes.now result }
+    ensures { IsParsed AnyValue set_text bytes.now result }
 {
     match bytes {
         b"primary" => Some(CharSet::Primary),
@@ -21,7 +21,7 @@ pub(crate) fn char_set(bytes: &[u8]) -> Option<CharSet>
 
 /// Parses the name of a state of the cursor.
 pub(crate) fn cursor_kind(bytes: &[u8]) -> Option<CursorKind>
-    ensures { Reads AnyValue cursor_text bytes.now result }
+    ensures { IsParsed AnyValue cursor_text bytes.now result }
 {
     match bytes {
         b"flash" => Some(CursorKind::Flash),
@@ -33,7 +33,7 @@ pub(crate) fn cursor_kind(bytes: &[u8]) -> Option<CursorKind>
 
 /// Parses the letter of a mask.
 pub(crate) fn mask(bytes: &[u8]) -> Option<Mask>
-    ensures { Reads AnyValue mask_text bytes.now result }
+    ensures { IsParsed AnyValue mask_text bytes.now result }
 {
     match bytes {
         b"A" => Some(Mask::A),
@@ -46,7 +46,7 @@ pub(crate) fn mask(bytes: &[u8]) -> Option<Mask>
 
 /// Parses the name of a format effector, except APS.
 pub(crate) fn plain_step(bytes: &[u8]) -> Option<TextStep>
-    ensures { Reads IsPlainStep step_text bytes.now result }
+    ensures { IsParsed IsPlainStep step_text bytes.now result }
 {
     match bytes {
         b"APB" => Some(TextStep::Apb),

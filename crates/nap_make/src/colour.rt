@@ -4,7 +4,7 @@ ghost use Rattle.nap_values.specs.Colours.{HasSixteenBitParts};
 ghost use Rattle.nap_list.specs.Range.{ColourInRange};
 ghost use Rattle.nap_lines.specs.Lines.{grb_text, colour_text};
 ghost use Rattle.nap_make.specs.Fields.{IsNumbered};
-ghost use Rattle.nap_make.specs.Reading.{Reads};
+ghost use Rattle.nap_make.specs.Reading.{IsParsed};
 
 use crate::cutting::split_at_byte;
 use crate::number::{addr, number_below, two_addrs};
@@ -13,7 +13,7 @@ use nap_values::Grb;
 
 /// Parses the components of a colour.
 pub(crate) fn grb(bytes: &[u8]) -> Option<Grb>
-    ensures { Reads HasSixteenBitParts grb_text bytes.now result }
+    ensures { IsParsed HasSixteenBitParts grb_text bytes.now result }
 {
     let (g, others) = split_at_byte(bytes, b',')?;
     let (r, b) = split_at_byte(others, b',')?;
@@ -53,7 +53,7 @@ impl ColourKind {
 
 /// Parses a colour that is written with numbers.
 fn colour_by_numbers(bytes: &[u8]) -> Option<Colour>
-    ensures { Reads IsNumbered colour_text bytes.now result }
+    ensures { IsParsed IsNumbered colour_text bytes.now result }
 {
     let (name, numbers) = split_at_byte(bytes, b':')?;
     let kind = ColourKind::named(name)?;
@@ -75,7 +75,7 @@ fn colour_by_numbers(bytes: &[u8]) -> Option<Colour>
 
 /// Parses a colour.
 pub(crate) fn colour(bytes: &[u8]) -> Option<Colour>
-    ensures { Reads ColourInRange colour_text bytes.now result }
+    ensures { IsParsed ColourInRange colour_text bytes.now result }
 {
     match bytes {
         b"own-start" => Some(Colour::Own(Origin::AtStart)),

@@ -1,22 +1,27 @@
-//! Parses the lines of `list` into entries (PROFILE.md, Lines that make a page).
+//! Entries, lists and pages of the lines that `list` prints (PROFILE.md, Lines that make a page).
 #![tactic(auto)]
 
 mod attribute;
 mod choice;
 mod colour;
-mod column;
 mod cutting;
 mod entry;
 mod fault;
+mod field;
 mod kind;
 pub mod laws;
+mod lines;
 mod look;
-mod name;
 mod number;
+mod page;
 mod place;
 mod reading;
+mod row;
 mod shape;
 
 pub use cutting::split_at_byte;
-pub use entry::entry_of_line;
 pub use fault::LineFault;
+pub use lines::{ListFault, MakeFault, make_list, put_lines};
+pub use number::{DIGITS, numeral};
+pub use page::{MadePage, PageFault, make_page, page_of_input, page_of_lines};
+pub use reading::entry_of_line;

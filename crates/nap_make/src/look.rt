@@ -3,7 +3,7 @@ ghost use Rattle.std.specs.Prelude.{◌≡◌, ◌≢◌, ◌∷◌, [], Bool, M
 ghost use Rattle.nap_list.specs.Range.{SizeInRange, TextInRange};
 ghost use Rattle.nap_lines.specs.Lines.{flag_text, size_text, look_text};
 ghost use Rattle.nap_make.specs.Fields.{modes_text, size_name};
-ghost use Rattle.nap_make.specs.Reading.{Reads, AnyValue};
+ghost use Rattle.nap_make.specs.Reading.{IsParsed, AnyValue};
 
 use crate::cutting::split_at_byte;
 use crate::number::two_words;
@@ -13,7 +13,7 @@ use nap_list::{CharSize, TextLook};
 
 /// Parses a named size.
 fn named_size(bytes: &[u8]) -> Option<Size>
-    ensures { Reads AnyValue size_name bytes.now result }
+    ensures { IsParsed AnyValue size_name bytes.now result }
 {
     match bytes {
         b"small" => Some(Size::Small),
@@ -27,7 +27,7 @@ fn named_size(bytes: &[u8]) -> Option<Size>
 
 /// Parses the size of a character.
 pub(crate) fn char_size(bytes: &[u8]) -> Option<CharSize>
-    ensures { Reads SizeInRange size_text bytes.now result }
+    ensures { IsParsed SizeInRange size_text bytes.now result }
 {
     match named_size(bytes) {
         Some(size) => Some(CharSize::Named(size)),
@@ -67,7 +67,7 @@ fn flag(byte: u8, letter: u8) -> Option<bool>
 
 /// Parses the four flags.
 fn modes(bytes: &[u8]) -> Option<TextModes>
-    ensures { Reads AnyValue modes_text bytes.now result }
+    ensures { IsParsed AnyValue modes_text bytes.now result }
 {
     if bytes.len() != 4 {
         return None;
@@ -86,7 +86,7 @@ fn modes(bytes: &[u8]) -> Option<TextModes>
 
 /// Parses the text attributes.
 pub(crate) fn look(bytes: &[u8]) -> Option<TextLook>
-    ensures { Reads TextInRange look_text bytes.now result }
+    ensures { IsParsed TextInRange look_text bytes.now result }
 {
     let (words, others) = split_at_byte(bytes, b'/')?;
     let (size, flags) = split_at_byte(others, b'/')?;

@@ -6,14 +6,14 @@ ghost use Rattle.nap_values.specs.Laws.{IsWord};
 ghost use Rattle.nap_list.specs.Entry.{IsCode};
 ghost use Rattle.nap_list.specs.Range.{IsAddress};
 ghost use Rattle.nap_lines.specs.Lines.{code_text};
-ghost use Rattle.nap_make.specs.Numbers.{IsShort, IsNumeralOf, IsSigned, IsNibble};
-ghost use Rattle.nap_make.specs.Reading.{WritesNone, Reads, BothFit, pair_text};
+ghost use Rattle.nap_make.specs.Numbers.{IsNumeralOf, IsSigned, IsNibble};
+ghost use Rattle.nap_make.specs.Reading.{IsParsed, BothFit, pair_text};
 
 use crate::cutting::split_at_byte;
 use nap_values::{Addr, Word};
 
 /// The greatest number of digits of a number.
-const DIGITS: usize = 8;
+pub const DIGITS: usize = 8;
 
 /// Displacements are below this limit, and at least its negative.
 const DISPLACEMENT_LIMIT: u32 = 8_388_608;
@@ -21,14 +21,11 @@ const DISPLACEMENT_LIMIT: u32 = 8_388_608;
 /// Words are below this limit.
 const WORDS: u32 = Word::LIMIT as u32;
 
-/// Parses at most eight decimal digits.
-fn numeral(digits: &[u8]) -> Option<u32>
-    ensures { MatchOption result (WritesNone IsShort decimal digits.now) (IsNumeralOf digits.now) }
+/// Parses at most eight decimal digits, with leading zeros or without.
+pub fn numeral(digits: &[u8]) -> Option<u32>
+    ensures { MatchOption result ((n : ℕ) → IsNumeralOf digits.now n → ⊥) (IsNumeralOf digits.now) }
 {
-    if digits.len() == 0 {
-        return None;
-    }
-    if digits.len() > DIGITS {
+    if digits.is_empty() || digits.len() > DIGITS {
         return None;
     }
     let mut value: u32 = 0;
@@ -44,7 +41,7 @@ fn numeral(digits: &[u8]) -> Option<u32>
 /// Parses a decimal number below the limit, without leading zeros.
 pub(crate) fn number_below(digits: &[u8], limit: u32) -> Option<u32>
     requires { limit ≤ 100000000 }
-    ensures { Reads (λ n. n < limit) decimal digits.now result }
+    ensures { IsParsed (λ n. n < limit) decimal digits.now result }
 {
     let value = numeral(digits)?;
     if value >= limit {
@@ -80,7 +77,7 @@ fn positive(digits: &[u8]) -> Option<i32>
 
 /// Parses a signed number of 24 bits.
 pub(crate) fn signed(bytes: &[u8]) -> Option<i32>
-    ensures { Reads IsSigned signed_decimal bytes.now result }
+    ensures { IsParsed IsSigned signed_decimal bytes.now result }
 {
     if bytes.len() == 0 {
         return None;
@@ -93,7 +90,7 @@ pub(crate) fn signed(bytes: &[u8]) -> Option<i32>
 
 /// Parses a word.
 pub(crate) fn word(bytes: &[u8]) -> Option<Word>
-    ensures { Reads IsWord decimal bytes.now result }
+    ensures { IsParsed IsWord decimal bytes.now result }
 {
     let number = number_below(bytes, WORDS)?;
     Word::try_new(number as u8)
@@ -101,7 +98,7 @@ pub(crate) fn word(bytes: &[u8]) -> Option<Word>
 
 /// Parses two words separated by a comma.
 pub(crate) fn two_words(bytes: &[u8]) -> Option<(Word, Word)>
-    ensures { Reads (BothFit IsWord IsWord) (pair_text decimal 44 decimal) bytes.now result }
+    ensures { IsParsed (BothFit IsWord IsWord) (pair_text decimal 44 decimal) bytes.now result }
 {
     let (first, second) = split_at_byte(bytes, b',')?;
     let first = word(first)?;
@@ -111,7 +108,7 @@ pub(crate) fn two_words(bytes: &[u8]) -> Option<(Word, Word)>
 
 /// Parses three words separated by commas.
 pub(crate) fn three_words(bytes: &[u8]) -> Option<(Word, (Word, Word))>
-    ensures { Reads (BothFit IsWord (BothFit IsWord IsWord)) (pair_text decimal 44 (pair_text decimal 44 decimal)) bytes.now result }
+    ensures { IsParsed (BothFit IsWord (BothFit IsWord IsWord)) (pair_text decimal 44 (pair_text decimal 44 decimal)) bytes.now result }
 {
     let (first, others) = split_at_byte(bytes, b',')?;
     let first = word(first)?;
@@ -121,7 +118,7 @@ pub(crate) fn three_words(bytes: &[u8]) -> Option<(Word, (Word, Word))>
 
 /// Parses an address of the colour map.
 pub(crate) fn addr(bytes: &[u8]) -> Option<Addr>
-    ensures { Reads IsAddress decimal bytes.now result }
+    ensures { IsParsed IsAddress decimal bytes.now result }
 {
     let number = number_below(bytes, Addr::LIMIT)?;
     Addr::try_new(number)
@@ -129,7 +126,7 @@ pub(crate) fn addr(bytes: &[u8]) -> Option<Addr>
 
 /// Parses two addresses separated by a comma.
 pub(crate) fn two_addrs(bytes: &[u8]) -> Option<(Addr, Addr)>
-    ensures { Reads (BothFit IsAddress IsAddress) (pair_text decimal 44 decimal) bytes.now result }
+    ensures { IsParsed (BothFit IsAddress IsAddress) (pair_text decimal 44 decimal) bytes.now result }
 {
     let (first, second) = split_at_byte(bytes, b',')?;
     let first = addr(first)?;
@@ -150,7 +147,7 @@ fn nibble(digit: u8) -> Option<u8>
 
 /// Parses the code of a character, from `20` to `7F`.
 pub(crate) fn code(bytes: &[u8]) -> Option<u8>
-    ensures { Reads IsCode code_text bytes.now result }
+    ensures { IsParsed IsCode code_text bytes.now result }
 {
     if bytes.len() != 2 {
         return None;

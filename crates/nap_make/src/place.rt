@@ -3,7 +3,7 @@ ghost use Rattle.std.specs.Prelude.{◌≡◌, ◌≢◌, ◌<◌, ◌++◌, ◌
 ghost use Rattle.nap_values.specs.Coordinates.{Coordinates, IsInSquare, IsInRange};
 ghost use Rattle.nap_list.specs.Range.{PenInRange};
 ghost use Rattle.nap_lines.specs.Lines.{point_text, move_text, pen_text};
-ghost use Rattle.nap_make.specs.Reading.{Reads, IsWritten};
+ghost use Rattle.nap_make.specs.Reading.{IsParsed, IsWritten};
 
 use crate::cutting::split_at_byte;
 use crate::number::{number_below, signed};
@@ -12,7 +12,7 @@ use nap_values::{Move, Point};
 
 /// Parses a point.
 pub(crate) fn point(bytes: &[u8]) -> Option<Point>
-    ensures { Reads IsInSquare point_text bytes.now result }
+    ensures { IsParsed IsInSquare point_text bytes.now result }
 {
     let (x, y) = split_at_byte(bytes, b',')?;
     let x = number_below(x, Point::LIMIT)?;
@@ -22,7 +22,7 @@ pub(crate) fn point(bytes: &[u8]) -> Option<Point>
 
 /// Parses a displacement or a size.
 pub(crate) fn displacement(bytes: &[u8]) -> Option<Move>
-    ensures { Reads IsInRange move_text bytes.now result }
+    ensures { IsParsed IsInRange move_text bytes.now result }
 {
     let (x, y) = split_at_byte(bytes, b',')?;
     let x = signed(x)?;
@@ -32,7 +32,7 @@ pub(crate) fn displacement(bytes: &[u8]) -> Option<Move>
 
 /// Parses a pen.
 pub(crate) fn pen(bytes: &[u8]) -> Option<Pen>
-    ensures { Reads PenInRange pen_text bytes.now result }
+    ensures { IsParsed PenInRange pen_text bytes.now result }
 {
     match bytes {
         b"start" => Some(Pen::Start),

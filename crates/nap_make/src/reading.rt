@@ -1,76 +1,79 @@
-//! Parsing of a line by its name.
-ghost use Rattle.std.specs.Prelude.{ℕ, List, IfOk, OnErr};
-ghost use Rattle.nap_make.specs.Cutting.{SplitsAtByte};
-ghost use Rattle.nap_make.specs.Entries.{BeginsShape, ReadsLine, line_from};
-ghost use Rattle.nap_make.specs.Names.{NamesShape};
+//! Reading of a line.
+ghost use Rattle.std.specs.Prelude.{◌≡◌, ◌+◌, length, MatchOption};
+ghost use Rattle.nap_make.specs.Entries.{IsNameAlone, IsColumnAtName, IsWrittenAlone, TellsLine};
+ghost use Rattle.nap_make.specs.Kinds.{HasPoints, IsChosen, line_from};
 
 use crate::cutting::split_at_byte;
-use crate::kind::{
-    blink_end_entry, blink_entry, blink_mark_entry, char_entry, clear_entry, cursor_entry,
-    field_entry, glyph_entry, line_entry, map_entry, mask_entry, point_entry, rect_entry,
-    reset_entry, text_move_entry, to_eol_entry, wait_entry,
-};
-use crate::name::Name;
-use crate::shape::{arc_entry, poly_entry};
+use crate::entry::entry_of;
+use crate::fault::LineFault;
+use crate::field::{FIELDS, Value};
+use crate::kind::Kind;
+use crate::row::read_row;
+use crate::shape::shape_entry;
+use arrayvec::ArrayVec;
 use nap_list::Entry;
-use std::alloc::{AllocError, Global};
+use std::alloc::Global;
 
-/// Parses a line after its name and a space.
-fn entry_named(alloc: Global, name: Name, rest: &[u8]) -> Result<Option<Entry>, AllocError>
-    ensures entry { IfOk result (ReadsLine (line_from name rest.now)) }
-    ensures memory { OnErr result (NamesShape name) }
+/// Reads what a line of a kind without points has after its beginning and a space. `end` is the column after the line.
+fn plain_entry(kind: Kind, end: usize, rest: &[u8]) -> Result<Entry, LineFault>
+    requires plain { HasPoints kind → ⊥ }
+    requires chosen { IsChosen kind rest.now }
+    requires end { end ≡ length (line_from kind rest.now) + 1 }
+    ensures { TellsLine (line_from kind rest.now) result }
 {
-    match name {
-        Name::Point => Ok(point_entry(rest)),
-        Name::Line => Ok(line_entry(rest)),
-        Name::ArcOutlined => arc_entry(alloc, false, rest),
-        Name::ArcFilled => arc_entry(alloc, true, rest),
-        Name::RectOutlined => Ok(rect_entry(false, rest)),
-        Name::RectFilled => Ok(rect_entry(true, rest)),
-        Name::PolyOutlined => poly_entry(alloc, false, rest),
-        Name::PolyFilled => poly_entry(alloc, true, rest),
-        Name::Char => Ok(char_entry(rest)),
-        Name::Move => Ok(text_move_entry(rest)),
-        Name::ToEol => Ok(to_eol_entry(rest)),
-        Name::Map => Ok(map_entry(rest)),
-        Name::Blink => Ok(blink_entry(rest)),
-        Name::BlinkEnd => Ok(blink_end_entry(rest)),
-        Name::BlinkStart => Ok(blink_mark_entry(true, rest)),
-        Name::BlinkStop => Ok(blink_mark_entry(false, rest)),
-        Name::Wait => Ok(wait_entry(rest)),
-        Name::Cursor => Ok(cursor_entry(rest)),
-        Name::Field => Ok(field_entry(rest)),
-        Name::Reset => Ok(reset_entry(rest)),
-        Name::Clear => Ok(clear_entry(rest)),
-        Name::Glyph => Ok(glyph_entry(rest)),
-        Name::Mask => Ok(mask_entry(rest)),
-        Name::Bell | Name::End => Ok(None),
+    let mut values: ArrayVec<Value, FIELDS> = ArrayVec::new();
+    match read_row(&mut values, kind.row(), rest) {
+        Ok(()) => entry_of(kind, values.as_slice()),
+        Err(left) => Err(LineFault::Line(end - left)),
     }
 }
 
-/// Parses a line that is a name alone.
-fn entry_alone(bytes: &[u8]) -> Option<Entry>
-    requires { (prefix back : List ℕ) → SplitsAtByte 32 bytes.now prefix back → ⊥ }
-    ensures { ReadsLine bytes.now result }
+/// Reads what a line of this kind has after its beginning and a space.
+fn entry_after(alloc: Global, kind: Kind, end: usize, rest: &[u8]) -> Result<Entry, LineFault>
+    requires chosen { IsChosen kind rest.now }
+    requires end { end ≡ length (line_from kind rest.now) + 1 }
+    ensures { TellsLine (line_from kind rest.now) result }
 {
-    let name = Name::of(bytes)?;
-    match name {
-        Name::Bell => Some(Entry::Bell),
-        Name::End => Some(Entry::DefEnd),
+    match kind {
+        Kind::ArcOutlined | Kind::ArcFilled => shape_entry(alloc, kind, 3, end, rest),
+        Kind::PolyOutlined | Kind::PolyFilled => shape_entry(alloc, kind, 2, end, rest),
+        _ => plain_entry(kind, end, rest),
+    }
+}
+
+/// Reads a line that is a name alone.
+fn entry_alone(bytes: &[u8]) -> Option<Entry>
+    ensures { MatchOption result (IsNameAlone bytes.now → ⊥) (IsWrittenAlone bytes.now) }
+{
+    match bytes {
+        b"BELL" => Some(Entry::Bell),
+        b"END" => Some(Entry::DefEnd),
         _ => None,
     }
 }
 
-/// Parses a line.
-pub(crate) fn read(alloc: Global, bytes: &[u8]) -> Result<Option<Entry>, AllocError>
-    ensures entry { IfOk result (ReadsLine bytes.now) }
-    ensures memory { OnErr result (BeginsShape bytes.now) }
+/// Returns the column of the fault of a line whose first word, before a space, is no kind's name.
+fn column_at_name(name: &[u8]) -> usize
+    ensures { IsColumnAtName name.now result }
 {
-    match split_at_byte(bytes, b' ') {
-        Some((name, rest)) => match Name::of(name) {
-            Some(name) => entry_named(alloc, name, rest),
-            None => Ok(None),
-        },
-        None => Ok(entry_alone(bytes)),
+    match name {
+        b"BELL" | b"END" => name.len() + 1,
+        _ => 1,
+    }
+}
+
+/// Returns the well-made entry whose line these bytes are, without LF (PROFILE.md, Lines that make a page).
+pub fn entry_of_line(alloc: Global, bytes: &[u8]) -> Result<Entry, LineFault>
+    ensures { TellsLine bytes.now result }
+{
+    let Some((name, rest)) = split_at_byte(bytes, b' ') else {
+        return match entry_alone(bytes) {
+            Some(entry) => Ok(entry),
+            None => Err(LineFault::Line(1)),
+        };
+    };
+    match Kind::of(name, rest) {
+        Some((kind, others)) => entry_after(alloc, kind, bytes.len() + 1, others),
+        None => Err(LineFault::Line(column_at_name(name))),
     }
 }

@@ -1,90 +1,74 @@
-//! Parsing of arcs and polygons.
-ghost use Rattle.std.specs.Prelude.{◌≡◌, ◌≢◌, ◌∷◌, ◌++◌, ℕ, List, IfOk, MatchOption};
-ghost use Rattle.nap_values.specs.Coordinates.{Coordinates, IsInSquare};
+//! Reading of arcs and polygons.
+ghost use Rattle.std.specs.Prelude.{◌≡◌, ◌+◌, ◌++◌, ◌∷◌, [], length, IfOk, MatchOption};
+ghost use Rattle.nap_values.specs.Coordinates.{IsInSquare};
 ghost use Rattle.nap_lines.specs.Lines.{point_text};
-ghost use Rattle.nap_make.specs.Entries.{ReadsLine, line_from};
-ghost use Rattle.nap_make.specs.Fields.{ShapeFits, shape_text};
-ghost use Rattle.nap_make.specs.Names.{arc_name, poly_name};
-ghost use Rattle.nap_make.specs.Reading.{Reads};
+ghost use Rattle.nap_make.specs.Entries.{TellsLine};
+ghost use Rattle.nap_make.specs.Kinds.{HasPoints, least_points, line_from};
+ghost use Rattle.nap_make.specs.Rows.{BeginsNoPoint, EndsPoints};
 
-use crate::attribute::ink;
 use crate::cutting::split_at_byte;
+use crate::entry::shape_of;
+use crate::fault::LineFault;
+use crate::field::{FIELDS, Value};
+use crate::kind::Kind;
 use crate::place::point;
-use nap_list::{Entry, Ink, Points, SHAPE_POINTS};
+use crate::row::read_row;
+use arrayvec::ArrayVec;
+use nap_list::{Entry, Points, SHAPE_POINTS};
 use nap_values::Point;
 use std::alloc::{AllocError, Global};
 
-/// Parses the first point, and returns what follows it and a space.
-pub(crate) fn first_point(bytes: &[u8]) -> Option<(Point, &[u8])>
-    ensures { MatchOption result ((p : Coordinates) (more : List ℕ) → IsInSquare p → bytes.now ≢ point_text p ++ 32 ∷ more) (λ r. IsInSquare r.0 × (bytes.now ≡ point_text r.0 ++ 32 ∷ r.1.now)) }
+/// Reads a point with a space behind it, and returns what follows the space.
+fn next_point(bytes: &[u8]) -> Option<(Point, &[u8])>
+    ensures { MatchOption result (BeginsNoPoint bytes.now) (λ r. IsInSquare r.0 × (bytes.now ≡ point_text r.0 ++ 32 ∷ r.1.now)) }
 {
-    let (first, more) = split_at_byte(bytes, b' ')?;
-    let at = point(first)?;
+    let (word, more) = split_at_byte(bytes, b' ')?;
+    let at = point(word)?;
     Some((at, more))
 }
 
-/// Parses the points and the part INK of a shape.
-fn points_and_ink(alloc: Global, bytes: &[u8]) -> Result<Option<(Points, Ink)>, AllocError>
-    ensures { IfOk result (Reads ShapeFits shape_text bytes.now) }
+/// Reads as many points as there are, up to the limit, and returns what follows them.
+fn read_points<'a>(points: &mut Points, bytes: &'a [u8]) -> Result<&'a [u8], AllocError>
+    requires none { points.old ≡ [] }
+    ensures { IfOk result (λ rest. EndsPoints bytes.now points.new rest.now) }
+{
+    let mut rest = bytes;
+    while points.as_slice().len() < SHAPE_POINTS {
+        match next_point(rest) {
+            Some(next) => {
+                let (at, more) = next;
+                points.push(at)?;
+                rest = more;
+            }
+            None => return Ok(rest),
+        }
+    }
+    Ok(rest)
+}
+
+/// Reads what a line of an arc or polygon with at least so many points has after its beginning and a space.
+pub(crate) fn shape_entry(
+    alloc: Global,
+    kind: Kind,
+    least: usize,
+    end: usize,
+    rest: &[u8],
+) -> Result<Entry, LineFault>
+    requires shape { HasPoints kind }
+    requires least { least ≡ least_points kind }
+    requires end { end ≡ length (line_from kind rest.now) + 1 }
+    ensures { TellsLine (line_from kind rest.now) result }
 {
     let mut points = Points::new(alloc);
-    let mut rest = bytes;
-    while let Some(next) = first_point(rest) {
-        if points.as_slice().len() == SHAPE_POINTS {
-            return Ok(None);
-        }
-        let (point, more) = next;
-        points.push(point)?;
-        rest = more;
+    let Ok(left) = read_points(&mut points, rest) else {
+        return Err(LineFault::Memory);
+    };
+    if points.as_slice().len() < least {
+        return Err(LineFault::Line(end - left.len()));
     }
-    match ink(rest) {
-        Some(ink) => Ok(Some((points, ink))),
-        None => Ok(None),
-    }
-}
-
-/// Parses an Arc after its name.
-pub(crate) fn arc_entry(
-    alloc: Global,
-    filled: bool,
-    rest: &[u8],
-) -> Result<Option<Entry>, AllocError>
-    ensures { IfOk result (ReadsLine (line_from (arc_name filled) rest.now)) }
-{
-    match points_and_ink(alloc, rest)? {
-        Some((points, ink)) => {
-            if points.as_slice().len() < 3 {
-                return Ok(None);
-            }
-            Ok(Some(Entry::Arc {
-                filled,
-                points,
-                ink,
-            }))
-        }
-        None => Ok(None),
-    }
-}
-
-/// Parses a Poly after its name.
-pub(crate) fn poly_entry(
-    alloc: Global,
-    filled: bool,
-    rest: &[u8],
-) -> Result<Option<Entry>, AllocError>
-    ensures { IfOk result (ReadsLine (line_from (poly_name filled) rest.now)) }
-{
-    match points_and_ink(alloc, rest)? {
-        Some((points, ink)) => {
-            if points.as_slice().len() < 2 {
-                return Ok(None);
-            }
-            Ok(Some(Entry::Poly {
-                filled,
-                points,
-                ink,
-            }))
-        }
-        None => Ok(None),
+    let mut values: ArrayVec<Value, FIELDS> = ArrayVec::new();
+    match read_row(&mut values, kind.row(), left) {
+        Ok(()) => shape_of(kind, points, values.as_slice()),
+        Err(left) => Err(LineFault::Line(end - left)),
     }
 }

@@ -5,7 +5,7 @@ use Rattle.nap_codes.specs.Front as codes
 use Rattle.nap_reader.specs.Course as course
 use Rattle.nap_reader.specs.Steps.{IsText}
 use Rattle.nap_reader.specs.Stream as model
-use Rattle.nap_reader.proofs.Common.{AllCharacters, Bool, CharSet, Continues, DrawFault, Entry, Err, Ghosts, IsOperandByte, IsTextByte, Leads, LexerState, List, LongRun, Machine, NoCharacters, None, Ok, Opcode, OpenRun, Option, Outcome, Placed, ReadingState, Result, RuleResult, Some, State, [], after, after_drawing, ap, append-nil, arith, begun, between, cond, drawn_front, drop, drop_of_length-le, false, get_or, get_or-take, is_operand_byte, length, length-append, length-take, length-take-le, nat_lt, nat_tests, outcome_by_front, outcome_from, placed_at, placed_from, prefix_len, prefix_len_passes, refl, refusal, rule, run_length, run_limit, suc, sym, take, take-take, take_all, text, true, words_of, zero, ℕ, ◌++◌, ◌+◌, ◌-◌, ◌<◌, ◌∙◌, ◌∷◌, ◌≡◌, ◌≤◌}
+use Rattle.nap_reader.proofs.Common.{AllCharacters, Bool, CharSet, Continues, DrawFault, Entry, Err, Ghosts, IsOperandByte, IsTextByte, Leads, LexerState, List, LongRun, Machine, NoCharacters, None, Ok, Opcode, OpenRun, Option, Outcome, Placed, ReadingState, Result, RuleResult, Some, State, [], after, after_drawing, ap, append-nil, arith, begun, between, cond, drawn_front, drop, drop_of_length-le, false, get_or, get_or-take, is_operand_byte, length, length-append, length-take, length-take-le, nat_lt, nat_tests, outcome_by_front, outcome_from, placed_at, placed_from, prefix_len, prefix_len_passes, refl, refusal, rule, run_length, run_limit, suc, sym, take, take-take, take_all, drawn_text, true, carried_words, zero, ℕ, ◌++◌, ◌+◌, ◌-◌, ◌<◌, ◌∙◌, ◌∷◌, ◌≡◌, ◌≤◌}
 use Rattle.nap_reader.proofs.Base.{as_list, bytes_of-placed, front_code, front_run, is_between, leads_entries, leads_more, list_more, outcome_from-front, pays, rest_of_nothing}
 use Rattle.nap_reader.proofs.ReadingLemmas.{is_half, is_open_run}
 use Rattle.nap_reader.proofs.PublicLaws.{all_operands}
@@ -34,7 +34,7 @@ opens_nothing m op x ys mode names all =
     let run = take (run_length ys) ys in
     ap (λ (o : Outcome). o.entries) (outcome_from-front m (x ∷ ys) ∙ ap (outcome_by_front outcome_from m (x ∷ ys)) (front_code m [] x ys mode refl names refl))
     ∙ rw (drop_of_length-le ys {i = run_length ys} (omega arith))
-    (elim (nat_lt run_limit (length run)) as (λ (long : Bool). (outcome_by_front outcome_from m (x ∷ ys) (cond long (course.refuse (refusal LongRun x.place)) (course.pause (model.open_run op x.place (words_of run))))).entries ≡ [])
+    (elim (nat_lt run_limit (length run)) as (λ (long : Bool). (outcome_by_front outcome_from m (x ∷ ys) (cond long (course.refuse (refusal LongRun x.place)) (course.pause (model.open_run op x.place (carried_words run))))).entries ≡ [])
     [ true ↦ refl | false ↦ refl ])
 
 -- The next byte is an opcode.
@@ -86,8 +86,8 @@ no_operand b few = grind (arith, nat_tests)
 
 -- Characters, and the format effectors among them, add one entry each.
 
-length_text : (s : State) (set : CharSet) (q : List ℕ) → length (text s set q) ≡ length q
-unfolding text
+length_text : (s : State) (set : CharSet) (q : List ℕ) → length (drawn_text s set q) ≡ length q
+unfolding drawn_text
 length_text s set [] = refl
 length_text s set (b ∷ q) = ap suc (length_text (after s (typed_in s set b)) set q)
 
@@ -109,7 +109,7 @@ text_adds {h = h} {set = set} budget p piece q k in_text front j few =
       arith,
       ap (λ (bytes : List ℕ). length (begun budget (p ++ bytes)).entries) same,
       ap length (leads_entries there ∙ sym there.taken),
-      length-append (k.done ++ []) (text h.machine.work.state set part),
+      length-append (k.done ++ []) (drawn_text h.machine.work.state set part),
       ap length (append-nil k.done),
       length_text h.machine.work.state set part,
       length-take-le j q few,

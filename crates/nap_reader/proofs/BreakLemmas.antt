@@ -1,4 +1,4 @@
-use Rattle.nap_reader.proofs.Common.{ActsRun, Bool, Breaks, BreaksAt, BreaksAtByte, BreaksBetween, BreaksFrom, BreaksHere, BreaksInRun, BreaksWith, CanBreakAt, CanLackAt, Continues, DrawFault, Ends, EndsRun, Entry, Err, Executes, Ghosts, Grows, IsCharged, IsTaken, LacksOwn, Leads, List, Machine, None, Ok, OpenBody, OpenRun, Option, Outcome, Owes, Placed, ReadingState, Refusal, Result, RuleResult, RunAt, Some, StopsRun, TookPart, Unended, Unfinished, WantsMemory, Work, [], after_run, ap, append-nil, append_assoc, arith, at_byte, begun, cause_of, closed_by, cond, ended_by, false, half_read, in_run, inl, inr, is_operand_byte, length, length-append, means, memory, open_place, placed_at, placed_from, refl, refusal, rule, run_place, stream, subst, sym, true, unfinished_by, with_code, with_drawn, with_run, ℕ, ◌++◌, ◌<◌, ◌∙◌, ◌∷◌, ◌≡◌, ◌≢◌, ◌⊎◌}
+use Rattle.nap_reader.proofs.Common.{ActsRun, Bool, Breaks, BreaksAt, BreaksAtByte, BreaksBetween, BreaksFrom, BreaksHere, BreaksInRun, BreaksWith, CanBreakAt, CanLackAt, Continues, DrawFault, Ends, EndsRun, Entry, Err, Executes, Ghosts, GrowsOpen, IsCharged, IsTaken, LacksOwn, Leads, List, Machine, None, Ok, OpenBody, OpenRun, Option, Outcome, Owes, Placed, ReadingState, Refusal, Result, RuleResult, RunAt, Some, StopsRun, TookPart, Unended, Unfinished, WantsMemory, Work, [], after_run, ap, append-nil, append_assoc, arith, at_byte, begun, cause_of, closed_by, cond, ended_by, false, half_read, in_run, inl, inr, is_operand_byte, length, length-append, means, memory, open_place, placed_at, placed_from, refl, refusal, rule, run_place, stream, subst, sym, true, unfinished_by, with_code, with_drawn, with_run, ℕ, ◌++◌, ◌<◌, ◌∙◌, ◌∷◌, ◌≡◌, ◌≢◌, ◌⊎◌}
 use Rattle.nap_reader.specs.Stream as model
 use Rattle.nap_reader.specs.declared.machine.Machine as struct
 use Rattle.nap_reader.proofs.ReadingLemmas.{Lawful, as_list, is_open_run, leads_entries, leads_left, leads_machine, leads_more, leads_paused, leads_taken, leads_unrefused, list_more, pays, refused_by, rule_part, run_past}
@@ -153,12 +153,12 @@ pub own_breaks : {S : Type 0} {g : Ghosts S} {s u : S} {r : Refusal} (budget : �
 own_breaks budget p b place needs part = grind arith
 
 -- nothing that is open grows
-grows_none : (h : ReadingState) (x : Placed) → h.open_body ≡ None → h.open_run ≡ None → Grows h x → ⊥
+grows_none : (h : ReadingState) (x : Placed) → h.open_body ≡ None → h.open_run ≡ None → GrowsOpen h x → ⊥
 grows_none h x no_body closed grows = grind arith
 
 -- a byte breaks at its own place, where a sink has the entries known once the byte shows whether a run is over
 breaks_at_byte : {S : Type 0} {g : Ghosts S} {s t u : S} {h : ReadingState} {done owed known : List Entry} {r : Refusal} {budget : ℕ} {p : List ℕ} (b : ℕ) → Lawful g → Known g s done t → known ≡ done ++ owed → Leads (begun budget (p ++ b ∷ [])) known h (placed_at b (length p) ∷ []) →
-    known ≡ (closed_by (begun budget p) b).entries → h.machine.left ≡ (begun budget p).machine.left → (Grows h (placed_at b (length p)) → WantsMemory budget p b) → BreaksHere g t owed h (placed_at b (length p)) u r → BreaksAtByte g s budget p b u r
+    known ≡ (closed_by (begun budget p) b).entries → h.machine.left ≡ (begun budget p).machine.left → (GrowsOpen h (placed_at b (length p)) → WantsMemory budget p b) → BreaksHere g t owed h (placed_at b (length p)) u r → BreaksAtByte g s budget p b u r
 breaks_at_byte {S} {g} {s} {t} {u} {h} {done} {owed} {known} {r} {budget} {p} b laws has is more same left grows breaks = by breaks.why
   where
     after : Leads (begun budget (p ++ b ∷ [])) (known ++ breaks.adds) breaks.after (breaks.came ++ [])
@@ -209,7 +209,7 @@ module _ {S : Type 0} {g : Ghosts S} {s : S} {t : S} {owed : List Entry} {h : Re
   still false (inl word) = let bad : ⊥ = cc in absurd bad
   still false (inr closed) = sym (run_still (as_list k) closed)
 
-  grows : Grows h (placed_at b (length p)) → WantsMemory budget p b
+  grows : GrowsOpen h (placed_at b (length p)) → WantsMemory budget p b
   grows (inl (open_run, no_body, is, word)) = inl (word, rw (open_place_is (as_list k) open_run no_body is) refl)
   grows (inr (body, opened)) = inr (inl (unfinished_is (as_list k) (Some body) _ opened refl))
 

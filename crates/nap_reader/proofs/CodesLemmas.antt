@@ -1,4 +1,4 @@
-use Rattle.nap_reader.proofs.Common.{All, All-head, AreCharacters, ArePending, Bool, Call, Calls, CallsBy, CharSet, Code, CodeFault, CodeSets, Codes, Continues, Define, DrawFault, Entry, FaultMatchesDevice, FaultMatchesSink, Ghosts, HaltsAfter, IsLive, IsOpcodeByte, IsText, IsTextByte, Kind, LeadsOn, LexerState, List, None, Nothing, Ok, Opcode, OpenBody, OpenRun, Option, Outcome, Passes, Placed, ReadingState, Request, RuleResult, RunAt, SinkFault, Some, Stop, Stops, StopsByte, Stray, Takes, Work, [], after_drawing, ap, append_assoc, arith, bytes_of, code_fault, code_front, code_rule, draw_fault, drawn_front, drop, earlier_unfinished, false, fault_of, front, get_or, kind_of, length, length-append, length-map, nil_from_length, one_byte_opcode, refl, refusal, rule_result, sink_model_of, slice_get, state_after_request, subst, suc, sym, take, text, with_machine, zero, ℕ, ◌++◌, ◌-◌, ◌<◌, ◌∙◌, ◌∷◌, ◌≡◌, ◌≤◌}
+use Rattle.nap_reader.proofs.Common.{All, All-head, AreCharacters, ArePending, Bool, Call, Calls, CallsBy, CharSet, Code, CodeFault, CodeSets, Codes, Continues, Define, DrawFault, Entry, FaultMatchesDevice, FaultMatchesSink, Ghosts, HaltsAfter, IsLive, IsOpcodeByte, IsText, IsTextByte, Kind, LeadsOn, LexerState, List, None, Nothing, Ok, Opcode, OpenBody, OpenRun, Option, Outcome, Passes, Placed, ReadingState, Request, RuleResult, RunAt, SinkFault, Some, Stop, Stops, StopsByte, Stray, Takes, Work, [], after_drawing, ap, append_assoc, arith, bytes_of, code_fault, code_front, code_rule, draw_fault, drawn_front, drop, earlier_unfinished, false, fault_of, stream_front, get_or, kind_of, length, length-append, length-map, nil_from_length, one_byte_opcode, refl, refusal, rule_result, sink_model_of, slice_get, state_after_request, subst, suc, sym, take, drawn_text, with_machine, zero, ℕ, ◌++◌, ◌-◌, ◌<◌, ◌∙◌, ◌∷◌, ◌≡◌, ◌≤◌}
 use Rattle.nap_reader.proofs.Base.{Fails, IsAt, TookMore, acts_itself, as_it_was, binds_code, body_begins, by_itself, byte_refused, bytes_of-append, code_breaks, code_continues, code_ends, code_fault_own, code_over, first_byte, front_kind_made, is_between, leads_nowhere, leads_on, leads_past, leads_to_fault, leads_to_refusal, list_more, opcode_alone, opcode_of_kind, opens_drawn, pays, place_at-append, run_opens, split_bytes, stops_now, stops_own}
 use Rattle.nap_codes.specs.declared.code.Code.TheVariants as code
 use Rattle.nap_codes.specs.Front as codes
@@ -12,7 +12,7 @@ use Rattle.nap_reader.specs.declared.machine.codes.CodeOutcome.TheVariants as ou
 -- One code, while nothing is open.
 
 -- bytes lead to another state, in which nothing acts before the byte that comes next
-leads_by : {S : Type 0} {g : Ghosts S} {t : S} {h : ReadingState} {u v : S} {h' k : ReadingState} {xs : List Placed} (next : List ℕ) → v ≡ u → k ≡ h' → 0 < length xs → h'.machine.left ≡ h.machine.left →
+pub leads_by : {S : Type 0} {g : Ghosts S} {t : S} {h : ReadingState} {u v : S} {h' k : ReadingState} {xs : List Placed} (next : List ℕ) → v ≡ u → k ≡ h' → 0 < length xs → h'.machine.left ≡ h.machine.left →
     ((n : ℕ) → All (IsAt n) xs → RunAt n h.open_run → RunAt n h'.open_run) → Passes g t h xs u h' [] → LeadsOn g t h v k xs next
 leads_by {u = u} {h' = h'} next sink retained some left run passes = record {
   conveys = record { sink = u; holding = h'; left = left; run = run; passes = passes; none = λ none. absurd (omega (arith, some, ap length none)) };
@@ -61,14 +61,14 @@ ruled_at h after request drawn = record (state_after_request h request) { machin
 
 module _ {S : Type 0} (g : Ghosts S) (t : S) {h : ReadingState} {x : Placed} {c : Code} {after : CodeSets} (between : h.open_body ≡ None) (k : EndsCode h.machine.sets h.half h.open_run x.byte c after) where
   -- the front at the byte, and the bytes that are pending then
-  ends : {kind : Kind} → kind_of c ≡ kind → {T : Type 0} {g' : Ghosts T} {s v : T} {o : Outcome} {pending : List Placed} (c' : Continues g' s o v h (x ∷ pending)) → front h.machine (c'.rest ++ x ∷ pending) ≡ code_front (record h.machine { sets = after }) kind x.place pending
+  pub ends : {kind : Kind} → kind_of c ≡ kind → {T : Type 0} {g' : Ghosts T} {s v : T} {o : Outcome} {pending : List Placed} (c' : Continues g' s o v h (x ∷ pending)) → stream_front h.machine (c'.rest ++ x ∷ pending) ≡ code_front (record h.machine { sets = after }) kind x.place pending
   ends kind c' = rw kind at (code_ends between k.closed c' c _ after k.whole refl)
 
-  over : {T : Type 0} {g' : Ghosts T} {s v : T} {o : Outcome} {pending : List Placed} → Continues g' s o v h (x ∷ pending) → (work : Work) → ArePending [] (drawn_at h after work)
+  pub over : {T : Type 0} {g' : Ghosts T} {s v : T} {o : Outcome} {pending : List Placed} → Continues g' s o v h (x ∷ pending) → (work : Work) → ArePending [] (drawn_at h after work)
   over c' work = code_over between k.closed c' (drawn_at h after work) between refl refl k.closed refl
 
   ruled_front : {request : Request} → IsRuled c request → {T : Type 0} {g' : Ghosts T} {s v : T} {o : Outcome} {pending : List Placed} (c' : Continues g' s o v h (x ∷ pending)) →
-      front h.machine (c'.rest ++ x ∷ pending) ≡ drawn_front (asked h after request) x.place pending (code_rule h.machine.work c)
+      stream_front h.machine (c'.rest ++ x ∷ pending) ≡ drawn_front (asked h after request) x.place pending (code_rule h.machine.work c)
   ruled_front (acts acting kind) c' = ends (acts_itself c acting kind) c'
   ruled_front (binds name show kind) c' = rw (binds_code c name show kind) (ends kind c')
 
@@ -84,21 +84,21 @@ module _ {S : Type 0} (g : Ghosts S) (t : S) {h : ReadingState} {x : Placed} {c 
       leads_on c' w drawn.entries h' pending more (body_begins body h' refl refl (is_between h c'.rest between c'.retained).body k.closed refl)
       (ruled_front (binds name show kind) c' ∙ ap (drawn_front (asked h after (Define name show)) x.place pending) rule) took clear
 
-  ruled_leads : {u : S} {request : Request} {entries : List Entry} {work : Work} {retained : ReadingState} (ruled : IsRuled c request) → retained ≡ drawn_at h after work → Drew g (code_rule h.machine.work c) t (drawn_by entries work) u → TookMore g → (next : List ℕ) →
+  pub ruled_leads : {u : S} {request : Request} {entries : List Entry} {work : Work} {retained : ReadingState} (ruled : IsRuled c request) → retained ≡ drawn_at h after work → Drew g (code_rule h.machine.work c) t (drawn_by entries work) u → TookMore g → (next : List ℕ) →
       LeadsOn g t h u (state_after_request retained request) (x ∷ []) next
   ruled_leads (acts acting kind) same drew more next = leads_by next refl same (omega arith) refl (λ n all before. before) (λ s o pending. ruled_past (acts acting kind) drew.is more drew.took drew.clear)
   ruled_leads (binds name show kind) same drew more next =
       leads_by next refl (ap (λ (h : ReadingState). state_after_request h (Define name show)) same) (omega arith) refl (λ n all before. before) (λ s o pending. ruled_past (binds name show kind) drew.is more drew.took drew.clear)
 
   -- A code's rule is refused, or breaks.
-  ruled_breaks : {u : S} {fault : DrawFault} {request : Request} → IsRuled c request → Fails g (code_rule h.machine.work c) t u fault → StopsByte g t [] h x u (refusal (draw_fault fault) x.place)
+  pub ruled_breaks : {u : S} {fault : DrawFault} {request : Request} → IsRuled c request → Fails g (code_rule h.machine.work c) t u fault → StopsByte g t [] h x u (refusal (draw_fault fault) x.place)
   ruled_breaks {u} {fault} {request} ruled fails = record {
     own = λ own s o pending c'. leads_to_fault c' u (asked h after request) x.place pending _ (ruled_front ruled c') fault fails.drew own;
     broke = code_breaks (ruled_at h after request) k.closed (λ drawn rule known s o pending. ruled_past ruled rule list_more refl (λ clear. clear)) fails;
   }
 
   -- A code calls a macro.
-  code_calls : {t₀ v : S} {h₀ retained : ReadingState} {all : List Placed} {index name : ℕ} (following : List Placed) → drop index all ≡ x ∷ following → LeadsOn g t₀ h₀ t h (take index all) (bytes_of (drop index all)) → kind_of c ≡ kinds.Calls name →
+  pub code_calls : {t₀ v : S} {h₀ retained : ReadingState} {all : List Placed} {index name : ℕ} (following : List Placed) → drop index all ≡ x ∷ following → LeadsOn g t₀ h₀ t h (take index all) (bytes_of (drop index all)) → kind_of c ≡ kinds.Calls name →
       v ≡ t → retained ≡ drawn_at h after h.machine.work → Calls g t₀ h₀ v retained all index name
   code_calls following is leads kind sink same = rw (sink, same) record {
     byte = x;
@@ -116,7 +116,7 @@ module _ {S : Type 0} (g : Ghosts S) (t : S) {h : ReadingState} {x : Placed} {c 
   }
 
 -- A byte of a code that isn't complete.
-half_leads : {S : Type 0} {g : Ghosts S} {t v : S} {h retained : ReadingState} (x : Placed) (next : List ℕ) → v ≡ t → retained ≡ record h { half = h.half ++ x.byte ∷ [] } → h.open_body ≡ None → h.open_run ≡ None →
+pub half_leads : {S : Type 0} {g : Ghosts S} {t v : S} {h retained : ReadingState} (x : Placed) (next : List ℕ) → v ≡ t → retained ≡ record h { half = h.half ++ x.byte ∷ [] } → h.open_body ≡ None → h.open_run ≡ None →
     codes.front h.machine.sets (h.half ++ x.byte ∷ []) ≡ codes.unfinished → LeadsOn g t h v retained (x ∷ []) next
 half_leads x next sink retained between closed unfinished = leads_by next sink retained (omega arith) refl (λ n all before. before) (λ s o pending c. code_continues between closed c unfinished)
 
@@ -242,7 +242,7 @@ module _ {S : Type 0} {g : Ghosts S} {old : Machine S g} {set : CharSet} {bytes 
   split xs following is = bytes_of-append xs following ∙ ap (λ (bs : List ℕ). bs ++ bytes_of following) (sym (k.is ∙ is)) ∙ append_assoc chars k.rest (bytes_of following)
 
   -- The characters are consumed.
-  pub text_taken : {new : Machine S g} {ended : Bool} → LeftBy old new (rule_result old.work (text old.work.state set chars)).work old.lexer → g.took old.sink (text old.work.state set chars) new.sink → (g.failed old.sink ≡ false → g.failed new.sink ≡ false) → IsLive new →
+  pub text_taken : {new : Machine S g} {ended : Bool} → LeftBy old new (rule_result old.work (drawn_text old.work.state set chars)).work old.lexer → g.took old.sink (drawn_text old.work.state set chars) new.sink → (g.failed old.sink ≡ false → g.failed new.sink ≡ false) → IsLive new →
       TookMore g → Codes old new bytes ended (outcomes.Acted (length chars) false)
   text_taken left took clear live more = record {
     within = (k.some, few);
@@ -259,7 +259,7 @@ module _ {S : Type 0} {g : Ghosts S} {old : Machine S g} {set : CharSet} {bytes 
   }
 
   -- One of the characters is refused, or breaks.
-  pub text_halts : {new : Machine S g} {ended : Bool} (fault : SinkFault) {index : ℕ} → new.open_run ≡ old.open_run → HaltsAfter (sink_model_of g) (text old.work.state set chars) old.sink new.sink index fault → FaultMatchesDevice (sink_model_of g) old.sink new.sink index fault →
+  pub text_halts : {new : Machine S g} {ended : Bool} (fault : SinkFault) {index : ℕ} → new.open_run ≡ old.open_run → HaltsAfter (sink_model_of g) (drawn_text old.work.state set chars) old.sink new.sink index fault → FaultMatchesDevice (sink_model_of g) old.sink new.sink index fault →
       Codes old new bytes ended (outcomes.Stopped index (draw_fault (fault_of fault)) index)
   text_halts {new} fault {index} closed halts tells =
       let halt = halts_at g old.work.state set chars index old.sink new.sink fault k.some halts in

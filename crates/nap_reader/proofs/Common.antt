@@ -16,7 +16,7 @@ pub use Rattle.std.specs.List.{prefix_len}
 pub use Rattle.std.specs.Prelude.{IfSome, IsTrue, slice_get, slice_index, ⊤}
 pub use Rattle.nap_codes.proofs.PublicLaws.{code_is_spelled, code_length, code_ranges, code_stays, earlier_unfinished, format_effector_front, one_byte_opcode, refused_index, refused_stays}
 pub use Rattle.nap_codes.specs.CodeSets.{start_sets}
-pub use Rattle.nap_codes.specs.Laws.{IsInRange}
+pub use Rattle.nap_codes.specs.Laws.{IsCodeInRange}
 pub use Rattle.nap_codes.specs.Lexer.{Steps}
 unfoldable pub use Rattle.nap_codes.specs.Tables.{control1_rows, mask_rows, opcode_rows, set_rows}
 pub use Rattle.nap_codes.specs.declared.code.Step.{Step}
@@ -24,7 +24,7 @@ pub use Rattle.nap_codes.specs.declared.code_set.CodeSet.TheVariants.{Macros}
 pub use Rattle.nap_draw.proofs.PublicLaws.{code_fits, code_values_are_in_range, drawn_values_are_in_range, opcodes_are_drawn, rule_fits, typed_rule}
 pub use Rattle.nap_draw.specs.Acts.{Acts, GivesSome, WantsBy, clears_macros}
 pub use Rattle.nap_draw.specs.Codes.{IsMade, code_as, text_code}
-unfoldable pub use Rattle.nap_draw.specs.Codes.{text}
+unfoldable pub use Rattle.nap_draw.specs.Codes.{drawn_text}
 pub use Rattle.nap_draw.specs.Rule.{rule_result}
 pub use Rattle.nap_list.specs.Batches.{batch_entries, text_entry}
 pub use Rattle.nap_list.specs.Limits.{reads_limit}
@@ -37,15 +37,15 @@ pub use Rattle.nap_values.specs.Laws.{IsOperandByte, IsWord}
 pub use lib.Count.{count_trailing_zeros}
 pub use Rattle.nap_reader.specs.Carried.{AllCharacters, HasName, NoCharacters}
 pub use Rattle.nap_reader.specs.Collecting.{Collects, CountsAll, IsCount, IsDrained, LacksMemoryFor, RefusedBy}
-pub use Rattle.nap_reader.specs.NextBytes.{AfterEscape, CanAdvance, CanPass, CannotShow, HasReadOn, IsNext, IsNextByte, Moves, Position, Reads, StoresBody, bytes_from, next_bytes, past, position_of}
-pub use Rattle.nap_reader.specs.Counting.{CountedSink, GrowsBy, Took, counting}
+pub use Rattle.nap_reader.specs.NextBytes.{AfterEscape, CanAdvance, CanPass, CannotShow, HasReadOn, IsNextText, IsNextByte, Moves, Position, Reads, StoresBody, bytes_from, next_bytes, past, position_of}
+pub use Rattle.nap_reader.specs.Counting.{CountedSink, GrowsBy, TookCounted, counting}
 pub use Rattle.nap_reader.specs.Feeding.{EndsBy, FailsBy, Feeds, StopsInLast}
 pub use Rattle.nap_reader.specs.Kinds.{kind_of}
 pub use Rattle.nap_reader.specs.Laws.{AcceptedIsLegal, BegunComesFirst, BreaksAmong, CodeActs, EndBreaksAmong, FedBreaksAmong, FrontAfterFront, IsAlone, IsRun, MoreBytesKeepEntries, MoreBytesKeepRefusal, PiecesAgree, ReadValuesAreInRange, RunActs, RunWaits, WantsSome, in_pieces, joined}
 pub use Rattle.nap_reader.specs.Pieces.{AmidCall, Goes, LeadsTo, Reaches, ReadsFurther, ReadsTo, StopsFrom, TakesSlice}
 pub use Rattle.nap_reader.specs.Prefix.{is_from, is_of_body, is_of_text}
 pub use Rattle.nap_reader.specs.ReaderAnswers.{Answers, AnswersBy, HasRead, IsBroken, IsKnown, IsTaken, StopsAt, StopsBy, budget_of, fed_of, left_of, refusal_of, sink_of}
-pub use Rattle.nap_reader.specs.Steps.{Acted, ActsRun, AreCharacters, Breaks, BreaksHere, Calls, CallsBy, CodeTakes, Codes, EndsRun, Executes, FailsRun, FaultMatchesSink, Grows, IsLive, IsOpcodeByte, IsOver, IsText, IsWholeRun, LacksOwn, Latches, LeadsOn, LeadsThrough, Leaves, Passes, Progresses, Refuses, Stops, StopsByte, StopsRun, Takes, TakesBy, TakesSome, Works, after_run, at_byte, clear_request_if, in_run, state_after_request, with_machine}
+pub use Rattle.nap_reader.specs.Steps.{Acted, ActsRun, AreCharacters, Breaks, BreaksHere, Calls, CallsBy, CodeTakes, Codes, DoesNothing, EndsRun, Executes, FailsRun, FaultMatchesSink, GrowsOpen, IsLive, IsOpcodeByte, IsOver, IsText, IsWholeRun, LacksOwn, Latches, LeadsOn, LeadsThrough, Leaves, Passes, Progresses, Refuses, Stops, StopsByte, StopsRun, Takes, TakesBy, TakesSome, Works, after_run, at_byte, clear_request_if, in_run, state_after_request, with_machine}
 pub use Rattle.nap_reader.specs.Stored.{IsBefore, StoreState, store_bound, store_grown, store_shown, sublist, sublist_at}
 pub use Rattle.nap_reader.specs.declared.feeding.FeedFault.{FeedFault}
 pub use Rattle.nap_reader.specs.declared.frames.Frame.{Frame}
@@ -54,6 +54,6 @@ pub use Rattle.nap_reader.specs.declared.machine.Request.{Request}
 pub use Rattle.nap_reader.specs.declared.store.Span.{Span}
 pub use Rattle.nap_reader.specs.Below.{Cause, CharSet, Code, CodeFault, CodeSets, DrawFault, DrawsBy, Entry, Ghosts, HaltsAfter, IsDrawn, IsGraphic, IsTextByte, LexerState, Opcode, RuleResult, SinkFault, StepsBy, TextStep, Work, code_rule, device, fault_of, format_effector, memory, operand_words, rule, run_limit, set_at, sink_model_of, stream}
 unfoldable pub use Rattle.nap_reader.specs.Below.{control0_rows, row_of, walk}
-pub use Rattle.nap_reader.specs.Shared.{AreOfBody, ArePending, ArePendingBetweenCodes, ArePendingBy, ArePendingIn, BodyFront, BreaksAt, BreaksAtByte, BreaksBetween, BreaksFrom, BreaksInRun, BreaksWith, BreaksWithin, Budget, CanBreakAt, CanLackAt, Continues, EighthBit, Ends, Fault, FramesIn, Front, Innermost, Input, IsCharged, IsFrame, IsOpenBody, IsOpenRun, IsOwn, IsRefused, LacksWithin, Leads, LongRun, Machine, Memory, Mode, OpenBody, OpenRun, Outcome, Owes, Placed, Reader, ReadingState, Refusal, RunAt, Sink, Store, Stray, TakesPart, TookPart, TookPrefix, Unended, Unfinished, WantsMemory, act, after_body, after_charge, after_drawing, all_at, at_escape, begun, between, body_front_after, body_front_by, body_of, bound_front, bytes_of, cause_of, closed_by, code_fault, code_front, continue, continue_by, draw_fault, drawn_front, ended, ended_by, ends_body, ends_of, frame_bytes, front_by, front_in, half_code, half_read, in_body, is_operand, is_operand_byte, kept_list, machine_of, means, mode_of, no_names, nothing, one_byte_later, opcode_front, open_body, open_place, open_run, outcome_by_front, outcome_from, pause, paused, pending_escape, place_at, placed_at, prepend, reading_state, reading_state_by, refusal, refuse, refused, run_by, run_front, run_length, run_place, shown_front, start_machine, store_limit, stores, unfinished, unfinished_by, unfinished_of, unread, unread_of, with_code, with_definition, with_drawn, with_end, with_run, with_run_by, words_of}
-unfoldable pub use Rattle.nap_reader.specs.Shared.{body_front, front, outcome, outcome_within, placed_by_step, placed_from}
+pub use Rattle.nap_reader.specs.Shared.{AreOfBody, ArePending, ArePendingBetweenCodes, ArePendingBy, ArePendingIn, BodyFront, BreaksAt, BreaksAtByte, BreaksBetween, BreaksFrom, BreaksInRun, BreaksWith, BreaksWithin, Budget, CanBreakAt, CanLackAt, Continues, EighthBit, Ends, Fault, FramesIn, StreamFront, Innermost, Input, IsCharged, IsFrame, IsOpenBody, IsOpenRun, IsOwn, IsRefused, LacksWithin, Leads, LongRun, Machine, Memory, Mode, OpenBody, OpenRun, Outcome, Owes, Placed, Reader, ReadingState, Refusal, RunAt, Sink, Store, Stray, TakesPart, TookPart, TookPrefix, Unended, Unfinished, WantsMemory, act, after_body, after_charge, after_drawing, all_at, at_escape, begun, between, body_front_after, body_front_by, body_of, bound_front, bytes_of, cause_of, closed_by, code_fault, code_front, continue, continue_by, draw_fault, drawn_front, ended, ended_by, ends_body, ends_of, frame_bytes, front_by, front_in, half_code, half_read, in_body, is_operand, is_operand_byte, kept_list, machine_of, means, mode_of, no_names, nothing, one_byte_longer, opened_front, open_body, open_place, open_run, outcome_by_front, outcome_from, pause, paused, pending_escape, place_at, placed_at, prepend, reading_state, reading_state_by, refusal, refuse, refused, run_by, run_front, run_length, run_place, shown_front, start_machine, store_limit, stores, unfinished, unfinished_by, unfinished_of, unread, unread_of, with_code, with_definition, with_drawn, with_end, with_run, with_run_by, carried_words}
+unfoldable pub use Rattle.nap_reader.specs.Shared.{body_front, stream_front, outcome, outcome_within, placed_by_step, placed_from}
 pub use Rattle.nap_reader.specs.declared.machine.Request.TheVariants.{Call, Clear, Define, Nothing, Stop}

@@ -1,4 +1,4 @@
-use Rattle.nap_reader.proofs.Common.{Cause, CountedSink, Entry, Err, FaultMatchesDevice, Ghosts, GrowsBy, HaltsAfter, List, Ok, Option, Put, PutSome, Refusal, RefusedBy, Result, SinkFault, [], ap, arith, counting, inl, inr, length, length-append, refl, sink_model_of, ℕ, ◌∙◌, ◌∷◌, ◌≡◌}
+use Rattle.nap_reader.proofs.Common.{Cause, CountedSink, Entry, Err, FaultMatchesDevice, Ghosts, GrowsBy, HaltsAfter, List, Ok, Option, Put, PutSome, Refusal, RefusedBy, Result, SinkFault, TookPrefix, [], ap, arith, counting, device, inl, inr, length, length-append, means, memory, refl, sink_model_of, stream, ℕ, ◌∙◌, ◌∷◌, ◌≡◌}
 use Rattle.std.proofs.Math.Nat.{add-zero}
 use Rattle.nap_list.specs.declared.sink.BatchFault.{BatchFault}
 use Rattle.nap_list.specs.declared.sink.SinkFault.TheVariants as faults
@@ -42,6 +42,13 @@ puts_none g x s t f (n, h, said) = (
     none faults.Write (inl (set, same, zero)) = zero
     none faults.Write (inr h) = omega (arith, h.count, ap length h.parts, length-append h.prefix (h.next ∷ h.rest))
 
+-- what a counting sink took, the other sink took
+same_prefix : {S : Type 0} (g : Ghosts S) (s t : CountedSink S) (more : List Entry) → TookPrefix (counting g) s [] more t device → TookPrefix g s.sink [] more t.sink device
+same_prefix g s t more (inl part) = let (failed, taken) = part in let (first, rest, is, took) = taken in inl (failed, (first, rest, is, took.took))
+same_prefix g s t more (inr broke) = inr broke
+
 -- the refusal of a page that was read into a counting sink is the page's
 pub refused_alike : {S : Type 0} (g : Ghosts S) (s : CountedSink S) (budget : ℕ) (p : List ℕ) (r : Refusal) (cause : Cause) → RefusedBy (counting g) s budget p r cause → RefusedBy g s.sink budget p r cause
-refused_alike g s budget p r cause h = grind arith
+refused_alike g s budget p r stream h = h
+refused_alike g s budget p r memory h = h
+refused_alike g s budget p r device refused = let (within, there) = refused in let (t, failed, part) = there in (within, (t.sink, failed, same_prefix g s t (means budget p).entries part))

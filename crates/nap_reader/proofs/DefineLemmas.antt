@@ -1,4 +1,4 @@
-use Rattle.nap_reader.proofs.Common.{AfterEscape, All, All-map, ArePending, Bool, Breaks, BreaksHere, CanAdvance, CanPass, CannotShow, Continues, Entry, Fault, Ghosts, Goes, Input, IsLive, IsNext, IsNextByte, IsSome, LacksOwn, LeadsOn, LeadsThrough, List, Memory, Moves, None, OpenBody, Option, Outcome, Passes, Placed, ReadingState, Reads, Refusal, RunAt, Some, Step, Steps, Stops, StopsByte, Store, StoreState, StoresBody, Works, [], after_body, after_charge, all_at, ap, append-nil, arith, at_byte, body_front, bytes_of, cause_of, drop, drop-append-le, ends_body, false, front, get_or, get_or-take, inl, inr, is_of_body, kept_list, length, length-append, length-drop, length-map, length-take-le, lt-ltb, memory, nat_tests, ne_eqb, next_bytes, pending_escape, place_at, placed_at, placed_by_step, prefix_len, prefix_len-drop_yes, prefix_len-le-length, prefix_len_passes, reading_state_by, refl, refusal, shown_front, store_bound, store_grown, store_limit, store_shown, stream, subst, sym, take, take-append-le, take-map, true, ℕ, ◌*◌, ◌++◌, ◌+◌, ◌-◌, ◌<◌, ◌∙◌, ◌∷◌, ◌≡◌, ◌≢◌, ◌≤◌, ◌⊎◌}
+use Rattle.nap_reader.proofs.Common.{AfterEscape, All, All-map, ArePending, Bool, Breaks, BreaksHere, CanAdvance, CanPass, CannotShow, Continues, Entry, Fault, Ghosts, Goes, Input, IsLive, IsNextText, IsNextByte, IsSome, LacksOwn, LeadsOn, LeadsThrough, List, Memory, Moves, None, OpenBody, Option, Outcome, Passes, Placed, ReadingState, Reads, Refusal, RunAt, Some, Step, Steps, Stops, StopsByte, Store, StoreState, StoresBody, Works, [], after_body, after_charge, all_at, ap, append-nil, arith, at_byte, body_front, bytes_of, cause_of, drop, drop-append-le, ends_body, false, stream_front, get_or, get_or-take, inl, inr, is_of_body, kept_list, length, length-append, length-drop, length-map, length-take-le, lt-ltb, memory, nat_tests, ne_eqb, next_bytes, pending_escape, place_at, placed_at, placed_by_step, prefix_len, prefix_len-drop_yes, prefix_len-le-length, prefix_len_passes, reading_state_by, refl, refusal, shown_front, store_bound, store_grown, store_limit, store_shown, stream, subst, sym, take, take-append-le, take-map, true, ℕ, ◌*◌, ◌++◌, ◌+◌, ◌-◌, ◌<◌, ◌∙◌, ◌∷◌, ◌≡◌, ◌≢◌, ◌≤◌, ◌⊎◌}
 use Rattle.nap_reader.proofs.Base.{AreAdded, IsPlain, as_it_was, body_bound, body_grows, body_over, body_refused, body_shows, breaks_here, by_itself, byte-placed_by_step, bytes_of-placed_by_step, can_few, can_less, can_next, cannot_stops, conveys_nothing, escape_steps, lacks, leads_shown, length-all_at, length-placed_by_step, no_some, pending_body, plain_added, plain_full, space_for, state_with_body, stops_own}
 use Rattle.nap_reader.specs.declared.machine.Machine.{Machine}
 use Rattle.nap_reader.specs.Bodies as bodies
@@ -13,7 +13,7 @@ plain_is : (byte : ℕ) → is_of_body byte ≡ true → IsPlain byte
 plain_is byte is = record { low = grind (arith, nat_tests, is); other = grind (arith, nat_tests, is) }
 
 -- the first bytes of a slice, up to those that aren't plain
-pub plain_slice : {input : Input} {piece text : List ℕ} {first step : ℕ} {ended : Bool} → IsNext input piece first step text ended → (n : ℕ) → n ≤ prefix_len is_of_body text →
+pub plain_slice : {input : Input} {piece text : List ℕ} {first step : ℕ} {ended : Bool} → IsNextText input piece first step text ended → (n : ℕ) → n ≤ prefix_len is_of_body text →
     All IsPlain (bytes_of (take n (next_bytes input piece))) × (length (take n (next_bytes input piece)) ≡ n)
 plain_slice {input} {piece} {text} {first} {step} next n few =
     let within : n ≤ length text = omega (arith, few, prefix_len-le-length is_of_body text) in
@@ -27,11 +27,11 @@ plain_slice {input} {piece} {text} {first} {step} next n few =
     )
 
 -- they can be passed
-pub slice_passes : {input : Input} {piece text : List ℕ} {first step n : ℕ} {ended : Bool} → IsNext input piece first step text ended → n ≤ prefix_len is_of_body text → CanPass input piece n
+pub slice_passes : {input : Input} {piece text : List ℕ} {first step n : ℕ} {ended : Bool} → IsNextText input piece first step text ended → n ≤ prefix_len is_of_body text → CanPass input piece n
 slice_passes {text = text} {n = n} next few = can_less n (omega (arith, few, prefix_len-le-length is_of_body text)) next.passes
 
 -- then another byte comes, if the slice has one
-pub fill_passes : {input mid : Input} {piece text : List ℕ} {first step space : ℕ} {ended : Bool} {store : StoreState} {opened : Option OpenBody} → Reads input piece → IsNext input piece first step text ended → space < length text → Moves input mid space [] store opened → CanAdvance mid 1
+pub fill_passes : {input mid : Input} {piece text : List ℕ} {first step space : ℕ} {ended : Bool} {store : StoreState} {opened : Option OpenBody} → Reads input piece → IsNextText input piece first step text ended → space < length text → Moves input mid space [] store opened → CanAdvance mid 1
 fill_passes {input} {piece = piece} {space = space} reads next less moved =
     let few = can_few next.passes in
     (piece, can_next (counts_moved moved reads (omega (arith, less, few))).reads (omega (arith, less, few, ap (λ (xs : List Placed). length xs) (next_moved moved piece), length-drop space (next_bytes input piece))))
@@ -98,7 +98,7 @@ module _ {S : Type 0} {g : Ghosts S} (m : Machine S g) {input : Input} {piece : 
       (rw (is, state_moved moved m {left = input.budget - input.charged} (omega (arith, moved.budget, moved.charged))) (record { conveys = body_leads opened adds some; acted = as_it_was refl refl }))
 
   -- the next bytes are a slice, and the body has no space for the byte with this index
-  pub body_fills : {name : ℕ} {show : Bool} {first step : ℕ} {text : List ℕ} {ended : Bool} → input.body ≡ Some (record { name = name; show = show; escape = None }) → IsNext input piece first step text ended → (space : ℕ) → space < prefix_len is_of_body text →
+  pub body_fills : {name : ℕ} {show : Bool} {first step : ℕ} {text : List ℕ} {ended : Bool} → input.body ≡ Some (record { name = name; show = show; escape = None }) → IsNextText input piece first step text ended → (space : ℕ) → space < prefix_len is_of_body text →
       input.store.stored + length input.store.body + space ≡ store_limit → Stops g m.sink (reading_state_by m input) (next_bytes input piece) space m.sink (refusal Store (first + step * space))
   body_fills {first = first} {step} {text} opened next space less full =
       let few : space < length text = omega (arith, less, prefix_len-le-length is_of_body text) in
@@ -112,7 +112,7 @@ pub adds_none : {old new : Input} {n : ℕ} {opened : Option OpenBody} → Moves
 adds_none {old} moved = rw (append-nil old.store.bytes, append-nil old.store.body) moved
 
 -- the next byte is the first of the slice
-pub next_byte : {input : Input} {piece : List ℕ} {first step byte : ℕ} {text : List ℕ} {ended : Bool} → Reads input piece → IsNext input piece first step text ended → byte ≡ get_or text 0 0 → IsNextByte input piece byte first
+pub next_byte : {input : Input} {piece : List ℕ} {first step byte : ℕ} {text : List ℕ} {ended : Bool} → Reads input piece → IsNextText input piece first step text ended → byte ≡ get_or text 0 0 → IsNextByte input piece byte first
 unfolding placed_by_step
 next_byte {input} {piece} {first} {step} {byte} {text} reads next is =
     by text is next.some (next.more, next.is)
@@ -122,7 +122,7 @@ next_byte {input} {piece} {first} {step} {byte} {text} reads next is =
     by (b ∷ bs) is some parts = record { reads = reads; rest = placed_by_step (first + step) step bs ++ parts.0; is = rw is parts.1 }
 
 -- it isn't plain if no byte of the slice is
-pub some_plain : {input : Input} {piece : List ℕ} {first step byte place : ℕ} {text : List ℕ} {ended : Bool} → Reads input piece → IsNext input piece first step text ended → IsNextByte input piece byte place → IsPlain byte → 0 < prefix_len is_of_body text
+pub some_plain : {input : Input} {piece : List ℕ} {first step byte place : ℕ} {text : List ℕ} {ended : Bool} → Reads input piece → IsNextText input piece first step text ended → IsNextByte input piece byte place → IsPlain byte → 0 < prefix_len is_of_body text
 some_plain {byte = byte} {text = text} reads next one plain =
     let same : get_or text 0 0 ≡ byte = ap (λ (xs : List Placed). get_or (bytes_of xs) 0 0) (sym (next_byte reads next refl).is ∙ one.is) in
     let is : is_of_body (get_or text 0 0) ≡ true = rw (same, ne_eqb byte 27 plain.other, lt-ltb byte 128 plain.low) refl in
@@ -183,7 +183,7 @@ module _ {S : Type 0} {g : Ghosts S} (m : Machine S g) {input : Input} {piece : 
       }))
 
   module _ (shown : b.show ≡ true) where
-    shows : (s : S) (o : Outcome) (pending : List Placed) (k : Continues g s o m.sink h (ender ∷ pending)) → front h.machine (k.rest ++ ender ∷ pending) ≡ shown_front (after_body h.machine b.name h.body) place bytes pending
+    shows : (s : S) (o : Outcome) (pending : List Placed) (k : Continues g s o m.sink h (ender ∷ pending)) → stream_front h.machine (k.rest ++ ender ∷ pending) ≡ shown_front (after_body h.machine b.name h.body) place bytes pending
     shows s o pending k = body_shows k ending.ends (rw shown at ending.opened)
 
     -- The body is presented, and no run is open.

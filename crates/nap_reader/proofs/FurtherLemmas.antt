@@ -1,4 +1,4 @@
-use Rattle.nap_reader.proofs.Common.{All-map, ArePending, Bool, Budget, Calls, CanAdvance, CanPass, CannotShow, Continues, Err, Fault, FaultMatchesSink, Frame, Ghosts, Goes, HasRead, HasReadOn, Input, IsLive, IsNext, IsNextByte, IsSome, Latches, LeadsOn, List, Memory, Moves, None, Ok, OnOk, OpenBody, Option, Passes, Placed, Position, Progresses, Reaches, Reader, ReadingState, Reads, ReadsFurther, ReadsTo, Refusal, Request, Result, Sink, Some, Stop, Stops, StopsByte, StopsFrom, StoreState, StoresBody, Takes, TakesBy, TakesSlice, Works, [], after_charge, all_at, ap, append-nil, append_assoc, ap₂, arith, begun, body_of, budget_of, bytes_of, drop, drop-drop, false, false≢true, front, inl, inr, is_some, length, length-append, length-drop, machine_of, mode_of, next_bytes, nil_from_length, past, place_at, placed_at, placed_by_step, position_of, reading_state, reading_state_by, refl, refusal, shown_front, sink_of, state_after_request, store_grown, subst, sym, take, take_all, true, unread, unread_of, ℕ, ◌*◌, ◌++◌, ◌+◌, ◌-◌, ◌<◌, ◌^◌, ◌∙◌, ◌∷◌, ◌≡◌, ◌≢◌, ◌≤◌, ◌⊎◌}
+use Rattle.nap_reader.proofs.Common.{All-map, ArePending, Bool, Budget, Calls, CanAdvance, CanPass, CannotShow, Continues, Err, Fault, FaultMatchesSink, Frame, Ghosts, Goes, HasRead, HasReadOn, Input, IsLive, IsNextText, IsNextByte, IsSome, Latches, LeadsOn, List, Memory, Moves, None, Ok, OnOk, OpenBody, Option, Passes, Placed, Position, Progresses, Reaches, Reader, ReadingState, Reads, ReadsFurther, ReadsTo, Refusal, Request, Result, Sink, Some, Stop, Stops, StopsByte, StopsFrom, StoreState, StoresBody, Takes, TakesBy, TakesSlice, Works, [], after_charge, all_at, ap, append-nil, append_assoc, ap₂, arith, begun, body_of, budget_of, bytes_of, drop, drop-drop, false, false≢true, stream_front, inl, inr, is_some, length, length-append, length-drop, machine_of, mode_of, next_bytes, nil_from_length, past, place_at, placed_at, placed_by_step, position_of, reading_state, reading_state_by, refl, refusal, shown_front, sink_of, state_after_request, store_grown, subst, sym, take, take_all, true, unread, unread_of, ℕ, ◌*◌, ◌++◌, ◌+◌, ◌-◌, ◌<◌, ◌^◌, ◌∙◌, ◌∷◌, ◌≡◌, ◌≢◌, ◌≤◌, ◌⊎◌}
 use Rattle.nap_reader.proofs.Base.{Lawful, as_it_was, can_few, can_less, can_next, cannot_stops, drop_next, frames-unread, has_read_by, holds_nothing, is_between, is_half, lacks, leads_shown, length-all_at, length-next, length-placed_by_step, place_at-append, place_at-placed_by_step, stops_now, unread-store_grown}
 use Rattle.nap_reader.specs.declared.machine.Machine.{Machine}
 use Rattle.nap_reader.proofs.PieceLemmas.{reaches_called, reaches_on}
@@ -298,7 +298,7 @@ module _ {S : Type 0} {g : Ghosts S} {from now : Machine S g} {input : Input} {p
       ∙ ap (place_at all) (let e : index ≡ index + 0 = omega arith in e) ∙ sym (place_at-drop all index 0) ∙ ap (λ (ys : List Placed). place_at ys 0) calls.is
 
   calls_it : (n : ℕ) (rest pending : List Placed) → ArePending rest calls.holding →
-      (front calls.holding.machine (rest ++ x ∷ pending) ≡ shown_front (reading_state_by now input).machine x.place bytes pending) × ArePending [] (record (reading_state_by now input) { machine = record (reading_state_by now input).machine { left = n } })
+      (stream_front calls.holding.machine (rest ++ x ∷ pending) ≡ shown_front (reading_state_by now input).machine x.place bytes pending) × ArePending [] (record (reading_state_by now input) { machine = record (reading_state_by now input).machine { left = n } })
   calls_it n rest pending pends = (calls.front_is rest pending pends, still_pending (reading_state_by now input) n turn.between calls.rested (calls.still rest pends))
 
   -- The body of the call comes next.
@@ -339,7 +339,7 @@ module _ {S : Type 0} {g : Ghosts S} {from now : Machine S g} {input : Input} {p
 -- The loop.
 
 -- the bytes that a machine consumed of the next slice
-pub turn_is : {S : Type 0} {g : Ghosts S} {from now : Machine S g} {input : Input} {piece text : List ℕ} {first step place count : ℕ} {ended : Bool} {request : Request} → Reads input piece → (input.body ≡ None) ⊎ (next_bytes input piece ≡ []) → IsNext input piece first step text ended →
+pub turn_is : {S : Type 0} {g : Ghosts S} {from now : Machine S g} {input : Input} {piece text : List ℕ} {first step place count : ℕ} {ended : Bool} {request : Request} → Reads input piece → (input.body ≡ None) ⊎ (next_bytes input piece ≡ []) → IsNextText input piece first step text ended →
     Takes from now (placed_by_step first step text) ended count request → place ≡ first + step * (count - 1) → TakesSlice from now input piece count request place
 turn_is {piece = piece} {text = text} {first = first} {step = step} {place = place} {count = count} {ended = ended} reads ends next takes is = record {
   reads = reads;

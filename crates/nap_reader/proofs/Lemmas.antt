@@ -6,4 +6,7 @@ pub use Rattle.nap_reader.proofs.CountingLemmas.{made, puts, puts_none, refused_
 pub use Rattle.nap_reader.proofs.DefineLemmas.{adds_none, after_escape, body_fills, body_goes, body_lacks, body_stops, bound_goes, fill_passes, next_byte, plain_slice, shown_goes, shown_stops, slice_passes, some_plain}
 pub use Rattle.nap_reader.proofs.FurtherLemmas.{begins_piece, byte_stops, call_goes, call_moved, call_refuses, comes_rested, goes_less, goes_nowhere, goes_then, grown_moves, is_open, moves_then, next_same, own_fault, same_input, smaller, stop_passes, stops_from, stops_then, stores_can, stores_moves, takes_piece, to_come, turn_counts, turn_goes, turn_is, turn_less, turn_passes, turn_stops, turn_takes, unrefused}
 pub use Rattle.nap_reader.proofs.RunLemmas.{Joins, RunsWhole, opcode_acts, opcode_stops, operands_in, over_after, run_acts, run_lacks, run_starts, run_stops, run_too_long, run_waits}
-pub use Rattle.nap_reader.proofs.TakingLemmas.{asked_is, next_in_slice, own_tells, place_at-drop, takes_none, takes_then}
+pub use Rattle.nap_reader.proofs.TextBlockLemmas.{LeavesOthers, all_pass_first, cleared_less, ends_at, goes_through, leaves_fewer, leaves_others, next_within}
+pub use Rattle.nap_reader.proofs.TextLemmas.{are_typed}
+pub use Rattle.nap_reader.proofs.TakingLemmas.{asked_is, idle_lives, idle_takes, next_in_slice, own_tells, place_at-drop, takes_none, takes_then}
+pub use Rattle.nap_reader.proofs.WholeCodeLemmas.{acting, call_found, defining, found_acts, found_call, found_defines, found_nothing, found_stops, found_within, nothing_found}

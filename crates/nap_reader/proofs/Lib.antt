@@ -3,6 +3,7 @@ pub use Lemmas.*
 pub mod Common
 pub mod Base
 pub mod Lemmas
+pub mod TextBlockLemmas
 pub mod TextLemmas
 pub mod AheadLemmas
 pub mod RunLemmas
@@ -16,6 +17,7 @@ pub mod PieceLemmas
 pub mod StepLemmas
 pub mod StopLemmas
 pub mod CodesLemmas
+pub mod WholeCodeLemmas
 pub mod DefineLemmas
 pub mod ReadingLemmas
 pub mod BreakLemmas

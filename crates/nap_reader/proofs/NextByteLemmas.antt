@@ -1,4 +1,4 @@
-use Rattle.nap_reader.proofs.Common.{All, All-append, All-cons, All-head, All-nil, All-pop, All-replicate, All-tail, Bool, CanAdvance, CanPass, Err, Frame, FramesIn, Innermost, Input, IsBefore, IsFrame, IsNext, IsNextByte, IsOver, List, None, Ok, OnErr, OnOk, Placed, Position, Reads, Result, Some, Span, StoreState, [], add-zero, all_at, ap, append-nil, append_assoc, ap₂, arith, begun, bytes_from, bytes_of, drop, drop-append-le, drop-append_seam, drop-drop, drop-map, drop-take, drop_all, drop_more, drop_of_length-le, false, frame_bytes, get_or, length, length-append, length-drop, length-map, length-take, map, map-set, next_bytes, nil_from_length, place_at, placed_at, placed_by_step, placed_from, position_of, refl, replicate, set, slice_get, store_bound, store_grown, store_limit, store_shown, sublist, sublist_at, subst, suc, sym, take, take-append-le, take-append_seam, take-map, take-take, take_rest, true, unread, unread_of, zero, ℕ, ◌*◌, ◌++◌, ◌+◌, ◌-◌, ◌<◌, ◌∙◌, ◌∷◌, ◌≡◌, ◌≢◌, ◌≤◌}
+use Rattle.nap_reader.proofs.Common.{All, All-append, All-cons, All-head, All-nil, All-pop, All-replicate, All-tail, Bool, CanAdvance, CanPass, Err, Frame, FramesIn, Innermost, Input, IsBefore, IsFrame, IsNextText, IsNextByte, IsOver, List, None, Ok, OnErr, OnOk, Placed, Position, Reads, Result, Some, Span, StoreState, [], add-zero, all_at, ap, append-nil, append_assoc, ap₂, arith, begun, bytes_from, bytes_of, drop, drop-append-le, drop-append_seam, drop-drop, drop-map, drop-take, drop_all, drop_more, drop_of_length-le, false, frame_bytes, get_or, length, length-append, length-drop, length-map, length-take, map, map-set, next_bytes, nil_from_length, place_at, placed_at, placed_by_step, placed_from, position_of, refl, replicate, set, slice_get, store_bound, store_grown, store_limit, store_shown, sublist, sublist_at, subst, suc, sym, take, take-append-le, take-append_seam, take-map, take-take, take_rest, true, unread, unread_of, zero, ℕ, ◌*◌, ◌++◌, ◌+◌, ◌-◌, ◌<◌, ◌∙◌, ◌∷◌, ◌≡◌, ◌≢◌, ◌≤◌}
 use Rattle.std.proofs.lemmas.List.{same_from_push}
 use Rattle.nap_reader.specs.Stored.{IsStore}
 use Rattle.nap_reader.proofs.StreamLemmas.{bytes_of-all_at, bytes_of-append, bytes_of-placed, length-all_at}
@@ -305,7 +305,7 @@ following_in_body stored (frame ∷ frames) framed d some = at frames (All-head 
 
 -- The next slice is of the piece, or of the innermost body.
 
-pub piece_next : {input : Input} {piece : List ℕ} → Reads input piece → input.frames.stack.items ≡ [] → input.at < length piece → IsNext input piece input.fed 1 (drop input.at piece) false
+pub piece_next : {input : Input} {piece : List ℕ} → Reads input piece → input.frames.stack.items ≡ [] → input.at < length piece → IsNextText input piece input.fed 1 (drop input.at piece) false
 piece_next {input} {piece} reads none less = record {
   some = omega (arith, less, length-drop input.at piece);
   more = [];
@@ -318,7 +318,7 @@ piece_next {input} {piece} reads none less = record {
   over = λ ended. let bad : false ≡ true = ended in cc;
 }
 
-pub body_next : {input : Input} {piece text : List ℕ} {place : ℕ} {ended : Bool} → Reads input piece → (inner : Innermost input.store.bytes input.frames.stack.items text place) → (ended ≡ true → IsOver (bytes_of (unread input.store.bytes inner.before) ++ drop input.at piece)) → IsNext input piece place 0 text ended
+pub body_next : {input : Input} {piece text : List ℕ} {place : ℕ} {ended : Bool} → Reads input piece → (inner : Innermost input.store.bytes input.frames.stack.items text place) → (ended ≡ true → IsOver (bytes_of (unread input.store.bytes inner.before) ++ drop input.at piece)) → IsNextText input piece place 0 text ended
 body_next {input} {piece} {text} {place} reads inner over =
     let stored = input.store.bytes in
     let frame = inner.frame in

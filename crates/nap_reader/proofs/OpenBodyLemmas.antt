@@ -1,4 +1,4 @@
-use Rattle.nap_reader.proofs.Common.{All, All-cons, All-head, All-nil, All-tail, AreOfBody, ArePending, ArePendingIn, BodyFront, Bool, Continues, EighthBit, Fault, Ghosts, IsOpenBody, IsRefused, List, Machine, Mode, None, OpenBody, Option, Outcome, Placed, ReadingState, Some, Store, [], act, after_body, ap, append-nil, append_assoc, ap₂, arith, between, body_front, body_front_after, body_front_by, bound_front, bytes_of, drop_at, ends_body, eqb, eqb-false, eqb-true, false, front, in_body, le-leb, length, length-append, length-map, lt-leb, nat_tests, ne_eqb, outcome_from, pending_escape, place_at, prepend, refl, refusal, refuse, shown_front, store_limit, stores, subst, sym, take, take-append-add, take-map, take_at, true, ℕ, ◌++◌, ◌+◌, ◌-◌, ◌<◌, ◌∙◌, ◌∷◌, ◌≡◌, ◌≢◌, ◌≤◌}
+use Rattle.nap_reader.proofs.Common.{All, All-cons, All-head, All-nil, All-tail, AreOfBody, ArePending, ArePendingIn, BodyFront, Bool, Continues, EighthBit, Fault, Ghosts, IsOpenBody, IsRefused, List, Machine, Mode, None, OpenBody, Option, Outcome, Placed, ReadingState, Some, Store, [], act, after_body, ap, append-nil, append_assoc, ap₂, arith, between, body_front, body_front_after, body_front_by, bound_front, bytes_of, drop_at, ends_body, eqb, eqb-false, eqb-true, false, stream_front, in_body, le-leb, length, length-append, length-map, lt-leb, nat_tests, ne_eqb, outcome_from, pending_escape, place_at, prepend, refl, refusal, refuse, shown_front, store_limit, stores, subst, sym, take, take-append-add, take-map, take_at, true, ℕ, ◌++◌, ◌+◌, ◌-◌, ◌<◌, ◌∙◌, ◌∷◌, ◌≡◌, ◌≢◌, ◌≤◌}
 use Rattle.std.proofs.Math.Seq.{drop-append-add}
 use Rattle.nap_reader.specs.Bodies as bodies
 use Rattle.nap_reader.proofs.ReadingLemmas.{by_front, front_at, holds_nothing, leads_to_refusal, place_at-following}
@@ -130,7 +130,7 @@ module _ {S : Type 0} {g : Ghosts S} {s : S} {o : Outcome} {t : S} {h : ReadingS
     pending_body = subst (ArePendingIn k.rest h) opened k.retained
 
     pub body_at_front : (f : BodyFront) → body_front (space_for h) (bytes_of (pending_escape b.escape) ++ bytes_of pending) ≡ f →
-        front h.machine (k.rest ++ pending) ≡ body_front_by h.machine b.name b.show (pending_body.bytes ++ (pending_escape b.escape ++ pending)) (body_front_after (length pending_body.bytes) f)
+        stream_front h.machine (k.rest ++ pending) ≡ body_front_by h.machine b.name b.show (pending_body.bytes ++ (pending_escape b.escape ++ pending)) (body_front_after (length pending_body.bytes) f)
     body_at_front f e =
         let p = pending_body in
         let next = pending_escape b.escape ++ pending in
@@ -138,7 +138,7 @@ module _ {S : Type 0} {g : Ghosts S} {s : S} {o : Outcome} {t : S} {h : ReadingS
         let size : length h.body ≡ length p.bytes = ap length (sym p.body) ∙ length-map p.bytes _ in
         let bytes : bytes_of (p.bytes ++ next) ≡ h.body ++ (bytes_of (pending_escape b.escape) ++ bytes_of pending) =
         bytes_of-append p.bytes next ∙ ap₂ (λ (xs ys : List ℕ). xs ++ ys) p.body (bytes_of-append (pending_escape b.escape) pending) in
-        ap (front h.machine) all ∙ front_at h.machine (p.bytes ++ next) p.mode
+        ap (stream_front h.machine) all ∙ front_at h.machine (p.bytes ++ next) p.mode
         ∙ ap (body_front_by h.machine b.name b.show (p.bytes ++ next))
         (ap (body_front (store_limit - h.machine.stored)) bytes ∙ p.are_of_body (bytes_of pending) ∙ ap₂ body_front_after size e)
 
@@ -176,7 +176,7 @@ module _ {S : Type 0} {g : Ghosts S} {s : S} {o : Outcome} {t : S} {h : ReadingS
 -- The next byte ends a body, after the pending ESC.
 module _ {S : Type 0} {g : Ghosts S} {s : S} {o : Outcome} {t : S} {h : ReadingState} {name place : ℕ} {x : Placed} {pending : List Placed} (k : Continues g s o t h (x ∷ pending)) (ends : ends_body x.byte ≡ true) where
   pub ends_at : (show : Bool) (opened : h.open_body ≡ Some (record { name = name; show = show; escape = Some place })) →
-      front h.machine (k.rest ++ x ∷ pending) ≡ bound_front h.machine name show (length (pending_body opened k).bytes) ((pending_body opened k).bytes ++ escape_at place ∷ x ∷ pending)
+      stream_front h.machine (k.rest ++ x ∷ pending) ≡ bound_front h.machine name show (length (pending_body opened k).bytes) ((pending_body opened k).bytes ++ escape_at place ∷ x ∷ pending)
   ends_at show opened =
       let before = (pending_body opened k).bytes in
       body_at_front opened k (bodies.ended 0) (ended_front _ x.byte (bytes_of pending) ends)
@@ -200,7 +200,7 @@ module _ {S : Type 0} {g : Ghosts S} {s : S} {o : Outcome} {t : S} {h : ReadingS
   }
 
   -- the body is presented
-  pub body_shows : h.open_body ≡ Some (record { name = name; show = true; escape = Some place }) → front h.machine (k.rest ++ x ∷ pending) ≡ shown_front (after_body h.machine name h.body) x.place (h.body ++ 27 ∷ x.byte ∷ []) pending
+  pub body_shows : h.open_body ≡ Some (record { name = name; show = true; escape = Some place }) → stream_front h.machine (k.rest ++ x ∷ pending) ≡ shown_front (after_body h.machine name h.body) x.place (h.body ++ 27 ∷ x.byte ∷ []) pending
   body_shows opened =
       let p = pending_body opened k in
       let rest = escape_at place ∷ x ∷ pending in

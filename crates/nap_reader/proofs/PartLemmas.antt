@@ -67,7 +67,7 @@ part_from g s u {o} known adds cause k part =
 
 -- A rule is refused, or not all of its entries could be put.
 pub record Fails {S : Type 0} (g : Ghosts S) (by : Result RuleResult DrawFault) (t u : S) (fault : DrawFault) : Type 0 where
-  pub drew : draws.DrawsBy g.took g.broke g.failed by t u fault (draws.cause_of fault)
+  pub drew : draws.DrawsBy g.took g.broke g.failed by t u fault (draws.draw_cause fault)
   pub wants : fault ≡ draw_faults.Memory → WantsBy g by t u
   pub gives : fault ≡ draw_faults.Sink → GivesSome by
 

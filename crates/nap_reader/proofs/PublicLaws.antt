@@ -1,4 +1,4 @@
-use Rattle.nap_reader.proofs.Common.{All, All-head, All-tail, Code, CodeActs, FrontAfterFront, IsAlone, IsOpenRun, IsOperandByte, IsRun, List, Machine, Opcode, Placed, RunActs, RunWaits, [], arith, bytes_of, code_front, code_rule, drawn_front, is_operand_byte, kind_of, length, length-append, length-map, nat_tests, refl, run_length, true, walk, words_of, ℕ, ◌++◌, ◌+◌, ◌∙◌, ◌∷◌, ◌≡◌}
+use Rattle.nap_reader.proofs.Common.{All, All-head, All-tail, Code, CodeActs, FrontAfterFront, IsAlone, IsOpenRun, IsOperandByte, IsRun, List, Machine, Opcode, Placed, RunActs, RunWaits, [], arith, bytes_of, code_front, code_rule, drawn_front, is_operand_byte, kind_of, length, length-append, length-map, nat_tests, refl, run_length, true, walk, carried_words, ℕ, ◌++◌, ◌+◌, ◌∙◌, ◌∷◌, ◌≡◌}
 use Rattle.nap_reader.proofs.Base.{front_code, front_run, open_run_pauses, outcome_from-front}
 pub use Rattle.nap_reader.proofs.LegalLemmas.{begun_comes_first, end_breaks_among, fed_breaks_among, accepted_is_legal, read_values_are_in_range}
 pub use Rattle.nap_reader.proofs.LawLemmas.{more_bytes_keep_entries, more_bytes_keep_refusal, pieces_agree}
@@ -17,16 +17,16 @@ all_operands (x ∷ xs) all =
     rw (operand_byte x.byte (All-head IsOperandByte x.byte (bytes_of xs) all), all_operands xs (All-tail IsOperandByte x.byte (bytes_of xs) all)) (omega arith)
 
 is_open_run : (m : Machine) (op : Opcode) (x : Placed) (operands : List Placed) → IsRun m op x operands →
-    IsOpenRun (x ∷ operands) (record { op = op; place = x.place }) (words_of operands) m.sets
+    IsOpenRun (x ∷ operands) (record { op = op; place = x.place }) (carried_words operands) m.sets
 is_open_run m op x operands run = search (arith, all_operands, length-map)
 
 pub run_acts : RunActs
 run_acts m op x operands y ys run other =
-    front_run m (x ∷ operands) (record { op = op; place = x.place }) (words_of operands) y ys run.mode (is_open_run m op x operands run) other
+    front_run m (x ∷ operands) (record { op = op; place = x.place }) (carried_words operands) y ys run.mode (is_open_run m op x operands run) other
 
 pub run_waits : RunWaits
 run_waits m op x operands run =
-    open_run_pauses m (x ∷ operands) (record { op = op; place = x.place }) (words_of operands) run.mode (is_open_run m op x operands run)
+    open_run_pauses m (x ∷ operands) (record { op = op; place = x.place }) (carried_words operands) run.mode (is_open_run m op x operands run)
 
 alone_front : (m : Machine) (c : Code) (place : ℕ) (ys : List Placed) → IsAlone c →
     code_front m (kind_of c) place ys ≡ drawn_front m place ys (code_rule m.work c)

@@ -1,4 +1,4 @@
-use Rattle.nap_reader.proofs.Common.{ArePending, ArePendingBetweenCodes, ArePendingBy, ArePendingIn, Bool, Budget, Code, CodeFault, CodeSets, Continues, DrawFault, Entry, Err, Front, Ghosts, IfErr, IsDrawn, IsOpenBody, IsOpenRun, IsRefused, Leads, List, LongRun, Machine, Mode, None, Ok, OnOk, Opcode, OpenBody, OpenRun, Option, Outcome, Owes, Placed, ReadingState, Refusal, Result, RuleResult, Some, TakesSome, [], act, after_charge, after_drawing, all_at, ap, append-nil, append_assoc, arith, begun, between, body_front, body_front_by, bytes_of, cause_of, code_fault, code_front, code_ranges, code_stays, cond-false, cond-true, continue, draw_fault, drawn_front, drop, drop-append_seam, drop_at, eq-eqb, false, front, front_by, front_in, half_read, is_operand, kept_list, kind_of, le-ltb, length, length-append, length-map, length-prefix_len, lt-ltb, map-append, opcode_front, opcodes_are_drawn, outcome_by_front, outcome_from, pause, paused, pending_escape, place_at, placed_from, prefix_len-append, prepend, refl, refusal, refuse, refused_stays, rule, run_length, run_limit, shown_front, start_machine, store_limit, stream, subst, suc, sym, take, take-append_seam, true, unfinished_by, unfinished_of, ℕ, ◌++◌, ◌+◌, ◌-◌, ◌<◌, ◌∙◌, ◌∷◌, ◌≡◌, ◌≢◌, ◌≤◌}
+use Rattle.nap_reader.proofs.Common.{ArePending, ArePendingBetweenCodes, ArePendingBy, ArePendingIn, Bool, Budget, Code, CodeFault, CodeSets, Continues, DrawFault, Entry, Err, StreamFront, Ghosts, IfErr, IsDrawn, IsOpenBody, IsOpenRun, IsRefused, Leads, List, LongRun, Machine, Mode, None, Ok, OnOk, Opcode, OpenBody, OpenRun, Option, Outcome, Owes, Placed, ReadingState, Refusal, Result, RuleResult, Some, TakesSome, [], act, after_charge, after_drawing, all_at, ap, append-nil, append_assoc, arith, begun, between, body_front, body_front_by, bytes_of, cause_of, code_fault, code_front, code_ranges, code_stays, cond-false, cond-true, continue, draw_fault, drawn_front, drop, drop-append_seam, drop_at, eq-eqb, false, stream_front, front_by, front_in, half_read, is_operand, kept_list, kind_of, le-ltb, length, length-append, length-map, length-prefix_len, lt-ltb, map-append, opened_front, opcodes_are_drawn, outcome_by_front, outcome_from, pause, paused, pending_escape, place_at, placed_from, prefix_len-append, prepend, refl, refusal, refuse, refused_stays, rule, run_length, run_limit, shown_front, start_machine, store_limit, stream, subst, suc, sym, take, take-append_seam, true, unfinished_by, unfinished_of, ℕ, ◌++◌, ◌+◌, ◌-◌, ◌<◌, ◌∙◌, ◌∷◌, ◌≡◌, ◌≢◌, ◌≤◌}
 use Rattle.nap_codes.specs.declared.code.Code.TheVariants as code
 use Rattle.nap_codes.specs.Front as codes
 use Rattle.nap_reader.specs.Stream as model
@@ -22,14 +22,14 @@ bytes_past rest x pending half is = rw (bytes_of-append rest (x ∷ pending), is
 length_past : (rest : List Placed) (half : List ℕ) → bytes_of rest ≡ half → length half ≡ length rest
 length_past rest half is = ap length (sym is) ∙ length-map rest _
 
-pub front_at : {mode : Mode} (m : Machine) (xs : List Placed) → m.mode ≡ mode → front m xs ≡ front_in mode m xs
-unfolding front
+pub front_at : {mode : Mode} (m : Machine) (xs : List Placed) → m.mode ≡ mode → stream_front m xs ≡ front_in mode m xs
+unfolding stream_front
 front_at m xs is = ap (λ (mode : Mode). front_in mode m xs) is
 
 -- an incomplete code, which this byte completes
 pub front_code : {half : List ℕ} {c : Code} {n : ℕ} {after : CodeSets} (m : Machine) (rest : List Placed) (x : Placed) (pending : List Placed) → m.mode ≡ between →
     bytes_of rest ≡ half → codes.front m.sets (half ++ x.byte ∷ []) ≡ codes.complete c n after → n ≡ length (half ++ x.byte ∷ []) →
-    front m (rest ++ x ∷ pending) ≡ code_front (record m { sets = after }) (kind_of c) x.place pending
+    stream_front m (rest ++ x ∷ pending) ≡ code_front (record m { sets = after }) (kind_of c) x.place pending
 front_code {half} {c} {n} {after} m rest x pending mode is e len =
     let count : n ≡ suc (length rest) = omega (arith, len, length-append half (x.byte ∷ []), length_past rest half is) in
     front_at m (rest ++ x ∷ pending) mode
@@ -44,7 +44,7 @@ front_code {half} {c} {n} {after} m rest x pending mode is e len =
 
 opcode_first : (m : Machine) (rest : List Placed) (open_run : OpenRun) (run : List ℕ) (pending : List Placed) → m.mode ≡ between →
     (h : IsOpenRun rest open_run run m.sets) →
-    front m (rest ++ pending) ≡ opcode_front m open_run.op open_run.place (h.operands ++ pending)
+    stream_front m (rest ++ pending) ≡ opened_front m open_run.op open_run.place (h.operands ++ pending)
 opcode_first m rest open_run run pending mode h =
     front_at m (rest ++ pending) mode
     ∙ rw (
@@ -59,7 +59,7 @@ run_continues operands pending all = rw (prefix_len-append is_operand operands p
 
 -- an open run that isn't too long ends where no operand byte follows
 run_over : (m : Machine) (rest : List Placed) (open_run : OpenRun) (run : List ℕ) (pending : List Placed) → m.mode ≡ between → (h : IsOpenRun rest open_run run m.sets) → run_length pending ≡ 0 →
-    front m (rest ++ pending) ≡ closed_front m open_run.op open_run.place h.operands pending
+    stream_front m (rest ++ pending) ≡ closed_front m open_run.op open_run.place h.operands pending
 run_over m rest open_run run pending mode h none =
     let ends : run_length (h.operands ++ pending) ≡ length h.operands = run_continues h.operands pending h.all ∙ omega (arith, none) in
     let short = le-ltb run_limit (length h.operands) (omega (arith, h.short, ap length h.words, length-map h.operands (λ (x : Placed). x.byte - 64))) in
@@ -68,19 +68,19 @@ run_over m rest open_run run pending mode h none =
 -- an open run is over at a byte that is no operand byte
 pub front_run : (m : Machine) (rest : List Placed) (open_run : OpenRun) (run : List ℕ) (x : Placed) (pending : List Placed) → m.mode ≡ between →
     IsOpenRun rest open_run run m.sets → is_operand x ≡ false →
-    front m (rest ++ x ∷ pending) ≡ drawn_front m open_run.place (x ∷ pending) (rule m.work open_run.op run)
+    stream_front m (rest ++ x ∷ pending) ≡ drawn_front m open_run.place (x ∷ pending) (rule m.work open_run.op run)
 front_run m rest open_run run x pending mode h other =
     run_over m rest open_run run (x ∷ pending) mode h (rw other refl) ∙ ap (λ (run : List ℕ). drawn_front m open_run.place (x ∷ pending) (rule m.work open_run.op run)) h.words
 
 -- An open run waits for further bytes.
 pub open_run_pauses : (m : Machine) (rest : List Placed) (open_run : OpenRun) (run : List ℕ) → m.mode ≡ between → IsOpenRun rest open_run run m.sets →
-    front m rest ≡ pause (model.open_run open_run.op open_run.place run)
+    stream_front m rest ≡ pause (model.open_run open_run.op open_run.place run)
 open_run_pauses m rest open_run run mode h =
-    ap (front m) (sym (append-nil rest)) ∙ run_over m rest open_run run [] mode h refl ∙ ap (λ (run : List ℕ). pause (model.open_run open_run.op open_run.place run)) h.words
+    ap (stream_front m) (sym (append-nil rest)) ∙ run_over m rest open_run run [] mode h refl ∙ ap (λ (run : List ℕ). pause (model.open_run open_run.op open_run.place run)) h.words
 
 -- An incomplete code waits for further bytes.
 pub half_read_pauses : (m : Machine) (rest : List Placed) (half : List ℕ) → m.mode ≡ between → bytes_of rest ≡ half →
-    codes.front m.sets half ≡ codes.unfinished → front m rest ≡ pause (half_read half)
+    codes.front m.sets half ≡ codes.unfinished → stream_front m rest ≡ pause (half_read half)
 half_read_pauses m rest half mode is e =
     front_at m rest mode
     ∙ ap (front_by m rest) (ap (codes.front m.sets) is ∙ e) ∙ ap (λ (bs : List ℕ). pause (half_read bs)) is
@@ -118,15 +118,15 @@ open_body_waits rest body h k =
     rw (k.is, bytes_of-append k.bytes (pending_escape body.escape), k.body, ← none, k.are_of_body [], none, escape_waits (store_limit - h.machine.stored - length h.body) body.escape) refl
 
 -- pending bytes wait for further ones
-pub pending_waits : (h : ReadingState) (rest : List Placed) → ArePending rest h → front h.machine rest ≡ pause (unfinished_of h)
+pub pending_waits : (h : ReadingState) (rest : List Placed) → ArePending rest h → stream_front h.machine rest ≡ pause (unfinished_of h)
 pending_waits h rest retained = in_mode h.open_body retained
   where
     at : (open_run : Option OpenRun) → h.machine.mode ≡ between → ArePendingBy rest h open_run →
-        front h.machine rest ≡ pause (unfinished_by None open_run h.half h.run)
+        stream_front h.machine rest ≡ pause (unfinished_by None open_run h.half h.run)
     at None mode k = half_read_pauses h.machine rest h.half mode k.0 k.1
     at (Some open_run) mode k = open_run_pauses h.machine rest open_run h.run mode k.0
 
-    in_mode : (body : Option OpenBody) → ArePendingIn rest h body → front h.machine rest ≡ pause (unfinished_by body h.open_run h.half h.run)
+    in_mode : (body : Option OpenBody) → ArePendingIn rest h body → stream_front h.machine rest ≡ pause (unfinished_by body h.open_run h.half h.run)
     in_mode None k = at h.open_run k.mode k.half
     in_mode (Some body) k =
         front_at h.machine rest k.mode ∙ ap (body_front_by h.machine body.name body.show rest) (open_body_waits rest body h k)
@@ -136,12 +136,12 @@ pub is_open_run : (h : ReadingState) (rest : List Placed) (open_run : OpenRun) �
 is_open_run h rest open_run no_body is retained = subst (ArePendingBy rest h) is (is_between h rest no_body retained).half
 
 -- a rule that is refused is no break
-pub refused_by : {S : Type 0} (g : Ghosts S) (t u : S) (by : Result RuleResult DrawFault) (fault : DrawFault) → draws.DrawsBy g.took g.broke g.failed by t u fault (draws.cause_of fault) → cause_of (draw_fault fault) ≡ stream → (by ≡ Err fault) × (u ≡ t)
+pub refused_by : {S : Type 0} (g : Ghosts S) (t u : S) (by : Result RuleResult DrawFault) (fault : DrawFault) → draws.DrawsBy g.took g.broke g.failed by t u fault (draws.draw_cause fault) → cause_of (draw_fault fault) ≡ stream → (by ≡ Err fault) × (u ≡ t)
 refused_by g t u by fault drew own = grind arith
 
 module _ {S : Type 0} {g : Ghosts S} {s : S} {o : Outcome} {t : S} {owed : List Entry} {h : ReadingState} {pending : List Placed} (k : Owes g s o t owed h pending) where
   -- the outcome, by the front of the pending and the next bytes
-  pub by_front : (f : Front) → front h.machine (k.rest ++ pending) ≡ f → o ≡ prepend k.done (prepend owed (outcome_by_front outcome_from h.machine (k.rest ++ pending) f))
+  pub by_front : (f : StreamFront) → stream_front h.machine (k.rest ++ pending) ≡ f → o ≡ prepend k.done (prepend owed (outcome_by_front outcome_from h.machine (k.rest ++ pending) f))
   by_front f e = search (arith, outcome_from-front)
 
   -- other bytes are pending or come next, other entries are owed, and nothing more was taken
@@ -149,7 +149,7 @@ module _ {S : Type 0} {g : Ghosts S} {s : S} {o : Outcome} {t : S} {owed : List 
   leads_as whole h' rest ys retained leads = record { done = k.done; taken = k.taken; clear = k.clear; rest = rest; retained = retained; leads = leads }
 
   -- the front acts, its entries are owed, and then nothing is pending
-  pub leads_past : (es : List Entry) (h' : ReadingState) (ys : List Placed) → ArePending [] h' → front h.machine (k.rest ++ pending) ≡ act es h'.machine ys → Owes g s o t (owed ++ es) h' ys
+  pub leads_past : (es : List Entry) (h' : ReadingState) (ys : List Placed) → ArePending [] h' → stream_front h.machine (k.rest ++ pending) ≡ act es h'.machine ys → Owes g s o t (owed ++ es) h' ys
   leads_past es h' ys retained e = leads_as o h' [] ys retained (by_front (act es h'.machine ys) e ∙ ap (prepend k.done) (sym (prepend-append owed es (outcome_from h'.machine ys))))
 
   -- the sink takes what it is owed
@@ -177,12 +177,12 @@ module _ {S : Type 0} {g : Ghosts S} {s : S} {o : Outcome} {t : S} {owed : List 
 module _ {S : Type 0} {g : Ghosts S} {s : S} {o : Outcome} {t : S} {h : ReadingState} {pending : List Placed} (k : Continues g s o t h pending) where
   -- the front acts, and then nothing is pending
   pub leads_on : (u : S) (es : List Entry) (h' : ReadingState) (ys : List Placed) → TookMore g → ArePending [] h' →
-      front h.machine (k.rest ++ pending) ≡ act es h'.machine ys → g.took t es u → (g.failed t ≡ false → g.failed u ≡ false) →
+      stream_front h.machine (k.rest ++ pending) ≡ act es h'.machine ys → g.took t es u → (g.failed t ≡ false → g.failed u ≡ false) →
       Continues g s o u h' ys
   leads_on u es h' ys law retained e took clear = pays (leads_past k es h' ys retained e) law took clear
 
   -- the front is refused
-  pub leads_to_refusal : (r : Refusal) → front h.machine (k.rest ++ pending) ≡ refuse r → IsRefused g s o t h r
+  pub leads_to_refusal : (r : Refusal) → stream_front h.machine (k.rest ++ pending) ≡ refuse r → IsRefused g s o t h r
   leads_to_refusal r e =
       let is = by_front k (refuse r) e in (
         ap (λ (x : Outcome). x.refusal) is,
@@ -191,19 +191,19 @@ module _ {S : Type 0} {g : Ghosts S} {s : S} {o : Outcome} {t : S} {h : ReadingS
       )
 
   -- the front is a body that comes next
-  pub leads_shown : (m : Machine) (place : ℕ) (bytes : List ℕ) (ys : List Placed) → front h.machine (k.rest ++ pending) ≡ shown_front m place bytes ys →
+  pub leads_shown : (m : Machine) (place : ℕ) (bytes : List ℕ) (ys : List Placed) → stream_front h.machine (k.rest ++ pending) ≡ shown_front m place bytes ys →
       length bytes ≤ m.left → (h' : ReadingState) → h'.machine ≡ after_charge m (length bytes) → ArePending [] h' → Continues g s o t h' (all_at place bytes ++ ys)
   leads_shown m place bytes ys e few h' same retained =
       leads_past k [] h' (all_at place bytes ++ ys) retained (search (arith, cond-false, le-ltb))
 
   -- the front is a body that can't be charged
-  pub leads_budget : (m : Machine) (place : ℕ) (bytes : List ℕ) (ys : List Placed) → front h.machine (k.rest ++ pending) ≡ shown_front m place bytes ys →
+  pub leads_budget : (m : Machine) (place : ℕ) (bytes : List ℕ) (ys : List Placed) → stream_front h.machine (k.rest ++ pending) ≡ shown_front m place bytes ys →
       m.left < length bytes → IsRefused g s o t h (refusal Budget place)
   leads_budget m place bytes ys e many = search (arith, leads_to_refusal, cond-true, lt-ltb)
 
   -- the rule of the front is refused
-  pub leads_to_fault : (u : S) (m : Machine) (place : ℕ) (ys : List Placed) (by : Result RuleResult DrawFault) → front h.machine (k.rest ++ pending) ≡ drawn_front m place ys by →
-      (fault : DrawFault) → draws.DrawsBy g.took g.broke g.failed by t u fault (draws.cause_of fault) → cause_of (draw_fault fault) ≡ stream →
+  pub leads_to_fault : (u : S) (m : Machine) (place : ℕ) (ys : List Placed) (by : Result RuleResult DrawFault) → stream_front h.machine (k.rest ++ pending) ≡ drawn_front m place ys by →
+      (fault : DrawFault) → draws.DrawsBy g.took g.broke g.failed by t u fault (draws.draw_cause fault) → cause_of (draw_fault fault) ≡ stream →
       IsRefused g s o u h (refusal (draw_fault fault) place)
   leads_to_fault u m place ys by at fault drew own =
       let (is, same) = refused_by g t u by fault drew own in
@@ -260,7 +260,7 @@ pub was_failed : {S : Type 0} (g : Ghosts S) (s t : S) → (g.failed s ≡ false
 was_failed g s t clear set = (elim (g.failed s) as (λ (b : Bool). g.failed s ≡ b → g.failed s ≡ true) [ true ↦ λ is. is | false ↦ λ is. (let k = clear is in cc) ]) refl
 
 -- the rule of an opcode or a code acts, and not all of its entries could be put
-pub rule_part : {S : Type 0} (g : Ghosts S) (t u : S) (by : Result RuleResult DrawFault) (fault : DrawFault) → draws.DrawsBy g.took g.broke g.failed by t u fault (draws.cause_of fault) →
+pub rule_part : {S : Type 0} (g : Ghosts S) (t u : S) (by : Result RuleResult DrawFault) (fault : DrawFault) → draws.DrawsBy g.took g.broke g.failed by t u fault (draws.draw_cause fault) →
     cause_of (draw_fault fault) ≢ stream → (drawn : RuleResult) × (by ≡ Ok drawn) × TakesSome g t [] drawn.entries u (cause_of (draw_fault fault))
 rule_part g t u by fault drew broke = grind arith
 
@@ -333,7 +333,7 @@ module _ {S : Type 0} {g : Ghosts S} {s : S} {o : Outcome} {t : S} {h : ReadingS
 
   -- the byte ends the run
   pub over : is_operand x ≡ false → (by : Result RuleResult DrawFault) → rule h.machine.work open_run.op h.run ≡ by →
-      front h.machine (k.rest ++ x ∷ pending) ≡ drawn_front h.machine open_run.place (x ∷ pending) by
+      stream_front h.machine (k.rest ++ x ∷ pending) ≡ drawn_front h.machine open_run.place (x ∷ pending) by
   over other by e = search (arith, front_run)
 
   -- nothing is pending once the run's opcode has acted
@@ -376,7 +376,7 @@ module _ {S : Type 0} {g : Ghosts S} {s : S} {o : Outcome} {t : S} {h : ReadingS
 
   -- the byte ends a code
   pub code_ends : (c : Code) (n : ℕ) (after : CodeSets) → codes.front h.machine.sets (h.half ++ x.byte ∷ []) ≡ codes.complete c n after → n ≡ length (h.half ++ x.byte ∷ []) →
-      front h.machine (k.rest ++ x ∷ pending) ≡ code_front (record h.machine { sets = after }) (kind_of c) x.place pending
+      stream_front h.machine (k.rest ++ x ∷ pending) ≡ code_front (record h.machine { sets = after }) (kind_of c) x.place pending
   code_ends c n after e len = front_code h.machine k.rest x pending between_pending.mode half_pending.0 e len
 
   -- the byte ends a code, and nothing is pending then

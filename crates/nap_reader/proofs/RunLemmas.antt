@@ -227,7 +227,7 @@ module _ {S : Type 0} {g : Ghosts S} {old : Machine S g} {op : Opcode} (x : Plac
         holds = rw (left.work_is, left.lexer_is, left.closed, r.is.rested) (asked_is (record (with_machine h old) { half = []; open_run = None; run = [] }) drawn.work drawn.clears);
       }))
 
-  stops : (u : S) (fault : DrawFault) → DrawsBy g.took g.broke g.failed (rule old.work op (operand_words run)) old.sink u fault (draws.cause_of fault) →
+  stops : (u : S) (fault : DrawFault) → DrawsBy g.took g.broke g.failed (rule old.work op (operand_words run)) old.sink u fault (draws.draw_cause fault) →
       Stops g old.sink (with_machine h old) (x ∷ all) (1 + length run) u (refusal (draw_fault fault) x.place)
   stops u fault drew =
       stops_after (x ∷ all) 1 (run_opened start (bytes_of all) refl refl) (length run)
@@ -253,7 +253,7 @@ module _ {S : Type 0} {g : Ghosts S} {old : Machine S g} {op : Opcode} {bytes : 
   }
 
   -- The opcode is refused on its run, or breaks.
-  pub opcode_stops : {new : Machine S g} (fault : DrawFault) → new.open_run ≡ old.open_run → DrawsBy g.took g.broke g.failed (rule old.work op (operand_words run)) old.sink new.sink fault (draws.cause_of fault) →
+  pub opcode_stops : {new : Machine S g} (fault : DrawFault) → new.open_run ≡ old.open_run → DrawsBy g.took g.broke g.failed (rule old.work op (operand_words run)) old.sink new.sink fault (draws.draw_cause fault) →
       FaultMatchesSink g old.sink new.sink (draw_fault fault) → Codes old new bytes ended (outcomes.Stopped (length run + 1) (draw_fault fault) 0)
   opcode_stops {new} fault closed drew reported = record {
     within = (run_within r, omega (arith, run_within r));

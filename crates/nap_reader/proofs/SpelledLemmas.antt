@@ -1,4 +1,4 @@
-use Rattle.nap_reader.proofs.Common.{AllCharacters, BodyFront, Bool, CallsBy, CharSet, Code, CodeSets, Fault, IsGraphic, IsMade, Kind, LexerState, List, Macros, Opcode, Some, Step, Steps, [], ap, arith, at_escape, body_front, code_is_spelled, code_ranges, cond, control0_rows, control1_rows, ended, eqb, eqb-true, false, get_or, kind_of, length, length-take-le, one_byte_later, opcode_rows, refl, refused, row_of, set_at, stores, suc, take, true, unfinished, ℕ, ⊤, ◌++◌, ◌+◌, ◌-◌, ◌<◌, ◌∷◌, ◌≡◌, ◌≤◌}
+use Rattle.nap_reader.proofs.Common.{AllCharacters, BodyFront, Bool, CallsBy, CharSet, Code, CodeSets, Fault, IsGraphic, IsMade, Kind, LexerState, List, Macros, Opcode, Some, Step, Steps, [], ap, arith, at_escape, body_front, code_is_spelled, code_ranges, cond, control0_rows, control1_rows, ended, eqb, eqb-true, false, get_or, kind_of, length, length-take-le, one_byte_longer, opcode_rows, refl, refused, row_of, set_at, stores, suc, take, true, unfinished, ℕ, ⊤, ◌++◌, ◌+◌, ◌-◌, ◌<◌, ◌∷◌, ◌≡◌, ◌≤◌}
 use Rattle.nap_codes.specs.Spelling.{Spells}
 use Rattle.nap_codes.specs.declared.code.Code.TheVariants as code
 use Rattle.nap_codes.specs.declared.code_set.CodeSet.{CodeSet}
@@ -91,7 +91,7 @@ pub data Settled (n : ℕ) : BodyFront → BodyFront → Type 0 where
 Settled-cond : {n : ℕ} (b : Bool) {f g f' g' : BodyFront} → Settled n f f' → Settled n g g' → Settled n (cond b f g) (cond b f' g')
 Settled-cond b x y = grind (arith, waits, refuses, ends)
 
-one_byte_later-Settled : {n : ℕ} {f f' : BodyFront} → Settled n f f' → Settled (suc n) (one_byte_later f) (one_byte_later f')
+one_byte_later-Settled : {n : ℕ} {f f' : BodyFront} → Settled n f f' → Settled (suc n) (one_byte_longer f) (one_byte_longer f')
 one_byte_later-Settled x = grind (arith, waits, refuses, ends)
 
 stores-Settled : {n : ℕ} (space : ℕ) {f f' : BodyFront} → Settled n f f' → Settled (suc n) (stores space f) (stores space f')

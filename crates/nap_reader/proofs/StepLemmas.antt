@@ -1,4 +1,4 @@
-use Rattle.nap_reader.proofs.Common.{Acted, ActsRun, All, All-tail, ArePending, Breaks, BreaksHere, Budget, CodeFault, Continues, Entry, Fault, Ghosts, IsOver, IsRefused, LacksOwn, LeadsOn, LeadsThrough, List, Machine, Memory, None, Outcome, Passes, Placed, ReadingState, Refusal, RunAt, Some, Stops, StopsByte, StopsRun, [], after_charge, after_run, all_at, ap, append-nil, append_assoc, arith, at_byte, bytes_of, cause_of, code_fault, false, front, get_or_append_left, in_run, inl, inr, is_operand, kept_list, length, length-append, refl, refusal, shown_front, stream, subst, sym, true, ℕ, ◌++◌, ◌<◌, ◌∙◌, ◌∷◌, ◌≡◌, ◌≤◌, ◌⊎◌}
+use Rattle.nap_reader.proofs.Common.{Acted, ActsRun, All, All-tail, ArePending, Breaks, BreaksHere, Budget, CodeFault, Continues, Entry, Fault, Ghosts, IsOver, IsRefused, LacksOwn, LeadsOn, LeadsThrough, List, Machine, Memory, None, Outcome, Passes, Placed, ReadingState, Refusal, RunAt, Some, Stops, StopsByte, StopsRun, [], after_charge, after_run, all_at, ap, append-nil, append_assoc, arith, at_byte, bytes_of, cause_of, code_fault, false, stream_front, get_or_append_left, in_run, inl, inr, is_operand, kept_list, length, length-append, refl, refusal, shown_front, stream, subst, sym, true, ℕ, ◌++◌, ◌<◌, ◌∙◌, ◌∷◌, ◌≡◌, ◌≤◌, ◌⊎◌}
 use Rattle.nap_reader.proofs.ReadingLemmas.{TookMore, leads_budget, leads_shown, leads_to_fault, over, pays, run_past}
 
 pub no_some : {A : Type 0} {x : A} → Some x ≡ None → ⊥
@@ -152,7 +152,7 @@ lacks g t h x after came closing why passes = record {
 -- A byte calls or presents a body that can't be charged, or for which memory is lacking. No run is open, and nothing is
 -- pending once the body is charged.
 pub cannot_stops : {S : Type 0} {g : Ghosts S} {t : S} {h : ReadingState} {x : Placed} {fault : Fault} {left : ℕ} (m : Machine) (bytes : List ℕ) (after : ReadingState) → left ≡ m.left → m.left ≡ h.machine.left → (h.open_body ≡ None → h.open_run ≡ None) → after.machine ≡ after_charge m (length bytes) →
-    ((rest pending : List Placed) → ArePending rest h → (front h.machine (rest ++ x ∷ pending) ≡ shown_front m x.place bytes pending) × ArePending [] after) →
+    ((rest pending : List Placed) → ArePending rest h → (stream_front h.machine (rest ++ x ∷ pending) ≡ shown_front m x.place bytes pending) × ArePending [] after) →
     ((fault ≡ Budget) × (left < length bytes)) ⊎ ((fault ≡ Memory) × (0 < length bytes) × (length bytes ≤ left)) → StopsByte g t [] h x t (refusal fault x.place)
 cannot_stops {g = g} {t} {h} {x} m bytes after all still closed same acting (inl (is, many)) =
     subst (λ (fault : Fault). StopsByte g t [] h x t (refusal fault x.place)) (sym is)

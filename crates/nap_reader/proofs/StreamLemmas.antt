@@ -1,16 +1,16 @@
-use Rattle.nap_reader.proofs.Common.{All, All-map, Bool, Code, CodeSets, DrawFault, Entry, Front, IsMade, IsWord, Kind, List, LongRun, Machine, None, Ok, Opcode, Option, Outcome, Placed, Refusal, Result, RuleResult, Some, Unfinished, Work, [], act, after_body, all_at, ap, append-nil, append_assoc, arith, begun, between, body_front_by, body_of, bound_front, bytes_of, code_front, code_length, code_rule, code_stays, cond, continue, continue_by, drawn_front, drop, drop-append-le, drop_of_length-le, ends_of, eqb-false, eqb-true, false, front, front_by, get_or, get_or-take, half_read, in_body, is_operand, kind_of, length, length-append, length-drop, length-map, length-prefix_len, lt-ltb, ltb, ltb-false, ltb-true, map-append, nat_tests, opcode_front, open_run, outcome, outcome_by_front, outcome_from, outcome_within, pause, paused, place_at, placed_from, prefix_len-append, prefix_len-le-length, prefix_len_passes, prepend, refl, refusal, refuse, refused_index, refused_stays, rule, run_front, run_length, run_limit, shown_front, subst, suc, sym, take, take-append-le, true, words_of, zero, ℕ, ⊤, ◌++◌, ◌+◌, ◌-◌, ◌<◌, ◌∙◌, ◌∷◌, ◌≡◌, ◌≤◌}
+use Rattle.nap_reader.proofs.Common.{All, All-map, Bool, Code, CodeSets, DrawFault, Entry, StreamFront, IsMade, IsWord, Kind, List, LongRun, Machine, None, Ok, Opcode, Option, Outcome, Placed, Refusal, Result, RuleResult, Some, Unfinished, Work, [], act, after_body, all_at, ap, append-nil, append_assoc, arith, begun, between, body_front_by, body_of, bound_front, bytes_of, code_front, code_length, code_rule, code_stays, cond, continue, continue_by, drawn_front, drop, drop-append-le, drop_of_length-le, ends_of, eqb-false, eqb-true, false, stream_front, front_by, get_or, get_or-take, half_read, in_body, is_operand, kind_of, length, length-append, length-drop, length-map, length-prefix_len, lt-ltb, ltb, ltb-false, ltb-true, map-append, nat_tests, opened_front, open_run, outcome, outcome_by_front, outcome_from, outcome_within, pause, paused, place_at, placed_from, prefix_len-append, prefix_len-le-length, prefix_len_passes, prepend, refl, refusal, refuse, refused_index, refused_stays, rule, run_front, run_length, run_limit, shown_front, subst, suc, sym, take, take-append-le, true, carried_words, zero, ℕ, ⊤, ◌++◌, ◌+◌, ◌-◌, ◌<◌, ◌∙◌, ◌∷◌, ◌≡◌, ◌≤◌}
 use Rattle.nap_codes.specs.declared.code.Code.TheVariants as code
 use Rattle.nap_codes.specs.Front as codes
 use Rattle.nap_reader.specs.declared.kind.Kind.TheVariants as kinds
 use Rattle.nap_reader.specs.Bodies as bodies
 use Rattle.nap_reader.specs.Course as course
-use Rattle.nap_reader.specs.Stream.{left_of}
+use Rattle.nap_reader.specs.Stream.{steps_left}
 use Rattle.nap_reader.proofs.SpelledLemmas.{KindMade, Settled, body_front-Settled, definition_length, front_kind_made}
 
-pub prepend-append : {M E F U B : Type 0} (ds es : List E) (o : course.Outcome M E F U B) → prepend (ds ++ es) o ≡ prepend ds (prepend es o)
+pub prepend-append : {M E F U B : Type 0} (ds es : List E) (o : course.OutcomeOf M E F U B) → prepend (ds ++ es) o ≡ prepend ds (prepend es o)
 prepend-append ds es o = rw append_assoc refl
 
-pub continue-prepend : {M E F U B : Type 0} (next : M → List B → course.Outcome M E F U B) (es : List E) (o : course.Outcome M E F U B) (ys : List B) →
+pub continue-prepend : {M E F U B : Type 0} (next : M → List B → course.OutcomeOf M E F U B) (es : List E) (o : course.OutcomeOf M E F U B) (ys : List B) →
     continue next (prepend es o) ys ≡ prepend es (continue next o ys)
 continue-prepend {F = F} next es o ys = search (arith, prepend-append)
 
@@ -30,25 +30,25 @@ pub data Puts (work : Work) : List Entry → Work → Type 0 where
 
 -- The second front is the first with these bytes after it. What is unread after it and what is left then, taken
 -- together, are below k, and no more is left to charge.
-pub data Fronts (q : List Placed) (work : Work) (left k : ℕ) : Front → Front → Type 0 where
-  pauses : {u : Unfinished} {f : Front} → IsOfWords u → Fronts q work left k (course.pause u) f
+pub data Fronts (q : List Placed) (work : Work) (left k : ℕ) : StreamFront → StreamFront → Type 0 where
+  pauses : {u : Unfinished} {f : StreamFront} → IsOfWords u → Fronts q work left k (course.pause u) f
   refuses : {r : Refusal} → Fronts q work left k (course.refuse r) (course.refuse r)
-  acts : {es : List Entry} {m : Machine} {xs ys : List Placed} → ys ≡ xs ++ q → length xs + left_of m < k → m.left ≤ left → Puts work es m.work → Fronts q work left k (course.act es m xs) (course.act es m ys)
+  acts : {es : List Entry} {m : Machine} {xs ys : List Placed} → ys ≡ xs ++ q → length xs + steps_left m < k → m.left ≤ left → Puts work es m.work → Fronts q work left k (course.act es m xs) (course.act es m ys)
 
-Fronts-acting : {q : List Placed} {work : Work} {left k : ℕ} {es : List Entry} {m : Machine} {xs : List Placed} {f : Front} → Fronts q work left k (course.act es m xs) f → f ≡ course.act es m (xs ++ q)
+Fronts-acting : {q : List Placed} {work : Work} {left k : ℕ} {es : List Entry} {m : Machine} {xs : List Placed} {f : StreamFront} → Fronts q work left k (course.act es m xs) f → f ≡ course.act es m (xs ++ q)
 Fronts-acting {es = es} {m = m} (acts same less few puts) = ap (course.act es m) same
 
-Fronts-refusing : {q : List Placed} {work : Work} {left k : ℕ} {r : Refusal} {f : Front} → Fronts q work left k (course.refuse r) f → f ≡ course.refuse r
+Fronts-refusing : {q : List Placed} {work : Work} {left k : ℕ} {r : Refusal} {f : StreamFront} → Fronts q work left k (course.refuse r) f → f ≡ course.refuse r
 Fronts-refusing refuses = refl
 
-Fronts-cond : {q : List Placed} {work : Work} {left k : ℕ} (b : Bool) {x y x' y' : Front} → (b ≡ true → Fronts q work left k x x') → (b ≡ false → Fronts q work left k y y') → Fronts q work left k (cond b x y) (cond b x' y')
+Fronts-cond : {q : List Placed} {work : Work} {left k : ℕ} (b : Bool) {x y x' y' : StreamFront} → (b ≡ true → Fronts q work left k x x') → (b ≡ false → Fronts q work left k y y') → Fronts q work left k (cond b x y) (cond b x' y')
 Fronts-cond b f g = grind arith
 
-Fronts-cond_left : {q : List Placed} {work : Work} {left k : ℕ} (b : Bool) {x y f : Front} → (b ≡ true → Fronts q work left k x f) → (b ≡ false → Fronts q work left k y f) → Fronts q work left k (cond b x y) f
+Fronts-cond_left : {q : List Placed} {work : Work} {left k : ℕ} (b : Bool) {x y f : StreamFront} → (b ≡ true → Fronts q work left k x f) → (b ≡ false → Fronts q work left k y f) → Fronts q work left k (cond b x y) f
 Fronts-cond_left b f g = grind arith
 
 -- the operand bytes of a prefix carry words
-run_words : (xs : List Placed) → All IsWord (words_of (take (run_length xs) xs))
+run_words : (xs : List Placed) → All IsWord (carried_words (take (run_length xs) xs))
 run_words xs = All-map IsWord (λ (x : Placed). x.byte - 64) (take (run_length xs) xs) (λ i d less.
     let few : i < run_length xs = omega (arith, less, length-prefix_len is_operand xs) in
     rw (get_or-take (run_length xs) xs i d few) (word (get_or xs i d) (prefix_len_passes is_operand xs i d few)))
@@ -76,12 +76,12 @@ pub bytes_of-all_at : (place : ℕ) (bytes : List ℕ) → bytes_of (all_at plac
 bytes_of-all_at place [] = refl
 bytes_of-all_at place (b ∷ bytes) = ap (λ (bs : List ℕ). b ∷ bs) (bytes_of-all_at place bytes)
 
-drawn_fronts : (m : Machine) (place : ℕ) (rest q : List Placed) (by : Result RuleResult DrawFault) (k : ℕ) → length rest + left_of m < k → ((d : RuleResult) → by ≡ Ok d → Puts m.work d.entries d.work) →
+drawn_fronts : (m : Machine) (place : ℕ) (rest q : List Placed) (by : Result RuleResult DrawFault) (k : ℕ) → length rest + steps_left m < k → ((d : RuleResult) → by ≡ Ok d → Puts m.work d.entries d.work) →
     Fronts q m.work m.left k (drawn_front m place rest by) (drawn_front m place (rest ++ q) by)
 drawn_fronts m place rest q by k h puts = grind (arith, acts, refuses)
 
 -- at least as much is charged for the bytes as there are
-shown_fronts : (m : Machine) (place : ℕ) (bytes : List ℕ) (rest q : List Placed) (k : ℕ) → length rest + left_of m < k → Fronts q m.work m.left k (shown_front m place bytes rest) (shown_front m place bytes (rest ++ q))
+shown_fronts : (m : Machine) (place : ℕ) (bytes : List ℕ) (rest q : List Placed) (k : ℕ) → length rest + steps_left m < k → Fronts q m.work m.left k (shown_front m place bytes rest) (shown_front m place bytes (rest ++ q))
 shown_fronts m place bytes rest q k h =
     Fronts-cond (ltb m.left (length bytes)) (λ _. refuses) (λ e.
     let within : length bytes ≤ m.left = ltb-false m.left (length bytes) e in
@@ -89,14 +89,14 @@ shown_fronts m place bytes rest q k h =
     acts (sym (append_assoc (all_at place bytes) rest q)) (omega arith) (omega arith) puts_nothing)
 
 -- a run that has ended
-ended_fronts : (m : Machine) (op : Opcode) (place : ℕ) (run rest q : List Placed) (k : ℕ) → length rest + left_of m < k → All IsWord (words_of run) → 0 < length rest →
+ended_fronts : (m : Machine) (op : Opcode) (place : ℕ) (run rest q : List Placed) (k : ℕ) → length rest + steps_left m < k → All IsWord (carried_words run) → 0 < length rest →
     Fronts q m.work m.left k (run_front m op place run rest) (run_front m op place run (rest ++ q))
 ended_fronts m op place run [] q k less words h = absurd (omega arith)
 ended_fronts m op place run (x ∷ xs) q k less words h =
-    Fronts-cond (ltb run_limit (length run)) (λ _. refuses) (λ _. drawn_fronts m place (x ∷ xs) q (rule m.work op (words_of run)) k less (λ d is. by_rule op (words_of run) d words is))
+    Fronts-cond (ltb run_limit (length run)) (λ _. refuses) (λ _. drawn_fronts m place (x ∷ xs) q (rule m.work op (carried_words run)) k less (λ d is. by_rule op (carried_words run) d words is))
 
 -- a run that is still open
-open_fronts : (m : Machine) (op : Opcode) (place : ℕ) (run more rest q : List Placed) {k : ℕ} → All IsWord (words_of run) → length run ≤ length more →
+open_fronts : (m : Machine) (op : Opcode) (place : ℕ) (run more rest q : List Placed) {k : ℕ} → All IsWord (carried_words run) → length run ≤ length more →
     Fronts q m.work m.left k (run_front m op place run []) (run_front m op place more rest)
 open_fronts m op place run more rest q {k} words h =
     Fronts-cond_left (ltb run_limit (length run))
@@ -107,7 +107,7 @@ open_fronts m op place run more rest q {k} words h =
     (λ _. pauses words)
 
 -- the run of an opcode, ended or still open
-opcode_fronts : (m : Machine) (op : Opcode) (place : ℕ) (xs q : List Placed) (k : ℕ) → length xs + left_of m < k → Fronts q m.work m.left k (opcode_front m op place xs) (opcode_front m op place (xs ++ q))
+opcode_fronts : (m : Machine) (op : Opcode) (place : ℕ) (xs q : List Placed) (k : ℕ) → length xs + steps_left m < k → Fronts q m.work m.left k (opened_front m op place xs) (opened_front m op place (xs ++ q))
 opcode_fronts m op place xs q k h =
     search (arith, eqb-true, prefix_len-append, length-prefix_len, drop_of_length-le, open_fronts, run_words, eqb-false, prefix_len-le-length, take-append-le, drop-append-le, ended_fronts, length-drop)
 
@@ -172,55 +172,55 @@ body_fronts : (m : Machine) (name : ℕ) (show : Bool) (xs q : List Placed) {f g
     Fronts q m.work m.left (length xs + (m.left + 1)) (body_front_by m name show xs f) (body_front_by m name show (xs ++ q) g)
 body_fronts m name show xs q settled = grind (arith, pauses, refuses, bound_fronts, place_at-append)
 
-pub front_fronts : (m : Machine) (xs q : List Placed) → Fronts q m.work m.left (length xs + left_of m) (front m xs) (front m (xs ++ q))
-unfolding front
+pub front_fronts : (m : Machine) (xs q : List Placed) → Fronts q m.work m.left (length xs + steps_left m) (stream_front m xs) (stream_front m (xs ++ q))
+unfolding stream_front
 front_fronts m xs q = grind (arith, by_fronts, bytes_of-append, body_fronts, length-map, body_front-Settled)
 
 -- more fronts than are needed change nothing
-outcome_within-spare : (f g : ℕ) (m : Machine) (xs : List Placed) → length xs + left_of m < f → length xs + left_of m < g → outcome_within front f m xs ≡ outcome_within front g m xs
+outcome_within-spare : (f g : ℕ) (m : Machine) (xs : List Placed) → length xs + steps_left m < f → length xs + steps_left m < g → outcome_within stream_front f m xs ≡ outcome_within stream_front g m xs
 unfolding outcome_within
 outcome_within-spare zero g m xs hf hg = absurd (omega arith)
 outcome_within-spare (suc f) zero m xs hf hg = absurd (omega arith)
 outcome_within-spare (suc f) (suc g) m xs hf hg = at (front_fronts m xs []) (λ m' ys h h'. outcome_within-spare f g m' ys h h')
   where
-    at : {n n' : Front} → Fronts [] m.work m.left (length xs + left_of m) n n' →
-        ((m' : Machine) (ys : List Placed) → length ys + left_of m' < f → length ys + left_of m' < g → outcome_within front f m' ys ≡ outcome_within front g m' ys) →
-        outcome_by_front (outcome_within front f) m xs n ≡ outcome_by_front (outcome_within front g) m xs n
+    at : {n n' : StreamFront} → Fronts [] m.work m.left (length xs + steps_left m) n n' →
+        ((m' : Machine) (ys : List Placed) → length ys + steps_left m' < f → length ys + steps_left m' < g → outcome_within stream_front f m' ys ≡ outcome_within stream_front g m' ys) →
+        outcome_by_front (outcome_within stream_front f) m xs n ≡ outcome_by_front (outcome_within stream_front g) m xs n
     at (pauses words) ih = refl
     at refuses ih = refl
     at (acts {es = es} {m = m'} {xs = ys} same less few puts) ih = ap (prepend es) (ih m' ys (omega arith) (omega arith))
 
 -- the outcome of a list is that of its front, and then that of the rest
-pub outcome_from-front : (m : Machine) (xs : List Placed) → outcome_from m xs ≡ outcome_by_front outcome_from m xs (front m xs)
+pub outcome_from-front : (m : Machine) (xs : List Placed) → outcome_from m xs ≡ outcome_by_front outcome_from m xs (stream_front m xs)
 unfolding outcome outcome_within
 outcome_from-front m xs = at (front_fronts m xs [])
   where
-    at : {n n' : Front} → Fronts [] m.work m.left (length xs + left_of m) n n' → outcome_by_front (outcome_within front (length xs + left_of m)) m xs n ≡ outcome_by_front outcome_from m xs n
+    at : {n n' : StreamFront} → Fronts [] m.work m.left (length xs + steps_left m) n n' → outcome_by_front (outcome_within stream_front (length xs + steps_left m)) m xs n ≡ outcome_by_front outcome_from m xs n
     at (pauses words) = refl
     at refuses = refl
-    at (acts {es = es} {m = m'} {xs = ys} same less few puts) = ap (prepend es) (outcome_within-spare (length xs + left_of m) (suc (length ys + left_of m')) m' ys less (omega arith))
+    at (acts {es = es} {m = m'} {xs = ys} same less few puts) = ap (prepend es) (outcome_within-spare (length xs + steps_left m) (suc (length ys + steps_left m')) m' ys less (omega arith))
 
 -- What holds of the outcome of every list: it holds where the front is a pause or a refusal, whatever comes after it,
 -- and with the entries of a front that acts if it holds after that front.
 module _ (Holds : Machine → List Placed → Outcome → Type 0)
     (pausing : (m : Machine) (xs : List Placed) (u : Unfinished) → IsOfWords u → Holds m xs (paused m xs (Some u)))
-    (refusing : (m : Machine) (xs : List Placed) (r : Refusal) → ((q : List Placed) → front m (xs ++ q) ≡ refuse r) → Holds m xs (course.refused m r))
-    (acting : (m m' : Machine) (xs ys : List Placed) (es : List Entry) (o : Outcome) → ((q : List Placed) → front m (xs ++ q) ≡ act es m' (ys ++ q)) → Puts m.work es m'.work → m'.left ≤ m.left → Holds m' ys o →
+    (refusing : (m : Machine) (xs : List Placed) (r : Refusal) → ((q : List Placed) → stream_front m (xs ++ q) ≡ refuse r) → Holds m xs (course.refused m r))
+    (acting : (m m' : Machine) (xs ys : List Placed) (es : List Entry) (o : Outcome) → ((q : List Placed) → stream_front m (xs ++ q) ≡ act es m' (ys ++ q)) → Puts m.work es m'.work → m'.left ≤ m.left → Holds m' ys o →
     Holds m xs (prepend es o)) where
-  holds_within : (fuel : ℕ) (m : Machine) (xs : List Placed) → length xs + left_of m < fuel → Holds m xs (outcome_within front fuel m xs)
+  holds_within : (fuel : ℕ) (m : Machine) (xs : List Placed) → length xs + steps_left m < fuel → Holds m xs (outcome_within stream_front fuel m xs)
   unfolding outcome_within
   holds_within zero m xs h = absurd (omega arith)
   holds_within (suc fuel) m xs h = at (front_fronts m xs []) (front_fronts m xs) (holds_within fuel)
     where
-      at : {f f' : Front} → Fronts [] m.work m.left (length xs + left_of m) f f' → ((q : List Placed) → Fronts q m.work m.left (length xs + left_of m) f (front m (xs ++ q))) →
-          ((m' : Machine) (ys : List Placed) → length ys + left_of m' < fuel → Holds m' ys (outcome_within front fuel m' ys)) → Holds m xs (outcome_by_front (outcome_within front fuel) m xs f)
+      at : {f f' : StreamFront} → Fronts [] m.work m.left (length xs + steps_left m) f f' → ((q : List Placed) → Fronts q m.work m.left (length xs + steps_left m) f (stream_front m (xs ++ q))) →
+          ((m' : Machine) (ys : List Placed) → length ys + steps_left m' < fuel → Holds m' ys (outcome_within stream_front fuel m' ys)) → Holds m xs (outcome_by_front (outcome_within stream_front fuel) m xs f)
       at (pauses {u = u} words) is ih = pausing m xs u words
       at (refuses {r = r}) is ih = refusing m xs r (λ q. Fronts-refusing (is q))
       at (acts {es = es} {m = m'} {xs = ys} same less few puts) is ih = acting m m' xs ys es _ (λ q. Fronts-acting (is q)) puts few (ih m' ys (omega arith))
 
   pub outcome_holds : (m : Machine) (xs : List Placed) → Holds m xs (outcome_from m xs)
   unfolding outcome
-  outcome_holds m xs = holds_within (suc (length xs + left_of m)) m xs (omega arith)
+  outcome_holds m xs = holds_within (suc (length xs + steps_left m)) m xs (omega arith)
 
 -- the outcome of a list in two pieces
 pub outcome_from-append : (m : Machine) (xs ys : List Placed) → outcome_from m (xs ++ ys) ≡ continue outcome_from (outcome_from m xs) ys

@@ -1,4 +1,4 @@
-use Rattle.nap_reader.proofs.Common.{Bool, Call, Calls, Define, DrawFault, Entry, Fault, FaultMatchesSink, Ghosts, IsLive, IsOver, LeadsOn, LeadsThrough, Leaves, LexerState, List, None, Nothing, Ok, OpenRun, Option, Placed, ReadingState, Refusal, Request, Result, RuleResult, Sink, Some, Stop, Stops, StopsByte, Takes, TakesBy, Work, Works, [], ap, arith, bytes_of, clear_request_if, drop, drop-append-le, drop-drop, drop_more, false, false≢true, get_or, if◌then◌else◌, length, length-drop, no_names, place_at, placed_by_step, refl, run_by, state_after_request, subst, suc, sym, take, take-add, take-append-drop, take_all, true, with_machine, zero, ℕ, ◌*◌, ◌++◌, ◌+◌, ◌-◌, ◌<◌, ◌∙◌, ◌∷◌, ◌≡◌, ◌≢◌, ◌≤◌}
+use Rattle.nap_reader.proofs.Common.{Bool, Call, Calls, Define, DrawFault, Entry, Fault, FaultMatchesSink, Ghosts, IsLive, IsOver, LeadsOn, LeadsThrough, Leaves, LexerState, List, None, Nothing, Ok, OpenRun, Option, Placed, ReadingState, Refusal, Request, Result, RuleResult, Sink, Some, Stop, Stops, StopsByte, Takes, TakesBy, Work, Works, [], ap, arith, bytes_of, clear_request_if, drop, drop-append-le, drop-drop, drop_more, false, false≢true, get_or, if◌then◌else◌, length, length-drop, no_names, place_at, placed_by_step, refl, run_by, state_after_request, subst, suc, sym, take, take-add, take-append-drop, take_all, true, with_machine, zero, ℕ, ◌*◌, ◌++◌, ◌+◌, ◌-◌, ◌<◌, ◌∙◌, ◌∷◌, ◌≡◌, ◌≢◌, ◌≤◌, DoesNothing}
 use Rattle.nap_reader.proofs.Base.{bytes_of-append, bytes_of-placed_by_step, leads_nowhere, leads_then, stops_then}
 use Rattle.nap_reader.specs.declared.machine.Machine.{Machine}
 
@@ -140,3 +140,12 @@ takes_then {old = old} {mid = mid} {new = new} {xs = xs} {count = count} {n = n}
       takes_after (xs ++ following) count (t.by h following between over) new h request n
       (rw (drop-append-le count xs following t.within) (takes.by h following between over));
 }
+
+-- A machine that did nothing goes on as before.
+module _ {S : Type 0} {g : Ghosts S} {old mid : Machine S g} (idle : DoesNothing old mid) (live : IsLive old) where
+  pub idle_lives : IsLive mid
+  idle_lives = record { live = idle.refusal ∙ live.live; agrees = rw (idle.work, idle.sink) live.agrees }
+
+  pub idle_takes : {new : Machine S g} {xs : List Placed} {ended : Bool} {n : ℕ} {request : Request} → old.open_run ≡ None → mid.open_run ≡ old.open_run → Takes mid new xs ended n request → Takes old new xs ended n request
+  idle_takes closed same takes =
+      takes_then (takes_none (record { before = closed; closed = same ∙ closed; work_is = idle.work; lexer_is = idle.lexer }) idle.sink idle_lives) takes (omega arith)

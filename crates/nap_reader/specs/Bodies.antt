@@ -31,14 +31,14 @@ pub data BodyFront : Type 0 where
   ended : ℕ → BodyFront
 
 -- the state of a body with one more byte of the body before the known ones
-abbrev pub one_byte_later : BodyFront → BodyFront
-one_byte_later unfinished = unfinished
-one_byte_later (refused fault i) = refused fault (suc i)
-one_byte_later (ended n) = ended (suc n)
+abbrev pub one_byte_longer : BodyFront → BodyFront
+one_byte_longer unfinished = unfinished
+one_byte_longer (refused fault i) = refused fault (suc i)
+one_byte_longer (ended n) = ended (suc n)
 
 -- a byte of the body, which needs space in the store
 abbrev pub stores : ℕ → BodyFront → BodyFront
-stores space further = if space == 0 then refused faults.Store 0 else one_byte_later further
+stores space further = if space == 0 then refused faults.Store 0 else one_byte_longer further
 
 -- whether a byte after ESC ends a body: DEF MACRO, DEFP MACRO, DEFT MACRO, DEF DRCS, DEF TEXTURE or END
 abbrev pub ends_body : ℕ → Bool

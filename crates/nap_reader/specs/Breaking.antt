@@ -1,6 +1,6 @@
 use Rattle.std.specs.Prelude.{◌≡◌, ◌≢◌, ◌<◌, ◌⊎◌, ◌++◌, ℕ, true, false, List, [], ◌∷◌, Option, Some, None, IsSome, if◌then◌else◌, length, take, slice_index}
 use Rattle.nap_reader.specs.Below.{Ghosts, Entry, Cause, stream, memory, device}
-use Rattle.nap_list.specs.Putting.{Stops, Breaks}
+use Rattle.nap_list.specs.Putting.{StopsAmid, BreaksAmid}
 use Rattle.nap_reader.specs.declared.fault.Fault.{Fault}
 use Rattle.nap_reader.specs.declared.fault.Fault.TheVariants as faults
 use Rattle.nap_reader.specs.declared.fault.Refusal.{Refusal}
@@ -27,8 +27,8 @@ abbrev pub closed_by : Outcome → ℕ → Outcome
 closed_by o b = if is_operand_byte b then o else with_run o
 
 -- the byte is one more of an open run
-abbrev pub Joins : Outcome → ℕ → Type 0
-Joins o b = (is_operand_byte b ≡ true) × IsSome (open_place o)
+abbrev pub JoinsRun : Outcome → ℕ → Type 0
+JoinsRun o b = (is_operand_byte b ≡ true) × IsSome (open_place o)
 
 -- the byte is in a body
 abbrev pub IsInBody : Outcome → Type 0
@@ -44,12 +44,12 @@ UsesBody budget p b = IsInBody (begun budget p) ⊎ IsCharged budget p b
 
 -- A byte after p is one more of an open run, or uses a body: the reader may need memory of its own.
 abbrev pub WantsMemory : ℕ → List ℕ → ℕ → Type 0
-WantsMemory budget p b = Joins (begun budget p) b ⊎ UsesBody budget p b
+WantsMemory budget p b = JoinsRun (begun budget p) b ⊎ UsesBody budget p b
 
 -- A byte after p is one more of an open run, or adds entries besides those of the run that it ends, or uses a body.
 abbrev pub AddsEntries : ℕ → List ℕ → ℕ → Type 0
 AddsEntries budget p b =
-    Joins (begun budget p) b ⊎ ((begun budget (p ++ b ∷ [])).entries ≢ (closed_by (begun budget p) b).entries) ⊎ UsesBody budget p b
+    JoinsRun (begun budget p) b ⊎ ((begun budget (p ++ b ∷ [])).entries ≢ (closed_by (begun budget p) b).entries) ⊎ UsesBody budget p b
 
 -- The place of what breaks at a byte after p: that of the opcode whose run the byte ends, or of the byte, if it is one
 -- that can break. The stream itself isn't refused there, except in a body that is charged.
@@ -84,12 +84,12 @@ LacksWithin budget p place = PlacedWithin WantsMemory budget p place
 -- one of them broke.
 abbrev pub TookPart : {S : Type 0} → Ghosts S → S → List Entry → List Entry → S → Cause → Type 0
 TookPart g s known more t stream = ⊥
-TookPart g s known more t memory = g.took s known t ⊎ Stops (λ s es t. g.took s (known ++ es) t) s more t
+TookPart g s known more t memory = g.took s known t ⊎ StopsAmid (λ s es t. g.took s (known ++ es) t) s more t
 TookPart g s known more t device =
-    ((g.failed s ≡ true) × g.took s known t) ⊎ Breaks (λ s es e t. g.broke s (known ++ es) e t) s more t
+    ((g.failed s ≡ true) × g.took s known t) ⊎ BreaksAmid (λ s es e t. g.broke s (known ++ es) e t) s more t
 
--- The sink has all entries of the one outcome, and a part of those that the other outcome has more. The other outcome
--- has no refusal.
+-- The sink has all entries of the outcome before, and a part of those that the outcome after adds. The outcome after has
+-- no refusal.
 pub record BreaksBetween {S : Type 0} (g : Ghosts S) (s : S) (before after : Outcome) (t : S) (cause : Cause) : Type 0 where
   pub more : List Entry
   pub adds : after.entries ≡ before.entries ++ more
@@ -106,7 +106,7 @@ abbrev pub TookPrefix : {S : Type 0} → Ghosts S → S → List Entry → List 
 TookPrefix g s known more t stream = ⊥
 TookPrefix g s known more t memory = TakesPart g s known more t
 TookPrefix g s known more t device =
-    ((g.failed s ≡ true) × TakesPart g s known more t) ⊎ Breaks (λ s es e t. g.broke s (known ++ es) e t) s more t
+    ((g.failed s ≡ true) × TakesPart g s known more t) ⊎ BreaksAmid (λ s es e t. g.broke s (known ++ es) e t) s more t
 
 -- A sink that was s has the known entries, and a part of those that the outcome has more.
 pub record BreaksFrom {S : Type 0} (g : Ghosts S) (s : S) (known : List Entry) (o : Outcome) (t : S) (cause : Cause) : Type 0 where

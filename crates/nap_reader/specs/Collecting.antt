@@ -1,5 +1,5 @@
-use Rattle.std.specs.Prelude.{ℕ, ◌≡◌, ◌⊎◌, ◌^◌, ◌≤◌, true, List, Option, None, Some, Result, Ok, Err, length}
-use Rattle.nap_reader.specs.Shared.{Cause, stream, memory, device, Ghosts, Refusal, cause_of, BreaksWithin, LacksWithin, means}
+use Rattle.std.specs.Prelude.{ℕ, ◌≡◌, ◌⊎◌, ◌^◌, ◌≤◌, true, List, [], Option, None, Some, Result, Ok, Err, length}
+use Rattle.nap_reader.specs.Shared.{Cause, stream, memory, device, Ghosts, Refusal, cause_of, BreaksWithin, LacksWithin, TookPrefix, means}
 use Rattle.nap_list.specs.Reading.{Reading, NoneFailed, ReadFailed, IsCutOff, IsReadWhole}
 use Rattle.nap_reader.specs.Laws.{WantsSome}
 use Rattle.nap_reader.specs.declared.collect.ReadFault.{ReadFault}
@@ -10,11 +10,12 @@ use Rattle.nap_reader.specs.declared.collect.ReadFault.{ReadFault}
 abbrev pub LacksMemoryFor : {S : Type 0} → Ghosts S → S → ℕ → List ℕ → ℕ → Type 0
 LacksMemoryFor g s budget p place = LacksWithin budget p place ⊎ WantsSome g s (means budget p).entries
 
--- the cause of a refusal: the stream; or lack of memory, or a failure of the sink's device, where that can be
+-- the cause of a refusal: the stream; or lack of memory, or a failure of the device of the sink that was s, where that
+-- can be
 abbrev pub RefusedBy : {S : Type 0} → Ghosts S → S → ℕ → List ℕ → Refusal → Cause → Type 0
 RefusedBy g s budget p r stream = (means budget p).refusal ≡ Some r
 RefusedBy g s budget p r memory = BreaksWithin budget p r.place × LacksMemoryFor g s budget p r.place
-RefusedBy {S = S} g s budget p r device = BreaksWithin budget p r.place × ((t : S) × (g.failed t ≡ true))
+RefusedBy {S = S} g s budget p r device = BreaksWithin budget p r.place × ((t : S) × (g.failed t ≡ true) × TookPrefix g s [] (means budget p).entries t device)
 
 -- a sink that was s has all entries of the page; or the page is refused
 abbrev pub Collects : {S : Type 0} → Ghosts S → S → ℕ → List ℕ → Result S Refusal → Type 0

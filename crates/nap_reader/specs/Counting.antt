@@ -16,7 +16,7 @@ pub record GrowsBy (n : ℕ) (before after : Option ℕ) : Type 0 where
   pub grows : (m : ℕ) → IsCount before m → IsCount after (m + n)
 
 -- the other sink took these entries, and they were counted
-pub record Took {S : Type 0} (g : Ghosts S) (s : CountedSink S) (d : List Entry) (t : CountedSink S) : Type 0 where
+pub record TookCounted {S : Type 0} (g : Ghosts S) (s : CountedSink S) (d : List Entry) (t : CountedSink S) : Type 0 where
   pub took : g.took s.sink d t.sink
   pub count : GrowsBy (length d) s.count t.count
 
@@ -26,16 +26,16 @@ counting g = record {
   state = λ s. g.state s.sink;
   wants = λ s d. g.wants s.sink d;
   failed = λ s. g.failed s.sink;
-  took = λ s d t. Took g s d t;
+  took = λ s d t. TookCounted g s d t;
   broke = λ s d e t. g.broke s.sink d e t.sink;
 }
 
 -- The laws of the trait, for a counting sink.
 
-pub took_none : {S : Type 0} (g : Ghosts S) (s : CountedSink S) → g.took s.sink [] s.sink → Took g s [] s
+pub took_none : {S : Type 0} (g : Ghosts S) (s : CountedSink S) → g.took s.sink [] s.sink → TookCounted g s [] s
 took_none g s none = record { took = none; count = record { grows = λ m is. rw add-zero is } }
 
-pub took_more : {S : Type 0} (g : Ghosts S) (s t u : CountedSink S) (d e : List Entry) → g.took s.sink (d ++ e) u.sink → Took g s d t → Took g t e u → Took g s (d ++ e) u
+pub took_more : {S : Type 0} (g : Ghosts S) (s t u : CountedSink S) (d e : List Entry) → g.took s.sink (d ++ e) u.sink → TookCounted g s d t → TookCounted g t e u → TookCounted g s (d ++ e) u
 took_more g s t u d e both first second = record {
   took = both;
   count = record { grows = λ m is. rw (length-append d e, ← add_assoc m (length d) (length e)) (second.count.grows (m + length d) (first.count.grows m is)) };

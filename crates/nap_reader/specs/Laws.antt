@@ -1,5 +1,5 @@
 use Rattle.std.specs.Prelude.{◌≡◌, ◌≢◌, ◌⊎◌, ◌<◌, ◌≤◌, ◌+◌, ℕ, false, List, [], ◌∷◌, ◌++◌, Some, None, All, ⊤, length, take, slice_index}
-use Rattle.nap_reader.specs.Shared.{Code, CodeSets, Opcode, code_rule, stream, memory, rule, Entry, Ghosts, run_limit, Refusal, between, cause_of, BreaksFrom, BreaksInRun, BreaksWithin, LacksWithin, pause, continue, outcome_by_front, Placed, Machine, Outcome, bytes_of, words_of, is_operand, open_run, drawn_front, front, placed_from, outcome_from, begun, means}
+use Rattle.nap_reader.specs.Shared.{Code, CodeSets, Opcode, code_rule, stream, memory, rule, Entry, Ghosts, run_limit, Refusal, between, cause_of, BreaksFrom, BreaksInRun, BreaksWithin, LacksWithin, pause, continue, outcome_by_front, Placed, Machine, Outcome, bytes_of, carried_words, is_operand, open_run, drawn_front, stream_front, placed_from, outcome_from, begun, means}
 use Rattle.nap_values.specs.Laws.{IsOperandByte}
 use Rattle.nap_codes.specs.declared.code.Code.TheVariants as code
 use Rattle.nap_codes.specs.Front as codes
@@ -9,7 +9,7 @@ use Rattle.nap_reader.specs.ReaderAnswers.{StopsBy}
 
 -- The outcome of a list is that of its front, and then that of the list that remains.
 abbrev pub FrontAfterFront : Type 0
-FrontAfterFront = (m : Machine) (xs : List Placed) → outcome_from m xs ≡ outcome_by_front outcome_from m xs (front m xs)
+FrontAfterFront = (m : Machine) (xs : List Placed) → outcome_from m xs ≡ outcome_by_front outcome_from m xs (stream_front m xs)
 
 -- between two codes, the byte of an opcode, and after it operand bytes, no more than a run may have
 pub record IsRun (m : Machine) (op : Opcode) (x : Placed) (operands : List Placed) : Type 0 where
@@ -21,12 +21,12 @@ pub record IsRun (m : Machine) (op : Opcode) (x : Placed) (operands : List Place
 -- An opcode acts by its rule if the byte after its run is no operand byte.
 abbrev pub RunActs : Type 0
 RunActs = (m : Machine) (op : Opcode) (x : Placed) (operands : List Placed) (y : Placed) (ys : List Placed) → IsRun m op x operands → is_operand y ≡ false →
-    front m ((x ∷ operands) ++ y ∷ ys) ≡ drawn_front m x.place (y ∷ ys) (rule m.work op (words_of operands))
+    stream_front m ((x ∷ operands) ++ y ∷ ys) ≡ drawn_front m x.place (y ∷ ys) (rule m.work op (carried_words operands))
 
 -- An opcode waits if nothing comes after its run.
 abbrev pub RunWaits : Type 0
 RunWaits = (m : Machine) (op : Opcode) (x : Placed) (operands : List Placed) → IsRun m op x operands →
-    front m (x ∷ operands) ≡ pause (open_run op x.place (words_of operands))
+    stream_front m (x ∷ operands) ≡ pause (open_run op x.place (carried_words operands))
 
 -- The code acts alone: it is neither an opcode nor an operand, and neither calls nor defines a macro.
 abbrev pub IsAlone : Code → Type 0
@@ -46,7 +46,7 @@ pub record IsCodeAlone (m : Machine) (c : Code) (before : List Placed) (last : P
 -- A code that acts alone acts by its rule, or adds nothing, whatever comes after it.
 abbrev pub CodeActs : Type 0
 CodeActs = (m : Machine) (c : Code) (before : List Placed) (last : Placed) (after : CodeSets) (ys : List Placed) → IsCodeAlone m c before last after →
-    front m (before ++ last ∷ ys) ≡ drawn_front (record m { sets = after }) last.place ys (code_rule m.work c)
+    stream_front m (before ++ last ∷ ys) ≡ drawn_front (record m { sets = after }) last.place ys (code_rule m.work c)
 
 -- More bytes add entries at the end only.
 abbrev pub MoreBytesKeepEntries : Type 0

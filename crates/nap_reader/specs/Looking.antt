@@ -32,5 +32,5 @@ CountsText lexer piece found = (set : CharSet) → ((b : ℕ) → IsGraphic b �
     found ≡ ahead.Each (prefix_len is_of_text piece)
 
 -- Unless the body of a macro is being defined, no byte is left out that can be counted.
-abbrev pub CountsAll : {S : Type 0} {g : Ghosts S} → Reader S g → List ℕ → Ahead → Type 0
-CountsAll reader piece found = reader.input.body ≡ None → CountsOperands reader.machine.lexer piece found × CountsText reader.machine.lexer piece found
+abbrev pub CountsAhead : {S : Type 0} {g : Ghosts S} → Reader S g → List ℕ → Ahead → Type 0
+CountsAhead reader piece found = reader.input.body ≡ None → CountsOperands reader.machine.lexer piece found × CountsText reader.machine.lexer piece found

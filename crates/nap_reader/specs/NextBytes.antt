@@ -43,7 +43,7 @@ CanAdvance input count = (piece : List ℕ) × CanPass input piece count
 
 -- The next bytes begin with these, the first at this place and each further one this far after the one before, all of
 -- them of one body or of the piece. If `ended`, no operand comes after them.
-pub record IsNext (input : Input) (piece : List ℕ) (place step : ℕ) (text : List ℕ) (ended : Bool) : Type 0 where
+pub record IsNextText (input : Input) (piece : List ℕ) (place step : ℕ) (text : List ℕ) (ended : Bool) : Type 0 where
   pub some : 0 < length text
   pub more : List Placed
   pub is : next_bytes input piece ≡ placed_by_step place step text ++ more

@@ -4,7 +4,7 @@ use Rattle.nap_list.specs.Agreement.{StatesAgree}
 use Rattle.nap_reader.specs.Shared.{Continues, Ghosts, ReadingState, Input, Placed, Reader, Refusal, RunAt, begun, bytes_of, reading_state_by, place_at, placed_at, placed_by_step, Entry, Outcome, Owes}
 use Rattle.nap_reader.specs.declared.machine.Machine.{Machine}
 use Rattle.nap_reader.specs.declared.machine.Request.{Request}
-use Rattle.nap_reader.specs.NextBytes.{HasReadOn, IsNext, Position, Reads, bytes_from, position_of}
+use Rattle.nap_reader.specs.NextBytes.{HasReadOn, IsNextText, Position, Reads, bytes_from, position_of}
 use Rattle.nap_reader.specs.ReaderAnswers.{HasRead, StopsAt, budget_of, fed_of, refusal_of, sink_of, turns_of}
 use Rattle.nap_reader.specs.Steps.{Acted, FaultMatchesSink, Takes, Works}
 
@@ -77,6 +77,6 @@ pub record TakesSlice {S : Type 0} {g : Ghosts S} (old now : Machine S g) (input
   pub step : ℕ
   pub text : List ℕ
   pub ended : Bool
-  pub next : IsNext input piece first step text ended
+  pub next : IsNextText input piece first step text ended
   pub takes : Takes old now (placed_by_step first step text) ended count request
   pub last : 0 < count → place ≡ place_at (placed_by_step first step text) (count - 1)

@@ -13,7 +13,7 @@ use Rattle.nap_reader.specs.Bodies.{Mode, between, in_body, BodyFront, store_lim
 use Rattle.nap_reader.specs.Framed.{unread}
 use Rattle.nap_reader.specs.Course.{prepend}
 use Rattle.nap_reader.specs.Stream as model
-use Rattle.nap_reader.specs.Stream.{Placed, Machine, Outcome, Unfinished, open_body, refusal, bytes_of, words_of, run_length, half_read, outcome_from}
+use Rattle.nap_reader.specs.Stream.{Placed, Machine, Outcome, Unfinished, open_body, refusal, bytes_of, carried_words, run_length, half_read, outcome_from}
 use Rattle.nap_reader.specs.Breaking.{cause_of}
 use Rattle.nap_list.specs.State.{start}
 
@@ -83,7 +83,7 @@ pub record IsOpenRun (rest : List Placed) (open_run : OpenRun) (run : List ℕ) 
   pub is : rest ≡ opcode ∷ operands
   pub place : opcode.place ≡ open_run.place
   pub names : codes.front sets (opcode.byte ∷ []) ≡ codes.complete (code.Op open_run.op) 1 sets
-  pub words : words_of operands ≡ run
+  pub words : carried_words operands ≡ run
   pub all : run_length operands ≡ length operands
   pub short : length run ≤ run_limit
 

@@ -1,5 +1,5 @@
 use Rattle.std.specs.Prelude.{All, Bool, List, None, Ok, Option, Some, [], drop, false, get_or, if◌then◌else◌, length, slice_index, take, true, ℕ, ⊤, ◌*◌, ◌++◌, ◌+◌, ◌-◌, ◌<◌, ◌∷◌, ◌≡◌, ◌≢◌, ◌≤◌, ◌⊎◌}
-use Rattle.nap_reader.specs.Shared.{CharSet, CodeSets, Continues, DrawFault, RuleResult, DrawsBy, Entry, Fault, Ghosts, ReadingState, IsDrawn, IsGraphic, ArePending, IsOwn, IsRefused, IsTextByte, LexerState, Opcode, OpenBody, OpenRun, Outcome, Placed, Refusal, RunAt, Sink, after_drawing, body_of, bytes_of, cause_of, draw_fault, front, in_body, is_operand, is_operand_byte, no_names, place_at, placed_at, placed_by_step, refusal, rule, run_by, shown_front, stream, Cause, Ends, Owes, begun, device, kept_list, memory, with_run}
+use Rattle.nap_reader.specs.Shared.{CharSet, CodeSets, Continues, DrawFault, RuleResult, DrawsBy, Entry, Fault, Ghosts, ReadingState, IsDrawn, IsGraphic, ArePending, IsOwn, IsRefused, IsTextByte, LexerState, Opcode, OpenBody, OpenRun, Outcome, Placed, Refusal, RunAt, Sink, after_drawing, body_of, bytes_of, cause_of, draw_fault, stream_front, in_body, is_operand, is_operand_byte, no_names, place_at, placed_at, placed_by_step, refusal, rule, run_by, shown_front, stream, Cause, Ends, Owes, begun, device, kept_list, memory, with_run}
 use Rattle.nap_codes.specs.Front as codes
 use Rattle.nap_codes.specs.Lexer.{IsShift}
 use Rattle.nap_codes.specs.declared.code.Code.TheVariants as code
@@ -42,7 +42,7 @@ pub record StopsRun {S : Type 0} (g : Ghosts S) (t : S) (h : ReadingState) (u : 
   pub is : h.open_run ≡ Some open_run
   pub fault : DrawFault
   pub why : r ≡ refusal (draw_fault fault) open_run.place
-  pub drew : DrawsBy g.took g.broke g.failed (rule h.machine.work open_run.op h.run) t u fault (draws.cause_of fault)
+  pub drew : DrawsBy g.took g.broke g.failed (rule h.machine.work open_run.op h.run) t u fault (draws.draw_cause fault)
 
 -- How reading breaks.
 
@@ -50,17 +50,17 @@ pub record StopsRun {S : Type 0} (g : Ghosts S) (t : S) (h : ReadingState) (u : 
 -- owed nothing
 abbrev pub TakesSome : {S : Type 0} → Ghosts S → S → List Entry → List Entry → S → Cause → Type 0
 TakesSome g t owed es u stream = ⊥
-TakesSome g t owed es u memory = ((u ≡ t) × (owed ≡ [])) ⊎ put.Stops (λ t es u. g.took t (owed ++ es) u) t es u
-TakesSome g t owed es u device = ((g.failed t ≡ true) × (u ≡ t) × (owed ≡ [])) ⊎ put.Breaks (λ t es e u. g.broke t (owed ++ es) e u) t es u
+TakesSome g t owed es u memory = ((u ≡ t) × (owed ≡ [])) ⊎ put.StopsAmid (λ t es u. g.took t (owed ++ es) u) t es u
+TakesSome g t owed es u device = ((g.failed t ≡ true) × (u ≡ t) × (owed ≡ [])) ⊎ put.BreaksAmid (λ t es e u. g.broke t (owed ++ es) e u) t es u
 
 -- the byte is a word of the open run, or comes while a body is open
-abbrev pub Grows : ReadingState → Placed → Type 0
-Grows h x = ((open_run : OpenRun) × (h.open_body ≡ None) × (h.open_run ≡ Some open_run) × (is_operand x ≡ true)) ⊎ ((body : OpenBody) × (h.open_body ≡ Some body))
+abbrev pub GrowsOpen : ReadingState → Placed → Type 0
+GrowsOpen h x = ((open_run : OpenRun) × (h.open_body ≡ None) × (h.open_run ≡ Some open_run) × (is_operand x ≡ true)) ⊎ ((body : OpenBody) × (h.open_body ≡ Some body))
 
 -- The reader itself may lack memory for a byte after which these bytes come next: a body is charged, or what is open
 -- grows.
 abbrev pub LacksOwn : ReadingState → Placed → ReadingState → List Placed → Type 0
-LacksOwn h x after came = (after.machine.left < h.machine.left) ⊎ ((came ≡ []) × Grows h x)
+LacksOwn h x after came = (after.machine.left < h.machine.left) ⊎ ((came ≡ []) × GrowsOpen h x)
 
 -- Reading breaks at the place of a byte, where a list would take all entries that it adds, and these bytes would come
 -- next: the reader itself lacks memory; or there are such entries, for which the sink may lack it.
@@ -169,7 +169,7 @@ pub record Calls {S : Type 0} (g : Ghosts S) (t : S) (h : ReadingState) (u : S) 
   pub between : holding.open_body ≡ None
   pub closed : holding.open_run ≡ None
   pub left : holding.machine.left ≡ h'.machine.left
-  pub front_is : (rest pending : List Placed) → ArePending rest holding → front holding.machine (rest ++ byte ∷ pending) ≡ shown_front h'.machine byte.place (body_of h'.machine.names name) pending
+  pub front_is : (rest pending : List Placed) → ArePending rest holding → stream_front holding.machine (rest ++ byte ∷ pending) ≡ shown_front h'.machine byte.place (body_of h'.machine.names name) pending
   pub rested : h'.open_run ≡ None
   pub still : (rest : List Placed) → ArePending rest holding → ArePending [] h'
   pub named : name < 0x80
@@ -263,7 +263,7 @@ pub record AreCharacters (lexer : LexerState) (set : CharSet) : Type 0 where
 -- the kind of the first code, if this byte comes next
 abbrev pub IsFrontCode : LexerState → ℕ → FrontCode → Type 0
 IsFrontCode lexer byte (fronts.Opcode op) = IsOpcodeByte lexer.half lexer.sets byte op
-IsFrontCode lexer byte (fronts.Characters set) = AreCharacters lexer set × (0x20 ≤ byte)
+IsFrontCode lexer byte (fronts.Characters set) = AreCharacters lexer set
 IsFrontCode lexer byte fronts.Shift = IsShift lexer byte
 IsFrontCode lexer byte (fronts.Effector step) = (lexer.half ≡ []) × (codes.front lexer.sets (byte ∷ []) ≡ codes.complete (code.Step step) 1 lexer.sets)
 IsFrontCode lexer byte fronts.Other = ⊤
@@ -274,16 +274,27 @@ pub record CallsBy (lexer : LexerState) (bytes : List ℕ) (count : ℕ) : Type 
   pub counted : (0 < count) × (count ≤ 2) × (count ≤ length bytes)
   pub whole : codes.front lexer.sets (take count bytes) ≡ codes.complete (code.Call (get_or bytes (count - 1) 0)) count lexer.sets
 
+-- Nothing was done.
+pub record DoesNothing {S : Type 0} {g : Ghosts S} (old new : Machine S g) : Type 0 where
+  pub work : new.work ≡ old.work
+  pub lexer : new.lexer ≡ old.lexer
+  pub sink : new.sink ≡ old.sink
+  pub refusal : new.refusal ≡ old.refusal
+
 -- The number of bytes of the code; or its opcode, whose run these bytes don't end; or nothing was done.
 abbrev pub CodeWithin : {S : Type 0} {g : Ghosts S} → Machine S g → Machine S g → List ℕ → CodeOutcome → Type 0
 CodeWithin old new bytes (outcomes.Acted count clears) = (0 < count) × (count ≤ length bytes)
+CodeWithin old new bytes (outcomes.Calls count name) = (0 < count) × (count ≤ length bytes)
+CodeWithin old new bytes (outcomes.Defines count name show) = (0 < count) × (count ≤ length bytes)
 CodeWithin old new bytes (outcomes.Stopped count fault index) = (count ≤ length bytes) × (index < length bytes)
 CodeWithin old new bytes (outcomes.Opens op) = (new ≡ old) × (0 < length bytes) × IsOpcodeByte old.lexer.half old.lexer.sets (get_or bytes 0 0) op
-CodeWithin old new bytes outcomes.Other = new ≡ old
+CodeWithin old new bytes outcomes.Other = DoesNothing old new
 
 -- The machine consumed the code, or kept its refusal, with the place of the byte with this index.
 abbrev pub CodeTakes : {S : Type 0} {g : Ghosts S} → Machine S g → Machine S g → List Placed → Bool → CodeOutcome → Type 0
 CodeTakes old new xs ended (outcomes.Acted count clears) = Takes old new xs ended count (clear_request_if clears)
+CodeTakes old new xs ended (outcomes.Calls count name) = Takes old new xs ended count (requests.Call name)
+CodeTakes old new xs ended (outcomes.Defines count name show) = Takes old new xs ended count (requests.Define name show)
 CodeTakes {S} {g} old new xs ended (outcomes.Stopped count fault index) =
     (kept : Machine S g) → Refuses new kept (refusal fault (place_at xs index)) → Takes old kept xs ended count requests.Stop
 CodeTakes old new xs ended _ = ⊤

@@ -54,10 +54,10 @@ pub data Unfinished : Type 0 where
   open_body : Unfinished
 
 abbrev pub Outcome : Type 0
-Outcome = course.Outcome Machine Entry Refusal Unfinished Placed
+Outcome = course.OutcomeOf Machine Entry Refusal Unfinished Placed
 
-abbrev pub Front : Type 0
-Front = course.Front Machine Entry Refusal Unfinished Placed
+abbrev pub StreamFront : Type 0
+StreamFront = course.FrontOf Machine Entry Refusal Unfinished Placed
 
 abbrev pub refusal : Fault → ℕ → Refusal
 refusal fault place = record { fault = fault; place = place }
@@ -75,46 +75,46 @@ abbrev pub run_length : List Placed → ℕ
 run_length xs = prefix_len is_operand xs
 
 -- the words that operand bytes carry
-abbrev pub words_of : List Placed → List ℕ
-words_of xs = map (λ x. x.byte - 64) xs
+abbrev pub carried_words : List Placed → List ℕ
+carried_words xs = map (λ x. x.byte - 64) xs
 
 -- the machine after a code has drawn, which may unbind all names
 abbrev pub after_drawing : Machine → RuleResult → Machine
 after_drawing m drawn = record m { work = drawn.work; names = if drawn.clears then no_names else m.names }
 
 -- the front after the rule of an opcode, a character or a control has acted
-abbrev pub drawn_front : Machine → ℕ → List Placed → Result RuleResult DrawFault → Front
+abbrev pub drawn_front : Machine → ℕ → List Placed → Result RuleResult DrawFault → StreamFront
 drawn_front m place rest (Ok drawn) = course.act drawn.entries (after_drawing m drawn) rest
 drawn_front m place rest (Err fault) = course.refuse (refusal (draw_fault fault) place)
 
 -- the front of an opcode on its whole run; a run that reaches the end of the list hasn't ended
-abbrev pub closed_front : Machine → Opcode → ℕ → List Placed → List Placed → Front
-closed_front m op place run [] = course.pause (open_run op place (words_of run))
-closed_front m op place run (x ∷ xs) = drawn_front m place (x ∷ xs) (rule m.work op (words_of run))
+abbrev pub closed_front : Machine → Opcode → ℕ → List Placed → List Placed → StreamFront
+closed_front m op place run [] = course.pause (open_run op place (carried_words run))
+closed_front m op place run (x ∷ xs) = drawn_front m place (x ∷ xs) (rule m.work op (carried_words run))
 
 -- the front of an opcode on its run, with the bytes after the run
-abbrev pub run_front : Machine → Opcode → ℕ → List Placed → List Placed → Front
+abbrev pub run_front : Machine → Opcode → ℕ → List Placed → List Placed → StreamFront
 run_front m op place run rest =
     if nat_lt run_limit (length run) then course.refuse (refusal faults.LongRun place)
     else closed_front m op place run rest
 
 -- the front of an opcode, which takes the longest run of operand bytes after it
-abbrev pub opcode_front : Machine → Opcode → ℕ → List Placed → Front
-opcode_front m op place xs = run_front m op place (take (run_length xs) xs) (drop (run_length xs) xs)
+abbrev pub opened_front : Machine → Opcode → ℕ → List Placed → StreamFront
+opened_front m op place xs = run_front m op place (take (run_length xs) xs) (drop (run_length xs) xs)
 
 -- the machine after n bytes were charged
 abbrev pub after_charge : Machine → ℕ → Machine
 after_charge m n = record m { left = m.left - n }
 
 -- the front if the bytes of a body come next, each at this place, provided they can be charged
-abbrev pub shown_front : Machine → ℕ → List ℕ → List Placed → Front
+abbrev pub shown_front : Machine → ℕ → List ℕ → List Placed → StreamFront
 shown_front m place bytes rest =
     if nat_lt m.left (length bytes) then course.refuse (refusal faults.Budget place)
     else course.act [] (after_charge m (length bytes)) (all_at place bytes ++ rest)
 
 -- the front if a code of this kind ends at this place, with the bytes after the code
-abbrev pub code_front : Machine → Kind → ℕ → List Placed → Front
-code_front m (kinds.Opens op) place rest = opcode_front m op place rest
+abbrev pub code_front : Machine → Kind → ℕ → List Placed → StreamFront
+code_front m (kinds.Opens op) place rest = opened_front m op place rest
 code_front m kinds.Strays place rest = course.refuse (refusal faults.Stray place)
 code_front m kinds.AddsNothing place rest = course.act [] m rest
 code_front m (kinds.Acts code) place rest = drawn_front m place rest (code_rule m.work code)
@@ -133,7 +133,7 @@ abbrev pub half_read : List ℕ → Unfinished
 half_read [] = nothing
 half_read (b ∷ bs) = half_code (b ∷ bs)
 
-abbrev pub front_by : Machine → List Placed → codes.Front → Front
+abbrev pub front_by : Machine → List Placed → codes.Front → StreamFront
 front_by m xs codes.unfinished = course.pause (half_read (bytes_of xs))
 front_by m xs (codes.refused fault i) = course.refuse (refusal (code_fault fault) (place_at xs i))
 front_by m xs (codes.complete code n sets) = code_front (record m { sets = sets }) (kind_of code) (place_at xs (n - 1)) (drop n xs)
@@ -144,23 +144,23 @@ after_body m name body = record m { names = bind m.names name body; stored = m.s
 
 -- The front if the body is complete: n bytes, and after them the two that end the body, which are the next code of the
 -- stream. A body that is presented comes next once more, with these two, before what comes after them.
-abbrev pub bound_front : Machine → ℕ → Bool → ℕ → List Placed → Front
+abbrev pub bound_front : Machine → ℕ → Bool → ℕ → List Placed → StreamFront
 bound_front m name false n xs = course.act [] (after_body m name (take n (bytes_of xs))) (drop n xs)
 bound_front m name true n xs =
     shown_front (after_body m name (take n (bytes_of xs))) (place_at xs (n + 1)) (take (n + 2) (bytes_of xs)) (drop (n + 2) xs)
 
-abbrev pub body_front_by : Machine → ℕ → Bool → List Placed → bodies.BodyFront → Front
+abbrev pub body_front_by : Machine → ℕ → Bool → List Placed → bodies.BodyFront → StreamFront
 body_front_by m name show xs bodies.unfinished = course.pause open_body
 body_front_by m name show xs (bodies.refused fault i) = course.refuse (refusal fault (place_at xs i))
 body_front_by m name show xs (bodies.ended n) = bound_front m name show n xs
 
 -- the front of the list, in this mode
-abbrev pub front_in : Mode → Machine → List Placed → Front
+abbrev pub front_in : Mode → Machine → List Placed → StreamFront
 front_in between m xs = front_by m xs (codes.front m.sets (bytes_of xs))
 front_in (in_body name show) m xs = body_front_by m name show xs (body_front (store_limit - m.stored) (bytes_of xs))
 
-unfoldable pub front : Machine → List Placed → Front
-front m xs = front_in m.mode m xs
+unfoldable pub stream_front : Machine → List Placed → StreamFront
+stream_front m xs = front_in m.mode m xs
 
 -- the number of steps that the end of a body may take besides its bytes: an empty body takes no byte and is charged
 -- nothing, so its end alone is a step
@@ -169,12 +169,12 @@ ends_of between = 0
 ends_of (in_body name show) = 1
 
 -- what each front lessens, together with the length of the list
-abbrev pub left_of : Machine → ℕ
-left_of m = m.left + ends_of m.mode
+abbrev pub steps_left : Machine → ℕ
+steps_left m = m.left + ends_of m.mode
 
 -- the outcome of a list, from this machine on
 abbrev pub outcome_from : Machine → List Placed → Outcome
-outcome_from m xs = course.outcome front left_of m xs
+outcome_from m xs = course.outcome stream_front steps_left m xs
 
 -- the machine at the start of a reading with this budget
 abbrev pub start_machine : ℕ → Machine

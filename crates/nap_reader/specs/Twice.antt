@@ -21,9 +21,9 @@ EndsEarly g s budget p t r stream = (means budget p).refusal ≡ Some r
 EndsEarly g s budget p t r _ = BreaksOff g s budget p t r
 
 -- a page was read into a sink that was s
-abbrev pub ReadsTo : {S : Type 0} → Ghosts S → S → ℕ → List ℕ → S → Result (Unit {0}) Refusal → Type 0
-ReadsTo g s budget p t (Ok done) = ((means budget p).refusal ≡ None) × g.took s (means budget p).entries t
-ReadsTo g s budget p t (Err r) = EndsEarly g s budget p t r (cause_of r.fault)
+abbrev pub ReadsPage : {S : Type 0} → Ghosts S → S → ℕ → List ℕ → S → Result (Unit {0}) Refusal → Type 0
+ReadsPage g s budget p t (Ok done) = ((means budget p).refusal ≡ None) × g.took s (means budget p).entries t
+ReadsPage g s budget p t (Err r) = EndsEarly g s budget p t r (cause_of r.fault)
 
 -- sinks that were s and u: both have all entries of the page; or it is refused, and nothing was put into the second; or it
 -- is accepted, and the second reading broke

@@ -10,15 +10,12 @@ use crate::budget::Budget;
 use crate::fault::Refusal;
 use crate::feeding::{FeedFault, feed_from};
 use crate::reader::Reader;
-use nap_list::{Inlet, READS, Sink};
+use nap_list::{Inlet, READ_SIZE, READS, Sink};
 use std::alloc::Global;
 
 /// A read failed, or there were as many reads as one input may have.
 #[derive(Clone, Copy, PartialEq, Eq, Drop)]
 pub struct ReadFault;
-
-/// The greatest number of bytes of one read.
-const READ_SIZE: usize = 65_536;
 
 /// Reads and drops the rest of the input, with at most `most` reads.
 fn drain<I: Inlet>(input: &mut I, buffer: &mut [u8], most: u64) -> Result<(), ReadFault>

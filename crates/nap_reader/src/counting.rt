@@ -2,7 +2,7 @@
 ghost use Rattle.std.specs.Prelude.{◌≡◌, false, Some, Option};
 ghost use Rattle.nap_list.specs.State.{start};
 ghost use Rattle.nap_reader.specs.Collecting.{IsCounted};
-ghost use Rattle.nap_reader.specs.Counting.{GrowsBy, Took, took_more, took_none};
+ghost use Rattle.nap_reader.specs.Counting.{GrowsBy, TookCounted, took_more, took_none};
 
 use crate::budget::Budget;
 use crate::collect::read_stream;
@@ -68,7 +68,7 @@ impl<S: Sink + Drop> Sink for CountingSink<S> {
 
     ghost failed = { λ s. S.failed s.sink };
 
-    ghost took = { λ s d t. Took S.Sink s d t };
+    ghost took = { λ s d t. TookCounted S.Sink s d t };
 
     ghost broke = { λ s d e t. S.broke s.sink d e t.sink };
 

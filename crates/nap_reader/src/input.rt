@@ -44,7 +44,7 @@ pub(crate) struct Input {
 }
 
 impl Input {
-    ghost use Rattle.nap_reader.specs.NextBytes.{CanAdvance, IsNext, Moves, Reads, StoresBody, next_bytes};
+    ghost use Rattle.nap_reader.specs.NextBytes.{CanAdvance, IsNextText, Moves, Reads, StoresBody, next_bytes};
     ghost use Rattle.nap_reader.specs.declared.frames.Frame.{Frame};
     ghost use Rattle.nap_reader.specs.Steps.{IsOver};
     ghost use Rattle.nap_reader.specs.Stream.{bytes_of};
@@ -105,7 +105,7 @@ impl Input {
     #[inline(always)]
     pub(crate) fn next_slice<'a>(&'a self, piece: &'a [u8]) -> Option<(Slice<'a>, bool)>
         requires { Reads self.now piece.now }
-        ensures { MatchOption result (next_bytes self.now piece.now ≡ []) (λ x. IsNext self.now piece.now x.0.place x.0.step x.0.bytes.now x.1) }
+        ensures { MatchOption result (next_bytes self.now piece.now ≡ []) (λ x. IsNextText self.now piece.now x.0.place x.0.step x.0.bytes.now x.1) }
     {
         let Some((bytes, place)) = self.frames.innermost(self.store.bytes()) else {
             if self.at == piece.len() {

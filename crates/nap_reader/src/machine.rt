@@ -17,6 +17,7 @@ mod answering;
 mod bodies;
 mod characters;
 mod codes;
+mod controls;
 mod escapes;
 mod front;
 mod opcodes;

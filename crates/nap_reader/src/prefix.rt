@@ -35,7 +35,7 @@ fn prefix_end(piece: &[u8], from: usize, least: u8) -> usize
 }
 
 /// Returns a bit for each byte of a block that isn't from `least` to `7F`.
-fn others_in(block: u8x32, least: u8) -> u64
+pub(crate) fn others_in(block: u8x32, least: u8) -> u64
     requires { least < 0x80 }
     ensures { result ≡ mask_l (map (λ b. not (is_from least b)) block) }
 {
@@ -45,7 +45,7 @@ fn others_in(block: u8x32, least: u8) -> u64
 }
 
 /// Whether a byte is from `least` to `7F`.
-fn is_at_least(byte: u8, least: u8) -> bool
+pub(crate) fn is_at_least(byte: u8, least: u8) -> bool
     ensures { result ≡ is_from least byte }
 {
     byte >= least && byte < 0x80

@@ -2,7 +2,7 @@
 ghost use Rattle.std.specs.Prelude.{◌≡◌, [], None, false};
 ghost use Rattle.nap_list.specs.State.{start};
 ghost use Rattle.nap_reader.specs.ReaderAnswers.{HasRead, budget_of, fed_of, refusal_of, sink_of};
-ghost use Rattle.nap_reader.specs.Twice.{IsReadTwice, ReadsTo};
+ghost use Rattle.nap_reader.specs.Twice.{IsReadTwice, ReadsPage};
 
 use crate::budget::Budget;
 use crate::fault::Refusal;
@@ -14,7 +14,7 @@ use std::alloc::Global;
 fn read_whole<S: Sink>(reader: &mut Reader<S>, stream: &[u8]) -> Result<(), Refusal>
     requires unread { fed_of reader.old ≡ 0 }
     requires unrefused { refusal_of reader.old ≡ None }
-    ensures { (s : S) → HasRead reader.old s [] → ReadsTo S.Sink s (budget_of reader.old) stream.now (sink_of reader.new) result }
+    ensures { (s : S) → HasRead reader.old s [] → ReadsPage S.Sink s (budget_of reader.old) stream.now (sink_of reader.new) result }
 {
     reader.feed(stream)?;
     reader.end()?;

@@ -1,14 +1,22 @@
-//! Values, calls, lists and devices by hand, with the answers that the profile gives.
+//! Values, calls, lists, inputs and outputs by hand, with the answers that the profile gives.
+mod batch;
+mod canon_sinks;
+mod canonical;
 mod characters;
+mod code_pairs;
 mod codes;
+mod commands;
+mod conversion;
 mod devices;
 mod drawing;
 mod drawing_sinks;
+mod growth;
 mod known;
 mod lines;
 mod lists;
-mod pairs;
 mod read_back;
+mod reader_pairs;
+mod reading;
 mod rows;
 mod sinks;
 mod states;

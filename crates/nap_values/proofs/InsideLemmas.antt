@@ -11,7 +11,7 @@ use Rattle.nap_values.proofs.PackedLemmas.{x_in-below, y_in-below}
 -- When the numbers that words hold are on the unit screen.
 
 -- the point whose coordinates two numbers of 24 bits stand for
-inside-signed : (x y : ℕ) → x < 8388608 → y < 8388608 → point_with (signed_of x) (signed_of y) ≡ Some (record { x = x; y = y })
+pub inside-signed : (x y : ℕ) → x < 8388608 → y < 8388608 → point_with (signed_of x) (signed_of y) ≡ Some (record { x = x; y = y })
 inside-signed x y x_below y_below = grind (arith, nat_tests)
 
 outside-signed : (x y : ℕ) → x < 16777216 → y < 16777216 → (x < 8388608 → y < 8388608 → ⊥) → point_with (signed_of x) (signed_of y) ≡ None

@@ -18,3 +18,5 @@ mod InsideLemmas
 mod RunLemmas
 mod OperandWordLemmas
 mod PaddedLemmas
+mod CoarseLemmas
+mod CourseLemmas

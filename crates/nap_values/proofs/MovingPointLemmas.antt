@@ -10,7 +10,7 @@ use Rattle.nap_values.proofs.MotionLemmas.{x_added, y_added}
 
 -- The digits of x and those of y, stored apart, each advance by the words of a displacement.
 
-x_alone : (x : ℕ) → value_of 256 8 (digits_of 8 8 x) * 8 ≡ packed_coordinates x 0
+pub x_alone : (x : ℕ) → value_of 256 8 (digits_of 8 8 x) * 8 ≡ packed_coordinates x 0
 unfolding value_of digits_of
 x_alone x = omega arith ∙ sym (packed_coordinates-parts x 0)
 

@@ -8,3 +8,4 @@ pub mod Spellings
 pub mod Laws
 pub mod PackedCoordinates
 pub mod PackedColours
+pub mod Coarse

@@ -1,13 +1,12 @@
 //! Decoding of operands that are given as bytes. A byte carries a word in its low six bits; its other bits are ignored.
 
 ghost use Rattle.std.specs.Prelude.{◌≡◌, ◌≤◌, ◌-◌, ◌++◌, length, take, replicate};
-ghost use Rattle.nap_values.specs.Operands.{operand_words, multi_of, single_of, colour_of};
+ghost use Rattle.nap_values.specs.Operands.{operand_words, multi_of, single_of};
 ghost use Rattle.nap_values.specs.PackedCoordinates.{words_in};
 
-use crate::colours::{Addr, Grb};
+use crate::colours::Addr;
 use crate::displacement::Move;
 use crate::packed::PackedWords;
-use crate::packed_colours::colour_in;
 use crate::word::Word;
 
 /// Selects the low six bits of each of eight bytes.
@@ -55,23 +54,9 @@ pub fn single_bytes(operand: &[u8]) -> Addr
     Addr::new(number)
 }
 
-/// Decodes a multi-value operand of at most eight bytes as a colour. Missing words count as zero (PROFILE.md,
-/// Operands). An operand of two bytes is decoded without a further call.
-pub fn colour_bytes(operand: &[u8]) -> Grb
-    requires { length operand.now ≤ 8 }
-    ensures { result ≡ colour_of (operand_words operand.now) }
-{
-    let words = if let [first, second] = operand {
-        pack_eight([*first, *second, 0, 0, 0, 0, 0, 0])
-    } else {
-        pack_padded(operand)
-    };
-    colour_in(words)
-}
-
 /// Packs the words that eight bytes carry.
 #[inline]
-fn pack_eight(bytes: [u8; MOST_WORDS]) -> PackedWords
+pub(crate) fn pack_eight(bytes: [u8; MOST_WORDS]) -> PackedWords
     ensures { words_in result ≡ operand_words bytes }
 {
     PackedWords::new(u64::from_be_bytes(bytes) & LOW)
@@ -80,7 +65,7 @@ fn pack_eight(bytes: [u8; MOST_WORDS]) -> PackedWords
 /// Packs the words that at most eight bytes carry, with zero words after them. Not inlined, so that loops over three
 /// bytes keep their registers.
 #[inline(never)]
-fn pack_padded(run: &[u8]) -> PackedWords
+pub(crate) fn pack_padded(run: &[u8]) -> PackedWords
     requires { length run.now ≤ 8 }
     ensures { words_in result ≡ operand_words run.now ++ replicate (8 - length run.now) 0 }
 {

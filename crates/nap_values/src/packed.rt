@@ -1,9 +1,11 @@
 //! Eight words packed into a number, one byte for each, the first in the highest byte. A word has three bits of x above
 //! three bits of y, so the base-8 digits of x and y alternate.
 
-ghost use Rattle.std.specs.Prelude.{◌≡◌, ◌+◌, ◌-◌, ◌%◌, ◌<◌, ◌≤◌, ◌↔◌, All, IsTrue};
+ghost use Rattle.std.specs.Prelude.{◌≡◌, ◌+◌, ◌-◌, ◌%◌, ◌<◌, ◌≤◌, ◌↔◌, All, IsTrue, take};
 ghost use Rattle.nap_values.specs.Digits.{value_of, digits_of};
 ghost use Rattle.nap_values.specs.PackedCoordinates.{HoldsWords, x_in, y_in, packed_coordinates};
+ghost use Rattle.nap_values.specs.Coarse.{coarse_part, coarse_words};
+ghost use Rattle.nap_values.specs.Operands.{operand_words};
 
 use std::marker::Model;
 
@@ -18,6 +20,9 @@ const ALL_BUT_X: u64 = 0xC7C7_C7C7_C7C7_C7C7;
 
 /// Selects all bits but those of y.
 const ALL_BUT_Y: u64 = 0xF8F8_F8F8_F8F8_F8F8;
+
+/// Selects the digits of x at the places of the nine highest bits of two numbers (`coarse_walk`).
+const COARSE: u64 = 0x3838_3800_3838_3800;
 
 /// Selects the sign bits of x and y.
 const SIGNS: u64 = 0x2400_0000_0000_0000;
@@ -162,6 +167,25 @@ impl PackedWords {
         ensures { result ≡ packed_coordinates 0 ((y_in self + y_in step) % 16777216) }
     {
         PackedWords(self.0.wrapping_add((step.0 & Y_DIGITS) + ALL_BUT_Y) & Y_DIGITS)
+    }
+
+    /// Returns the words with the fourth and the eighth digit of x set to zero. Requires that these words have y zero.
+    #[inline]
+    pub(crate) fn coarse_part(self) -> PackedWords
+        requires { packed_coordinates (x_in self) 0 ≡ self }
+        ensures { result ≡ packed_coordinates (coarse_part (x_in self)) 0 }
+    {
+        PackedWords(self.0 & COARSE)
+    }
+
+    /// Returns words that hold the digits of y and those of x of the first three bytes, side by side as digits of x.
+    #[inline]
+    pub(crate) fn coarse(block: &[u8; 4]) -> PackedWords
+        ensures { result ≡ packed_coordinates (coarse_words (operand_words (take 3 block.now))) 0 }
+    {
+        let bytes = u64::from(u32::from_be_bytes(*block));
+        // The bytes themselves, and the bytes with y in the place of x above them.
+        PackedWords(bytes.wrapping_mul(0x8_0000_0001) & COARSE)
     }
 
     /// Subtracts x from x and y from y, modulo 2^24. Borrows pass through the other bits, which are all clear for the

@@ -3,9 +3,10 @@
 ghost use Rattle.std.specs.Prelude.{◌≡◌, ◌-◌, ◌++◌, length, take, replicate};
 ghost use Rattle.nap_values.specs.Operands.{operand_words, multi_of, single_of, colour_of};
 
+use crate::colour_operand::colour_bytes;
 use crate::colours::{Addr, Grb};
 use crate::displacement::Move;
-use crate::operand::{MOST_WORDS, colour_bytes, multi_bytes, single_bytes};
+use crate::operand::{MOST_WORDS, multi_bytes, single_bytes};
 use crate::word::Word;
 
 /// Decodes a multi-value operand as a displacement. Missing words count as zero, and words after the eighth are

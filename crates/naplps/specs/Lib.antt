@@ -47,9 +47,9 @@ pub use Rattle.nap_canon.specs.Laws as CanonicalLaws
 pub use Rattle.nap_make.specs.Entries
 pub use Rattle.nap_make.specs.Reading as LineReading
 pub use Rattle.nap_make.specs.Laws as LineLaws
-pub use Rattle.nap_line_reader.specs.Lists
-pub use Rattle.nap_line_reader.specs.Making as ListMaking
-pub use Rattle.nap_maker.specs.Making
-pub use Rattle.nap_maker.specs.Pages
-pub use Rattle.nap_maker.specs.Texts
-pub use Rattle.nap_maker.specs.Laws as MakingLaws
+pub use Rattle.nap_make.specs.Lists
+pub use Rattle.nap_make.specs.ListMaking
+pub use Rattle.nap_make.specs.Making
+pub use Rattle.nap_make.specs.Pages
+pub use Rattle.nap_make.specs.Texts
+pub use Rattle.nap_make.specs.PageLaws as MakingLaws

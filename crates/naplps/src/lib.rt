@@ -37,11 +37,10 @@ pub mod lines {
     pub use nap_make::{LineFault, entry_of_line};
 
     /// The page that lines make, in memory or as they come from an inlet; and why there is none.
-    pub use nap_line_reader::MakeFault;
-    pub use nap_maker::{MadePage, PageFault, make_page, page_of_input, page_of_lines};
+    pub use nap_make::{MadePage, MakeFault, PageFault, make_page, page_of_input, page_of_lines};
 
     /// The entries of lines, put into a sink; and why there are none.
-    pub use nap_line_reader::{ListFault, make_list, put_lines};
+    pub use nap_make::{ListFault, make_list, put_lines};
 }
 
 /// The attributes and the parts of an entry.
@@ -106,9 +105,15 @@ pub mod laws {
     pub use nap_canon::laws as canonical;
     /// Of lists, states and batches.
     pub use nap_list::laws as list;
-    /// Of lines, and of what they say of two pages.
-    pub use nap_make::laws as lines;
-    pub use nap_maker::laws as making;
+    /// Of lines.
+    pub mod lines {
+        pub use nap_make::laws::{lines_are_bounded, lines_have_no_ends, lines_tell_apart};
+    }
+
+    /// Of the pages that lines make, and of what lines say of two pages.
+    pub mod making {
+        pub use nap_make::laws::{lists_tell_streams, made_pages_agree};
+    }
     /// Of what a page means.
     pub use nap_reader::laws as reading;
 }

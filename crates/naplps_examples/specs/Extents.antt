@@ -35,17 +35,17 @@ abbrev pub with_entries : Extent → List Entry → Extent
 with_entries e xs = fold with_entry e xs
 
 -- A sink took these entries.
-pub record Reaches (s : ExtentSink) (d : List Entry) (t : ExtentSink) : Type 0 where
+pub record TookEntries (s : ExtentSink) (d : List Entry) (t : ExtentSink) : Type 0 where
   pub extent : t.extent ≡ with_entries s.extent d
   pub state : t.state ≡ walk s.state d
 
 -- The members of the trait for this sink.
 
-pub reaches_none : (s : ExtentSink) → Reaches s [] s
+pub reaches_none : (s : ExtentSink) → TookEntries s [] s
 unfolding walk
 reaches_none s = record { extent = refl; state = refl }
 
-pub reaches_more : (s t u : ExtentSink) (d e : List Entry) → Reaches s d t → Reaches t e u → Reaches s (d ++ e) u
+pub reaches_more : (s t u : ExtentSink) (d e : List Entry) → TookEntries s d t → TookEntries t e u → TookEntries s (d ++ e) u
 reaches_more s t u d e first second = record {
   extent = second.extent ∙ ap (λ (extent : Extent). with_entries extent e) first.extent ∙ sym (fold-append with_entry s.extent d e);
   state = second.state ∙ ap (λ (state : State). walk state e) first.state ∙ sym (walks_join s.state d e);

@@ -5,7 +5,7 @@ ghost use Rattle.naplps.specs.Shapes.{entry_of_shape};
 ghost use Rattle.naplps.specs.State.{start};
 ghost use Rattle.naplps.specs.Stream.{means};
 ghost use Rattle.naplps.specs.Streams.{IsAccepted, list_of};
-ghost use Rattle.naplps_examples.specs.Extents.{Reaches, nowhere, reaches_more, reaches_none, with_entries, with_entry, with_point};
+ghost use Rattle.naplps_examples.specs.Extents.{TookEntries, nowhere, reaches_more, reaches_none, with_entries, with_entry, with_point};
 
 use naplps::entry::Point;
 use naplps::sink::{Shape, Sink, SinkFault, State};
@@ -111,7 +111,7 @@ impl Sink for ExtentSink {
 
     ghost failed = { λ s. false };
 
-    ghost took = { λ s d t. Reaches s d t };
+    ghost took = { λ s d t. TookEntries s d t };
 
     ghost broke = { λ s d e t. ⊥ };
 

@@ -5,7 +5,7 @@ use Rattle.std.proofs.lemmas.Bool.{false≢true}
 use Rattle.std.proofs.lemmas.List.{take-append-drop}
 use Rattle.std.specs.Io.KnownBytes.{Appends, Consumes, Keeps}
 use Rattle.std.proofs.KnownBytes.{Appends-kept, Consumes-nil}
-use Rattle.nap_list.specs.Sending.{sending, Writes}
+use Rattle.nap_list.specs.Sending.{sending, Writes, Sends}
 use Rattle.nap_canon.specs.declared.form.Form.TheVariants.{Two}
 use Rattle.nap_draw.specs.Draws.{Cause, stream, memory, device}
 use Rattle.nap_list.specs.declared.device.inlet.Inlet as inlet
@@ -27,9 +27,9 @@ use Rattle.nap_reader.specs.Stream.{Outcome, begun, means, ended_by}
 use Rattle.nap_reader.proofs.PublicLaws.{begun_comes_first, end_breaks_among, fed_breaks_among, more_bytes_keep_entries}
 use Rattle.nap_canon.specs.declared.conversion.ConvertFault.{ConvertFault}
 use Rattle.nap_canon.specs.declared.conversion.ConvertFault.TheVariants as fault
-use Rattle.nap_canon.specs.Concluding.{Concludes}
+use Rattle.nap_canon.specs.Concluding.{Concludes, EndsOutput}
 use Rattle.nap_canon.specs.Converting.{StopsAtOnce, IsPrefixOf, Converts}
-use Rattle.nap_canon.specs.Sinking.{Canonical, sending_of, Sends, StartsText, Took, Broke}
+use Rattle.nap_canon.specs.Sinking.{Canonical, sending_of, StartsText, Took, Broke}
 use Rattle.nap_canon.specs.Streams.{list_of}
 use Rattle.nap_canon.specs.Text.{header, text_end_after_header, pieces_bytes, pieces, text}
 use Rattle.nap_canon.proofs.conversions.WentOutLemmas.{prefix_refl, Leaves, concluded, leaves_whole, leaves_refused, leaves_cut, leaves_broken}
@@ -200,22 +200,21 @@ module _ {O : Type 0} (o : outlet.Ghosts O) (w : O) (s : Canonical O) (begins : 
     -- the promise of a conversion, from the sink as feeding left it
     abbrev Closes : Canonical O → Result (Unit {0}) FeedFault → Type 0
     Closes t fed =
-        Keeps (o.taken t.outlet) (o.taken u) × (o.failed t.outlet ≡ true → o.failed u ≡ true) × Concludes t.written fed (o.failed u) answer
-        × (o.flushes u ≡ flush_count (o.failed t.outlet) (o.flushes t.outlet)) × (o.write_failed u ≡ o.write_failed t.outlet)
+        EndsOutput o t.outlet u × Concludes t.written fed (o.failed u) answer
 
     -- the same with its last read
     closes : (p : List ℕ) → Consumes (i.left initial) (i.left final) p → (last : LastRead i (budget_of old) p initial final) (t : Canonical O) (fed : Result (Unit {0}) FeedFault) →
         Ends works i initial final old new p same last t fed → Closes t fed → Converted i o budget initial final w u answer
-    closes p read last t fed leaves (keeps, fails, ends, flushes, kept) =
+    closes p read last t fed leaves (end, ends) =
         let first = first_of works i initial final old new p same last in
-        let (q, appends, converts, known, wrote) = concluded o w s begins works (budget_of old) p (reading i initial final) last.before first t fed u answer leaves keeps fails ends in (
+        let (q, appends, converts, known, wrote) = concluded o w s begins works (budget_of old) p (reading i initial final) last.before first t fed u answer leaves end.taken end.failed ends in (
           p,
           q,
           read,
           appends,
           subst (λ (b : ℕ). Converts b p (reading i initial final) q (o.failed u) answer) is converts,
           subst (λ (b : ℕ). StopsAtOnce i b p initial final q) is (record { last = last; written = λ _. known }),
-          flushed_once o law w unfailed t u wrote flushes kept,
+          flushed_once o law w unfailed t u wrote end.flushes end.write_failed,
         )
 
     pub whole_converts : Fed (Ok tt) → (t : Canonical O) → ((p : List ℕ) → HasRead new s p → IsTaken g s (means (budget_of new) p) t None) → Closes t (Ok tt) →

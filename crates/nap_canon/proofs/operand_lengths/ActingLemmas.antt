@@ -22,7 +22,7 @@ use Rattle.nap_reader.specs.Bodies.{Mode, between, no_names, body_of}
 use Rattle.nap_reader.specs.Course as course
 use Rattle.nap_reader.specs.Course.{outcome_by_front}
 use Rattle.nap_draw.specs.Limits.{run_limit}
-use Rattle.nap_reader.specs.Stream.{Placed, Machine, Front, Outcome, bytes_of, words_of, run_length, refusal, after_drawing, drawn_front, closed_front, run_front, opcode_front, after_charge, shown_front, place_at, front_by, front_in, front, left_of, outcome_from, placed_from, start_machine, begun, ended_by}
+use Rattle.nap_reader.specs.Stream.{Placed, Machine, StreamFront, Outcome, bytes_of, carried_words, run_length, refusal, after_drawing, drawn_front, closed_front, run_front, opened_front, after_charge, shown_front, place_at, front_by, front_in, stream_front, steps_left, outcome_from, placed_from, start_machine, begun, ended_by}
 use Rattle.nap_reader.proofs.PublicLaws.{front_after_front}
 use Rattle.nap_canon.specs.Acting.{Acting, acting_at, acting_in, acting_after, acting_within, opcodes_of, ActsUnderEightAndFour}
 use Rattle.nap_canon.specs.Laws.{PlainOperandLengths}
@@ -61,7 +61,7 @@ between_with_sets : (m : Machine) (sets : CodeSets) → IsBetween m → IsBetwee
 between_with_sets m sets is_between = record { mode = is_between.mode; names = is_between.names }
 
 -- nothing is refused, so a front gives no refusal
-abbrev Going : Machine → List Placed → Front → Type 0
+abbrev Going : Machine → List Placed → StreamFront → Type 0
 Going m xs f = (outcome_by_front outcome_from m xs f).refusal ≡ None
 
 -- the statement for a list
@@ -109,7 +109,7 @@ known_opcode work op words rest acts stage known = record {
 }
 
 -- the statement for an opcode with these words after it, and for its front
-abbrev OpcodeGoes : ℕ → Machine → Opcode → List Placed → List ℕ → List Placed → Front → Type 0
+abbrev OpcodeGoes : ℕ → Machine → Opcode → List Placed → List ℕ → List Placed → StreamFront → Type 0
 OpcodeGoes fuel m op xs words rest f =
     let list : List Code = code.Op op ∷ operands_of words ++ (lex_result m.sets (bytes_of rest)).codes in
     Going m xs f → Asks m.work list → Known (record { op = op; lengths = m.work.domain } ∷ acting_after (acting_within fuel) f) list
@@ -128,18 +128,18 @@ module _ (fuel : ℕ) (m : Machine) (op : Opcode) (place : ℕ) (xs : List Place
       } in
       known_opcode m.work op words list (acting_within fuel (after_drawing m d) rest) asks.stage (ih (after_drawing m d) (between_after_drawing m d is_between) going asked)
 
-  closed_goes : (run rest : List Placed) → ((w : Machine) → Goes fuel w rest) → OpcodeGoes fuel m op xs (words_of run) rest (closed_front m op place run rest)
+  closed_goes : (run rest : List Placed) → ((w : Machine) → Goes fuel w rest) → OpcodeGoes fuel m op xs (carried_words run) rest (closed_front m op place run rest)
   closed_goes run [] ih going asks =
       let none : (lex_result m.sets []).codes ≡ [] = nothing_lexed m.sets in
-      subst (λ (list : List Code). Known (record { op = op; lengths = m.work.domain } ∷ []) (code.Op op ∷ operands_of (words_of run) ++ list)) (sym none)
-      (known_opcode m.work op (words_of run) [] []
-      (subst (λ (list : List Code). Stage m.work (code.Op op ∷ operands_of (words_of run) ++ list)) none asks.stage) known_nothing)
-  closed_goes run (y ∷ ys) ih going asks = drawn_goes (words_of run) (y ∷ ys) (rule m.work op (words_of run)) refl ih going asks
+      subst (λ (list : List Code). Known (record { op = op; lengths = m.work.domain } ∷ []) (code.Op op ∷ operands_of (carried_words run) ++ list)) (sym none)
+      (known_opcode m.work op (carried_words run) [] []
+      (subst (λ (list : List Code). Stage m.work (code.Op op ∷ operands_of (carried_words run) ++ list)) none asks.stage) known_nothing)
+  closed_goes run (y ∷ ys) ih going asks = drawn_goes (carried_words run) (y ∷ ys) (rule m.work op (carried_words run)) refl ih going asks
 
-  run_goes : (run rest : List Placed) → ((w : Machine) → Goes fuel w rest) → OpcodeGoes fuel m op xs (words_of run) rest (run_front m op place run rest)
+  run_goes : (run rest : List Placed) → ((w : Machine) → Goes fuel w rest) → OpcodeGoes fuel m op xs (carried_words run) rest (run_front m op place run rest)
   run_goes run rest ih = at (nat_lt run_limit (length run))
     where
-      at : (long : Bool) → OpcodeGoes fuel m op xs (words_of run) rest (cond long (course.refuse (refusal faults.LongRun place)) (closed_front m op place run rest))
+      at : (long : Bool) → OpcodeGoes fuel m op xs (carried_words run) rest (cond long (course.refuse (refusal faults.LongRun place)) (closed_front m op place run rest))
       at true going asks = let bad : ⊥ = cc in absurd bad
       at false going asks = closed_goes run rest ih going asks
 
@@ -154,7 +154,7 @@ opcode_goes fuel m op (x ∷ ys) is_between ih e going asks =
     let k : ℕ = run_length ys in
     let cut = run_codes m.sets ys (pdi_in_gl m.sets x.byte op names) in
     let few : length (drop k ys) < length (x ∷ ys) = simp length-drop (omega arith) in
-    subst (λ (list : List Code). Known (record { op = op; lengths = m.work.domain } ∷ acting_after (acting_within fuel) (opcode_front m op x.place ys)) (code.Op op ∷ list)) (sym cut)
+    subst (λ (list : List Code). Known (record { op = op; lengths = m.work.domain } ∷ acting_after (acting_within fuel) (opened_front m op x.place ys)) (code.Op op ∷ list)) (sym cut)
     (run_goes fuel m op x.place (x ∷ ys) is_between (take k ys) (drop k ys) (λ w. ih w (drop k ys) few) going
     (subst (λ (list : List Code). Asks m.work (code.Op op ∷ list)) cut asks))
 
@@ -168,7 +168,7 @@ module _ (fuel : ℕ) (m : Machine) (xs : List Placed) (after : CodeSets) (ys : 
   abbrev shifted : Machine
   shifted = record m { sets = after }
 
-  abbrev CodeGoes : Code → Front → Type 0
+  abbrev CodeGoes : Code → StreamFront → Type 0
   CodeGoes c f = Going m xs f → Asks m.work (c ∷ later) → Known (acting_after (acting_within fuel) f) (c ∷ later)
 
   idle_goes : (c : Code) → IsQuiet c → opcodes_of (c ∷ later) ≡ opcodes_of later → CodeGoes c (course.act [] shifted ys)
@@ -256,7 +256,7 @@ module _ (fuel : ℕ) (m : Machine) (xs : List Placed) (is_between : IsBetween m
       Known (acting_in mode m xs ++ acting_after (acting_within fuel) (front_in mode m xs)) (lex_result m.sets (bytes_of xs)).codes
 
   step : (outcome_from m xs).refusal ≡ None → Asks m.work (lex_result m.sets (bytes_of xs)).codes → Known (acting_within (suc fuel) m xs) (lex_result m.sets (bytes_of xs)).codes
-  unfolding acting_within front
+  unfolding acting_within stream_front
   step going asks =
       let bytes : List ℕ = bytes_of xs in
       let front_is : codes.Front = codes.front m.sets bytes in
@@ -283,5 +283,5 @@ plain_operand_lengths budget p plain accepted =
     let same = ap (λ (bs : List ℕ). (lex_result start_sets bs).codes) (bytes_of-placed 0 p) in
     let asks : Asks m.work (lex_result start_sets p).codes = record { stage = before refl plain.plain.first; each = plain.plain.each; follow = plain.plain.follow } in
     let going = not_refused (length p) (begun budget p) (begun budget p).refusal refl accepted in
-    let known = goes (suc (length xs + left_of m)) m xs (omega arith) (record { mode = refl; names = refl }) going (subst (Asks m.work) (sym same) asks) in
+    let known = goes (suc (length xs + steps_left m)) m xs (omega arith) (record { mode = refl; names = refl }) going (subst (Asks m.work) (sym same) asks) in
     record { all = known.all ∙ ap opcodes_of same; each = known.each }

@@ -19,22 +19,22 @@ abbrev long : OperandLengths
 long = record { multi = 8; single = 4 }
 
 without_domain : acting 0 (0x0E ∷ 0x3D ∷ 0x41 ∷ []) ≡ record { op = opcodes.Wait; lengths = short } ∷ []
-unfolding acting_within placed_from stream.front front row_of control0_rows control0_front after_control0 non_pdi_code gl_front opcode_rows pdi_front opcode_front left_out_opcode walk
+unfolding acting_within placed_from stream.stream_front front row_of control0_rows control0_front after_control0 non_pdi_code gl_front opcode_rows pdi_front opcode_front left_out_opcode walk
 without_domain = refl
 
 reset_of_lengths : acting 0 (0x0E ∷ 0x21 ∷ 0x5F ∷ 0x3D ∷ 0x41 ∷ 0x20 ∷ 0x41 ∷ 0x40 ∷ 0x21 ∷ 0x5F ∷ 0x3D ∷ 0x41 ∷ [])
     ≡ record { op = opcodes.Domain; lengths = short } ∷ record { op = opcodes.Wait; lengths = long } ∷ record { op = opcodes.Reset; lengths = long }
     ∷ record { op = opcodes.Domain; lengths = short } ∷ record { op = opcodes.Wait; lengths = long } ∷ []
-unfolding acting_within placed_from stream.front front row_of control0_rows control0_front after_control0 non_pdi_code gl_front opcode_rows pdi_front opcode_front left_out_opcode walk
+unfolding acting_within placed_from stream.stream_front front row_of control0_rows control0_front after_control0 non_pdi_code gl_front opcode_rows pdi_front opcode_front left_out_opcode walk
 reset_of_lengths = refl
 
 -- A body acts where it is called, and not where it is defined.
 called_body : acting 3 (0x1B ∷ 0x40 ∷ 0x21 ∷ 0x0E ∷ 0x3D ∷ 0x41 ∷ 0x1B ∷ 0x45 ∷ 0x1B ∷ 0x2F ∷ 0x7A ∷ 0x1D ∷ 0x21 ∷ [])
     ≡ record { op = opcodes.Wait; lengths = short } ∷ []
-unfolding acting_within placed_from stream.front body_front front one_byte_later last_byte row_of set_rows number_rows designation control0_rows control1_rows control0_front more_front escape_front control1_front argument_of argument_front with_argument sequence_front designation_front final_front designated_front with_set single_shift_front shifted_front after_control0 non_pdi_code gl_front opcode_rows pdi_front opcode_front left_out_opcode walk
+unfolding acting_within placed_from stream.stream_front body_front front one_byte_later last_byte row_of set_rows number_rows designation control0_rows control1_rows control0_front more_front escape_front control1_front argument_of argument_front with_argument sequence_front designation_front final_front designated_front with_set single_shift_front shifted_front after_control0 non_pdi_code gl_front opcode_rows pdi_front opcode_front left_out_opcode walk
 called_body = refl
 
 -- A body acts once where it is shown.
 shown_body : acting 5 (0x1B ∷ 0x41 ∷ 0x21 ∷ 0x0E ∷ 0x3D ∷ 0x41 ∷ 0x1B ∷ 0x45 ∷ []) ≡ record { op = opcodes.Wait; lengths = short } ∷ []
-unfolding acting_within placed_from stream.front body_front front one_byte_later last_byte row_of control0_rows control1_rows control0_front more_front escape_front control1_front argument_of argument_front with_argument after_control0 non_pdi_code gl_front opcode_rows pdi_front opcode_front left_out_opcode walk
+unfolding acting_within placed_from stream.stream_front body_front front one_byte_later last_byte row_of control0_rows control1_rows control0_front more_front escape_front control1_front argument_of argument_front with_argument after_control0 non_pdi_code gl_front opcode_rows pdi_front opcode_front left_out_opcode walk
 shown_body = refl

@@ -18,7 +18,7 @@ use Rattle.nap_codes.specs.LexResults.{LexResult, lex_result_by, lex_result_with
 use Rattle.nap_codes.specs.Spelling as spells
 use Rattle.nap_codes.specs.Tables.{row_of, control0_rows}
 use Rattle.nap_codes.proofs.PublicLaws.{code_length, code_is_spelled}
-use Rattle.nap_reader.specs.Stream.{Placed, bytes_of, words_of, is_operand, is_operand_byte, run_length}
+use Rattle.nap_reader.specs.Stream.{Placed, bytes_of, carried_words, is_operand, is_operand_byte, run_length}
 
 pub no_front : (sets : CodeSets) → front sets [] ≡ unfinished
 unfolding front
@@ -142,7 +142,7 @@ operands_of words = map codes.Operand words
 
 -- the first n bytes are operands
 abbrev pub Cut : CodeSets → List Placed → ℕ → Type 0
-Cut sets xs n = (lex_result sets (bytes_of xs)).codes ≡ operands_of (words_of (take n xs)) ++ (lex_result sets (bytes_of (drop n xs))).codes
+Cut sets xs n = (lex_result sets (bytes_of xs)).codes ≡ operands_of (carried_words (take n xs)) ++ (lex_result sets (bytes_of (drop n xs))).codes
 
 pub run_codes : (sets : CodeSets) (xs : List Placed) → set_at sets sets.gl ≡ code_sets.Pdi → Cut sets xs (run_length xs)
 run_codes sets [] pdi = refl

@@ -72,7 +72,7 @@ named_is_current : (size : CharSize) → named_size_commands size size ≡ []
 named_is_current (sizes.Named size) = rw (size_same (sizes.Named size)) refl
 named_is_current (sizes.Given m) = refl
 
-look_is_current : (old : TextLook) (w : Option TextLook) → IfSome w (λ text. text ≡ old) → text_prelude old w ≡ []
+pub look_is_current : (old : TextLook) (w : Option TextLook) → IfSome w (λ text. text ≡ old) → text_prelude old w ≡ []
 unfolding text_prelude
 look_is_current old None is = refl
 look_is_current old (Some t) is =

@@ -12,7 +12,7 @@ use Rattle.nap_draw.specs.Codes.{code_rule}
 use Rattle.nap_draw.specs.Rule.{RuleResult}
 use Rattle.nap_draw.specs.declared.work.Work.{Work}
 use Rattle.nap_reader.specs.Laws.{IsAlone}
-use Rattle.nap_reader.specs.Stream.{Placed, Machine, bytes_of, after_drawing, drawn_front, front, placed_from}
+use Rattle.nap_reader.specs.Stream.{Placed, Machine, bytes_of, after_drawing, drawn_front, stream_front, placed_from}
 use Rattle.nap_reader.proofs.PublicLaws.{code_acts}
 use Rattle.nap_canon.proofs.reading.PlacedLemmas.{bytes_of-placed, length-placed, placed_from-append}
 use Rattle.nap_canon.proofs.reading.ReadLemmas.{machine_between, between_after, Reads, reads_act}
@@ -40,7 +40,7 @@ code_reads budget sets work n before last c after d xs more end alone spells by 
     let names : codes.front sets (bytes_of first ++ last ∷ []) ≡ codes.complete c (length first + 1) after =
     rw (bytes_of-placed n before, length-placed n before) (spelled_front sets before last c after spells) in
     reads_act m (placed_from n (before ++ last ∷ []) ++ xs) d.entries (after_drawing next d) xs more end
-    (ap (front m) parts
+    (ap (stream_front m) parts
     ∙ code_acts m c first x after xs (record { mode = refl; alone = alone; names = names })
     ∙ ap (drawn_front next x.place xs) by)
     (subst (λ (k : Machine). Reads k xs more end) (sym (between_after budget after work d)) more_reads)

@@ -9,9 +9,9 @@ use Rattle.nap_codes.specs.Front as codes
 use Rattle.nap_reader.specs.Bodies.{between}
 use Rattle.nap_reader.specs.Laws.{IsRun}
 use Rattle.nap_draw.specs.Limits.{run_limit}
-use Rattle.nap_reader.specs.Stream.{Placed, Machine, bytes_of, words_of, placed_from}
+use Rattle.nap_reader.specs.Stream.{Placed, Machine, bytes_of, carried_words, placed_from}
 
-pub words_of-placed : (n : ℕ) (bytes : List ℕ) → words_of (placed_from n bytes) ≡ spellings.words_of bytes
+pub words_of-placed : (n : ℕ) (bytes : List ℕ) → carried_words (placed_from n bytes) ≡ spellings.words_of bytes
 unfolding placed_from
 words_of-placed n [] = refl
 words_of-placed n (b ∷ bytes) = rw (words_of-placed (suc n) bytes) refl

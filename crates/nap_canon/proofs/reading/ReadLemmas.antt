@@ -12,7 +12,7 @@ use Rattle.nap_reader.specs.Bodies.{no_names}
 use Rattle.nap_reader.specs.Course as course
 use Rattle.nap_reader.specs.Course.{prepend, paused, outcome_by_front}
 use Rattle.nap_reader.specs.Laws.{IsRun}
-use Rattle.nap_reader.specs.Stream.{Placed, Machine, Outcome, Unfinished, nothing, open_run, words_of, is_operand, front, after_drawing, drawn_front, outcome_from, with_run, with_run_by, with_drawn, with_definition, with_end, placed_from, start_machine, means, ended, ended_by}
+use Rattle.nap_reader.specs.Stream.{Placed, Machine, Outcome, Unfinished, nothing, open_run, carried_words, is_operand, stream_front, after_drawing, drawn_front, outcome_from, with_run, with_run_by, with_drawn, with_definition, with_end, placed_from, start_machine, means, ended, ended_by}
 use Rattle.nap_reader.proofs.PublicLaws.{front_after_front, run_acts, run_waits}
 use Rattle.nap_canon.proofs.operand_lengths.FrontCodes.{no_front}
 
@@ -55,10 +55,10 @@ with_run-prepend es o = with_run_by-prepend es o o.unfinished
 -- no bytes
 
 nothing_read : (budget : ℕ) (sets : CodeSets) (work : Work) → outcome_from (machine_between budget sets work) [] ≡ settled [] (machine_between budget sets work)
-unfolding front
+unfolding stream_front
 nothing_read budget sets work =
     let m : Machine = machine_between budget sets work in
-    let none : front m [] ≡ course.pause nothing = rw (no_front sets) refl in
+    let none : stream_front m [] ≡ course.pause nothing = rw (no_front sets) refl in
     front_after_front m [] ∙ ap (outcome_by_front outcome_from m []) none
 
 pub reads_nothing : (budget : ℕ) (sets : CodeSets) (work : Work) → Reads (machine_between budget sets work) [] [] (machine_between budget sets work)
@@ -68,7 +68,7 @@ reads_nothing budget sets work =
 
 -- a code that acts
 pub reads_act : (m : Machine) (xs : List Placed) (ds : List Entry) (next : Machine) (ys : List Placed) (es : List Entry) (after : Machine) →
-    front m xs ≡ course.act ds next ys → Reads next ys es after → Reads m xs (ds ++ es) after
+    stream_front m xs ≡ course.act ds next ys → Reads next ys es after → Reads m xs (ds ++ es) after
 reads_act m xs ds next ys es after e rest =
     let is : outcome_from m xs ≡ prepend ds (outcome_from next ys) = front_after_front m xs ∙ ap (outcome_by_front outcome_from m xs) e in
     record {
@@ -79,9 +79,9 @@ reads_act m xs ds next ys es after e rest =
 -- an opcode whose run reaches the end
 
 reads_last : (m : Machine) (x : Placed) (operands : List Placed) (op : Opcode) (drawn : RuleResult) → IsRun m op x operands →
-    rule m.work op (words_of operands) ≡ Ok drawn → Reads m (x ∷ operands) drawn.entries (after_drawing m drawn)
+    rule m.work op (carried_words operands) ≡ Ok drawn → Reads m (x ∷ operands) drawn.entries (after_drawing m drawn)
 reads_last m x operands op drawn run by =
-    let waiting : Outcome = paused m (x ∷ operands) (Some (open_run op x.place (words_of operands))) in
+    let waiting : Outcome = paused m (x ∷ operands) (Some (open_run op x.place (carried_words operands))) in
     let is : outcome_from m (x ∷ operands) ≡ waiting =
     front_after_front m (x ∷ operands) ∙ ap (outcome_by_front outcome_from m (x ∷ operands)) (run_waits m op x operands run) in
     record {
@@ -102,10 +102,10 @@ module _ (budget : ℕ) (sets : CodeSets) (work : Work) (x : Placed) (operands :
   abbrev next : Machine
   next = machine_between budget sets drawn.work
 
-  drawn_last : IsRun here op x operands → rule work op (words_of operands) ≡ Ok drawn → Reads here (x ∷ operands) drawn.entries next
+  drawn_last : IsRun here op x operands → rule work op (carried_words operands) ≡ Ok drawn → Reads here (x ∷ operands) drawn.entries next
   drawn_last run by = subst (Reads here (x ∷ operands) drawn.entries) (between_after budget sets work drawn) (reads_last here x operands op drawn run by)
 
-  pub reads_run : (xs : List Placed) (es : List Entry) (after : Machine) → IsRun here op x operands → rule work op (words_of operands) ≡ Ok drawn →
+  pub reads_run : (xs : List Placed) (es : List Entry) (after : Machine) → IsRun here op x operands → rule work op (carried_words operands) ≡ Ok drawn →
       BeginsAnew xs → Reads next xs es after → Reads here ((x ∷ operands) ++ xs) (drawn.entries ++ es) after
   reads_run [] es after run by anew more_reads =
       let none = reads_nothing budget sets drawn.work in

@@ -13,7 +13,7 @@ use Rattle.nap_list.specs.declared.entry.Entry.{Entry}
 use Rattle.nap_list.specs.declared.state.State.{State}
 use Rattle.nap_list.specs.State.{after}
 use Rattle.nap_draw.specs.declared.work.Work.{Work}
-use Rattle.nap_draw.specs.Joining.{CanJoin, IsWhole}
+use Rattle.nap_draw.specs.Joining.{CanJoin, AreWholeOperands}
 use Rattle.nap_draw.specs.Rule.{RuleResult, rule}
 use Rattle.nap_draw.proofs.PublicLaws.{runs_join}
 use Rattle.nap_draw.specs.Limits.{run_limit}
@@ -91,7 +91,7 @@ open_acts budget gl left o =
 named_once : (byte : ℕ) (op other : Opcode) → Names byte op → Names byte other → other ≡ op
 named_once byte op other first second = let both = sym second ∙ first in cc
 
-is_whole : (work : Work) (operands : List ℕ) (groups : ℕ) → work.domain.multi ≡ 8 → length operands ≡ groups * 8 → IsWhole work.domain.multi (words_of operands)
+is_whole : (work : Work) (operands : List ℕ) (groups : ℕ) → work.domain.multi ≡ 8 → length operands ≡ groups * 8 → AreWholeOperands work.domain.multi (words_of operands)
 is_whole work operands groups lengths whole =
     (groups, length-map operands (λ (b : ℕ). b - 64) ∙ whole ∙ ap (λ (k : ℕ). groups * k) (sym lengths))
 

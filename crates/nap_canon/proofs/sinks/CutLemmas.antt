@@ -6,9 +6,8 @@ use Rattle.std.specs.Io.KnownBytes.{Keeps}
 use Rattle.std.proofs.lemmas.List.{take_more, take-append-drop}
 use Rattle.std.proofs.Math.Bool.{or-true}
 use Rattle.nap_list.specs.declared.device.outlet.Outlet as outlet
-use Rattle.nap_list.specs.Sending.{Sending, sending, write_fails}
+use Rattle.nap_list.specs.Sending.{Sending, sending, write_fails, SendsSome, Sends}
 use Rattle.nap_canon.specs.Batches.{CutAfter}
-use Rattle.nap_canon.specs.Sinking.{TakesPart, Sends}
 use Rattle.nap_canon.specs.SinkLaws.{sends_more, sends_cut}
 
 in_parts : (bytes : List ℕ) (n : ℕ) → n < length bytes → (take n bytes ++ slice_index bytes n ∷ []) ++ drop (n + 1) bytes ≡ bytes
@@ -16,7 +15,7 @@ in_parts bytes n less = ap (λ (prefix : List ℕ). prefix ++ drop (n + 1) bytes
 
 -- none of one byte was taken
 pub none_taken : {O : Type 0} (o : outlet.Ghosts O) (t u : O) (n : ℕ) (byte : ℕ) → Keeps (o.taken t) (o.taken u) → o.failed u ≡ (o.failed t || true) →
-    o.write_failed u ≡ (o.write_failed t || true) → o.flushes u ≡ o.flushes t → TakesPart (sending o t n) (byte ∷ []) (sending o u n)
+    o.write_failed u ≡ (o.write_failed t || true) → o.flushes u ≡ o.flushes t → SendsSome (sending o t n) (byte ∷ []) (sending o u n)
 none_taken o t u n byte kept failed write_failed flushes = record {
   part = 0;
   less = omega arith;

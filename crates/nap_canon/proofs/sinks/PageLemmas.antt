@@ -1,17 +1,15 @@
 -- The text of a page in memory.
 
-use Rattle.std.proofs.Common.{ℕ, ◌≡◌, ◌⊎◌, false, List, [], ◌++◌, Option, Some, Err, refl, ap, sym, subst, ◌∙◌, inl}
+use Rattle.std.proofs.Common.{ℕ, ◌≡◌, false, List, [], ◌++◌, Option, Some, Err, refl, ap, subst, ◌∙◌}
 use Rattle.std.specs.Io.KnownBytes.{Appends}
 use Rattle.nap_list.specs.declared.device.outlet.Outlet as outlet
 use Rattle.nap_list.specs.declared.entry.Entry.{Entry}
 use Rattle.nap_list.specs.declared.sink.Sink.{Ghosts}
 use Rattle.nap_reader.specs.declared.fault.Fault.{Fault}
 use Rattle.nap_reader.specs.declared.fault.Fault.TheVariants as fault
-use Rattle.nap_reader.specs.declared.fault.Refusal.{Refusal}
 use Rattle.nap_reader.specs.Collecting.{IsCounted, IsRead}
 use Rattle.nap_canon.specs.PageTexts.{RefusesPage, refusal_of_text}
 use Rattle.nap_canon.specs.Sinking.{StartsText, Canonical, Took}
-use Rattle.nap_canon.specs.Streams.{LacksMemoryAt}
 use Rattle.nap_canon.specs.Text.{text}
 use Rattle.nap_canon.proofs.sinks.SinkingLemmas.{sink_writes_text}
 
@@ -35,5 +33,5 @@ refuses_page g s budget p f place h = record { refused = λ _. h.counts; memory 
 pub refuses_counted : {S : Type 0} (g : Ghosts S) (s : S) (sound : (t : S) → g.failed t ≡ false) (budget : ℕ) (p : List ℕ) (f : Fault) (place : ℕ) →
     IsRead g s budget p (Err (record { fault = f; place = place })) → RefusesPage budget p (record { fault = f; place = place })
 refuses_counted g s sound budget p fault.Memory place h = record { refused = λ no. absurd (no refl); memory = λ _. h.collects.0 }
-refuses_counted g s sound budget p fault.Sink place h = let (breaks, (t, failed)) = h.collects in cc (sound t)
+refuses_counted g s sound budget p fault.Sink place h = let (breaks, (t, failed, took)) = h.collects in cc (sound t)
 refuses_counted g s sound budget p f place h = record { refused = λ _. h.collects; memory = λ is. let bad : ⊥ = cc in absurd bad }

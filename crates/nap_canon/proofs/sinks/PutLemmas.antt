@@ -26,12 +26,11 @@ use Rattle.nap_list.specs.Putting.{HaltsAfter, NotTaken, Put, PutSome, Putting, 
 use Rattle.nap_list.specs.PuttingLaws.{put_begins, put_goes, put_halts, put_ends, some_put, stops_at_first, takes_one}
 use Rattle.nap_list.specs.State.{after, walk, hand_of}
 use Rattle.nap_list.proofs.PublicLaws.{batch_is_current}
-use Rattle.nap_list.specs.Sending.{Sending, Grows, grows_more}
+use Rattle.nap_list.specs.Sending.{Sending, Grows, grows_more, Sends, SendsAll}
 use Rattle.nap_canon.specs.declared.writer.Writer.{Writer}
 use Rattle.nap_canon.specs.Writing.{PutsPrefix}
 use Rattle.nap_canon.specs.Batches.{canon_sink_model, CutAfter, Parted, PutsFirst, PutsSome, PutsAfter}
-use Rattle.nap_canon.specs.Sinking.{Sends, Canonical, sending_of, entry_bytes, Took, Broke}
-use Rattle.nap_canon.specs.Sinking as sinking
+use Rattle.nap_canon.specs.Sinking.{Canonical, sending_of, entry_bytes, Took, Broke}
 use Rattle.nap_canon.specs.Text.{pieces_bytes, entry_pieces, pieces, text_end_after}
 use Rattle.nap_canon.specs.SinkLaws.{took_none, took_more, took_broke}
 use Rattle.nap_canon.proofs.sinks.JoinLemmas.{rest_current}
@@ -113,12 +112,12 @@ module _ {O S : Type 0} (o : outlet.Ghosts O) (view : S → Sending) (a b : S) (
 
   module _ (works : o.failed s.outlet ≡ false) (list : List Entry) (count : ℕ) (few : count ≤ length list) where
     -- all of the entries were taken
-    pub prefix_took : 0 < count → sinking.TakesAll (view a) (entry_bytes s (take count list)) (view b) → t.form ≡ s.form → t.text_end ≡ text_end_after s.text_end (pieces s.form s.state (take count list)) →
+    pub prefix_took : 0 < count → SendsAll (view a) (entry_bytes s (take count list)) (view b) → t.form ≡ s.form → t.text_end ≡ text_end_after s.text_end (pieces s.form s.state (take count list)) →
         t.state ≡ walk s.state (take count list) → PutsSome o list s t (Ok count)
     prefix_took some sent form text_end state =
-        let all : sinking.TakesAll (sending_of o s) (entry_bytes s (take count list)) (sending_of o t) =
-        subst (λ (x : Sending). sinking.TakesAll (sending_of o s) (entry_bytes s (take count list)) x) to
-        (subst (λ (x : Sending). sinking.TakesAll x (entry_bytes s (take count list)) (view b)) from sent) in
+        let all : SendsAll (sending_of o s) (entry_bytes s (take count list)) (sending_of o t) =
+        subst (λ (x : Sending). SendsAll (sending_of o s) (entry_bytes s (take count list)) x) to
+        (subst (λ (x : Sending). SendsAll x (entry_bytes s (take count list)) (view b)) from sent) in
         (some, few, takes_all o s t works (take count list) (record { bytes = all; form = form; text_end = text_end; state = state }))
 
     -- k of the entries were taken completely

@@ -1,12 +1,9 @@
 -- What an outlet took, write after write and entry after entry.
 
-use Rattle.std.proofs.Common.{Result, Ok, Err, is_err, OnOk, OnErr, ℕ, ◌≡◌, ◌+◌, ◌-◌, ◌^◌, ◌≤◌, Bool, true, false, ◌||◌, List, [], ◌∷◌, ◌++◌, append-nil, take, drop, length, length-drop, min, ap, sym, subst, ◌∙◌, arith}
-use Rattle.std.proofs.lemmas.List.{take_all}
+use Rattle.std.proofs.Common.{Result, Ok, Err, is_err, OnOk, OnErr, ℕ, ◌≡◌, Bool, true, false, List, [], ◌∷◌, ◌++◌, append-nil, ap, sym, subst, ◌∙◌}
 use Rattle.std.proofs.lemmas.Bool.{true≢false, false≢true}
-use Rattle.std.proofs.Math.Bool.{or-false}
-use Rattle.std.specs.Io.KnownBytes.{Appends}
 use Rattle.nap_list.specs.declared.device.outlet.Outlet as outlet
-use Rattle.nap_list.specs.Sending.{Sending, sending, write_grows}
+use Rattle.nap_list.specs.Sending.{sending, SendsAll, SendsSome, Sends}
 use Rattle.nap_canon.specs.declared.text_end.TextEnd.{TextEnd}
 use Rattle.nap_canon.specs.declared.form.Form.{Form}
 use Rattle.nap_canon.specs.declared.form.Form.TheVariants.{Two}
@@ -15,37 +12,24 @@ use Rattle.nap_list.specs.declared.state.State.{State}
 use Rattle.nap_list.specs.State.{start, walk, after}
 use Rattle.nap_canon.specs.Spelling.{Piece}
 use Rattle.nap_canon.specs.Text.{header, text_end_after_header, pieces_bytes, text_end_after, pieces, entry_pieces}
-use Rattle.nap_canon.specs.Sinking.{StartsTextIn, TakesAll, TakesPart, Sends, Canonical, sending_of, entry_bytes, Took, Broke, WritesText}
+use Rattle.nap_canon.specs.Sinking.{StartsTextIn, Canonical, sending_of, entry_bytes, Took, Broke, WritesText}
 use Rattle.nap_canon.specs.SinkLaws.{sends_more}
-
--- one write takes a part of the rest
-pub takes_more : {O : Type 0} (o : outlet.Ghosts O) (s : Sending) (t u : O) (n k i count : ℕ) (xs : List ℕ) → TakesAll s (take i xs) (sending o t n) →
-    count ≤ length (drop i xs) → Appends (o.taken t) (o.taken u) (take count (drop i xs)) → o.failed u ≡ (o.failed t || false) →
-    o.write_failed u ≡ (o.write_failed t || false) → o.flushes u ≡ o.flushes t → n ≤ 2 ^ 64 - 1 → k ≡ min (n + count) (2 ^ 64 - 1) → TakesAll s (take (i + count) xs) (sending o u k)
-takes_more o s t u n k i count xs so_far few appended failed write_failed flushes small counted = record {
-  grows = write_grows o s t u n k i count xs so_far.grows few appended failed write_failed flushes small counted;
-  failed = failed ∙ or-false (o.failed t) ∙ so_far.failed;
-}
-
--- the piece from i on is the rest
-pub rest_of : (i : ℕ) (xs : List ℕ) → take (length xs - i) (drop i xs) ≡ drop i xs
-rest_of i xs = take_all (length xs - i) (drop i xs) (omega (arith, length-drop i xs))
 
 -- one entry more, or a failure amid its bytes
 
-pub took_one : {O : Type 0} (o : outlet.Ghosts O) (s t : Canonical O) (e : Entry) → TakesAll (sending_of o s) (pieces_bytes s.text_end (entry_pieces s.form s.state e)) (sending_of o t) →
+pub took_one : {O : Type 0} (o : outlet.Ghosts O) (s t : Canonical O) (e : Entry) → SendsAll (sending_of o s) (pieces_bytes s.text_end (entry_pieces s.form s.state e)) (sending_of o t) →
     t.form ≡ s.form → t.text_end ≡ text_end_after s.text_end (entry_pieces s.form s.state e) → t.state ≡ after s.state e → Took o s (e ∷ []) t
 unfolding pieces walk
 took_one o s t e bytes form text_end state =
     let alone : entry_pieces s.form s.state e ≡ entry_pieces s.form s.state e ++ [] = sym (append-nil (entry_pieces s.form s.state e)) in
     record {
-      bytes = subst (λ (ps : List Piece). TakesAll (sending_of o s) (pieces_bytes s.text_end ps) (sending_of o t)) alone bytes;
+      bytes = subst (λ (ps : List Piece). SendsAll (sending_of o s) (pieces_bytes s.text_end ps) (sending_of o t)) alone bytes;
       form = form;
       text_end = text_end ∙ ap (text_end_after s.text_end) alone;
       state = state;
     }
 
-pub broke_one : {O : Type 0} (o : outlet.Ghosts O) (s t : Canonical O) (e : Entry) → TakesPart (sending_of o s) (pieces_bytes s.text_end (entry_pieces s.form s.state e)) (sending_of o t) →
+pub broke_one : {O : Type 0} (o : outlet.Ghosts O) (s t : Canonical O) (e : Entry) → SendsSome (sending_of o s) (pieces_bytes s.text_end (entry_pieces s.form s.state e)) (sending_of o t) →
     t.state ≡ s.state → Broke o s [] e t
 unfolding pieces_bytes text_end_after pieces walk
 broke_one o s t e bytes state = record { part = bytes.part; less = bytes.less; grows = bytes.grows; failed = bytes.failed; state = state }
@@ -71,11 +55,11 @@ module _ {O : Type 0} (form : Form) (o : outlet.Ghosts O) (w : O) (s : Canonical
       ∙ ap (λ (t : TextEnd). pieces_bytes t (pieces form s.state d)) begun.text_end
       ∙ ap (λ (u : State). pieces_bytes text_end_after_header (pieces form u d)) begun.state
 
-  pub header_sent : TakesAll (sending o w 0) header (sending_of o s)
+  pub header_sent : SendsAll (sending o w 0) header (sending_of o s)
   header_sent = subst (λ (broke : Bool). Sends (sending o w 0) header broke (sending_of o s)) works begun.begins
 
 -- the header, and then the bytes of the entries
 pub sink_writes_text : {O : Type 0} (o : outlet.Ghosts O) → WritesText o
 sink_writes_text o w s t d begun works took =
     sends_more (sending o w 0) (sending_of o s) (sending_of o t) header (pieces_bytes text_end_after_header (pieces Two start d)) false (header_sent Two o w s begun works)
-    (subst (λ (bs : List ℕ). TakesAll (sending_of o s) bs (sending_of o t)) (first_of_text Two o w s begun works d) took.bytes)
+    (subst (λ (bs : List ℕ). SendsAll (sending_of o s) bs (sending_of o t)) (first_of_text Two o w s begun works d) took.bytes)

@@ -5,12 +5,16 @@ use Rattle.std.proofs.lemmas.List.{take_more, take_all}
 use Rattle.nap_values.specs.Colours.{Components}
 use Rattle.nap_values.specs.Coordinates.{Coordinates}
 use Rattle.nap_values.specs.Digits.{digits_of}
-use Rattle.nap_values.specs.Spellings.{point_bytes, grb_bytes, words_of_pairs, words_of_triples}
+use Rattle.nap_values.specs.Spellings.{point_bytes, addr_bytes, grb_bytes, words_of_pairs, words_of_triples}
 use Rattle.nap_canon.specs.Batches.{points_bytes}
 
 pub point_size : (p : Coordinates) → length (point_bytes p) ≡ 8
 unfolding point_bytes words_of_pairs digits_of
 point_size p = refl
+
+pub addr_size : (a : ℕ) → length (addr_bytes a) ≡ 4
+unfolding addr_bytes digits_of
+addr_size a = refl
 
 pub grb_size : (c : Components) → length (grb_bytes c) ≡ 8
 unfolding grb_bytes words_of_triples digits_of

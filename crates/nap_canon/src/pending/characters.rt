@@ -20,7 +20,7 @@ impl Pending {
 
     /// Appends a character: after SS2 one of G2, after SS3 one of G3, which holds the DRCS only for that time.
     #[inline(always)]
-    pub(super) fn character(&mut self, set: CharSet, code: u8)
+    pub(crate) fn character(&mut self, set: CharSet, code: u8)
         requires { length self.old.bytes + 8 ≤ buffer_limit }
         ensures { AppendsPiece (char_piece set code) self.old self.new }
     {

@@ -2,7 +2,7 @@
 ghost use Rattle.std.specs.Prelude.{◌≡◌, ◌↔◌, ◌≤◌, ◌+◌, [], length, Some, IsTrue};
 ghost use Rattle.nap_list.specs.Agreement.{AreCurrent};
 ghost use Rattle.nap_list.specs.Entry.{attributes, hand_attributes, ink_attributes, point_attributes};
-ghost use Rattle.nap_values.specs.Spellings.{grb_bytes};
+ghost use Rattle.nap_values.specs.Spellings.{addr_bytes, grb_bytes};
 ghost use Rattle.nap_canon.specs.Preludes.{option_commands, colour_prelude, text_prelude, prelude};
 ghost use Rattle.nap_canon.specs.Spelling.{size_byte, flag_byte, opcode, command_piece};
 ghost use Rattle.nap_canon.specs.Writing.{AppendsPiece, AppendsCommands};
@@ -16,7 +16,7 @@ use crate::current::ink_is_current;
 use crate::pending::{LENGTHS, Pending, opcodes, word_byte};
 use nap_codes::Size;
 use nap_list::{Colour, Drawing, Entry, Hand, Ink, TextLook};
-use nap_values::{Grb, Move, put_addr, put_grb, put_move, put_point};
+use nap_values::{Addr, Grb, Move, put_addr, put_grb, put_move, put_point};
 
 /// Returns the control of a named size.
 fn size_byte(size: Size) -> u8
@@ -58,6 +58,16 @@ impl Pending {
         self.append_opcode_and_operands(opcodes::SET_COLOR, &[], &put_grb(grb)[..8]);
     }
 
+    /// Appends SELECT COLOR with an address.
+    #[inline(always)]
+    fn append_select_front(&mut self, addr: Addr)
+        requires { length self.old.bytes + 6 ≤ buffer_limit }
+        ensures appends { AppendsPiece (opcode 0x3E (addr_bytes addr)) self.old self.new }
+        ensures most { length self.new.bytes ≤ length self.old.bytes + 6 }
+    {
+        self.append_opcode_and_operands(opcodes::SELECT_COLOR, &[], &put_addr(addr)[..4]);
+    }
+
     /// Appends a command.
     #[inline(always)]
     fn append_command(&mut self, command: Command)
@@ -75,9 +85,7 @@ impl Pending {
                 &put_move(pel),
             ),
             Command::SelectBase => self.append_opcode_and_operands(opcodes::SELECT_COLOR, &[], &[]),
-            Command::SelectFront(addr) => {
-                self.append_opcode_and_operands(opcodes::SELECT_COLOR, &[], &put_addr(addr));
-            }
+            Command::SelectFront(addr) => self.append_select_front(addr),
             Command::SelectPair(front, back) => {
                 self.append_opcode_and_operands(
                     opcodes::SELECT_COLOR,
@@ -140,9 +148,9 @@ impl Pending {
         self.append_command_if(second);
     }
 
-    /// Appends the prelude of text attributes.
+    /// Appends the prelude of text attributes, some of which aren't current.
     #[inline(never)]
-    fn append_look_prelude(&mut self, old: &TextLook, look: &TextLook)
+    fn append_other_look_prelude(&mut self, old: &TextLook, look: &TextLook)
         requires space { length self.old.bytes + 108 ≤ buffer_limit }
         ensures appends { AppendsCommands (text_prelude old.now (Some look.now)) self.old self.new }
         ensures most { length self.new.bytes ≤ length self.old.bytes + 108 }
@@ -155,9 +163,22 @@ impl Pending {
         self.append_command_if(flag_prelude(Flag::Scroll, old.scroll, look.scroll));
     }
 
+    /// Appends the prelude of text attributes.
+    #[inline(always)]
+    fn append_look_prelude(&mut self, old: &TextLook, look: &TextLook)
+        requires space { length self.old.bytes + 108 ≤ buffer_limit }
+        ensures appends { AppendsCommands (text_prelude old.now (Some look.now)) self.old self.new }
+        ensures most { length self.new.bytes ≤ length self.old.bytes + 108 }
+    {
+        if old.is_look(look) {
+            return;
+        }
+        self.append_other_look_prelude(old, look);
+    }
+
     /// Appends the prelude of a pel and a colour.
     #[inline(always)]
-    fn append_point_prelude(&mut self, old: &Drawing, pel: Move, colour: Colour)
+    pub(crate) fn append_point_prelude(&mut self, old: &Drawing, pel: Move, colour: Colour)
         requires { length self.old.bytes + 54 ≤ buffer_limit }
         ensures appends { AppendsCommands (prelude old.now (point_attributes pel colour)) self.old self.new }
         ensures most { length self.new.bytes ≤ length self.old.bytes + 54 }
@@ -195,7 +216,7 @@ impl Pending {
 
     /// Appends the prelude of a pen, a colour and text attributes.
     #[inline(always)]
-    fn append_hand_prelude(&mut self, old: &Drawing, hand: &Hand)
+    pub(crate) fn append_hand_prelude(&mut self, old: &Drawing, hand: &Hand)
         requires { length self.old.bytes + 162 ≤ buffer_limit }
         ensures appends { AppendsCommands (prelude old.now (hand_attributes hand.now)) self.old self.new }
         ensures most { length self.new.bytes ≤ length self.old.bytes + 162 }

@@ -1,5 +1,6 @@
 //! The spelling of each entry whose attributes are current (PROFILE.md, Canonical text).
-ghost use Rattle.std.specs.Prelude.{◌≡◌, true, ◌≤◌, ◌+◌, [], ◌∷◌, length};
+ghost use Rattle.std.specs.Prelude.{◌≡◌, true, ◌≤◌, ◌+◌, ◌++◌, [], ◌∷◌, length};
+ghost use Rattle.nap_values.specs.Spellings.{addr_bytes};
 ghost use Rattle.nap_list.specs.Entry.{attributes};
 ghost use Rattle.nap_list.specs.State.{with_attributes};
 ghost use Rattle.nap_canon.specs.Spelling.{word_byte, mask_byte, cursor_byte, area_bytes, domain_again, opcode, map_pieces, spelling_pieces};
@@ -37,12 +38,25 @@ fn cursor_byte(kind: CursorKind) -> u8
 impl Pending {
     /// Appends SET COLOR at an address, after the selection of that address if it isn't the colour.
     #[inline(always)]
-    fn append_map(&mut self, old: &Drawing, addr: Addr, grb: Grb)
+    pub(crate) fn append_map(&mut self, old: &Drawing, addr: Addr, grb: Grb)
         requires { length self.old.bytes + 46 ≤ buffer_limit }
         ensures { AppendsPieces (map_pieces old.now addr grb) self.old self.new }
     {
         self.append_colour_prelude(old, Colour::Front(addr));
         self.append_set_color(grb);
+    }
+
+    /// Appends BLINK with an address and its times.
+    #[inline(always)]
+    fn append_blink(&mut self, addr: Addr, on: Word, off: Word, delay: Word)
+        requires { length self.old.bytes + 9 ≤ buffer_limit }
+        ensures { AppendsPiece (opcode 0x3F (addr_bytes addr ++ word_byte on ∷ word_byte off ∷ word_byte delay ∷ [])) self.old self.new }
+    {
+        self.append_opcode_and_operands(
+            opcodes::BLINK,
+            &put_addr(addr)[..4],
+            &[word_byte(on), word_byte(off), word_byte(delay)],
+        );
     }
 
     /// Appends RESET with its words.
@@ -126,11 +140,7 @@ impl Pending {
                 off,
                 delay,
                 ..
-            } => self.append_opcode_and_operands(
-                opcodes::BLINK,
-                &put_addr(*addr),
-                &[word_byte(*on), word_byte(*off), word_byte(*delay)],
-            ),
+            } => self.append_blink(*addr, *on, *off, *delay),
             Entry::BlinkEnd { .. } => self.append_opcode_and_operands(opcodes::BLINK, &[], &[]),
             Entry::BlinkMark { on, .. } => self.append_control(&[
                 0x1B,

@@ -8,6 +8,12 @@ use crate::device::DeviceFault;
 /// The greatest number of reads of one input (PROFILE.md, Limits).
 pub const READS: u64 = 1_048_576;
 
+/// The greatest number of bytes of one read (PROFILE.md, Limits).
+pub const READ_SIZE: usize = 65_536;
+
+/// The greatest number of bytes of one read where the output is written as the input is read.
+pub const STREAM_READ_SIZE: usize = 4_096;
+
 /// Gives the bytes of a stream, read by read.
 pub trait Inlet {
     /// The bytes left to read, if it tells them.

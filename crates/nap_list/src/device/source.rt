@@ -14,9 +14,9 @@ pub struct Source<R> {
 }
 
 impl<R> Model for Source<R> {
-    ghost use Rattle.nap_list.specs.Device.{Reading};
+    ghost use Rattle.nap_list.specs.Device.{ReadingFrom};
 
-    ghost Value = { Reading R };
+    ghost Value = { ReadingFrom R };
 
     ghost view = { λ s. record { reader = s.reader; calls = s.calls; failed = s.failed } };
 }

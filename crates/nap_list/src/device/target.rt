@@ -17,9 +17,9 @@ pub struct Target<W> {
 }
 
 impl<W> Model for Target<W> {
-    ghost use Rattle.nap_list.specs.Device.{Writing};
+    ghost use Rattle.nap_list.specs.Device.{WritingTo};
 
-    ghost Value = { Writing W };
+    ghost Value = { WritingTo W };
 
     ghost view = { λ t. record { writer = t.writer; write_failed = t.write_failed; flush_failed = t.flush_failed; sent = t.sent; flushes = t.flushes } };
 }

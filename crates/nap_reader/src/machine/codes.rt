@@ -6,7 +6,7 @@ use super::front::{FrontCode, front_of};
 use super::{Machine, Request, Taken, took};
 use crate::fault::Fault;
 use crate::slice::Slice;
-use nap_codes::{Code, Opcode};
+use nap_codes::Opcode;
 use nap_list::Sink;
 
 /// The outcome of the first code.
@@ -19,6 +19,11 @@ pub(super) enum CodeOutcome {
     /// The code is refused or breaks: the number of bytes before it, the fault, and the index of the byte whose place
     /// the fault has.
     Stopped(usize, Fault, usize),
+    /// The code is a call of a macro: the number of its bytes, and the name.
+    Calls(usize, u8),
+    /// The code begins a body, and has acted: the number of its bytes, the name, and whether the body is presented as
+    /// soon as it is defined.
+    Defines(usize, u8, bool),
     /// The code is another one, and nothing was done.
     Other,
 }
@@ -48,6 +53,18 @@ impl<S: Sink> Machine<S> {
                             request: Request::Clear,
                         };
                     }
+                }
+                CodeOutcome::Calls(more, name) => {
+                    return Taken {
+                        count: count + more,
+                        request: Request::Call(name),
+                    };
+                }
+                CodeOutcome::Defines(more, name, show) => {
+                    return Taken {
+                        count: count + more,
+                        request: Request::Define(name, show),
+                    };
                 }
                 CodeOutcome::Opens(op) => return self.open(op, slice, count, ended),
                 CodeOutcome::Stopped(more, fault, index) => {
@@ -82,14 +99,8 @@ impl<S: Sink> Machine<S> {
                 self.lexer.shift(*byte);
                 CodeOutcome::Acted(1, false)
             }
-            FrontCode::Effector(step) => match self
-                .work
-                .control(&Code::Step(step), &mut self.sink)
-            {
-                Ok(()) => CodeOutcome::Acted(1, false),
-                Err(fault) => CodeOutcome::Stopped(0, Fault::from(fault), 0),
-            },
-            FrontCode::Other => CodeOutcome::Other,
+            FrontCode::Effector(step) => self.effector(step, *byte),
+            FrontCode::Other => self.whole_code(bytes),
         }
     }
 }

@@ -10,11 +10,11 @@ use nap_codes::{CharSet, CodeSet, GSet, Lexer, Opcode, TextStep};
 pub(crate) enum FrontCode {
     /// An opcode.
     Opcode(Opcode),
-    /// Characters of this set, if the first byte is from `20` to `7F`.
+    /// Characters of this set, if the first byte is from `20` to `7F`, or a format effector and perhaps characters.
     Characters(CharSet),
     /// SO or SI.
     Shift,
-    /// A format effector of one byte.
+    /// A format effector of one byte, where no characters are in GL.
     Effector(TextStep),
     /// A macro call, another code, or a byte of an incomplete code.
     Other,
@@ -40,7 +40,10 @@ pub(crate) fn front_of(lexer: &Lexer, byte: u8) -> FrontCode
         return FrontCode::Shift;
     }
     match lexer.format_effector(byte) {
-        Some(step) => FrontCode::Effector(step),
+        Some(step) => match lexer.char_set() {
+            Some(set) => FrontCode::Characters(set),
+            None => FrontCode::Effector(step),
+        },
         None => FrontCode::Other,
     }
 }

@@ -16,7 +16,7 @@ pub enum Ahead {
 }
 
 impl<S: Sink> Reader<S> {
-    ghost use Rattle.nap_reader.specs.Looking.{AddsAhead, CountsAll, bytes_ahead};
+    ghost use Rattle.nap_reader.specs.Looking.{AddsAhead, CountsAhead, bytes_ahead};
     ghost use Rattle.nap_reader.specs.ReaderAnswers.{HasRead, budget_of, refusal_of};
 
     /// Returns what the first bytes of this piece add, if it comes next. The reader is unchanged.
@@ -26,7 +26,7 @@ impl<S: Sink> Reader<S> {
         ensures within { bytes_ahead result ≤ length piece.now }
         ensures adds_entries { refusal_of self.now ≡ None → (s : S) (p : List ℕ) → HasRead self.now s p →
             AddsAhead (budget_of self.now) p piece.now result }
-        ensures counts { CountsAll self.now piece.now result }
+        ensures counts { CountsAhead self.now piece.now result }
     {
         let Some(byte) = piece.first() else {
             return Ahead::First(0);

@@ -1,6 +1,6 @@
 use Rattle.std.proofs.Common.{ℕ, ap, inl, refl, subst}
 use Rattle.nap_list.specs.declared.count_sink.CountSink.{CountSink}
-use Rattle.nap_c.specs.Answers.{IsCounted}
+use Rattle.nap_c.specs.Answers.{CountsInBudget}
 use Rattle.nap_c.proofs.AnswerLemmas.{answers_uncounted}
 use Rattle.nap_c.proofs.TextLemmas.{refused_to_count}
 use Rattle.nap_c.proofs.call.naplps_check.Goals as goal
@@ -12,4 +12,4 @@ returns-in-Err c =
     let b = c.in-Some.budget in
     let none = ap (λ (s : CountSink). s.count) c.new-2.ensures in
     let refused = refused_to_count _ c.new-2.result none (λ d wants. wants) (λ t. refl) b page r.fault r.place c.in-Err.ensures in
-    inl (c.in-Some.ensures.found.0 refl, subst (λ (b : ℕ). IsCounted b page c.refused_answer.result) c.in-Some.ensures.value (answers_uncounted b page r.fault r.place c.refused_answer.result refused c.refused_answer.ensures))
+    inl (c.in-Some.ensures.found.0 refl, subst (λ (b : ℕ). CountsInBudget b page c.refused_answer.result) c.in-Some.ensures.value (answers_uncounted b page r.fault r.place c.refused_answer.result refused c.refused_answer.ensures))

@@ -2,7 +2,7 @@ use Rattle.std.proofs.Common.{ℕ, [], inl, refl, subst}
 use Rattle.nap_canon.specs.Streams.{list_of}
 use Rattle.nap_reader.specs.Breaking.{BreaksWithin}
 use Rattle.nap_lines.specs.Listing.{lines}
-use Rattle.nap_c.specs.Answers.{IsAnswered}
+use Rattle.nap_c.specs.Answers.{AnswersInBudget}
 use Rattle.nap_c.proofs.AnswerLemmas.{answers_text}
 use Rattle.nap_c.proofs.call.naplps_list.Goals as goal
 
@@ -14,4 +14,4 @@ returns c =
     let a = c.answer_text.result in
     let b = c.in-Some.budget in
     let answered = answers_text (λ text. text.items) b page (BreaksWithin b page) (lines (list_of b page)) old new a c.list_text.result c.list_text.ensures c.answer_text.ensures in
-    inl (c.in-Some.ensures.found.0 refl, subst (λ (b : ℕ). IsAnswered b page (BreaksWithin b page) (lines (list_of b page)) [] old new a) c.in-Some.ensures.value answered)
+    inl (c.in-Some.ensures.found.0 refl, subst (λ (b : ℕ). AnswersInBudget b page (BreaksWithin b page) (lines (list_of b page)) [] old new a) c.in-Some.ensures.value answered)

@@ -1,7 +1,7 @@
 use Rattle.std.proofs.Common.{ℕ, ◌∙◌, ap, inl, inr, refl, subst}
 use Rattle.nap_reader.specs.declared.fault.Refusal.{Refusal}
-use Rattle.nap_batch.specs.Answers.{places}
-use Rattle.nap_c.specs.Answers.{IsAnswered, refused_answer}
+use Rattle.nap_command.specs.Answers.{places}
+use Rattle.nap_c.specs.Answers.{AnswersInBudget, refused_answer}
 use Rattle.nap_c.specs.Texts.{LacksForText}
 use Rattle.nap_c.proofs.AnswerLemmas.{answers_places}
 use Rattle.nap_c.proofs.call.naplps_places.Goals as goal
@@ -17,7 +17,7 @@ returns-in-Ok c =
     let answered = answers_places b page placed.text.items old new a placed.ended c.in-Ok.ensures c.answer_placed.ensures in
     inl (
       c.in-Some.ensures.found.0 refl,
-      subst (λ (b : ℕ). IsAnswered b page (LacksForText b page) (places b page) (places b page) old new a) c.in-Some.ensures.value answered,
+      subst (λ (b : ℕ). AnswersInBudget b page (LacksForText b page) (places b page) (places b page) old new a) c.in-Some.ensures.value answered,
     )
 
 -- memory ran out for the places

@@ -1,7 +1,7 @@
 use Rattle.std.proofs.Common.{ℕ, List, Option, subst, sym}
 use Rattle.nap_c.specs.declared.check.Check.{Check}
 use Rattle.nap_c.specs.Checks.{HasChecked}
-use Rattle.nap_c.specs.Pieces.{Feeds}
+use Rattle.nap_c.specs.Pieces.{FeedsPiece}
 use Rattle.nap_c.proofs.pieces.naplps_check_feed.Goals as goal
 
 -- a piece of the page was read
@@ -10,7 +10,7 @@ returns c =
     let piece = c.args.piece.now in
     let old = λ (budget : ℕ) (p : List ℕ) (h : HasChecked c.in-Some.check.value budget p).
     subst (λ (k : Check). HasChecked k budget p) (sym c.deref_mut.ensures.value) h in
-    subst (λ (before : Option Check). Feeds before c.put.new.self.check piece c.feed-answer.result) (sym c.in-Some.ensures.known) (record {
+    subst (λ (before : Option Check). FeedsPiece before c.put.new.self.check piece c.feed-answer.result) (sym c.in-Some.ensures.known) (record {
       check = c.feed-answer.new.self;
       begun = c.put.ensures;
       has_checked = λ budget p h. c.feed-answer.ensures.has_checked budget p (old budget p h);

@@ -1,6 +1,5 @@
 use Rattle.std.proofs.Common.{◌≡◌, ◌∙◌, ap, refl, subst, sym}
-use Rattle.nap_list.specs.Device.{Writing}
-use Rattle.nap_reader.specs.declared.fault.Refusal.{Refusal}
+use Rattle.nap_list.specs.Device.{WritingTo}
 use Rattle.nap_canon.specs.PageTexts.{RefusesPage}
 use Rattle.nap_canon.specs.Streams.{list_of}
 use Rattle.nap_canon.proofs.sinks.PageLemmas.{refuses_page, text_written}
@@ -12,10 +11,10 @@ returns-in-Ok c =
     let page = c.args.page.now in
     let k = c.in-Ok.ensures.counts in
     let works = sym c.failed.ensures ∙ c.if-failed.false in
-    let empty = ap (λ (u : Writing _). u.writer.items) c.new-2.ensures ∙ c.new.ensures.items in
+    let empty = ap (λ (u : WritingTo _). u.writer.items) c.new-2.ensures ∙ c.new.ensures.items in
     let made = text_written _ c.new-2.result c.new-sink.result c.in-Ok.sink c.new-sink.ensures works (λ u. u.writer.items) (λ u. refl) empty (list_of budget page) k.1 in
     let inner : c.into_inner-text.result.items ≡ c.close.result.writer.items = cc c.into_inner-text.ensures in
-    (record { accepted = k.0; text_is = inner ∙ (ap (λ (u : Writing _). u.writer.items) c.close.ensures ∙ made) }, k.2)
+    (record { accepted = k.0; text_is = inner ∙ (ap (λ (u : WritingTo _). u.writer.items) c.close.ensures ∙ made) }, k.2)
 
 pub returns-in-Err : goal.returns-in-Err
 returns-in-Err c =

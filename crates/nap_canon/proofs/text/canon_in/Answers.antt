@@ -1,7 +1,7 @@
 use Rattle.std.proofs.Common.{◌≡◌, ℕ, List, Err, refl, ap, sym, subst, ◌∙◌}
 use Rattle.std.proofs.lemmas.Result.{err_from_is_err_and}
 use Rattle.nap_canon.specs.declared.fault.CanonFault.TheVariants.{Memory}
-use Rattle.nap_canon.specs.TextAnswers.{AnswersText}
+use Rattle.nap_canon.specs.TextAnswers.{IsTextAnswer}
 use Rattle.nap_canon.specs.Laws.{IsReadAs}
 use Rattle.nap_canon.specs.Plain.{IsPlain}
 use Rattle.nap_canon.proofs.reading_back.CanonicalLaws.{text_is_read}
@@ -24,7 +24,7 @@ pub returns-in_err-bytes : goal.returns-in_err-bytes
 returns-in_err-bytes c =
     let p = err_from_is_err_and c.from_residual.result c.from_residual.ensures.1 in
     let is : c.from_residual.result ≡ Err Memory = p.1 ∙ ap Err p.2 in
-    let all : AnswersText c.args.form c.args.entries.now (Err Memory) = record {
+    let all : IsTextAnswer c.args.form c.args.entries.now (Err Memory) = record {
       illegal = illegal_nowhere c.args.entries.now (Err Memory) (λ j was. cc) (never_breaks c.args.entries.now c.in_default.ensures.err);
       legal = tt;
       range = tt;
@@ -33,7 +33,7 @@ returns-in_err-bytes c =
       read_back = tt;
       memory = λ was. c.in_default.ensures.ok.0 refl;
     } in
-    subst (AnswersText c.args.form c.args.entries.now) (sym is) all
+    subst (IsTextAnswer c.args.form c.args.entries.now) (sym is) all
 
 pub returns : goal.returns
 returns c =

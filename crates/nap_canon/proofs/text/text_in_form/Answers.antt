@@ -4,7 +4,7 @@ use Rattle.nap_canon.specs.declared.form.Form.{Form}
 use Rattle.nap_canon.specs.declared.text_end.TextEnd.{TextEnd}
 use Rattle.nap_list.specs.declared.entry.Entry.{Entry}
 use Rattle.nap_list.specs.declared.state.State.{State}
-use Rattle.nap_list.specs.Device.{Writing}
+use Rattle.nap_list.specs.Device.{WritingTo}
 use Rattle.nap_list.specs.Range.{InRange}
 use Rattle.nap_list.specs.State.{start, walk, Fits, after}
 use Rattle.nap_canon.specs.Sinking.{Canonical}
@@ -31,7 +31,7 @@ loop-entry-init c =
     let begun = c.in_form-sink.ensures in
     record {
       text = (header_sent c.args.form _ c.new.result c.in_form-sink.result begun (sym c.failed.ensures ∙ c.if-failed.false)).grows.taken
-          ∙ ap (λ (bs : List ℕ). bs ++ header) (ap (λ (t : Writing _). t.writer.items) c.new.ensures ∙ c.in_ok-bytes.ensures.items);
+          ∙ ap (λ (bs : List ℕ). bs ++ header) (ap (λ (t : WritingTo _). t.writer.items) c.new.ensures ∙ c.in_ok-bytes.ensures.items);
       form_is = begun.form_is;
       text_end = begun.text_end;
       state = begun.state;

@@ -1,10 +1,10 @@
 use Rattle.std.proofs.Common.{◌≡◌, take}
-use Rattle.nap_cli.specs.Plain.{shown_text, IsPlain}
+use Rattle.nap_cli.specs.Plain.{shown_text, IsPlainText}
 use Rattle.nap_cli.proofs.plain.escaped.Given as goal
 
 -- what was appended so far is how the bytes so far are shown, and is plain
 abbrev pub invariant-loop-byte : goal.invariant-loop-byte
 invariant-loop-byte l = record {
   shown : l.plain.items ≡ shown_text l.lines (take l.byte-index l.text);
-  plain : IsPlain l.plain.items;
+  plain : IsPlainText l.plain.items;
 }

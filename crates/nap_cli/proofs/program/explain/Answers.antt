@@ -4,7 +4,7 @@ use Rattle.std.proofs.Math.Bool.{or-false}
 use Rattle.clap.specs.Values.{kind_of}
 use Rattle.nap_command.specs.declared.answer.Verdict.TheVariants as verdict
 use Rattle.nap_cli.specs.Explaining.{outputs}
-use Rattle.nap_cli.specs.Plain.{IsPlain}
+use Rattle.nap_cli.specs.Plain.{IsPlainText}
 use Rattle.nap_cli.proofs.ExplainLemmas.{explains_help, explains_memory, explains_wrong, shows_failing, takes_plain}
 use Rattle.nap_cli.proofs.OptionLemmas.{true_or_false}
 use Rattle.nap_cli.proofs.program.explain.Goals as goal
@@ -43,7 +43,7 @@ returns g c =
 
 pub returns-then-use_stderr : goal.returns-then-use_stderr
 returns-then-use_stderr g c =
-    let plain : IsPlain c.as_slice.result.now = subst IsPlain (sym c.as_slice.ensures.value) c.in-Ok.ensures in
+    let plain : IsPlainText c.as_slice.result.now = subst IsPlainText (sym c.as_slice.ensures.value) c.in-Ok.ensures in
     let e = takes_plain _ _ _ _ c.write_whole.ensures.takes plain in
     let kinds = c.use_stderr.ensures.0 c.if-use_stderr.true in
     explains_wrong (kind_of c.args.error) _ _ _ kinds.0 kinds.1 (λ h. search rules) (record {

@@ -1,6 +1,6 @@
 use Rattle.std.proofs.Common.{◌∙◌, ap, refl}
 use Rattle.nap_list.specs.declared.count_sink.CountSink.{CountSink}
-use Rattle.nap_list.specs.Device.{Writing}
+use Rattle.nap_list.specs.Device.{WritingTo}
 use Rattle.nap_list.specs.Reading.{reading}
 use Rattle.nap_command.proofs.AnswerLemmas.{finds_count, finds_text}
 use Rattle.nap_command.proofs.answer.answer_input.Goals as goal
@@ -22,6 +22,6 @@ returns-in_ok-found-in-Canon-clause-found g c =
     let seen = reading g.I.Inlet c.args.input.now c.read_input-in-Canon.new.input in (
       h.0,
       h.1,
-      finds_text _ c.new-in-Canon-2.result s c.in_ok-begin_text-in-Canon.ensures.0 c.in_ok-begin_text-in-Canon.ensures.1 (λ u. u.writer.items) (λ u. refl) (ap (λ (u : Writing _). u.writer.items) c.new-in-Canon-2.ensures ∙ c.new-in-Canon.ensures.items) _ (λ t d k. k)
+      finds_text _ c.new-in-Canon-2.result s c.in_ok-begin_text-in-Canon.ensures.0 c.in_ok-begin_text-in-Canon.ensures.1 (λ u. u.writer.items) (λ u. refl) (ap (λ (u : WritingTo _). u.writer.items) c.new-in-Canon-2.ensures ∙ c.new-in-Canon.ensures.items) _ (λ t d k. k)
           c.args.command.now h.0 c.in-Canon.is seen c.in_ok-found-in-Canon.found c.print_text.result c.requires.bytes h.2.0 h.2.1 c.print_text.ensures,
     )

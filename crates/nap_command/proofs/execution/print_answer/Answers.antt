@@ -1,5 +1,5 @@
 use Rattle.std.proofs.Common.{◌≡◌, ◌∙◌, ◌||◌, ℕ, List, Bool, false, true, Err, ap, subst, sym}
-use Rattle.nap_command.specs.Devices.{Takes}
+use Rattle.nap_command.specs.Devices.{TakesText}
 use Rattle.nap_command.proofs.CommandLemmas.{ends_after, ends_amid}
 use Rattle.nap_command.proofs.DeviceLemmas.{none_written_amiss}
 use Rattle.nap_command.proofs.execution.print_answer.Goals as goal
@@ -11,7 +11,7 @@ returns-in-Ok g c =
     let old = g.O.Outlet.taken c.args.output.now in
     let new = g.O.Outlet.taken c.write_whole.new.output in
     let fault = c.in-Err-write_whole.fault in
-    let takes = subst (λ (text : List ℕ). Takes old new text (Err fault)) c.as_slice.ensures.value write.takes in
+    let takes = subst (λ (text : List ℕ). TakesText old new text (Err fault)) c.as_slice.ensures.value write.takes in
     let k = ends_amid c.args.command.now h.0 _ _ _ old new _ fault h.2 takes (write.failed ∙ ap (λ (x : Bool). x || true) c.requires.works) in
     record {
       few = c.find_printout.ensures.few;

@@ -1,11 +1,11 @@
 use Rattle.std.proofs.Common.{◌∙◌, List, ℕ, subst}
-use Rattle.nap_command.specs.Devices.{Takes}
+use Rattle.nap_command.specs.Devices.{TakesText}
 use Rattle.nap_command.proofs.TellLemmas.{tells_written}
 use Rattle.nap_command.proofs.execution.report.Goals as goal
 
 pub returns : goal.returns
 returns g c =
     let E = g.E.Outlet in
-    let takes = subst (λ (text : List ℕ). Takes (E.taken c.args.errors.now) (E.taken c.write_whole.new.output) text c.write_whole.result)
+    let takes = subst (λ (text : List ℕ). TakesText (E.taken c.args.errors.now) (E.taken c.write_whole.new.output) text c.write_whole.result)
     (c.as_bytes.ensures.value ∙ (c.deref.ensures.0 ∙ c.line-line.ensures)) c.write_whole.ensures.takes in
     tells_written _ _ c.write_whole.result _ _ c.args.failure c.status.result takes c.write_whole.ensures.failed c.status.ensures

@@ -4,7 +4,7 @@ use Rattle.std.proofs.lemmas.Result.{err_from_is_err_and}
 use Rattle.nap_values.specs.Operands.{operand_words}
 use Rattle.nap_draw.specs.Operands.{operands}
 use Rattle.nap_draw.specs.Rule.{blink}
-use Rattle.nap_draw.specs.Execution.{Putting}
+use Rattle.nap_draw.specs.Execution.{PutsSoFar}
 use Rattle.nap_draw.proofs.ByteRuns.{operands_none}
 use Rattle.nap_draw.proofs.Still.{blink_left}
 use Rattle.nap_list.specs.SinkModels.{sink_model_of}
@@ -20,7 +20,7 @@ loop-group-init g c =
       can = omega arith;
       finite = tt;
       size = size;
-      putting = subst (λ (run : List ℕ). Putting g.S.Sink c.args.sink.now c.args.sink.now (map f (operands (c.args.domain.single + 3) (operand_words c.args.run.now))) (map f (operands (c.args.domain.single + 3) (operand_words run))))
+      putting = subst (λ (run : List ℕ). PutsSoFar g.S.Sink c.args.sink.now c.args.sink.now (map f (operands (c.args.domain.single + 3) (operand_words c.args.run.now))) (map f (operands (c.args.domain.single + 3) (operand_words run))))
           (sym all) (put_begins (sink_model_of g.S.Sink) c.args.sink.now _ (g.met.S.Sink.took_none c.args.sink.now));
     }
 

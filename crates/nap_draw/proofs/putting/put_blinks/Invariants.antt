@@ -3,7 +3,7 @@ use Rattle.std.specs.Slice.Iter.{chunks_rest, chunks_size}
 use Rattle.nap_values.specs.Operands.{operand_words}
 use Rattle.nap_draw.specs.Operands.{operands}
 use Rattle.nap_draw.specs.Rule.{blink}
-use Rattle.nap_draw.specs.Execution.{Putting}
+use Rattle.nap_draw.specs.Execution.{PutsSoFar}
 use Rattle.nap_draw.proofs.putting.put_blinks.Given as goal
 
 abbrev pub invariant-loop-group : goal.invariant-loop-group
@@ -11,6 +11,6 @@ invariant-loop-group g l = record {
   can : (goal.iterator-loop-group g).can_next l.group-iterator;
   finite : (goal.iterator-loop-group g).is_finite l.group-iterator;
   size : chunks_size l.group-iterator ≡ l.fn.domain.single + 3;
-  putting : Putting g.S.Sink l.fn.sink l.sink (map (blink l.fn.domain.single l.drawing.colour) (operands (l.fn.domain.single + 3) (operand_words l.fn.run)))
+  putting : PutsSoFar g.S.Sink l.fn.sink l.sink (map (blink l.fn.domain.single l.drawing.colour) (operands (l.fn.domain.single + 3) (operand_words l.fn.run)))
       (map (blink l.fn.domain.single l.drawing.colour) (operands (l.fn.domain.single + 3) (operand_words (chunks_rest l.group-iterator))));
 }

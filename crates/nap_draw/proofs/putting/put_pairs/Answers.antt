@@ -4,7 +4,7 @@ use Rattle.std.proofs.lemmas.Result.{err_from_is_err_and}
 use Rattle.nap_values.specs.Coordinates.{Coordinates}
 use Rattle.nap_draw.specs.declared.spans.Span.{Span}
 use Rattle.nap_draw.specs.Geometry.{last_or}
-use Rattle.nap_draw.specs.Execution.{Putting, pair_spans, figure_entry}
+use Rattle.nap_draw.specs.Execution.{PutsSoFar, pair_spans, figure_entry}
 use Rattle.nap_draw.proofs.Links.{two_of, paired_left, paired_last, paired_few, end_here}
 use Rattle.nap_list.specs.SinkModels.{sink_model_of}
 use Rattle.nap_list.specs.PuttingLaws.{put_begins, one_fits, one_goes, one_stops, put_ends}
@@ -19,7 +19,7 @@ loop-pair-init g c =
       finite = tt;
       size = size;
       last = ap (λ (ps : List Coordinates). last_or None (pair_spans ps)) all;
-      putting = subst (λ (ps : List Coordinates). Putting g.S.Sink c.args.sink.now c.args.sink.now (map (figure_entry c.args.figure c.args.drawing.now) (pair_spans c.args.points.now)) (map (figure_entry c.args.figure c.args.drawing.now) (pair_spans ps)))
+      putting = subst (λ (ps : List Coordinates). PutsSoFar g.S.Sink c.args.sink.now c.args.sink.now (map (figure_entry c.args.figure c.args.drawing.now) (pair_spans c.args.points.now)) (map (figure_entry c.args.figure c.args.drawing.now) (pair_spans ps)))
           (sym all) (put_begins (sink_model_of g.S.Sink) c.args.sink.now _ (g.met.S.Sink.took_none c.args.sink.now));
     }
 

@@ -1,7 +1,7 @@
 use Rattle.std.proofs.Common.{◌≡◌, map, None}
 use Rattle.std.specs.Slice.Iter.{chunks_exact_rest, chunks_exact_size}
 use Rattle.nap_draw.specs.Geometry.{last_or}
-use Rattle.nap_draw.specs.Execution.{Putting, pair_spans, figure_entry}
+use Rattle.nap_draw.specs.Execution.{PutsSoFar, pair_spans, figure_entry}
 use Rattle.nap_draw.proofs.putting.put_pairs.Given as goal
 
 abbrev pub invariant-loop-pair : goal.invariant-loop-pair
@@ -10,5 +10,5 @@ invariant-loop-pair g l = record {
   finite : (goal.iterator-loop-pair g).is_finite l.pair-iterator;
   size : chunks_exact_size l.pair-iterator ≡ 2;
   last : last_or l.last (pair_spans (chunks_exact_rest l.pair-iterator)) ≡ last_or None (pair_spans l.points);
-  putting : Putting g.S.Sink l.fn.sink l.sink (map (figure_entry l.figure l.drawing) (pair_spans l.points)) (map (figure_entry l.figure l.drawing) (pair_spans (chunks_exact_rest l.pair-iterator)));
+  putting : PutsSoFar g.S.Sink l.fn.sink l.sink (map (figure_entry l.figure l.drawing) (pair_spans l.points)) (map (figure_entry l.figure l.drawing) (pair_spans (chunks_exact_rest l.pair-iterator)));
 }

@@ -1,8 +1,8 @@
 use Rattle.std.proofs.Common.{map, drop}
 use Rattle.nap_values.specs.Operands.{operand_words}
 use Rattle.nap_list.specs.declared.entry.Entry.TheVariants.{Wait}
-use Rattle.nap_draw.specs.Execution.{Putting}
+use Rattle.nap_draw.specs.Execution.{PutsSoFar}
 use Rattle.nap_draw.proofs.putting.put_pauses.Given as goal
 
 abbrev pub invariant-loop-byte : goal.invariant-loop-byte
-invariant-loop-byte g l = Putting g.S.Sink l.fn.sink l.sink (map Wait (operand_words l.run)) (map Wait (operand_words (drop l.byte-index l.run)))
+invariant-loop-byte g l = PutsSoFar g.S.Sink l.fn.sink l.sink (map Wait (operand_words l.run)) (map Wait (operand_words (drop l.byte-index l.run)))

@@ -1,6 +1,6 @@
 use Rattle.std.proofs.Common.{◌≡◌, ◌+◌, ◌*◌, ◌≤◌, ◌++◌, ℕ, List, arith, ◌∙◌, ap, sym, length, drop}
 use Rattle.std.proofs.Math.Nat.{add-mul, mul-le-mul_right}
-use Rattle.nap_lines.specs.Blocks.{with_bytes_at, repeated}
+use Rattle.nap_lines.specs.Blocks.{patched, repeated}
 use Rattle.nap_lines.proofs.BlockLemmas.{one_more_line, repeated_size}
 use Rattle.nap_lines.proofs.block.fill_lines.Goals as goal
 
@@ -21,6 +21,6 @@ loop-i-preserved c =
     let more : (i + 1) * length line ≡ at + 1 * length line = add-mul i 1 (length line) in
     let next : at + length line ≡ (i + 1) * length line = omega (arith, more) in
     c.copy_at.ensures
-    ∙ ap (λ (bytes : List ℕ). with_bytes_at bytes at line) c.loop-i.invariant
+    ∙ ap (λ (bytes : List ℕ). patched bytes at line) c.loop-i.invariant
     ∙ one_more_line line block i at (sym (repeated_size line i)) (omega (arith, next, last, c.requires.within))
     ∙ ap (λ (n : ℕ). repeated (i + 1) line ++ drop n block) next

@@ -4,7 +4,7 @@ use Rattle.std.proofs.lemmas.List.{take_more, length-take-le}
 use Rattle.std.proofs.lemmas.List.Elements.{All-append, All-cons, All-nil}
 use Rattle.std.proofs.Math.Nat.{add-mul, mul-le-mul_right}
 use Rattle.nap_lines.specs.Lines.{code_text}
-use Rattle.nap_lines.specs.Blocks.{with_bytes_at, recoded}
+use Rattle.nap_lines.specs.Blocks.{patched, recoded}
 use Rattle.nap_lines.proofs.BlockLemmas.{recoded_next}
 use Rattle.nap_lines.proofs.block.recode_lines.Goals as goal
 
@@ -33,7 +33,7 @@ loop-i-preserved c =
       characters = subst (λ (xs : List ℕ). All letter xs) (sym one)
           (All-append letter so_far (code ∷ []) c.loop-i.invariant.characters (All-cons letter code [] (omega (arith, c.if-code-lt32.false)) (All-nil letter)));
       block = c.put_code.ensures
-          ∙ ap (λ (bytes : List ℕ). with_bytes_at bytes at (code_text code)) c.loop-i.invariant.block
+          ∙ ap (λ (bytes : List ℕ). patched bytes at (code_text code)) c.loop-i.invariant.block
           ∙ recoded_next size place code so_far block at c.requires.place long (omega (arith, many))
           ∙ ap (λ (codes : List ℕ). recoded size place codes block) (sym one);
     }

@@ -1,9 +1,9 @@
 use Rattle.std.proofs.Common.{arith}
-use Rattle.nap_make.proofs.NumberLemmas.{no_zero, numeral_tells, zero_first}
+use Rattle.nap_make.proofs.NumberLemmas.{no_zero, numeral_of, numeral_tells, zero_first}
 use Rattle.nap_make.proofs.number.number_below.Goals as goal
 
 pub returns-in_err-value : goal.returns-in_err-value
-returns-in_err-value c = rw (c.from_residual.ensures) (λ n fits is. c.in_err-value.ensures n (omega (arith, fits, c.requires)) is)
+returns-in_err-value c = rw (c.from_residual.ensures) (λ n fits is. c.in_err-value.ensures n (numeral_of c.args.digits.now n (omega (arith, fits, c.requires)) is))
 
 pub returns-then-value-limit : goal.returns-then-value-limit
 returns-then-value-limit c n fits is =

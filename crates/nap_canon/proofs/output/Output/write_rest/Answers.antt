@@ -1,38 +1,37 @@
-use Rattle.std.proofs.Common.{◌≤◌, ℕ, List, arith, subst, take, drop, length, length-drop}
-use Rattle.std.specs.Prelude.{slice_index}
-use Rattle.std.specs.Io.KnownBytes.{Appends}
-use Rattle.nap_list.specs.Sending.{sending}
-use Rattle.nap_canon.proofs.sinks.CutLemmas.{none_taken}
-use Rattle.nap_canon.proofs.sinks.SinkingLemmas.{takes_more, rest_of}
+use Rattle.std.proofs.Common.{ℕ, List, false, arith, subst, sym, take, drop, length-drop, take-add}
+use Rattle.std.proofs.lemmas.List.{take-append-drop}
+use Rattle.nap_list.specs.Sending.{SendsAll, FailsAfter, rest_of, sending}
+use Rattle.nap_canon.specs.SinkLaws.{sends_more}
 use Rattle.nap_canon.proofs.output.Output.write_rest.Goals as goal
 
-pub loop-taken-preserved : goal.loop-taken-preserved
-loop-taken-preserved g c =
+-- the rest was taken after what came before
+pub returns-in-Ok : goal.returns-in-Ok
+returns-in-Ok g c s so =
     let O = g.O.Outlet in
-    let count = c.in-Ok.count in
-    let i = c.loop-taken.taken in
+    let first = c.args.first in
     let bytes = c.args.bytes.now in
-    let few : count ≤ length (drop i bytes) = subst (λ (xs : List ℕ). count ≤ length xs) (rest_of i bytes) c.in-Ok.ensures.bound in
-    record {
-      within = omega (arith, length-drop i bytes, few);
-      sent = λ s so. takes_more O (sending O s.outlet s.written) c.loop-taken.self.outlet c.write.new.self
-          c.loop-taken.self.written c.saturating_add-self.result i count bytes (c.loop-taken.invariant.sent s so) few
-          (subst (λ (xs : List ℕ). Appends (O.taken c.loop-taken.self.outlet) (O.taken c.write.new.self) (take count xs)) (rest_of i bytes) c.in-Ok.ensures.bytes)
-          c.in-Ok.ensures.failed
-          c.in-Ok.ensures.write_failed
-          c.in-Ok.ensures.flushes
-          (omega arith)
-          c.saturating_add-self.ensures;
-    }
+    let old = sending O c.args.self.now.outlet c.args.self.now.written in
+    let new = sending O c.send_all.new.outlet c.send_all.new.written in
+    let rest = subst (λ (sent : List ℕ). SendsAll old sent new) (rest_of first bytes) c.in-Ok.ensures.0 in
+    subst (λ (sent : List ℕ). SendsAll (sending O s.outlet s.written) sent new) (take-append-drop first bytes)
+    (sends_more (sending O s.outlet s.written) old new (take first bytes) (drop first bytes) false so rest)
 
+-- a write failed in the rest
 pub returns-in-Err : goal.returns-in-Err
 returns-in-Err g c s so =
-    let at = c.loop-taken in
+    let O = g.O.Outlet in
+    let first = c.args.first in
     let bytes = c.args.bytes.now in
+    let taken = c.in-Err.taken in
+    let w = c.args.self.now in
+    let u = c.send_all.new in
+    let stops = subst (λ (sent : List ℕ). FailsAfter O w.outlet w.written sent taken u.outlet u.written) (rest_of first bytes) c.in-Err.ensures in
+    let before = sending O s.outlet s.written in
+    let mid = sending O stops.mid u.written in
     record {
-      less = c.loop-taken-test.true;
-      mid = at.self;
-      prefix = at.invariant.sent s so;
-      next = none_taken g.O.Outlet at.self.outlet c.write.new.self at.self.written (slice_index bytes at.taken) c.in-Err.ensures.bytes
-          c.in-Err.ensures.failed c.in-Err.ensures.write_failed c.in-Err.ensures.flushes;
+      less = omega (arith, length-drop first bytes, stops.less);
+      mid = record { outlet = stops.mid; written = u.written };
+      prefix = subst (λ (sent : List ℕ). SendsAll before sent mid) (sym (take-add first taken bytes))
+          (sends_more before (sending O w.outlet w.written) mid (take first bytes) (take taken (drop first bytes)) false so stops.prefix);
+      next = record { part = 0; less = omega arith; grows = stops.grows; failed = stops.failed };
     }

@@ -3,7 +3,6 @@ use Rattle.std.proofs.lemmas.Result.{err_from_is_err_and}
 use Rattle.nap_list.specs.declared.entry.Entry.{Entry}
 use Rattle.nap_list.specs.declared.entry.Entry.TheVariants.{Rect}
 use Rattle.nap_list.specs.Entry.{ink_attributes}
-use Rattle.nap_canon.specs.Spelling.{rect_piece}
 use Rattle.nap_canon.proofs.texts.WritingLemmas.{prelude_fails, prelude_written, one_written}
 use Rattle.nap_canon.proofs.writer.Writer.put_rect.Goals as goal
 

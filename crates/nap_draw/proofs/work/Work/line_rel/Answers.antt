@@ -1,17 +1,14 @@
-use Rattle.std.proofs.Common.{refl}
-use Rattle.std.specs.Option.{option_map}
-use Rattle.nap_draw.specs.Geometry.{polyline_spans}
-use Rattle.nap_draw.specs.Rule.{entries_result, span_line_entry}
-use Rattle.nap_draw.proofs.Acting.{does_refused, does_unfilled, does_filled}
+use Rattle.nap_draw.proofs.Acting.{does_refused}
 use Rattle.nap_draw.proofs.work.Work.line_rel.Goals as goal
 
 pub returns-in_err-from : goal.returns-in_err-from
 returns-in_err-from g c = does_refused g.S.Sink _ (g.met.S.Sink.took_none _) _ _ _ _ c.from_residual.ensures.1 c.in_err-from.ensures.err.0 (c.in_err-from.ensures.err.1 _)
 
-pub returns-in_err-steps_into : goal.returns-in_err-steps_into
-returns-in_err-steps_into g c =
-    does_unfilled g.S.Sink _ (g.met.S.Sink.took_none _) _ _ _ _ _ c.from_residual-in_err-steps_into.ensures.1 (λ o. entries_result c.args.self.now span_line_entry (option_map (polyline_spans c.in_ok-from.from) o))
-    (c.in_ok-from.ensures.ok _) refl (λ xs. (_, refl)) c.in_err-steps_into.ensures
+pub draw_line_steps-requires : goal.draw_line_steps-requires
+draw_line_steps-requires g c = let kept = c.count_lines.ensures.kept c.if-count_lines.false in rw (kept.0, kept.1) c.requires
+
+pub returns-then-count_lines : goal.returns-then-count_lines
+returns-then-count_lines g c = rw (c.in_ok-from.ensures.ok _) (c.count_lines.ensures.counted c.if-count_lines.true)
 
 pub returns : goal.returns
-returns g c = does_filled g.S.Sink _ _ _ _ _ _ (λ o. entries_result c.args.self.now span_line_entry (option_map (polyline_spans c.in_ok-from.from) o)) (λ ps. ps) _ _ _ (c.in_ok-from.ensures.ok _) c.in_ok-steps_into.ensures c.deref.ensures.value c.draw_polyline.ensures
+returns g c = let kept = c.count_lines.ensures.kept c.if-count_lines.false in rw (c.in_ok-from.ensures.ok _) (rw (kept.0, kept.1) at c.draw_line_steps.ensures)

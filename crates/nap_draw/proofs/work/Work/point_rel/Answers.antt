@@ -1,15 +1,14 @@
-use Rattle.std.proofs.Common.{refl}
-use Rattle.nap_list.specs.Batches.{point_entry}
-use Rattle.nap_draw.specs.Rule.{entries_result}
-use Rattle.nap_draw.proofs.Acting.{does_refused, does_unfilled, does_filled}
+use Rattle.nap_draw.proofs.Acting.{does_refused}
 use Rattle.nap_draw.proofs.work.Work.point_rel.Goals as goal
 
 pub returns-in_err-from : goal.returns-in_err-from
 returns-in_err-from g c = does_refused g.S.Sink _ (g.met.S.Sink.took_none _) _ _ _ _ c.from_residual.ensures.1 c.in_err-from.ensures.err.0 (c.in_err-from.ensures.err.1 _)
 
-pub returns-in_err-steps_into : goal.returns-in_err-steps_into
-returns-in_err-steps_into g c =
-    does_unfilled g.S.Sink _ (g.met.S.Sink.took_none _) _ _ _ _ _ c.from_residual-in_err-steps_into.ensures.1 (entries_result c.args.self.now point_entry) (c.in_ok-from.ensures.ok _) refl (λ xs. (_, refl)) c.in_err-steps_into.ensures
+pub draw_steps-requires : goal.draw_steps-requires
+draw_steps-requires g c = let kept = c.count_points.ensures.kept c.if-count_points.false in rw (kept.0, kept.1) c.requires
+
+pub returns-then-count_points : goal.returns-then-count_points
+returns-then-count_points g c = rw (c.in_ok-from.ensures.ok _) (c.count_points.ensures.counted c.if-count_points.true)
 
 pub returns : goal.returns
-returns g c = does_filled g.S.Sink _ _ _ _ _ _ (entries_result c.args.self.now point_entry) (λ ps. ps) _ _ _ (c.in_ok-from.ensures.ok _) c.in_ok-steps_into.ensures c.deref.ensures.value c.draw_points.ensures
+returns g c = let kept = c.count_points.ensures.kept c.if-count_points.false in rw (c.in_ok-from.ensures.ok _) (rw (kept.0, kept.1) at c.draw_steps.ensures)

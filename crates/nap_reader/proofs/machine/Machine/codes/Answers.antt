@@ -1,4 +1,4 @@
-use Rattle.nap_reader.proofs.{Bool, Ghosts, List, Nothing, Request, Takes, ap, arith, byte-placed_by_step, drop, get_or, length, length-drop, next_in_slice, place_at-drop, place_at-placed_by_step, placed_at, placed_by_step, refl, sym, take_all, takes_none, takes_then, ℕ, ◌*◌, ◌+◌, ◌-◌, ◌<◌, ◌∙◌, ◌∷◌, ◌≡◌}
+use Rattle.nap_reader.proofs.{Bool, Ghosts, List, Nothing, Request, Takes, ap, arith, byte-placed_by_step, drop, get_or, idle_lives, idle_takes, length, length-drop, next_in_slice, place_at-drop, place_at-placed_by_step, placed_at, placed_by_step, refl, sym, take_all, takes_none, takes_then, ℕ, ◌*◌, ◌+◌, ◌-◌, ◌<◌, ◌∙◌, ◌∷◌, ◌≡◌}
 use Rattle.nap_reader.specs.declared.machine.Machine.{Machine}
 use Rattle.nap_reader.proofs.machine.Machine.codes.Goals as goal
 
@@ -56,16 +56,30 @@ pub returns-in_default-clause-takes : goal.returns-in_default-clause-takes
 returns-in_default-clause-takes g c =
     let slice = c.args.slice.now in
     let (n, is, takes) = c.other-taken.ensures.takes in
-    further slice.place slice.step slice.bytes.now c.loop-count.invariant.takes c.loop-count-test.true (rw c.in-Other.ensures.within at takes) is
+    further slice.place slice.step slice.bytes.now c.loop-count.invariant.takes c.loop-count-test.true (idle_takes c.in-Other.ensures.within c.loop-count.invariant.takes.leaves.live (c.loop-count.invariant.closed c.loop-count-test.true) c.in-Other.ensures.closed takes) is
 
 pub loop-count-preserved : goal.loop-count-preserved
 loop-count-preserved g c =
     let slice = c.args.slice.now in
     let (n, is, takes) = c.other-taken.ensures.takes in
     record {
-      takes = further slice.place slice.step slice.bytes.now c.loop-count.invariant.takes c.loop-count-test.true (rw (c.in-Other.ensures.within, c.in-Nothing.is) at takes) is;
+      takes = further slice.place slice.step slice.bytes.now c.loop-count.invariant.takes c.loop-count-test.true (idle_takes c.in-Other.ensures.within c.loop-count.invariant.takes.leaves.live (c.loop-count.invariant.closed c.loop-count-test.true) c.in-Other.ensures.closed (rw c.in-Nothing.is at takes)) is;
       closed = c.other-taken.ensures.closed c.in-Nothing.is;
     }
 
 pub returns-clause-takes : goal.returns-clause-takes
 returns-clause-takes g c = rw c.took.ensures c.loop-count.invariant.takes
+
+pub returns-in-Calls-clause-takes : goal.returns-in-Calls-clause-takes
+returns-in-Calls-clause-takes g c =
+    let slice = c.args.slice.now in
+    let less = c.loop-count-test.true in
+    let code = rw (next_in_slice slice.place slice.step slice.bytes.now c.loop-count.count less) at c.in-Calls.ensures in
+    further slice.place slice.step slice.bytes.now c.loop-count.invariant.takes less (code.by _ _ refl) refl
+
+pub returns-in-Defines-clause-takes : goal.returns-in-Defines-clause-takes
+returns-in-Defines-clause-takes g c =
+    let slice = c.args.slice.now in
+    let less = c.loop-count-test.true in
+    let code = rw (next_in_slice slice.place slice.step slice.bytes.now c.loop-count.count less) at c.in-Defines.ensures in
+    further slice.place slice.step slice.bytes.now c.loop-count.invariant.takes less (code.by _ _ refl) refl

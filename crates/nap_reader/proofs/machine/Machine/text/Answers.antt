@@ -2,29 +2,13 @@ use Rattle.nap_reader.proofs.{All, All-head, Codes, IsGraphic, IsTextByte, IsTex
 use Rattle.nap_reader.proofs.machine.Machine.text.Goals as goal
 use Rattle.nap_reader.proofs.machine.Machine.text.Goals.{Else-text-lt2}
 
--- a byte of a text that is no format effector is graphic
-typed_graphic : (b : ℕ) → IsTextByte b → 0x20 ≤ b → IsGraphic b
-typed_graphic b typed from = by (format_effector b) refl
-  where
-    by : (step : Option TextStep) → format_effector b ≡ step → IsGraphic b
-    by (Some step) is = absurd (omega (arith, from, (format_effector_front b step is).0))
-    by None is = (from, omega (arith, (typed is).1))
-
 -- the text and the bytes after it
 parts : (bytes text : List ℕ) (n : ℕ) → text ≡ take n bytes → text ++ drop n bytes ≡ bytes
 parts bytes text n is = ap (λ (bs : List ℕ). bs ++ drop n bytes) is ∙ take-append-drop n bytes
 
-pub character-requires-clause-graphic : goal.character-requires-clause-graphic
-character-requires-clause-graphic g c = λ b is.
-    let (rest, first) = first_byte c.text_bytes-text.result.now b is in
-    let from = c.requires.first in
-    let all = parts c.args.bytes.now c.text_bytes-text.result.now _ c.text_bytes-text.ensures.bytes in
-    typed_graphic b (All-head IsTextByte b rest (subst (All IsTextByte) first c.text_bytes-text.ensures.typed))
-    (omega (arith, from, ap (λ (bs : List ℕ). get_or bs 0 0) (ap (λ (bs : List ℕ). bs ++ drop (prefix_len is_of_text c.args.bytes.now) c.args.bytes.now) (sym first) ∙ all)))
-
 pub returns-then-text-lt2 : goal.returns-then-text-lt2
 returns-then-text-lt2 g c = λ ended.
-    subst (λ (bytes : List ℕ). Codes c.args.self.now c.character.new.self bytes ended c.character.result) (parts c.args.bytes.now c.text_bytes-text.result.now _ c.text_bytes-text.ensures.bytes) (c.character.ensures ended _)
+    subst (λ (bytes : List ℕ). Codes c.args.self.now c.alone.new.self bytes ended c.alone.result) (parts c.args.bytes.now c.text_bytes-text.result.now _ c.text_bytes-text.ensures.bytes) (c.alone.ensures ended _)
 
 -- The text has more than one byte.
 is_text : (g : _) (c : Else-text-lt2 g) → IsTextOf c.args.self.now c.args.set c.args.bytes.now c.text_bytes-text.result.now

@@ -10,7 +10,12 @@ returns-in-Some c =
 pub returns-in-Some-char_set : goal.returns-in-Some-char_set
 returns-in-Some-char_set c =
     let chars = (c.char_set.ensures c.in-Some-char_set.set).0 c.in-Some-char_set.is in
-    (record { rested = (chars 0x20 (omega arith, omega arith)).0; chars = λ b graphic. (chars b graphic).1 }, omega arith)
+    record { rested = (chars 0x20 (omega arith, omega arith)).0; chars = λ b graphic. (chars b graphic).1 }
 
-pub returns-in-Some-format_effector : goal.returns-in-Some-format_effector
-returns-in-Some-format_effector c = (((c.format_effector.ensures.is c.in-Some-format_effector.step).0 c.in-Some-format_effector.is).0, c.in-Some-format_effector.ensures.front)
+pub returns-in-Some-char_set-2 : goal.returns-in-Some-char_set-2
+returns-in-Some-char_set-2 c =
+    let chars = (c.char_set-in-Some-format_effector.ensures c.in-Some-char_set-2.set).0 c.in-Some-char_set-2.is in
+    record { rested = (chars 0x20 (omega arith, omega arith)).0; chars = λ b graphic. (chars b graphic).1 }
+
+pub returns-in-None-char_set : goal.returns-in-None-char_set
+returns-in-None-char_set c = (((c.format_effector.ensures.is c.in-Some-format_effector.step).0 c.in-Some-format_effector.is).0, c.in-Some-format_effector.ensures.front)

@@ -1,5 +1,0 @@
-use Rattle.nap_batch.proofs.FrontLemmas.{requests_are_cut_one_way}
-use Rattle.nap_batch.proofs.laws.requests_are_cut_one_way.Goals as goal
-
-pub returns : goal.returns
-returns c = requests_are_cut_one_way

@@ -1,5 +1,0 @@
-use Rattle.nap_batch.proofs.PageBounds.{text_is_bounded}
-use Rattle.nap_batch.proofs.laws.text_is_bounded.Goals as goal
-
-pub returns : goal.returns
-returns c = text_is_bounded

@@ -1,9 +1,0 @@
-use Rattle.std.proofs.Common.{length, take, ◌-◌, ◌≢◌, ◌≤◌}
-use Rattle.std.specs.Prelude.{All}
-use Rattle.nap_batch.proofs.request.split_at_byte.Given as goal
-
-abbrev pub invariant-loop-at : goal.invariant-loop-at
-invariant-loop-at l = (l.at ≤ length l.bytes) × All (λ b. b ≢ l.byte) (take l.at l.bytes)
-
-abbrev pub decreases-loop-at : goal.decreases-loop-at
-decreases-loop-at l = length l.bytes - l.at

@@ -1,6 +1,0 @@
-use Rattle.std.proofs.Common.{inr, refl}
-use Rattle.nap_batch.specs.Sessions.{no_memory}
-use Rattle.nap_batch.proofs.service.answer.Goals as goal
-
-pub returns-in-Err : goal.returns-in-Err
-returns-in-Err g c = (no_memory, inr refl, c.send.ensures)

@@ -1,0 +1,18 @@
+use Rattle.std.proofs.Common.{◌≡◌, ℕ, List, arith, ap, subst, sym, ◌∙◌, length, take}
+use Rattle.std.proofs.lemmas.List.{length-take-le, take_all}
+use Rattle.nap_values.specs.Spellings.{addr_bytes}
+use Rattle.nap_canon.specs.Spelling.{opcode}
+use Rattle.nap_canon.specs.Writing.{AppendsPiece}
+use Rattle.nap_canon.proofs.texts.PointsLemmas.{addr_size}
+use Rattle.nap_canon.proofs.pending.Pending.append_select_front.Goals as goal
+
+pub slice_bounds-append_opcode_and_operands-end-2 : goal.slice_bounds-append_opcode_and_operands-end-2
+slice_bounds-append_opcode_and_operands-end-2 c =
+    let size : length c.deref.result.now ≡ 4 = ap length (c.deref.ensures.0 ∙ c.put_addr.ensures) ∙ addr_size c.args.addr in
+    sym (length-take-le 4 c.deref.result.now (omega (arith, size)))
+
+pub returns-clause-appends : goal.returns-clause-appends
+returns-clause-appends c =
+    let whole : take 4 c.deref.result.now ≡ addr_bytes c.args.addr =
+    ap (take 4) (c.deref.ensures.0 ∙ c.put_addr.ensures) ∙ take_all 4 (addr_bytes c.args.addr) (omega (arith, addr_size c.args.addr)) in
+    subst (λ (operand : List ℕ). AppendsPiece (opcode 0x3E operand) c.args.self.now c.append_opcode_and_operands.new.self) whole c.append_opcode_and_operands.ensures.appends

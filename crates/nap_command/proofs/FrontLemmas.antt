@@ -1,0 +1,200 @@
+use Rattle.std.proofs.Common.{ℕ, zero, suc, ◌+◌, ◌-◌, ◌<◌, ◌≤◌, ◌≡◌, ◌≢◌, inl, inr, List, [], ◌∷◌, ◌++◌, length, take, drop, take-add, refl, ap, sym, subst, ◌∙◌, append_assoc, length-append, arith}
+use Rattle.std.specs.Prelude.{All, ◌==◌, if◌then◌else◌}
+use Rattle.std.proofs.lemmas.List.{drop_at, length-take-le, take_at}
+use Rattle.std.proofs.lemmas.List.Elements.{All-append, All-cons, All-nil}
+use Rattle.nap_command.specs.declared.batch.request.Question.{Question}
+use Rattle.nap_command.specs.declared.batch.request.Question.TheVariants as question
+use Rattle.nap_command.specs.declared.batch.request.RequestLine.{RequestLine}
+use Rattle.nap_command.specs.Laws.{BegunRequestsAreNone, RequestsAreCutOneWay}
+use Rattle.nap_make.specs.Cutting.{SplitsAtByte}
+use Rattle.nap_command.specs.Requests.{IsBegun, IsLine, IsMore, IsRequest, IsCutShort, IsWhole, NeverStarts, StartsNone, line_for, question_name}
+use Rattle.nap_command.proofs.RequestLemmas.{apart, cut_once, digits_above, first_cut, name_above, no_cut, parts_of, second_cut}
+
+-- No line of a request contains LF.
+
+line_end : (line : List ℕ) (h : RequestLine) → IsLine line h → All (λ x. x ≢ 10) line
+line_end line h is =
+    let P : ℕ → Type 0 = λ x. x ≢ 10 in
+    let size = apart 10 is.size_digits (omega arith) (digits_above is.size_digits is.size.numeral.1) in
+    let budget = apart 10 is.budget_digits (omega arith) (digits_above is.budget_digits is.budget.numeral.1) in
+    let name = apart 10 (question_name h.question) (omega arith) (name_above h.question) in
+    rw is.line_is
+    (All-append P (question_name h.question) (32 ∷ (is.budget_digits ++ 32 ∷ is.size_digits)) name
+    (All-cons P 32 (is.budget_digits ++ 32 ∷ is.size_digits) (λ e. omega arith)
+    (All-append P is.budget_digits (32 ∷ is.size_digits) budget (All-cons P 32 is.size_digits (λ e. omega arith) size))))
+
+-- A request is split at the LF after its line.
+module _ (asked following : List ℕ) (c : Question) (budget : ℕ) (page : List ℕ) (is : IsRequest asked c budget page) where
+  line_cut : (all : List ℕ) → all ≡ asked ++ following → SplitsAtByte 10 all is.line (page ++ following)
+  line_cut all same = record {
+    joins = same ∙ ap (λ (xs : List ℕ). xs ++ following) is.bytes_are ∙ append_assoc is.line (10 ∷ page) following;
+    first = line_end is.line (line_for c budget page) is.says;
+  }
+
+-- a split of bytes is one of more bytes
+cut_stays : (b : ℕ) (xs front back more : List ℕ) → SplitsAtByte b xs front back → SplitsAtByte b (xs ++ more) front (back ++ more)
+cut_stays b xs front back more cut = record {
+  joins = ap (λ (ys : List ℕ). ys ++ more) cut.joins ∙ append_assoc front (b ∷ back) more;
+  first = cut.first;
+}
+
+-- bytes whose line is no request's never begin with a request
+pub wrong_line : (buffered line following : List ℕ) → SplitsAtByte 10 buffered line following → ((h : RequestLine) → IsLine line h → ⊥) → NeverStarts buffered
+wrong_line buffered line following cut none more asked rest c budget page is same =
+    let once = cut_once 10 (buffered ++ more) line (following ++ more) is.line (page ++ rest) (cut_stays 10 buffered line following more cut) (line_cut asked rest c budget page is (buffered ++ more) same) in
+    none (line_for c budget page) (rw once.0 is.says)
+
+-- a line is that of requests with one size
+pub same_size : (line : List ℕ) (h k : RequestLine) → IsLine line h → IsLine line k → h.size ≡ k.size
+same_size line h k one two =
+    let parts = parts_of line (question_name h.question) (one.budget_digits ++ 32 ∷ one.size_digits) one.budget_digits one.size_digits k (first_cut line h one) (second_cut line h one) two in
+    sym one.size.value ∙ parts.size.value
+
+-- bytes with an incomplete page begin with no complete request
+pub short_page : (buffered line following : List ℕ) (h : RequestLine) → SplitsAtByte 10 buffered line following → IsLine line h → length following < h.size → StartsNone buffered
+short_page buffered line following h cut says short asked rest c budget page is same =
+    let once = cut_once 10 buffered line following is.line (page ++ rest) cut (line_cut asked rest c budget page is buffered same) in
+    let size = same_size line h (line_for c budget page) says (rw once.0 is.says) in
+    omega (arith, size, short, ap length once.1, length-append page rest)
+
+-- bytes that lack the end of a page begin with no complete request
+pub short_front : (bytes : List ℕ) (n : ℕ) → IsCutShort bytes n → StartsNone bytes
+short_front bytes n h = short_page bytes h.line h.following h.request h.cut h.says (omega (arith, h.missing, h.some))
+
+pub is_more : (bytes : List ℕ) (n : ℕ) → IsCutShort bytes n → IsMore bytes n
+is_more bytes n h = record { endless = λ none. let bad : ⊥ = omega (arith, none, h.some) in absurd bad; short = λ some. h }
+
+pub more_begun : (bytes : List ℕ) (n : ℕ) → IsMore bytes n → IsBegun bytes
+more_begun bytes zero h = inl (h.endless refl)
+more_begun bytes (suc n) h = inr (suc n, h.short (λ none. let bad : ⊥ = omega (arith, none) in bad))
+
+-- bytes that lack the end of a page aren't empty
+pub some_front : (bytes more : List ℕ) (n : ℕ) → IsCutShort bytes n → bytes ++ more ≢ []
+some_front bytes more n h none = let bad : ⊥ = omega (arith, ap length none, length-append bytes more, ap length h.cut.joins, length-append h.line (10 ∷ h.following)) in bad
+
+-- bytes that lack the end of a page, and fewer more bytes, still lack some
+pub still_short : (bytes more : List ℕ) (n : ℕ) → IsCutShort bytes n → length more < n → IsCutShort (bytes ++ more) (n - length more)
+still_short bytes more n h less = record {
+  line = h.line;
+  following = h.following ++ more;
+  request = h.request;
+  cut = cut_stays 10 bytes h.line h.following more h.cut;
+  says = h.says;
+  missing = omega (arith, h.missing, less, length-append h.following more);
+  some = omega (arith, less);
+}
+
+-- a line is that of a request with a page of its size
+with_page : (line : List ℕ) (h : RequestLine) (page : List ℕ) → IsLine line h → h.size ≡ length page → IsLine line (line_for h.question h.budget page)
+with_page line h page says size = subst (λ (n : ℕ). IsLine line (record { question = h.question; budget = h.budget; size = n })) size says
+
+-- bytes that lack the end of a page, and as many more bytes, are a request
+pub made_whole : (bytes more : List ℕ) (n : ℕ) (h : IsCutShort bytes n) → length more ≡ n → IsRequest (bytes ++ more) h.request.question h.request.budget (h.following ++ more)
+made_whole bytes more n h all = record {
+  line = h.line;
+  says = with_page h.line h.request (h.following ++ more) h.says (omega (arith, h.missing, all, length-append h.following more));
+  bytes_are = (cut_stays 10 bytes h.line h.following more h.cut).joins;
+}
+
+-- The complete request that bytes begin with, and what follows it.
+module _ (bytes : List ℕ) (h : RequestLine) (n : ℕ) (whole : IsWhole bytes h n) where
+  abbrev pub page_of : List ℕ
+  page_of = take h.size whole.following
+
+  begun : bytes ≡ (whole.line ++ 10 ∷ []) ++ whole.following
+  begun = whole.cut.joins ∙ sym (append_assoc whole.line (10 ∷ []) whole.following)
+
+  start : length (whole.line ++ 10 ∷ []) ≡ n
+  start = omega (arith, whole.start, length-append whole.line (10 ∷ []))
+
+  size_is : h.size ≡ length (take h.size whole.following)
+  size_is = sym (length-take-le h.size whole.following whole.enough)
+
+  pub page_is : take h.size (drop n bytes) ≡ page_of
+  page_is = ap (λ (xs : List ℕ). take h.size (drop n xs)) begun ∙ ap (take h.size) (drop_at (whole.line ++ 10 ∷ []) whole.following n start)
+
+  pub within : n + h.size ≤ length bytes
+  within = omega (arith, ap length begun, length-append (whole.line ++ 10 ∷ []) whole.following, start, whole.enough)
+
+  pub asked_is : take (n + h.size) bytes ≡ whole.line ++ 10 ∷ page_of
+  asked_is =
+      ap (take (n + h.size)) begun
+      ∙ take-add n h.size ((whole.line ++ 10 ∷ []) ++ whole.following)
+      ∙ ap (λ (xs : List ℕ). xs ++ take h.size (drop n ((whole.line ++ 10 ∷ []) ++ whole.following))) (take_at (whole.line ++ 10 ∷ []) whole.following n start)
+      ∙ ap (λ (xs : List ℕ). (whole.line ++ 10 ∷ []) ++ take h.size xs) (drop_at (whole.line ++ 10 ∷ []) whole.following n start)
+      ∙ append_assoc whole.line (10 ∷ []) page_of
+
+  pub whole_request : IsRequest (take (n + h.size) bytes) h.question h.budget page_of
+  whole_request = record { line = whole.line; says = with_page whole.line h page_of whole.says size_is; bytes_are = asked_is }
+
+-- bytes that can't be split at LF contain none, and begin with no request
+pub uncut_open : (buffered : List ℕ) → ((front back : List ℕ) → SplitsAtByte 10 buffered front back → ⊥) → All (λ b. b ≢ 10) buffered
+uncut_open [] none = All-nil (λ b. b ≢ 10)
+uncut_open (x ∷ xs) none =
+    let P : ℕ → Type 0 = λ b. b ≢ 10 in
+    let first : x ≢ 10 = λ is. none [] xs (record { joins = ap (λ (b : ℕ). b ∷ xs) is; first = All-nil P }) in
+    All-cons P x xs first
+    (uncut_open xs (λ front back cut. none (x ∷ front) back (record { joins = ap (λ (ys : List ℕ). x ∷ ys) cut.joins; first = All-cons P x front first cut.first })))
+
+pub begun_requests_are_none : BegunRequestsAreNone
+begun_requests_are_none bytes (inl endless) asked following c budget page is same =
+    no_cut 10 bytes is.line (page ++ following) endless.none (line_cut asked following c budget page is bytes same)
+begun_requests_are_none bytes (inr short) asked following c budget page is same = short_front bytes short.0 short.1 asked following c budget page is same
+
+-- bytes that are longer than their line contain its LF
+line_within : (buffered line more rest : List ℕ) → buffered ++ more ≡ line ++ 10 ∷ rest → length line < length buffered → (back : List ℕ) × (buffered ≡ line ++ 10 ∷ back)
+line_within [] line more rest same less = absurd (omega (arith, less))
+line_within (x ∷ buffered) [] more rest same less = (buffered, cc)
+line_within (x ∷ buffered) (y ∷ line) more rest same less =
+    let found = line_within buffered line more rest (cc) (omega (arith, less)) in
+    (found.0, cc)
+
+name_short : (c : Question) → length (question_name c) ≤ 6
+name_short question.Check = omega arith
+name_short question.List = omega arith
+name_short question.Canon = omega arith
+name_short question.Places = omega arith
+name_short question.Make = omega arith
+
+line_short : (line : List ℕ) (h : RequestLine) → IsLine line h → length line ≤ 24
+line_short line h is =
+    let all = ap length is.line_is ∙ length-append (question_name h.question) (32 ∷ (is.budget_digits ++ 32 ∷ is.size_digits)) in
+    let numbers = length-append is.budget_digits (32 ∷ is.size_digits) in
+    let budget_few : length is.budget_digits ≤ 8 = is.budget.few in
+    let size_few : length is.size_digits ≤ 8 = is.size.few in
+    omega (arith, all, numbers, name_short h.question, budget_few, size_few)
+
+pub long_line : (buffered : List ℕ) → ((front back : List ℕ) → SplitsAtByte 10 buffered front back → ⊥) → 24 < length buffered → NeverStarts buffered
+long_line buffered none long more asked rest c budget page is same =
+    let cut = line_cut asked rest c budget page is (buffered ++ more) same in
+    let short = line_short is.line (line_for c budget page) is.says in
+    let found = line_within buffered is.line more (page ++ rest) cut.joins (omega (arith, short, long)) in
+    none is.line found.0 (record { joins = found.1; first = cut.first })
+
+-- Bytes are split into requests in one way.
+
+abbrev named : List ℕ → Question
+named (x ∷ y ∷ xs) = if x == 109 then question.Make else (if y == 105 then question.List else (if y == 108 then question.Places else (if y == 97 then question.Canon else question.Check)))
+named _ = question.Check
+
+named_is : (c : Question) → named (question_name c) ≡ c
+named_is question.Check = refl
+named_is _ = refl
+
+pub requests_are_cut_one_way : RequestsAreCutOneWay
+requests_are_cut_one_way asked other following rest c d b e page paper one two same =
+    let all = asked ++ following in
+    let once = cut_once 10 all one.line (page ++ following) two.line (paper ++ rest) (line_cut asked following c b page one all refl) (line_cut other rest d e paper two all same) in
+    let h : RequestLine = line_for c b page in
+    let k : RequestLine = line_for d e paper in
+    let also : IsLine one.line k = rw once.0 two.says in
+    let says = one.says in
+    let parts = parts_of one.line (question_name c) (says.budget_digits ++ 32 ∷ says.size_digits) says.budget_digits says.size_digits k (first_cut one.line h says) (second_cut one.line h says) also in
+    let size : length page ≡ length paper = sym says.size.value ∙ parts.size.value in
+    let front : page ≡ paper =
+    sym (take_at page following (length page) refl) ∙ ap (take (length page)) once.1 ∙ take_at paper rest (length page) (sym size) in (
+      one.bytes_are ∙ ap (λ (xs : List ℕ). xs ++ 10 ∷ page) once.0 ∙ ap (λ (xs : List ℕ). two.line ++ 10 ∷ xs) front ∙ sym two.bytes_are,
+      sym (named_is c) ∙ ap named parts.name_is ∙ named_is d,
+      sym says.budget.value ∙ parts.budget.value,
+      front,
+    )

@@ -1,0 +1,64 @@
+use Rattle.std.proofs.Common.{ℕ, ◌+◌, ◌-◌, ◌^◌, ◌≡◌, List, [], ◌∷◌, ◌++◌, length, min, refl, ap, sym, ◌∙◌, inl, inr, append_assoc, length-append, arith}
+use Rattle.std.specs.Prelude.{All, flat_map}
+use Rattle.std.specs.Io.KnownBytes.{IsAtEnd}
+use Rattle.std.proofs.lemmas.List.{flat_map_more}
+use Rattle.std.proofs.lemmas.List.Elements.{All-push}
+use Rattle.nap_list.specs.Reading.{Reading, NoneFailed}
+use Rattle.nap_command.specs.declared.batch.service.Ended.{Ended}
+use Rattle.nap_command.specs.declared.batch.service.Ended.TheVariants as ended
+use Rattle.nap_command.specs.Requests.{IsBegun}
+use Rattle.nap_command.specs.Sessions.{RunEnds, Exchange, IsExchange, Pipes, StopsIn, reading_between}
+use Rattle.nap_command.specs.Waiting.{ReadingEnds, end_of}
+
+-- Requests and answers in sequence, and how they end.
+
+-- a reading that ends in the same way, with the same bytes left
+pub stops_alike : (a b : Reading) (rest : List ℕ) (end : Ended) → b.left ≡ a.left → b.failed ≡ a.failed → b.failed_before ≡ a.failed_before → ReadingEnds a rest end → ReadingEnds b rest end
+stops_alike a b rest ended.Done left failed before h = (h.0, rw left h.1, failed ∙ h.2 ∙ sym before)
+stops_alike a b rest ended.Request left failed before (inl never, none) = (inl never, failed ∙ none ∙ sym before)
+stops_alike a b rest ended.Request left failed before (inr end, none) = (inr (end.0, end.1, rw left end.2), failed ∙ none ∙ sym before)
+stops_alike a b rest ended.Read left failed before (none, inl bad) = (none, inl (failed ∙ bad))
+stops_alike a b rest ended.Read left failed before (none, inr often) = (none, inr (often.0, failed ∙ often.1 ∙ sym before))
+stops_alike a b rest _ left failed before h = absurd h
+
+-- the input ended before these bytes
+pub ends_there : (seen : Reading) (rest : List ℕ) → IsBegun rest → IsAtEnd seen.left → NoneFailed seen → ReadingEnds seen rest (end_of rest)
+ends_there seen [] none end works = (refl, end, works)
+ends_there seen (b ∷ rest) none end works = (inr (λ h. cc, none, end), works)
+
+-- one more exchange
+pub asked_more : (xs : List Exchange) (x : Exchange) (rest : List ℕ) → flat_map (λ y. y.asked) xs ++ (x.asked ++ rest) ≡ flat_map (λ y. y.asked) (xs ++ x ∷ []) ++ rest
+asked_more xs x rest =
+    sym (append_assoc (flat_map (λ y. y.asked) xs) x.asked rest) ∙ ap (λ (bytes : List ℕ). bytes ++ rest) (flat_map_more (λ (y : Exchange). y.asked) [] xs x)
+
+pub answered_more : (xs : List Exchange) (x : Exchange) → flat_map (λ y. y.answered) xs ++ x.answered ≡ flat_map (λ y. y.answered) (xs ++ x ∷ [])
+answered_more xs x = flat_map_more (λ (y : Exchange). y.answered) [] xs x
+
+pub each_more : (xs : List Exchange) (x : Exchange) → All IsExchange xs → IsExchange x → All IsExchange (xs ++ x ∷ [])
+each_more xs x all own = All-push IsExchange xs x all own
+
+-- the bytes of the requests, with one more after the buffered bytes
+pub read_on : (xs : List Exchange) (x : Exchange) (old new bytes : List ℕ) → old ++ bytes ≡ x.asked ++ new →
+    (flat_map (λ y. y.asked) xs ++ old) ++ bytes ≡ flat_map (λ y. y.asked) (xs ++ x ∷ []) ++ new
+read_on xs x old new bytes parts =
+    append_assoc (flat_map (λ y. y.asked) xs) old bytes ∙ ap (λ (back : List ℕ). flat_map (λ y. y.asked) xs ++ back) parts ∙ asked_more xs x new
+
+-- a number that saturates, counted in two steps
+counted : (most l p w : ℕ) → w ≡ min l most → min (w + p) most ≡ min (l + p) most
+counted most l p w is = omega (arith, is)
+
+pub count_more : (out more : List ℕ) (w n : ℕ) → w ≡ min (length out) (2 ^ 64 - 1) → n ≡ min (w + length more) (2 ^ 64 - 1) → n ≡ min (length (out ++ more)) (2 ^ 64 - 1)
+count_more out more w n was is =
+    is ∙ counted (2 ^ 64 - 1) (length out) (length more) w was ∙ ap (λ (k : ℕ). min k (2 ^ 64 - 1)) (sym (length-append out more))
+
+-- how a run ends that ends after some requests
+pub ends_after : (before mid after : Pipes) (xs : List Exchange) (rest part : List ℕ) (written : ℕ) (end : Ended) → mid.input_failed ≡ before.input_failed →
+    mid.output_failed ≡ before.output_failed → written ≡ min (length (flat_map (λ x. x.answered) xs)) (2 ^ 64 - 1) → StopsIn written rest part mid after end →
+    RunEnds before after xs rest part end
+ends_after before mid after xs rest part written (ended.Write n) input output count (x, following, is, parts, prefix, number, failed, works, flushes) =
+    (x, following, is, parts, prefix, count_more (flat_map (λ x. x.answered) xs) part written n count number, failed, works ∙ input)
+ends_after before mid after xs rest part written ended.Request input output count (none, stops, works) =
+    (none, inl (stops_alike (reading_between mid after) (reading_between before after) rest ended.Request refl refl (sym input) stops), works ∙ output)
+ends_after before mid after xs rest part written ended.Memory input output count h = absurd h.1
+ends_after before mid after xs rest part written end input output count h =
+    (h.0, stops_alike (reading_between mid after) (reading_between before after) rest end refl refl (sym input) h.1, h.2 ∙ output)

@@ -1,0 +1,34 @@
+use Rattle.std.proofs.Common.{◌≡◌, ◌∙◌, ◌++◌, List, ℕ, ap, arith, drop, length, length-append, refl, sym}
+use Rattle.std.proofs.lemmas.List.{drop_at}
+use Rattle.std.proofs.lemmas.Result.{IfOk-weaker}
+use Rattle.nap_lines.specs.Listing.{LineSinkState, lines}
+use Rattle.nap_canon.specs.Streams.{list_of}
+use Rattle.nap_command.specs.declared.batch.body.TheConstants.{HEAD_SPACE}
+use Rattle.nap_command.specs.declared.batch.request.Question.TheVariants as question
+use Rattle.nap_command.proofs.PageAnswerLemmas.{answers_accepted, answers_refused}
+use Rattle.nap_command.proofs.batch.answer.list_answer.Goals as goal
+
+pub after_space-requires : goal.after_space-requires
+after_space-requires c =
+    let all = lines (list_of c.args.budget c.args.page.now) in
+    let front = c.in_ok-text.text.items in
+    let made = c.into_text.ensures ∙ (c.in-Ok.ensures.counts.1.text ∙ ap (λ (s : LineSinkState). s.text ++ all) c.over.ensures) in
+    omega (arith, ap length made, length-append front all, c.in_ok-text.ensures)
+
+pub returns-in-Ok : goal.returns-in-Ok
+returns-in-Ok c =
+    let budget = c.args.budget in
+    let page = c.args.page.now in
+    let all = lines (list_of budget page) in
+    let front = c.in_ok-text.text.items in
+    let k = c.in-Ok.ensures.counts in
+    let made = c.into_text.ensures ∙ (k.1.text ∙ ap (λ (s : LineSinkState). s.text ++ all) c.over.ensures) in
+    let body = c.after_space.ensures ∙ (ap (drop HEAD_SPACE) made ∙ drop_at front all HEAD_SPACE c.in_ok-text.ensures) in
+    IfOk-weaker c.accepted_answer.result _ _ (λ a h. answers_accepted question.List budget page a.line.items a.body c.in-Ok.count k.0 k.2 (h.0, h.1) (h.2 ∙ body))
+    c.accepted_answer.ensures
+
+pub returns-in-Err : goal.returns-in-Err
+returns-in-Err c =
+    let r = c.in-Err.refusal in
+    let answers = answers_refused question.List (λ h. cc) c.args.budget c.args.page.now refl _ c.over.result r.fault r.place c.in-Err.ensures (λ t. refl) in
+    IfOk-weaker c.refused_answer.result _ _ (λ a h. answers a.line.items a.body h) c.refused_answer.ensures

@@ -1,0 +1,5 @@
+use Rattle.nap_command.proofs.PageBounds.{text_is_bounded}
+use Rattle.nap_command.proofs.batch.laws.text_is_bounded.Goals as goal
+
+pub returns : goal.returns
+returns c = text_is_bounded

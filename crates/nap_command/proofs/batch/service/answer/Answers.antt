@@ -1,0 +1,6 @@
+use Rattle.std.proofs.Common.{inr, refl}
+use Rattle.nap_command.specs.Sessions.{no_memory}
+use Rattle.nap_command.proofs.batch.service.answer.Goals as goal
+
+pub returns-in-Err : goal.returns-in-Err
+returns-in-Err g c = (no_memory, inr refl, c.send.ensures)

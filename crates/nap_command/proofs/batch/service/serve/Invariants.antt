@@ -1,0 +1,11 @@
+use Rattle.std.proofs.Common.{◌≡◌, length}
+use Rattle.nap_list.specs.declared.device.inlet.TheConstants.{READ_SIZE}
+use Rattle.nap_command.specs.Sessions.{pipes}
+use Rattle.nap_command.proofs.GoingLemmas.{Going}
+use Rattle.nap_command.proofs.batch.service.serve.Given as goal
+
+abbrev pub invariant-loop : goal.invariant-loop
+invariant-loop g l = record {
+  scratch : length l.scratch ≡ READ_SIZE;
+  going : Going (pipes g.I.Inlet g.O.Outlet l.fn.input l.fn.output) (pipes g.I.Inlet g.O.Outlet l.input l.output) l.buffer.bytes l.written l.counter;
+}

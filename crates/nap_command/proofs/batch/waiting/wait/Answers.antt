@@ -1,0 +1,70 @@
+use Rattle.std.proofs.Common.{List, [], ℕ, Result, Err, ◌≡◌, ◌++◌, ◌∙◌, ap, append-nil, append_assoc, arith, length-append, refl, rules, subst, sym}
+use Rattle.std.proofs.KnownBytes.{Consumes-nil, Consumes-trans}
+use Rattle.std.proofs.lemmas.Result.{err_from_is_err_and}
+use Rattle.nap_command.specs.declared.batch.service.Ended.{Ended}
+use Rattle.nap_command.specs.declared.batch.waiting.FoundRequest.{FoundRequest}
+use Rattle.nap_command.specs.declared.batch.waiting.ReadStep.TheVariants as step
+use Rattle.nap_command.specs.Requests.{IsWhole, NeverStarts}
+use Rattle.nap_command.specs.Waiting.{IsFound, IsLast}
+use Rattle.nap_command.proofs.MemoryLemmas.{stays_within}
+use Rattle.nap_command.proofs.WaitLemmas.{finds_dropped, finds_end, finds_last, finds_whole, finds_wrong, longer}
+use Rattle.nap_command.proofs.batch.waiting.wait.Goals as goal
+
+pub loop-reads-init : goal.loop-reads-init
+loop-reads-init g c = record {
+  scratch = c.requires;
+  bytes = [];
+  read = Consumes-nil (g.I.Inlet.left c.args.input.now);
+  buffer = sym (append-nil c.args.buffer.now.bytes);
+  some = omega arith;
+  flag = refl;
+  keeps = stays_within c.args.buffer.now.bytes c.args.buffer.now.memory c.args.buffer.now.memory refl;
+}
+
+pub loop-reads-preserved : goal.loop-reads-preserved
+loop-reads-preserved g c =
+    let inv = c.loop-reads.invariant in
+    let is : c.in_ok-read_more-in-More.field-0 ≡ step.Longer = search rules in
+    let h = rw is at c.in_ok-read_more-in-More.ensures.steps in
+    let (buffer, some, works) = h.steps in
+    record {
+      scratch = c.in_ok-read_more-in-More.ensures.space;
+      bytes = inv.bytes ++ h.bytes;
+      read = Consumes-trans _ _ _ inv.bytes h.bytes inv.read h.read;
+      buffer = buffer ∙ ap (λ (bytes : List ℕ). bytes ++ h.bytes) inv.buffer ∙ append_assoc c.args.buffer.now.bytes inv.bytes h.bytes;
+      some = omega (arith, inv.some, some, length-append inv.bytes h.bytes);
+      flag = works ∙ inv.flag;
+      keeps = longer g.I.Inlet c.args.buffer.now _ inv.bytes c.args.input.now _ inv.read inv.buffer inv.flag inv.keeps _ _ h;
+    }
+
+pub returns-in-Whole-clause-found : goal.returns-in-Whole-clause-found
+returns-in-Whole-clause-found g c =
+    let inv = c.loop-reads.invariant in
+    finds_whole g.I.Inlet _ _ inv.bytes _ _ inv.read inv.buffer inv.flag inv.keeps c.in-Whole.line c.in-Whole.start
+    (subst (λ (bytes : List ℕ). IsWhole bytes c.in-Whole.line c.in-Whole.start) c.bytes.ensures c.in-Whole.ensures)
+
+pub returns-in-Wrong-clause-found : goal.returns-in-Wrong-clause-found
+returns-in-Wrong-clause-found g c =
+    let inv = c.loop-reads.invariant in
+    finds_wrong g.I.Inlet _ _ inv.bytes _ _ inv.read inv.buffer inv.flag inv.keeps (subst NeverStarts c.bytes.ensures c.in-Wrong.ensures)
+
+pub returns-in_err-read_more-in-More-clause-found : goal.returns-in_err-read_more-in-More-clause-found
+returns-in_err-read_more-in-More-clause-found g c =
+    let inv = c.loop-reads.invariant in
+    let end = c.in_err-read_more-in-More.field-0.0 in
+    let e = err_from_is_err_and c.from_residual.result c.from_residual.ensures.1 in
+    let is : c.from_residual.result ≡ Err end = e.1 ∙ ap Err e.2 in
+    subst (λ (r : Result FoundRequest Ended). IsFound g.I.Inlet c.args.buffer.now c.read_more.new.buffer c.args.input.now c.read_more.new.input r) (sym is)
+    (finds_end g.I.Inlet _ _ inv.bytes _ _ inv.read inv.buffer inv.flag inv.keeps _ _ end c.in_err-read_more-in-More.ensures.steps)
+
+pub returns-then-eq-clause-found : goal.returns-then-eq-clause-found
+returns-then-eq-clause-found g c =
+    let inv = c.loop-reads.invariant in
+    let is : c.in_ok-read_more-in-More.field-0 ≡ step.Dropped = search rules in
+    finds_dropped g.I.Inlet _ _ inv.bytes _ _ inv.read inv.buffer inv.flag inv.keeps _ _ (rw is at c.in_ok-read_more-in-More.ensures.steps)
+
+pub returns-clause-found : goal.returns-clause-found
+returns-clause-found g c =
+    let inv = c.loop-reads.invariant in
+    let last = subst (λ (bytes : List ℕ). IsLast bytes c.final_front.result) c.bytes-2.ensures c.final_front.ensures in
+    finds_last g.I.Inlet _ _ inv.bytes _ _ inv.read inv.buffer inv.flag inv.keeps c.final_front.result (omega (arith, inv.some, c.loop-reads-test.false)) last

@@ -1,0 +1,15 @@
+use Rattle.std.proofs.Common.{subst, sym}
+use Rattle.nap_list.specs.Reading.{reading}
+use Rattle.nap_make.specs.declared.lines.fault.ListFault.{ListFault}
+use Rattle.nap_make.specs.Texts.{DeniesInput}
+use Rattle.nap_command.specs.declared.failure.Failure.{Failure}
+use Rattle.nap_command.specs.Making.{FailsToMake}
+use Rattle.nap_command.proofs.MakeLemmas.{lines_refused}
+use Rattle.nap_command.proofs.make.find_page.Goals as goal
+
+pub returns-in-Err-Lines-clause-found : goal.returns-in-Err-Lines-clause-found
+returns-in-Err-Lines-clause-found g c =
+    let (p, read, denied) = c.in-Err-Lines.ensures.makes in
+    let seen = reading g.I.Inlet c.args.input.now c.page_of_input.new.input in
+    let lines = subst (λ (fault : ListFault). DeniesInput p seen fault) c.in-Err-Lines.field-0-is denied in
+    (p, read, subst (λ (failure : Failure). FailsToMake p seen failure) (sym c.lines_failure.ensures) (lines_refused p seen c.in-Err-Lines.fault lines))

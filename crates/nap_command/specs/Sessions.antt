@@ -1,0 +1,212 @@
+use Rattle.std.specs.Prelude.{ℕ, ◌≡◌, ◌≢◌, ◌⊎◌, ◌≤◌, ◌+◌, ◌-◌, ◌^◌, Bool, true, false, List, [], ◌∷◌, ◌++◌, Option, Result, Ok, Err, All, codes, flat_map, length, max, min, take}
+use Rattle.std.specs.Io.KnownBytes.{Appends, Consumes}
+use Rattle.nap_list.specs.declared.device.inlet.Inlet as inlet
+use Rattle.nap_list.specs.declared.device.outlet.Outlet as outlet
+use Rattle.nap_list.specs.Flushing as flushing
+use Rattle.nap_list.specs.Reading.{Reading}
+use Rattle.nap_command.specs.declared.failure.Failure.TheVariants as failure
+use Rattle.nap_command.specs.Devices.{Devices}
+use Rattle.nap_command.specs.Failures.{failure_text}
+use Rattle.nap_command.specs.declared.batch.request.Question.{Question}
+use Rattle.nap_command.specs.declared.batch.service.Ended.{Ended}
+use Rattle.nap_command.specs.declared.batch.service.Ended.TheVariants as ended
+use Rattle.nap_command.specs.Answers.{IsAnswer, answer_text}
+use Rattle.nap_command.specs.Buffering.{Buffered}
+use Rattle.nap_list.specs.Limits.{read_limit}
+use Rattle.nap_command.specs.Limits.{requests_limit}
+use Rattle.nap_command.specs.Requests.{IsRequest}
+use Rattle.nap_command.specs.Waiting.{ReadingEnds}
+
+-- a question, with its bytes, and its answer
+pub record Exchange : Type 0 where
+  pub asked : List ℕ
+  pub question : Question
+  pub budget : ℕ
+  pub page : List ℕ
+  pub answered : List ℕ
+
+-- the answer if memory ran out for one
+abbrev pub no_memory : List ℕ
+no_memory = codes "no memory" ++ 10 ∷ (codes "0" ++ 10 ∷ [])
+
+-- the answer to a request: a line and a body, or lack of memory
+abbrev pub IsAnswered : Question → ℕ → List ℕ → List ℕ → Type 0
+IsAnswered q budget page out =
+    ((line : List ℕ) × (body : List ℕ) × IsAnswer q budget page line body × (out ≡ answer_text line body)) ⊎ (out ≡ no_memory)
+
+pub record IsExchange (x : Exchange) : Type 0 where
+  pub request : IsRequest x.asked x.question x.budget x.page
+  pub answer : IsAnswered x.question x.budget x.page x.answered
+
+-- a sum that saturates at 2^64 - 1
+abbrev pub count_on : ℕ → ℕ → ℕ
+count_on count more = min (count + more) (2 ^ 64 - 1)
+
+-- the number of flushes after one more, saturating at 2^64 - 1
+abbrev pub flushed_once : ℕ → ℕ
+flushed_once n = flushing.flush_count false n
+
+-- an output took all of a text after a number of bytes, and was flushed; or it failed during the text
+abbrev pub SendsText : {O : Type 0} → outlet.Ghosts O → ℕ → List ℕ → O → O → Result ℕ Ended → Type 0
+SendsText o written text before after (Ok n) =
+    Appends (o.taken before) (o.taken after) text × (n ≡ count_on written (length text)) × (o.failed after ≡ o.failed before) × (o.sent after ≡ true)
+    × (o.failed before ≡ false → o.flushes after ≡ flushed_once (o.flushes before))
+SendsText o written text before after (Err (ended.Write n)) =
+    (part : List ℕ) × Appends (o.taken before) (o.taken after) part × (take (length part) text ≡ part) × (n ≡ count_on written (length part)) × (o.failed after ≡ true)
+    × (o.failed before ≡ false → flushing.FlushedOnce o before after)
+SendsText o written text before after (Err _) = ⊥
+
+pub record IsSent {O : Type 0} (o : outlet.Ghosts O) (written : ℕ) (text : List ℕ) (before after : O) (result : Result ℕ Ended) : Type 0 where
+  pub sends : SendsText o written text before after result
+
+-- an output took the bytes before a body after a number of bytes, and wasn't flushed; or it failed during them
+abbrev pub SendsHead : {O : Type 0} → outlet.Ghosts O → ℕ → List ℕ → O → O → Result ℕ Ended → Type 0
+SendsHead o written head before after (Ok n) =
+    Appends (o.taken before) (o.taken after) head × (n ≡ count_on written (length head)) × (o.failed after ≡ o.failed before) × (o.flushes after ≡ o.flushes before)
+SendsHead o written head before after (Err end) = SendsText o written head before after (Err end)
+
+pub record IsHeadSent {O : Type 0} (o : outlet.Ghosts O) (written : ℕ) (head : List ℕ) (before after : O) (result : Result ℕ Ended) : Type 0 where
+  pub sends_head : SendsHead o written head before after result
+
+-- a request was answered like this after a number of bytes, or the output failed during the answer
+abbrev pub Replies : {O : Type 0} → outlet.Ghosts O → ℕ → Question → ℕ → List ℕ → O → O → Result ℕ Ended → Type 0
+Replies o written q budget page before after result = (text : List ℕ) × IsAnswered q budget page text × IsSent o written text before after result
+
+-- The input and the output: the bytes left and the bytes taken, if they tell them; the number of reads; whether the
+-- output was flushed after its last write, and the number of flushes; which devices have failed, and whether a write of
+-- the output has.
+pub record Pipes : Type 0 where
+  pub left : Option (List ℕ)
+  pub reads : ℕ
+  pub input_failed : Bool
+  pub taken : Option (List ℕ)
+  pub sent : Bool
+  pub flushes : ℕ
+  pub output_failed : Bool
+  pub write_failed : Bool
+
+abbrev pub pipes : {I O : Type 0} → inlet.Ghosts I → outlet.Ghosts O → I → O → Pipes
+pipes i o input output = record {
+  left = i.left input;
+  reads = i.calls input;
+  input_failed = i.failed input;
+  taken = o.taken output;
+  sent = o.sent output;
+  flushes = o.flushes output;
+  output_failed = o.failed output;
+  write_failed = o.write_failed output;
+}
+
+abbrev pub pipes_of : Devices → Pipes
+pipes_of d = record {
+  left = d.left;
+  reads = d.reads;
+  input_failed = d.input_failed;
+  taken = d.taken;
+  sent = d.sent;
+  flushes = d.flushes;
+  output_failed = d.output_failed;
+  write_failed = d.write_failed;
+}
+
+abbrev pub reading_between : Pipes → Pipes → Reading
+reading_between before after = record { left = after.left; failed_before = before.input_failed; failed = after.input_failed; reads = after.reads - before.reads }
+
+-- How a run ends, with these bytes after the last answered request, and these after its answer: reading ended, there
+-- were as many requests as allowed, a write failed during an answer, or there was no memory before anything was read or
+-- written.
+abbrev pub RunEnds : Pipes → Pipes → List Exchange → List ℕ → List ℕ → Ended → Type 0
+RunEnds before after xs rest part (ended.Write n) =
+    (x : Exchange) × (following : List ℕ) × IsExchange x × (rest ≡ x.asked ++ following) × (take (length part) x.answered ≡ part)
+    × (n ≡ min (length (flat_map (λ x. x.answered) xs ++ part)) (2 ^ 64 - 1)) × (after.output_failed ≡ true) × (after.input_failed ≡ before.input_failed)
+RunEnds before after xs rest part ended.Request =
+    (part ≡ []) × (ReadingEnds (reading_between before after) rest ended.Request ⊎ ((length xs ≡ requests_limit) × (after.input_failed ≡ before.input_failed)))
+    × (after.output_failed ≡ before.output_failed)
+RunEnds before after xs rest part ended.Memory = (xs ≡ []) × (rest ≡ []) × (part ≡ []) × (after ≡ before)
+RunEnds before after xs rest part end = (part ≡ []) × ReadingEnds (reading_between before after) rest end × (after.output_failed ≡ before.output_failed)
+
+-- an output was flushed n times more, saturating at 2^64 - 1
+abbrev pub FlushedTimes : ℕ → ℕ → ℕ → Type 0
+FlushedTimes n before after = (n ≡ 0 → after ≡ before) × (n ≢ 0 → after ≡ min (before + n) (2 ^ 64 - 1))
+
+-- The number of flushes for a number of answers: one for each. If a write of the next answer failed there is no more;
+-- if its flush failed there is one more.
+abbrev pub flushes_of : Ended → Bool → ℕ → ℕ
+flushes_of (ended.Write n) false answers = answers + 1
+flushes_of end write_failed answers = answers
+
+-- Requests were answered, one after another, from the devices before to those after, and the run ended like this.
+pub record Session (before after : Pipes) (end : Ended) : Type 0 where
+  pub exchanges : List Exchange
+  pub each : All IsExchange exchanges
+  pub rest : List ℕ
+  pub part : List ℕ
+  pub read : Consumes before.left after.left (flat_map (λ x. x.asked) exchanges ++ rest)
+  pub sent : Appends before.taken after.taken (flat_map (λ x. x.answered) exchanges ++ part)
+  pub ends : RunEnds before after exchanges rest part end
+  pub flushed : exchanges ≢ [] → after.output_failed ≡ false → after.sent ≡ true
+  pub each_flushed : before.output_failed ≡ false → FlushedTimes (flushes_of end after.write_failed (length exchanges)) before.flushes after.flushes
+
+-- One request was answered: the buffer was old before and is new now, and the output took n bytes in all. The buffer has
+-- memory for the request and one read, and for more only if it had it before.
+pub record AnswersRequest (written : ℕ) (old new : Buffered) (before after : Pipes) (n : ℕ) : Type 0 where
+  pub exchange : Exchange
+  pub is_exchange : IsExchange exchange
+  pub bytes : List ℕ
+  pub read : Consumes before.left after.left bytes
+  pub parts : old.bytes ++ bytes ≡ exchange.asked ++ new.bytes
+  pub keeps : new.memory ≤ max old.memory (length exchange.asked + read_limit)
+  pub sent : Appends before.taken after.taken exchange.answered
+  pub count : n ≡ count_on written (length exchange.answered)
+  pub input_works : after.input_failed ≡ before.input_failed
+  pub output_works : after.output_failed ≡ before.output_failed
+  pub flushed : after.sent ≡ true
+  pub once : before.output_failed ≡ false → after.flushes ≡ flushed_once before.flushes
+
+-- how a run ends where no request is answered
+abbrev pub StopsIn : ℕ → List ℕ → List ℕ → Pipes → Pipes → Ended → Type 0
+StopsIn written rest part before after (ended.Write n) =
+    (x : Exchange) × (following : List ℕ) × IsExchange x × (rest ≡ x.asked ++ following) × (take (length part) x.answered ≡ part)
+    × (n ≡ count_on written (length part)) × (after.output_failed ≡ true) × (after.input_failed ≡ before.input_failed)
+    × (before.output_failed ≡ false → after.flushes ≡ flushing.flush_count after.write_failed before.flushes)
+StopsIn written rest part before after end = (part ≡ []) × ReadingEnds (reading_between before after) rest end × (after.output_failed ≡ before.output_failed)
+
+-- No request was answered, and the run ends.
+pub record StopsServing (written : ℕ) (old : List ℕ) (before after : Pipes) (end : Ended) : Type 0 where
+  pub bytes : List ℕ
+  pub part : List ℕ
+  pub read : Consumes before.left after.left bytes
+  pub sent : Appends before.taken after.taken part
+  pub stops : StopsIn written (old ++ bytes) part before after end
+  pub flushed : before.sent ≡ true → after.output_failed ≡ false → after.sent ≡ true
+  pub none_more : after.output_failed ≡ false → after.flushes ≡ before.flushes
+
+abbrev pub IsExchanged : ℕ → Buffered → Buffered → Pipes → Pipes → Result ℕ Ended → Type 0
+IsExchanged written old new before after (Ok n) = AnswersRequest written old new before after n
+IsExchanged written old new before after (Err end) = StopsServing written old.bytes before after end
+
+-- what standard error reports of how a run ended
+abbrev pub ended_text : Ended → List ℕ
+ended_text ended.Done = []
+ended_text ended.Request = codes "request fault" ++ 10 ∷ []
+ended_text ended.Read = failure_text failure.Read ++ 10 ∷ []
+ended_text (ended.Write n) = failure_text (failure.Write n) ++ 10 ∷ []
+ended_text ended.Memory = failure_text failure.Memory ++ 10 ∷ []
+
+abbrev pub ended_status : Ended → ℕ
+ended_status ended.Done = 0
+ended_status _ = 3
+
+-- Standard error took e: all of the line, unless it failed.
+pub record ReportsEnd (e : List ℕ) (failed : Bool) (end : Ended) : Type 0 where
+  pub prefix : take (length e) (ended_text end) ≡ e
+  pub all : failed ≡ false → e ≡ ended_text end
+
+-- The command ran from the devices before to those after, with this exit status.
+pub record Served (before after : Devices) (status : ℕ) : Type 0 where
+  pub end : Ended
+  pub session : Session (pipes_of before) (pipes_of after) end
+  pub e : List ℕ
+  pub reported : Appends before.reported after.reported e
+  pub tells : ReportsEnd e after.errors_failed end
+  pub status_is : status ≡ ended_status end

@@ -1,0 +1,187 @@
+//! The answer to a request.
+ghost use Rattle.std.specs.Prelude.{◌≡◌, ◌++◌, [], IfOk, IfSome, IsSome};
+ghost use Rattle.nap_command.specs.declared.command.Action.TheVariants.{Check};
+ghost use Rattle.nap_command.specs.Commands.{PrintsBy, count_line};
+ghost use Rattle.nap_command.specs.Answers.{AnswersLines, IsAnswer, ShowsText, answer_text, ended_line, page_command, refused_line, unmade_line};
+
+use crate::answer::{Printout, answer_stream, count_line, refusal_line};
+use crate::batch::body::{Body, text_with_space};
+use crate::batch::places::read_places;
+use crate::batch::request::Question;
+use crate::command::{Action, Command};
+use crate::make::lines_failure;
+use itoa::Buffer;
+use nap_canon::{PageText, page_text};
+use nap_lines::LineSink;
+use nap_make::{MakeFault, page_of_lines};
+use nap_reader::{Budget, Refusal, read_counted};
+use std::alloc::{AllocError, Global};
+
+/// The answer to a request: a line, and a body (docs/BATCH.md).
+#[derive(Drop)]
+pub struct BatchAnswer {
+    /// Whether the page is accepted, as `check` prints it, with LF.
+    pub line: Vec<u8>,
+    /// What was asked for.
+    pub body: Body,
+}
+
+impl BatchAnswer {
+    /// Returns the bytes of the answer in two parts: the line with the number of bytes of the body, and the body.
+    /// The first part is empty if the body had space for it.
+    pub fn into_parts(self) -> Result<(Vec<u8>, Body), AllocError>
+        ensures { IfOk result (λ parts. parts.0.items ++ parts.1 ≡ answer_text self.line.items self.body) }
+    {
+        let BatchAnswer { line, mut body } = self;
+        let mut head = line;
+        let mut digits = Buffer::new();
+        head.extend_from_slice(digits.format(body.as_slice().len()).as_bytes())?;
+        head.push(b'\n')?;
+        if body.prepend(head.as_slice()) {
+            head.clear();
+        }
+        Ok((head, body))
+    }
+}
+
+/// Returns what `check` prints of a page.
+fn check_answer(alloc: Global, budget: Budget, page: &[u8]) -> Result<Printout, AllocError>
+    ensures { IfOk result (λ a. PrintsBy Check (page_command Check budget) page.now a.text.items a.verdict) }
+{
+    let command = Command {
+        action: Action::Check,
+        hex: false,
+        budget,
+        stream: false,
+    };
+    match answer_stream(alloc, &command, page) {
+        Ok(printout) => Ok(printout),
+        // `check` prints a refusal, and fails only for lack of memory.
+        Err(_) => Err(AllocError),
+    }
+}
+
+/// Returns the answer for a refused page, without a body.
+fn refused_answer(alloc: Global, refusal: Refusal) -> Result<BatchAnswer, AllocError>
+    ensures { IfOk result (λ a. (a.line.items ≡ refused_line refusal) × (a.body ≡ [])) }
+{
+    Ok(BatchAnswer {
+        line: refusal_line(alloc, refusal)?,
+        body: Body::new(Vec::new(alloc)),
+    })
+}
+
+/// Returns the answer for an accepted page: the line of its number of entries, and a body.
+fn accepted_answer(alloc: Global, count: Option<u64>, body: Body) -> Result<BatchAnswer, AllocError>
+    ensures { IfOk result (λ a. IfSome count (λ n. a.line.items ≡ count_line n) × IsSome count × (a.body ≡ body)) }
+{
+    match count {
+        Some(count) => Ok(BatchAnswer {
+            line: count_line(alloc, count)?,
+            body,
+        }),
+        // The number of entries exceeds a `u64`.
+        None => Err(AllocError),
+    }
+}
+
+/// Returns the answer with the lines of a page's entries.
+fn list_answer(alloc: Global, budget: Budget, page: &[u8]) -> Result<BatchAnswer, AllocError>
+    ensures { IfOk result (λ a. IsAnswer Question.List budget page.now a.line.items a.body) }
+{
+    let text = text_with_space(alloc)?;
+    match read_counted(alloc, budget, page, LineSink::over(text)) {
+        Ok((sink, count)) => accepted_answer(alloc, count, Body::after_space(sink.into_text())),
+        Err(refusal) => refused_answer(alloc, refusal),
+    }
+}
+
+/// Returns the answer with the canonical text that was made of a page, or with its refusal.
+fn text_answer(alloc: Global, found: Result<PageText, Refusal>) -> Result<BatchAnswer, AllocError>
+    ensures { IfOk result (λ a. ShowsText found a.line.items a.body) }
+{
+    match found {
+        Ok(found) => accepted_answer(alloc, found.count, Body::new(found.text)),
+        Err(refusal) => refused_answer(alloc, refusal),
+    }
+}
+
+/// Returns the answer with the canonical text of a page.
+fn canon_answer(alloc: Global, budget: Budget, page: &[u8]) -> Result<BatchAnswer, AllocError>
+    ensures { IfOk result (λ a. IsAnswer Question.Canon budget page.now a.line.items a.body) }
+{
+    match page_text(alloc, budget, page) {
+        Ok(found) => text_answer(alloc, found),
+        Err(AllocError) => Err(AllocError),
+    }
+}
+
+/// Returns the line of a page with this number of entries, or with this refusal.
+fn ended_line(alloc: Global, ended: Result<usize, Refusal>) -> Result<Vec<u8>, AllocError>
+    ensures { IfOk result (λ text. text.items ≡ ended_line ended) }
+{
+    match ended {
+        Ok(count) => count_line(alloc, count as u64),
+        Err(refusal) => refusal_line(alloc, refusal),
+    }
+}
+
+/// Returns the answer with the places of a page's entries.
+fn places_answer(alloc: Global, budget: Budget, page: &[u8]) -> Result<BatchAnswer, AllocError>
+    ensures { IfOk result (λ a. IsAnswer Question.Places budget page.now a.line.items a.body) }
+{
+    let placed = read_places(alloc, budget, page)?;
+    let line = ended_line(alloc, placed.ended)?;
+    Ok(BatchAnswer {
+        line,
+        body: Body::new(placed.text),
+    })
+}
+
+/// Returns the answer with the reason why lines make no page.
+fn unmade_answer(alloc: Global, fault: MakeFault) -> Result<BatchAnswer, AllocError>
+    ensures { IfOk result (λ a. (a.line.items ≡ unmade_line fault) × (a.body ≡ [])) }
+{
+    let line = lines_failure(fault).line();
+    Ok(BatchAnswer {
+        line: Vec::from_slice(alloc, line.as_bytes())?,
+        body: Body::new(Vec::new(alloc)),
+    })
+}
+
+/// Returns the answer with the page that lines make.
+fn make_answer(alloc: Global, lines: &[u8]) -> Result<BatchAnswer, AllocError>
+    ensures { IfOk result (λ a. AnswersLines lines.now a.line.items a.body) }
+{
+    match page_of_lines(alloc, lines) {
+        Ok(page) => Ok(BatchAnswer {
+            line: count_line(alloc, page.count as u64)?,
+            body: Body::new(page.text),
+        }),
+        Err(fault) => unmade_answer(alloc, fault),
+    }
+}
+
+/// Returns the answer to a question about a page. The error is lack of memory, but not in reading the page.
+pub fn answer_page(
+    alloc: Global,
+    question: Question,
+    budget: Budget,
+    page: &[u8],
+) -> Result<BatchAnswer, AllocError>
+    ensures { IfOk result (λ a. IsAnswer question budget page.now a.line.items a.body) }
+{
+    match question {
+        Question::Check => {
+            let checked = check_answer(alloc, budget, page)?;
+            Ok(BatchAnswer {
+                line: checked.text,
+                body: Body::new(Vec::new(alloc)),
+            })
+        }
+        Question::List => list_answer(alloc, budget, page),
+        Question::Canon => canon_answer(alloc, budget, page),
+        Question::Places => places_answer(alloc, budget, page),
+        Question::Make => make_answer(alloc, page),
+    }
+}

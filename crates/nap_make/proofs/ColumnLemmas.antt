@@ -1,0 +1,369 @@
+use Rattle.std.proofs.Common.{ℕ, ◌+◌, ◌-◌, ◌<◌, ◌≤◌, ◌≡◌, ◌≢◌, ◌⊎◌, inl, inr, List, [], ◌∷◌, ◌++◌, length, get_or, true, false, pos, refl, ap, sym, subst, ◌∙◌, arith, append_assoc, append-nil, length-append, codes}
+use Rattle.std.specs.Prelude.{All, None}
+use Rattle.std.proofs.lemmas.List.{append_cancel_left}
+use Rattle.std.proofs.lemmas.List.Elements.{All-append, All-cons, All-nil, All-head}
+use Rattle.nap_values.specs.Coordinates.{Coordinates, IsInSquare}
+use Rattle.nap_codes.specs.declared.code_set.CharSet.TheVariants as char_sets
+use Rattle.nap_codes.specs.declared.control.CursorKind.TheVariants as cursors
+use Rattle.nap_codes.specs.declared.control.Mask.TheVariants as masks
+use Rattle.nap_codes.specs.declared.control.Size.TheVariants as named_sizes
+use Rattle.nap_codes.specs.declared.control.TextStep.TheVariants as steps
+use Rattle.nap_list.specs.declared.attribute.CharSize.TheVariants as sizes
+use Rattle.nap_list.specs.declared.attribute.Colour.TheVariants as colours
+use Rattle.nap_list.specs.declared.attribute.Origin.TheVariants as origins
+use Rattle.nap_list.specs.declared.attribute.Pen.TheVariants as pens
+use Rattle.nap_list.specs.declared.entry.Entry.{Entry}
+use Rattle.nap_list.specs.declared.entry.Entry.TheVariants as entry
+use Rattle.nap_list.specs.Limits.{points_limit}
+use Rattle.nap_lines.specs.Lines.{line, point_text}
+use Rattle.nap_make.specs.Cutting.{SplitsAtByte}
+use Rattle.nap_make.specs.declared.field.Sort.{Sort}
+use Rattle.nap_make.specs.declared.field.Sort.TheVariants as sorts
+use Rattle.nap_make.specs.declared.field.Value.{Value}
+use Rattle.nap_make.specs.declared.field.Value.TheVariants as values
+use Rattle.nap_make.specs.declared.kind.Kind.{Kind}
+use Rattle.nap_make.specs.declared.kind.Kind.TheVariants as kinds
+use Rattle.nap_make.specs.Entries.{BeginsLine, BeginsWithSpace, EndsWithSpace, IsNameAlone, IsColumnAtName, IsEntryLine, IsPlace, IsProper, TellsColumn}
+use Rattle.nap_make.specs.Kinds.{HasPoints, IsChosen, IsKindOf, line_name, least_points, line_from, kind_row, with_word}
+use Rattle.nap_make.specs.Reading.{IsWritten, WritesNone}
+use Rattle.nap_make.specs.Rows.{BeginsNoPoint, EndsPoints, Fields, FitsSort, HasFields, IsFirstWrong, fields_before, fields_text, points_before}
+use Rattle.nap_make.specs.Sorts.{InSort, field_text}
+use Rattle.nap_make.proofs.CutLemmas.{cut_text, no_cut, one_cut, uncut}
+use Rattle.nap_make.proofs.EntryLemmas.{HasEntry, LineIs, line_is, plain_entry_with, shape_entry_with}
+use Rattle.nap_make.proofs.KindLemmas.{chosen_stays, line_append, name_apart}
+use Rattle.nap_make.proofs.LineLemmas.{IsReadAs, alone_whole, none_plain, read_or_alone, with_fields}
+use Rattle.nap_make.proofs.RowLemmas.{before_append, first_stays, fits_append, stays}
+use Rattle.nap_make.proofs.ShapeLemmas.{IsWrongAfter, none_shape, point_apart, points_append, points_join, shape_fit}
+
+-- The column of a fault.
+
+-- bytes end with a space, are empty, or end with another byte
+space_last : (right more : List ℕ) → EndsWithSpace (right ++ more) → (more ≡ []) ⊎ EndsWithSpace more
+space_last [] more ends = inr ends
+space_last right [] ends = inl refl
+space_last (b ∷ []) (c ∷ more) ends = inr (by ends.0 ends.1)
+  where
+    by : (front : List ℕ) → b ∷ (c ∷ more) ≡ front ++ 32 ∷ [] → EndsWithSpace (c ∷ more)
+    by [] is = absurd (let no : ⊥ = cc in no)
+    by (x ∷ front) is = (front, (cc))
+space_last (b ∷ d ∷ right) more ends = space_last (d ∷ right) more (by ends.0 ends.1)
+  where
+    by : (front : List ℕ) → b ∷ d ∷ (right ++ more) ≡ front ++ 32 ∷ [] → EndsWithSpace (d ∷ (right ++ more))
+    by [] is = absurd (let no : ⊥ = cc in no)
+    by (x ∷ front) is = (front, (cc))
+
+-- the column where what is before it ends with a space and begins a line, and no line goes on with what is left up to a space
+pub tells_field : (bytes right left : List ℕ) (column : ℕ) → bytes ≡ right ++ left → column ≡ length right + 1 → EndsWithSpace right → BeginsLine right → WritesNone IsProper line bytes →
+    ((q r tail : List ℕ) → left ≡ q ++ 32 ∷ r → WritesNone IsProper line (right ++ (q ++ 32 ∷ tail))) → TellsColumn bytes column
+tells_field bytes right left column parts column_is ends begins none stop = record {
+  right = right;
+  left = left;
+  parts = parts;
+  column_is = column_is;
+  place = inr (inl ends);
+  begins = begins;
+  longest = λ more rest is place goes. longest more rest is place goes;
+}
+  where
+    some : (xs : List ℕ) → right ++ xs ≡ [] → ⊥
+    some xs is = let no : length ((ends.0 ++ 32 ∷ []) ++ xs) ≡ 0 = ap (λ (s : List ℕ). length (s ++ xs)) (sym ends.1) ∙ ap (λ (s : List ℕ). length s) is in
+        omega (arith, no, length-append (ends.0 ++ 32 ∷ []) xs, length-append ends.0 (32 ∷ []))
+
+    further : (more rest : List ℕ) → left ≡ more ++ rest → BeginsLine (right ++ more) → (more ≡ []) ⊎ EndsWithSpace more → more ≡ []
+    further more rest is goes (inl none_more) = none_more
+    further more rest is goes (inr space) = absurd (
+        stop space.0 rest goes.more (is ∙ ap (λ (s : List ℕ). s ++ rest) space.1 ∙ append_assoc space.0 (32 ∷ []) rest) goes.entry goes.proper
+        (ap (λ (s : List ℕ). right ++ s) (sym (append_assoc space.0 (32 ∷ []) goes.more) ∙ ap (λ (s : List ℕ). s ++ goes.more) (sym space.1)) ∙ sym (append_assoc right more goes.more) ∙ sym goes.begins)
+        )
+
+    longest : (more rest : List ℕ) → left ≡ more ++ rest → IsPlace (right ++ more) rest → BeginsLine (right ++ more) → more ≡ []
+    longest more rest is (inl empty) goes = absurd (some more empty)
+    longest more rest is (inr (inl space)) goes = further more rest is goes (space_last right more space)
+    longest more rest is (inr (inr (inl alone))) goes = absurd (no_cut 32 (right ++ more) ends.0 more (alone_whole (right ++ more) alone.0) (ap (λ (s : List ℕ). s ++ more) ends.1 ∙ append_assoc ends.0 (32 ∷ []) more))
+    longest more rest is (inr (inr (inr whole))) goes =
+        absurd (none whole.0.0 whole.0.1.fitting (parts ∙ ap (λ (s : List ℕ). right ++ s) (is ∙ ap (λ (s : List ℕ). more ++ s) whole.1 ∙ append-nil more) ∙ whole.0.1.written))
+
+-- Each sort has a value.
+
+pub sample : (s : Sort) → (v : Value) × InSort s v
+sample sorts.Addr = (values.Addr 0, omega arith)
+sample sorts.Code = (values.Code 32, (omega arith, omega arith))
+sample sorts.Colour = (values.Colour (colours.Own origins.AtStart), tt)
+sample sorts.Cursor = (values.Cursor cursors.Off, tt)
+sample sorts.Look = (values.Look (record { first = 0; second = 0; size = sizes.Named named_sizes.Small; reverse = false; underline = false; wrap = false; scroll = false }), record { first = omega arith; second = omega arith; size = tt })
+sample sorts.Mask = (values.Mask masks.A, tt)
+sample sorts.Parts = (values.Parts (record { g = 0; r = 0; b = 0 }), (omega arith, omega arith, omega arith))
+sample sorts.Pel = (values.Pel (record { x = pos 0; y = pos 0 }), search)
+sample sorts.Pen = (values.Pen pens.Start, tt)
+sample sorts.Point = (values.Point (record { x = 0; y = 0 }), (omega arith, omega arith))
+sample sorts.Set = (values.Set char_sets.Primary, tt)
+sample sorts.Step = (values.Step steps.Apb, tt)
+sample sorts.Texture = (values.Texture (record { word = 0; mask = None }), record { word = omega arith; mask = tt })
+sample sorts.Times = (values.Times 0 0 0, (omega arith, omega arith, omega arith))
+sample sorts.Word = (values.Word 0, omega arith)
+
+pub samples : (row : List Sort) → (vs : List Value) × FitsSort row vs
+samples [] = ([], tt)
+samples (s ∷ row) = let one = sample s in let others = samples row in (one.0 ∷ others.0, (one.1, others.1))
+
+text_after : (vs us : List Value) (u : Value) → fields_text (vs ++ u ∷ us) ≡ fields_before vs (fields_text (u ∷ us))
+text_after [] us u = refl
+text_after (v ∷ []) us u = refl
+text_after (v ∷ w ∷ vs) us u = ap (λ (s : List ℕ). field_text v ++ 32 ∷ s) (text_after (w ∷ vs) us u)
+
+-- right fields begin the text of a row's values
+row_begins : (row : List Sort) (rest left : List ℕ) → (first : IsFirstWrong row rest left) → (vs : List Value) × (more : List ℕ) × FitsSort row vs × (fields_text vs ≡ fields_before first.values more)
+row_begins row rest left first =
+    let one = sample first.sort in
+    let others = samples first.others in
+    (first.values ++ one.0 ∷ others.0, fields_text (one.0 ∷ others.0), subst (λ (r : List Sort). FitsSort r (first.values ++ one.0 ∷ others.0)) (sym first.row_is) (fits_append first.before (first.sort ∷ first.others) first.values (one.0 ∷ others.0) first.right (one.1, others.1)), text_after first.values others.0 one.0)
+
+-- an entry whose line goes on so begins with this
+line_begins : (k : Kind) (points : List Coordinates) (vs : List Value) (front more : List ℕ) → HasEntry k points vs → points_before points (fields_text vs) ≡ front ++ more → BeginsLine (line_from k front)
+line_begins k points vs front more has is = record {
+  entry = has.entry;
+  more = more;
+  proper = has.proper;
+  begins = subst (LineIs has.entry) has.fields (line_is has.entry) ∙ ap (line_from k) is ∙ line_append k front more;
+}
+
+-- Bytes before a field end with a space.
+
+ends_after : (a b : List ℕ) → EndsWithSpace b → EndsWithSpace (a ++ b)
+ends_after a b ends = (a ++ ends.0, ap (λ (s : List ℕ). a ++ s) ends.1 ∙ sym (append_assoc a ends.0 (32 ∷ [])))
+
+ends_fields : (front : List ℕ) (vs : List Value) → EndsWithSpace front → EndsWithSpace (front ++ fields_before vs [])
+ends_fields front [] ends = subst EndsWithSpace (sym (append-nil front)) ends
+ends_fields front (v ∷ vs) ends =
+    subst EndsWithSpace (append_assoc front (field_text v ++ 32 ∷ []) (fields_before vs []) ∙ ap (λ (s : List ℕ). front ++ s) (append_assoc (field_text v) (32 ∷ []) (fields_before vs [])))
+    (ends_fields (front ++ (field_text v ++ 32 ∷ [])) vs (ends_after front (field_text v ++ 32 ∷ []) (field_text v, refl)))
+
+ends_points : (front : List ℕ) (points : List Coordinates) → EndsWithSpace front → EndsWithSpace (front ++ points_before points [])
+ends_points front [] ends = subst EndsWithSpace (sym (append-nil front)) ends
+ends_points front (p ∷ points) ends =
+    subst EndsWithSpace (append_assoc front (point_text p ++ 32 ∷ []) (points_before points []) ∙ ap (λ (s : List ℕ). front ++ s) (append_assoc (point_text p) (32 ∷ []) (points_before points [])))
+    (ends_points (front ++ (point_text p ++ 32 ∷ [])) points (ends_after front (point_text p ++ 32 ∷ []) (point_text p, refl)))
+
+ends_kind : (k : Kind) → EndsWithSpace (line_from k [])
+ends_kind kinds.Position = (codes "MOVE APS", refl)
+ends_kind kinds.Whole = (codes "FIELD whole", refl)
+ends_kind k = (line_name k, refl)
+
+pub from_start : (k : Kind) (a : List ℕ) → line_from k a ≡ line_from k [] ++ a
+from_start k a = line_append k [] a
+
+ends_row : (k : Kind) (points : List Coordinates) (vs : List Value) → EndsWithSpace (line_from k (points_before points (fields_before vs [])))
+ends_row k points vs =
+    subst EndsWithSpace
+    (append_assoc (line_from k []) (points_before points []) (fields_before vs []) ∙ ap (λ (s : List ℕ). line_from k [] ++ s) (sym (points_append points [] (fields_before vs []))) ∙ sym (from_start k (points_before points (fields_before vs []))))
+    (ends_fields (line_from k [] ++ points_before points []) vs (ends_points (line_from k []) points (ends_kind k)))
+
+-- a line up to what is left
+line_parts : (k : Kind) (points : List Coordinates) (vs : List Value) (left : List ℕ) → line_from k (points_before points (fields_before vs left)) ≡ line_from k (points_before points (fields_before vs [])) ++ left
+line_parts k points vs left =
+    ap (λ (s : List ℕ). line_from k (points_before points s)) (before_append vs [] left) ∙ ap (line_from k) (points_append points (fields_before vs []) left) ∙ line_append k (points_before points (fields_before vs [])) left
+
+column_at : (bytes right left : List ℕ) (end : ℕ) → bytes ≡ right ++ left → end ≡ length bytes + 1 → end - length left ≡ length right + 1
+column_at bytes right left end parts is = let size : length bytes ≡ length (right ++ left) = ap (λ (s : List ℕ). length s) parts in omega (arith, size, is, length-append right left)
+
+-- a wrong field of a line without points
+pub tells_plain : (k : Kind) (rest left : List ℕ) (end : ℕ) → (HasPoints k → ⊥) → IsChosen k rest → end ≡ length (line_from k rest) + 1 → IsFirstWrong (kind_row k) rest left →
+    WritesNone IsProper line (line_from k rest) × TellsColumn (line_from k rest) (end - length left)
+tells_plain k rest left end plain chosen is first = (none, tells_field (line_from k rest) right left (end - length left) parts (column_at (line_from k rest) right left end parts is) (ends_row k [] first.values) begins none stop)
+  where
+    right : List ℕ
+    right = line_from k (fields_before first.values [])
+
+    parts : line_from k rest ≡ right ++ left
+    parts = ap (line_from k) first.parts ∙ line_parts k [] first.values left
+
+    none : WritesNone IsProper line (line_from k rest)
+    none = none_plain k rest left plain chosen first
+
+    begins : BeginsLine right
+    begins = let own = row_begins (kind_row k) rest left first in
+        line_begins k [] own.0 (fields_before first.values []) own.1 (plain_entry_with k own.0 plain own.2) (own.3 ∙ before_append first.values [] own.1)
+
+    stop : (q r tail : List ℕ) → left ≡ q ++ 32 ∷ r → WritesNone IsProper line (right ++ (q ++ 32 ∷ tail))
+    stop q r tail same =
+        let so : rest ≡ fields_before first.values q ++ 32 ∷ r = first.parts ∙ ap (fields_before first.values) same ∙ before_append first.values q (32 ∷ r) in
+        let also = subst (IsChosen k) (sym (before_append first.values q (32 ∷ tail))) (chosen_stays k (fields_before first.values q) r tail (subst (IsChosen k) so chosen)) in
+        subst (WritesNone IsProper line) (line_parts k [] first.values (q ++ 32 ∷ tail))
+        (none_plain k (fields_before first.values (q ++ 32 ∷ tail)) (q ++ 32 ∷ tail) plain also (first_stays (kind_row k) rest left q r tail same first))
+
+-- the right fields behind the points of a shape
+abbrev right_fields : (k : Kind) (points : List Coordinates) (rest left : List ℕ) → IsWrongAfter k points rest left → List Value
+right_fields k points rest left (inl few) = []
+right_fields k points rest left (inr first) = first.1.values
+
+after_parts : (k : Kind) (points : List Coordinates) (rest left : List ℕ) → (wrong : IsWrongAfter k points rest left) → rest ≡ fields_before (right_fields k points rest left wrong) left
+after_parts k points rest left (inl few) = sym few.1
+after_parts k points rest left (inr first) = first.1.parts
+
+-- what follows a space doesn't matter for them
+after_stays : (k : Kind) (points : List Coordinates) (rest left q r tail : List ℕ) → left ≡ q ++ 32 ∷ r → (wrong : IsWrongAfter k points rest left) →
+    IsWrongAfter k points (fields_before (right_fields k points rest left wrong) (q ++ 32 ∷ tail)) (q ++ 32 ∷ tail)
+after_stays k points rest left q r tail is (inl few) = inl (few.0, refl)
+after_stays k points rest left q r tail is (inr first) = inr (first.0, first_stays (kind_row k) rest left q r tail is first.1)
+
+ends_stay : (bytes : List ℕ) (points : List Coordinates) (rest q r tail : List ℕ) → rest ≡ q ++ 32 ∷ r → EndsPoints bytes points rest → EndsPoints (points_before points (q ++ 32 ∷ tail)) points (q ++ 32 ∷ tail)
+ends_stay bytes points rest q r tail is ended = record { parts = refl; inside = ended.inside; few = ended.few; ends = by ended.ends }
+  where
+    by : (length points ≡ points_limit) ⊎ BeginsNoPoint rest → (length points ≡ points_limit) ⊎ BeginsNoPoint (q ++ 32 ∷ tail)
+    by (inl full) = inl full
+    by (inr none) = inr (λ p more inside goes. let found = stays (point_text p) q tail r more (point_apart p inside) goes in none p found.0 inside (is ∙ found.1))
+
+abbrev corner : Coordinates
+corner = record { x = 0; y = 0 }
+
+corner_inside : IsInSquare corner
+corner_inside = (omega arith, omega arith)
+
+abbrev three : List Coordinates
+three = corner ∷ corner ∷ corner ∷ []
+
+three_inside : All IsInSquare three
+three_inside = All-cons IsInSquare corner (corner ∷ corner ∷ []) corner_inside (All-cons IsInSquare corner (corner ∷ []) corner_inside (All-cons IsInSquare corner [] corner_inside (All-nil IsInSquare)))
+
+least_small : (k : Kind) → least_points k ≤ 3
+least_small kinds.ArcOutlined = omega arith
+least_small kinds.ArcFilled = omega arith
+least_small kinds.PolyOutlined = omega arith
+least_small kinds.PolyFilled = omega arith
+least_small _ = omega arith
+
+-- points and right fields begin the line of a shape
+shape_begins : (k : Kind) (bytes : List ℕ) (points : List Coordinates) (rest left : List ℕ) → HasPoints k → EndsPoints bytes points rest → (wrong : IsWrongAfter k points rest left) →
+    BeginsLine (line_from k (points_before points (fields_before (right_fields k points rest left wrong) [])))
+shape_begins k bytes points rest left has ended (inl few) =
+    let own = samples (kind_row k) in
+    let size : length (points ++ three) ≡ length points + 3 = length-append points three in
+    let fit = shape_fit k (points ++ three) has (All-append IsInSquare points three ended.inside three_inside) (omega (arith, size, least_small k)) (omega (arith, size, few.0, least_small k)) in
+    line_begins k (points ++ three) own.0 (points_before points []) (points_before three (fields_text own.0)) (shape_entry_with k (points ++ three) own.0 has fit own.1)
+    (points_join points three (fields_text own.0) ∙ points_append points [] (points_before three (fields_text own.0)))
+shape_begins k bytes points rest left has ended (inr first) =
+    let own = row_begins (kind_row k) rest left first.1 in
+    let fit = shape_fit k points has ended.inside first.0 ended.few in
+    line_begins k points own.0 (points_before points (fields_before first.1.values [])) own.1 (shape_entry_with k points own.0 has fit own.2)
+    (ap (points_before points) (own.3 ∙ before_append first.1.values [] own.1) ∙ points_append points (fields_before first.1.values []) own.1)
+
+-- a wrong point or field of a shape
+pub tells_shape : (k : Kind) (bytes : List ℕ) (points : List Coordinates) (rest left : List ℕ) (end : ℕ) → HasPoints k → end ≡ length (line_from k bytes) + 1 → EndsPoints bytes points rest → IsWrongAfter k points rest left →
+    WritesNone IsProper line (line_from k bytes) × TellsColumn (line_from k bytes) (end - length left)
+tells_shape k bytes points rest left end has is ended wrong =
+    (none, tells_field (line_from k bytes) right left (end - length left) parts (column_at (line_from k bytes) right left end parts is) (ends_row k points vs) (shape_begins k bytes points rest left has ended wrong) none stop)
+  where
+    vs : List Value
+    vs = right_fields k points rest left wrong
+
+    right : List ℕ
+    right = line_from k (points_before points (fields_before vs []))
+
+    parts : line_from k bytes ≡ right ++ left
+    parts = ap (line_from k) (ended.parts ∙ ap (points_before points) (after_parts k points rest left wrong)) ∙ line_parts k points vs left
+
+    none : WritesNone IsProper line (line_from k bytes)
+    none = none_shape k bytes points rest left has ended wrong
+
+    stop : (q r tail : List ℕ) → left ≡ q ++ 32 ∷ r → WritesNone IsProper line (right ++ (q ++ 32 ∷ tail))
+    stop q r tail same =
+        let so : rest ≡ fields_before vs q ++ 32 ∷ r = after_parts k points rest left wrong ∙ ap (fields_before vs) same ∙ before_append vs q (32 ∷ r) in
+        let ends = subst (λ (s : List ℕ). EndsPoints (points_before points s) points s) (sym (before_append vs q (32 ∷ tail))) (ends_stay bytes points rest (fields_before vs q) r tail so ended) in
+        subst (WritesNone IsProper line) (line_parts k points vs (q ++ 32 ∷ tail))
+        (none_shape k (points_before points (fields_before vs (q ++ 32 ∷ tail))) points (fields_before vs (q ++ 32 ∷ tail)) (q ++ 32 ∷ tail) has ends (after_stays k points rest left q r tail same wrong))
+
+-- Lines that aren't read by their fields.
+
+-- the column of a line that goes wrong at its name
+tells_first : (bytes : List ℕ) → WritesNone IsProper line bytes → ((q r tail : List ℕ) → bytes ≡ q ++ 32 ∷ r → WritesNone IsProper line (q ++ 32 ∷ tail)) → ((q r : List ℕ) → bytes ≡ q ++ 32 ∷ r → IsNameAlone q → ⊥) → TellsColumn bytes 1
+tells_first bytes none stop apart = record {
+  right = [];
+  left = bytes;
+  parts = refl;
+  column_is = refl;
+  place = inl refl;
+  begins = record { entry = entry.Bell; more = codes "BELL"; proper = record { in_range = tt; well_made = tt }; begins = refl };
+  longest = longest;
+}
+  where
+    longest : (more rest : List ℕ) → bytes ≡ more ++ rest → IsPlace more rest → BeginsLine more → more ≡ []
+    longest more rest is (inl empty) goes = empty
+    longest more rest is (inr (inl space)) goes = absurd (
+        stop space.0 rest goes.more (is ∙ ap (λ (s : List ℕ). s ++ rest) space.1 ∙ append_assoc space.0 (32 ∷ []) rest) goes.entry goes.proper
+        (sym (append_assoc space.0 (32 ∷ []) goes.more) ∙ ap (λ (s : List ℕ). s ++ goes.more) (sym space.1) ∙ sym goes.begins)
+        )
+    longest more rest is (inr (inr (inl alone))) goes = absurd (apart more alone.1.0 (is ∙ ap (λ (s : List ℕ). more ++ s) alone.1.1) alone.0)
+    longest more rest is (inr (inr (inr whole))) goes = absurd (none whole.0.0 whole.0.1.fitting (is ∙ ap (λ (s : List ℕ). more ++ s) whole.1 ∙ append-nil more ∙ whole.0.1.written))
+
+-- bytes without a space that aren't a name alone
+pub tells_alone : (bytes : List ℕ) → ((x y : List ℕ) → SplitsAtByte 32 bytes x y → ⊥) → (IsNameAlone bytes → ⊥) → WritesNone IsProper line bytes × TellsColumn bytes 1
+tells_alone bytes whole alone = (none, tells_first bytes none (λ q r tail is. absurd (no_cut 32 bytes q r (uncut 32 bytes whole) is)) (λ q r is lone. no_cut 32 bytes q r (uncut 32 bytes whole) is))
+  where
+    none : WritesNone IsProper line bytes
+    none e proper is = by (read_or_alone e proper)
+      where
+        by : IsNameAlone (line e) ⊎ ((f : Fields) × IsReadAs e f) → ⊥
+        by (inl lone) = alone (subst IsNameAlone (sym is) lone)
+        by (inr has) = no_cut 32 bytes (line_name has.0.kind) _ (uncut 32 bytes whole) (is ∙ has.1.line_so)
+
+-- the entry of a line with a space has the line's first word for a name
+first_word : (name back : List ℕ) (e : Entry) → All (λ x. x ≢ 32) name → IsProper e → name ++ 32 ∷ back ≡ line e → (k : Kind) × (name ≡ line_name k)
+first_word name back e none proper is =
+    let has = with_fields e name back proper (sym is) in
+    (has.0.kind, (one_cut 32 name back (line_name has.0.kind) (with_word has.0.kind _) none (name_apart has.0.kind) (is ∙ has.1.line_so)).0)
+
+-- what is before the first of some spaces
+name_stays : (name back q r tail : List ℕ) → All (λ x. x ≢ 32) name → name ++ 32 ∷ back ≡ q ++ 32 ∷ r → (y : List ℕ) × (q ++ 32 ∷ tail ≡ name ++ 32 ∷ y)
+name_stays name back q r tail none is = stays name q r tail back none (sym is)
+
+-- a first word that is no name
+pub tells_no_name : (bytes name back : List ℕ) → SplitsAtByte 32 bytes name back → ((k : Kind) → name ≢ line_name k) → (IsNameAlone name → ⊥) → WritesNone IsProper line bytes × TellsColumn bytes 1
+tells_no_name bytes name back cuts unnamed alone = (none back bytes cuts.joins, tells_first bytes (none back bytes cuts.joins) stop apart)
+  where
+    none : (back bytes : List ℕ) → bytes ≡ name ++ 32 ∷ back → WritesNone IsProper line bytes
+    none back bytes is e proper so = let found = first_word name back e cuts.first proper (sym is ∙ so) in unnamed found.0 found.1
+
+    stop : (q r tail : List ℕ) → bytes ≡ q ++ 32 ∷ r → WritesNone IsProper line (q ++ 32 ∷ tail)
+    stop q r tail is = let found = name_stays name back q r tail cuts.first (sym cuts.joins ∙ is) in none found.0 (q ++ 32 ∷ tail) found.1
+
+    apart : (q r : List ℕ) → bytes ≡ q ++ 32 ∷ r → IsNameAlone q → ⊥
+    apart q r is lone = alone (subst IsNameAlone (sym (cut_text 32 bytes name back q r cuts (alone_whole q lone) is).0) lone)
+
+alone_begins : (name : List ℕ) → IsNameAlone name → BeginsLine name
+alone_begins name (inl is) = record { entry = entry.Bell; more = []; proper = record { in_range = tt; well_made = tt }; begins = ap (λ (s : List ℕ). s ++ []) (sym is) }
+alone_begins name (inr is) = record { entry = entry.DefEnd; more = []; proper = record { in_range = tt; well_made = tt }; begins = ap (λ (s : List ℕ). s ++ []) (sym is) }
+
+-- a name alone before a space
+pub tells_behind_name : (bytes name back : List ℕ) → SplitsAtByte 32 bytes name back → ((k : Kind) → name ≢ line_name k) → IsNameAlone name → WritesNone IsProper line bytes × TellsColumn bytes (length name + 1)
+tells_behind_name bytes name back cuts unnamed alone = (
+  none back bytes cuts.joins,
+  record {
+    right = name;
+    left = 32 ∷ back;
+    parts = cuts.joins;
+    column_is = refl;
+    place = inr (inr (inl (alone, (back, refl))));
+    begins = alone_begins name alone;
+    longest = longest;
+  },
+)
+  where
+    none : (back bytes : List ℕ) → bytes ≡ name ++ 32 ∷ back → WritesNone IsProper line bytes
+    none back bytes is e proper so = let found = first_word name back e cuts.first proper (sym is ∙ so) in unnamed found.0 found.1
+
+    empty_or_space : (more rest : List ℕ) → 32 ∷ back ≡ more ++ rest → (more ≡ []) ⊎ ((tail : List ℕ) × (more ≡ 32 ∷ tail))
+    empty_or_space [] rest is = inl refl
+    empty_or_space (b ∷ more) rest is = inr (more, ap (λ (x : ℕ). x ∷ more) (sym (ap (λ (s : List ℕ). get_or s 0 0) is)))
+
+    goes_on : (more : List ℕ) → BeginsLine (name ++ more) → (more ≡ []) ⊎ ((tail : List ℕ) × (more ≡ 32 ∷ tail)) → more ≡ []
+    goes_on more goes (inl empty) = empty
+    goes_on more goes (inr space) =
+        absurd (none (space.0 ++ goes.more) (name ++ 32 ∷ (space.0 ++ goes.more)) refl goes.entry goes.proper
+        (sym (append_assoc name (32 ∷ space.0) goes.more) ∙ ap (λ (s : List ℕ). (name ++ s) ++ goes.more) (sym space.1) ∙ sym goes.begins))
+
+    longest : (more rest : List ℕ) → 32 ∷ back ≡ more ++ rest → IsPlace (name ++ more) rest → BeginsLine (name ++ more) → more ≡ []
+    longest more rest is place goes = goes_on more goes (empty_or_space more rest is)
+
+pub tells_at_name : (bytes name back : List ℕ) (column : ℕ) → SplitsAtByte 32 bytes name back → ((k : Kind) → name ≢ line_name k) → IsColumnAtName name column → WritesNone IsProper line bytes × TellsColumn bytes column
+tells_at_name bytes name back column cuts unnamed (inl alone) = let told = tells_behind_name bytes name back cuts unnamed alone.0 in (told.0, subst (TellsColumn bytes) (sym alone.1) told.1)
+tells_at_name bytes name back column cuts unnamed (inr other) = let told = tells_no_name bytes name back cuts unnamed other.0 in (told.0, subst (TellsColumn bytes) (sym other.1) told.1)

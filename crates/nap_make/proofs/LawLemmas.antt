@@ -1,0 +1,282 @@
+use Rattle.std.proofs.Common.{ℕ, ◌<◌, ◌≡◌, ◌≢◌, ◌⊎◌, inl, inr, true, false, List, [], ◌∷◌, ◌++◌, get_or, refl, ap, ap₂, sym, subst, ◌∙◌, arith, codes, append_assoc}
+use Rattle.std.specs.Prelude.{All, Option, Some, None}
+use Rattle.std.proofs.lemmas.List.Elements.{All-append, All-cons, All-head, All-nil, All-tail, All-weaker}
+use Rattle.nap_values.specs.Coordinates.{Coordinates, IsInSquare}
+use Rattle.nap_codes.specs.declared.control.TextStep.{TextStep}
+use Rattle.nap_codes.specs.declared.control.TextStep.TheVariants as steps
+use Rattle.nap_list.specs.declared.attribute.Area.TheVariants as areas
+use Rattle.nap_list.specs.declared.entry.Entry.{Entry}
+use Rattle.nap_list.specs.declared.entry.Entry.TheVariants as entry
+use Rattle.nap_list.specs.Range.{AllInRange, InRange}
+use Rattle.nap_lines.specs.Lines.{line, point_text, step_text}
+use Rattle.nap_lines.specs.Listing.{lines}
+use Rattle.nap_make.specs.declared.field.Sort.{Sort}
+use Rattle.nap_make.specs.declared.field.Sort.TheVariants as sorts
+use Rattle.nap_make.specs.declared.field.Value.{Value}
+use Rattle.nap_make.specs.declared.field.Value.TheVariants as values
+use Rattle.nap_make.specs.declared.kind.Kind.{Kind}
+use Rattle.nap_make.specs.declared.kind.Kind.TheVariants as kinds
+use Rattle.nap_make.specs.Entries.{IsNameAlone}
+use Rattle.nap_make.specs.Fields.{IsPlainStep}
+use Rattle.nap_make.specs.Kinds.{HasPoints, IsChosen, line_name, line_from, kind_row, with_word}
+use Rattle.nap_make.specs.Rows.{BeginsNoPoint, Fields, HasFields, fields_line, fields_of, fields_text, points_before}
+use Rattle.nap_make.specs.Sorts.{field_text}
+use Rattle.nap_make.proofs.CutLemmas.{no_cut, one_cut}
+use Rattle.nap_make.proofs.EntryLemmas.{LineIs, line_is, same_entry}
+use Rattle.nap_make.proofs.KindLemmas.{name_visible, one_kind}
+use Rattle.nap_make.proofs.LayoutLemmas.{Tells}
+use Rattle.nap_make.proofs.LineLemmas.{FieldsChosen, alone_whole, fields_chosen}
+use Rattle.nap_make.proofs.PlaceLemmas.{point_tells, point_visible}
+use Rattle.nap_make.proofs.ShapeLemmas.{fields_no_point, point_apart}
+use Rattle.nap_make.proofs.SortLemmas.{AreOf, InType, field_visible, type_apart}
+use Rattle.nap_make.proofs.SpellLemmas.{IsVisible, above}
+use Rattle.nap_make.proofs.TellLemmas.{addr_tells, code_tells, colour_field_tells, cursor_tells, grb_tells, look_field_tells, mask_tells, pel_field_tells, pen_field_tells, set_tells, texture_field_tells, times_tell, word_tells}
+
+-- Entries in the ranges of their types, by the fields of their lines.
+
+-- the points of a kind are in the unit screen, or there are none
+abbrev pub PointsOf : Kind → List Coordinates → Type 0
+PointsOf kinds.ArcOutlined points = All IsInSquare points
+PointsOf kinds.ArcFilled points = All IsInSquare points
+PointsOf kinds.PolyOutlined points = All IsInSquare points
+PointsOf kinds.PolyFilled points = All IsInSquare points
+PointsOf _ points = points ≡ []
+
+abbrev pub FieldsOf : Option Fields → Type 0
+FieldsOf None = Unit {0}
+FieldsOf (Some f) = AreOf (kind_row f.kind) f.values × PointsOf f.kind f.points
+
+pub fields_in_range : (e : Entry) → InRange e → FieldsOf (fields_of e)
+fields_in_range (entry.Point at pel colour) fits = ((fits.0, (fits.1, (fits.2, tt))), refl)
+fields_in_range (entry.Line from to ink) fits = ((fits.0, (fits.1, (fits.2.pel, (fits.2.colour, (fits.2.texture, tt))))), refl)
+fields_in_range (entry.Arc true points ink) fits = ((fits.1.pel, (fits.1.colour, (fits.1.texture, tt))), fits.0)
+fields_in_range (entry.Arc false points ink) fits = ((fits.1.pel, (fits.1.colour, (fits.1.texture, tt))), fits.0)
+fields_in_range (entry.Rect true from to ink) fits = ((fits.0, (fits.1, (fits.2.pel, (fits.2.colour, (fits.2.texture, tt))))), refl)
+fields_in_range (entry.Rect false from to ink) fits = ((fits.0, (fits.1, (fits.2.pel, (fits.2.colour, (fits.2.texture, tt))))), refl)
+fields_in_range (entry.Poly true points ink) fits = ((fits.1.pel, (fits.1.colour, (fits.1.texture, tt))), fits.0)
+fields_in_range (entry.Poly false points ink) fits = ((fits.1.pel, (fits.1.colour, (fits.1.texture, tt))), fits.0)
+fields_in_range (entry.Char set code hand) fits = ((tt, (fits.0, (fits.1.pen, (fits.1.colour, (fits.1.text, tt))))), refl)
+fields_in_range (entry.TextMove (steps.Aps row column) hand) fits = ((fits.0.0, (fits.0.1, (fits.1.pen, (fits.1.colour, (fits.1.text, tt))))), refl)
+fields_in_range (entry.TextMove step hand) fits = ((tt, (fits.1.pen, (fits.1.colour, (fits.1.text, tt)))), refl)
+fields_in_range (entry.ToEol hand) fits = ((fits.pen, (fits.colour, (fits.text, tt))), refl)
+fields_in_range (entry.Map addr grb) fits = ((fits.0, (fits.1, tt)), refl)
+fields_in_range (entry.Blink addr on off delay colour) fits = ((fits.0, ((fits.1, fits.2, fits.3), (fits.4, tt))), refl)
+fields_in_range (entry.BlinkEnd colour) fits = ((fits, tt), refl)
+fields_in_range (entry.BlinkMark true colour) fits = ((fits, tt), refl)
+fields_in_range (entry.BlinkMark false colour) fits = ((fits, tt), refl)
+fields_in_range (entry.Wait tenths) fits = ((fits, tt), refl)
+fields_in_range entry.Bell fits = tt
+fields_in_range (entry.Cursor state) fits = ((tt, tt), refl)
+fields_in_range (entry.Field areas.Whole pen) fits = ((fits.1, tt), refl)
+fields_in_range (entry.Field (areas.Part from to) pen) fits = ((fits.0.0, (fits.0.1, (fits.1, tt))), refl)
+fields_in_range (entry.Reset first second pen) fits = ((fits.0, (fits.1, (fits.2, tt))), refl)
+fields_in_range (entry.Clear pen) fits = ((fits, tt), refl)
+fields_in_range (entry.GlyphStart code) fits = ((fits, tt), refl)
+fields_in_range (entry.MaskStart mask) fits = ((tt, tt), refl)
+fields_in_range entry.DefEnd fits = tt
+
+-- Values with equal texts are equal.
+
+plain_tells : Tells IsPlainStep step_text
+plain_tells s t s_fits t_fits is = by s t s_fits t_fits (ap (λ (xs : List ℕ). get_or xs 2 0) is)
+  where
+    by : (s t : TextStep) → IsPlainStep s → IsPlainStep t → get_or (step_text s) 2 0 ≡ get_or (step_text t) 2 0 → s ≡ t
+    by (steps.Aps row column) t s_fits t_fits same = absurd s_fits
+    by s (steps.Aps row column) s_fits t_fits same = absurd t_fits
+    by steps.Apb steps.Apb s_fits t_fits same = refl
+    by steps.Apf steps.Apf s_fits t_fits same = refl
+    by steps.Apd steps.Apd s_fits t_fits same = refl
+    by steps.Apu steps.Apu s_fits t_fits same = refl
+    by steps.Apr steps.Apr s_fits t_fits same = refl
+    by steps.Aph steps.Aph s_fits t_fits same = refl
+    by s t s_fits t_fits same = absurd (omega (arith, same))
+
+field_tells : (s : Sort) (v w : Value) → InType s v → InType s w → field_text v ≡ field_text w → v ≡ w
+field_tells sorts.Addr (values.Addr a) (values.Addr b) v_fits w_fits is = ap values.Addr (addr_tells a b v_fits w_fits is)
+field_tells sorts.Code (values.Code a) (values.Code b) v_fits w_fits is = ap values.Code (code_tells a b v_fits w_fits is)
+field_tells sorts.Colour (values.Colour a) (values.Colour b) v_fits w_fits is = ap values.Colour (colour_field_tells a b v_fits w_fits is)
+field_tells sorts.Cursor (values.Cursor a) (values.Cursor b) v_fits w_fits is = ap values.Cursor (cursor_tells a b tt tt is)
+field_tells sorts.Look (values.Look a) (values.Look b) v_fits w_fits is = ap values.Look (look_field_tells a b v_fits w_fits is)
+field_tells sorts.Mask (values.Mask a) (values.Mask b) v_fits w_fits is = ap values.Mask (mask_tells a b tt tt is)
+field_tells sorts.Parts (values.Parts a) (values.Parts b) v_fits w_fits is = ap values.Parts (grb_tells a b v_fits w_fits is)
+field_tells sorts.Pel (values.Pel a) (values.Pel b) v_fits w_fits is = ap values.Pel (pel_field_tells a b v_fits w_fits is)
+field_tells sorts.Pen (values.Pen a) (values.Pen b) v_fits w_fits is = ap values.Pen (pen_field_tells a b v_fits w_fits is)
+field_tells sorts.Point (values.Point a) (values.Point b) v_fits w_fits is = ap values.Point (point_tells a b v_fits w_fits is)
+field_tells sorts.Set (values.Set a) (values.Set b) v_fits w_fits is = ap values.Set (set_tells a b tt tt is)
+field_tells sorts.Step (values.Step a) (values.Step b) v_fits w_fits is = ap values.Step (plain_tells a b v_fits w_fits is)
+field_tells sorts.Texture (values.Texture a) (values.Texture b) v_fits w_fits is = ap values.Texture (texture_field_tells a b v_fits w_fits is)
+field_tells sorts.Times (values.Times a b c) (values.Times d e f) v_fits w_fits is =
+    ap (λ (t : ℕ × (ℕ × ℕ)). values.Times t.0 t.1.0 t.1.1) (times_tell (a, (b, c)) (d, (e, f)) (v_fits.0, (v_fits.1, v_fits.2)) (w_fits.0, (w_fits.1, w_fits.2)) is)
+field_tells sorts.Word (values.Word a) (values.Word b) v_fits w_fits is = ap values.Word (word_tells a b v_fits w_fits is)
+field_tells sorts.Addr (values.Addr a) w v_fits w_fits is = absurd w_fits
+field_tells sorts.Code (values.Code a) w v_fits w_fits is = absurd w_fits
+field_tells sorts.Colour (values.Colour a) w v_fits w_fits is = absurd w_fits
+field_tells sorts.Cursor (values.Cursor a) w v_fits w_fits is = absurd w_fits
+field_tells sorts.Look (values.Look a) w v_fits w_fits is = absurd w_fits
+field_tells sorts.Mask (values.Mask a) w v_fits w_fits is = absurd w_fits
+field_tells sorts.Parts (values.Parts a) w v_fits w_fits is = absurd w_fits
+field_tells sorts.Pel (values.Pel a) w v_fits w_fits is = absurd w_fits
+field_tells sorts.Pen (values.Pen a) w v_fits w_fits is = absurd w_fits
+field_tells sorts.Point (values.Point a) w v_fits w_fits is = absurd w_fits
+field_tells sorts.Set (values.Set a) w v_fits w_fits is = absurd w_fits
+field_tells sorts.Step (values.Step a) w v_fits w_fits is = absurd w_fits
+field_tells sorts.Texture (values.Texture a) w v_fits w_fits is = absurd w_fits
+field_tells sorts.Word (values.Word a) w v_fits w_fits is = absurd w_fits
+field_tells sorts.Times (values.Times a b c) w v_fits w_fits is = absurd w_fits
+field_tells s v w v_fits w_fits is = absurd v_fits
+
+fields_tell : (row : List Sort) (vs us : List Value) → AreOf row vs → AreOf row us → fields_text vs ≡ fields_text us → vs ≡ us
+fields_tell [] [] [] one two is = refl
+fields_tell (s ∷ []) (v ∷ []) (u ∷ []) one two is = ap (λ (x : Value). x ∷ []) (field_tells s v u one.0 two.0 is)
+fields_tell (s ∷ t ∷ row) (v ∷ w ∷ vs) (u ∷ x ∷ us) one two is =
+    let same = one_cut 32 (field_text v) (fields_text (w ∷ vs)) (field_text u) (fields_text (x ∷ us)) (type_apart s v one.0) (type_apart s u two.0) is in
+    ap₂ (λ (y : Value) (ys : List Value). y ∷ ys) (field_tells s v u one.0 two.0 same.0) (fields_tell (t ∷ row) (w ∷ vs) (x ∷ us) one.1 two.1 same.1)
+fields_tell [] (v ∷ vs) us one two is = absurd one
+fields_tell [] [] (u ∷ us) one two is = absurd two
+fields_tell (s ∷ row) [] us one two is = absurd one
+fields_tell (s ∷ row) (v ∷ vs) [] one two is = absurd two
+fields_tell (s ∷ []) (v ∷ w ∷ vs) us one two is = absurd one.1
+fields_tell (s ∷ []) (v ∷ []) (u ∷ x ∷ us) one two is = absurd two.1
+fields_tell (s ∷ t ∷ row) (v ∷ []) us one two is = absurd one.1
+fields_tell (s ∷ t ∷ row) (v ∷ w ∷ vs) (u ∷ []) one two is = absurd two.1
+
+-- Lines with equal points and fields.
+
+points_tell : (ps qs : List Coordinates) (a b : List ℕ) → All IsInSquare ps → All IsInSquare qs → BeginsNoPoint a → BeginsNoPoint b → points_before ps a ≡ points_before qs b → (ps ≡ qs) × (a ≡ b)
+points_tell [] [] a b one two none also is = (refl, is)
+points_tell [] (q ∷ qs) a b one two none also is = absurd (none q (points_before qs b) (All-head IsInSquare q qs two) is)
+points_tell (p ∷ ps) [] a b one two none also is = absurd (also p (points_before ps a) (All-head IsInSquare p ps one) (sym is))
+points_tell (p ∷ ps) (q ∷ qs) a b one two none also is =
+    let p_fits = All-head IsInSquare p ps one in
+    let q_fits = All-head IsInSquare q qs two in
+    let same = one_cut 32 (point_text p) (points_before ps a) (point_text q) (points_before qs b) (point_apart p p_fits) (point_apart q q_fits) is in
+    let others = points_tell ps qs a b (All-tail IsInSquare p ps one) (All-tail IsInSquare q qs two) none also same.1 in
+    (ap₂ (λ (x : Coordinates) (xs : List Coordinates). x ∷ xs) (point_tells p q p_fits q_fits same.0) others.0, others.1)
+
+-- whether a kind has points
+points_or_none : (k : Kind) → (HasPoints k × ((ps : List Coordinates) → PointsOf k ps → All IsInSquare ps)) ⊎ ((ps : List Coordinates) → PointsOf k ps → ps ≡ [])
+points_or_none kinds.ArcOutlined = inl (tt, λ ps of. of)
+points_or_none kinds.ArcFilled = inl (tt, λ ps of. of)
+points_or_none kinds.PolyOutlined = inl (tt, λ ps of. of)
+points_or_none kinds.PolyFilled = inl (tt, λ ps of. of)
+points_or_none k = inr (λ ps of. of)
+
+fields_same : (k : Kind) (ps qs : List Coordinates) (vs us : List Value) → PointsOf k ps → PointsOf k qs → AreOf (kind_row k) vs → AreOf (kind_row k) us → points_before ps (fields_text vs) ≡ points_before qs (fields_text us) → (ps ≡ qs) × (vs ≡ us)
+fields_same k ps qs vs us one two vs_are us_are is = by (points_or_none k)
+  where
+    by : (HasPoints k × ((ps : List Coordinates) → PointsOf k ps → All IsInSquare ps)) ⊎ ((ps : List Coordinates) → PointsOf k ps → ps ≡ []) → (ps ≡ qs) × (vs ≡ us)
+    by (inl has) =
+        let same = points_tell ps qs (fields_text vs) (fields_text us) (has.1 ps one) (has.1 qs two) (fields_no_point k vs has.0 vs_are) (fields_no_point k us has.0 us_are) is in
+        (same.0, fields_tell (kind_row k) vs us vs_are us_are same.1)
+    by (inr none) =
+        let texts = ap (λ (xs : List Coordinates). points_before xs (fields_text vs)) (sym (none ps one)) ∙ is ∙ ap (λ (xs : List Coordinates). points_before xs (fields_text us)) (none qs two) in
+        (none ps one ∙ sym (none qs two), fields_tell (kind_row k) vs us vs_are us_are texts)
+
+alone_is : (e : Entry) → fields_of e ≡ None → (e ≡ entry.Bell) ⊎ (e ≡ entry.DefEnd)
+alone_is entry.Bell is = inl refl
+alone_is entry.DefEnd is = inr refl
+alone_is (entry.Arc true points ink) is = absurd (let no : ⊥ = cc in no)
+alone_is (entry.Arc false points ink) is = absurd (let no : ⊥ = cc in no)
+alone_is (entry.Rect true from to ink) is = absurd (let no : ⊥ = cc in no)
+alone_is (entry.Rect false from to ink) is = absurd (let no : ⊥ = cc in no)
+alone_is (entry.Poly true points ink) is = absurd (let no : ⊥ = cc in no)
+alone_is (entry.Poly false points ink) is = absurd (let no : ⊥ = cc in no)
+alone_is (entry.TextMove (steps.Aps row column) hand) is = absurd (let no : ⊥ = cc in no)
+alone_is (entry.TextMove step hand) is = absurd (let no : ⊥ = cc in no)
+alone_is (entry.BlinkMark true colour) is = absurd (let no : ⊥ = cc in no)
+alone_is (entry.BlinkMark false colour) is = absurd (let no : ⊥ = cc in no)
+alone_is (entry.Field areas.Whole pen) is = absurd (let no : ⊥ = cc in no)
+alone_is (entry.Field (areas.Part from to) pen) is = absurd (let no : ⊥ = cc in no)
+alone_is e is = absurd (let no : ⊥ = cc in no)
+
+alone_tells : (e g : Entry) → (e ≡ entry.Bell) ⊎ (e ≡ entry.DefEnd) → (g ≡ entry.Bell) ⊎ (g ≡ entry.DefEnd) → line e ≡ line g → e ≡ g
+alone_tells e g (inl one) (inl two) is = one ∙ sym two
+alone_tells e g (inr one) (inr two) is = one ∙ sym two
+alone_tells e g (inl one) (inr two) is = let first : 66 ≡ 69 = ap (λ (s : List ℕ). get_or s 0 0) (sym (ap line one) ∙ is ∙ ap line two) in absurd (omega (arith, first))
+alone_tells e g (inr one) (inl two) is = let first : 69 ≡ 66 = ap (λ (s : List ℕ). get_or s 0 0) (sym (ap line one) ∙ is ∙ ap line two) in absurd (omega (arith, first))
+
+-- entries in range with equal lines are equal
+pub line_tells : (e g : Entry) → InRange e → InRange g → line e ≡ line g → e ≡ g
+line_tells e g e_fits g_fits is = by (fields_of e) (fields_of g) refl refl (line_is e) (line_is g) (fields_in_range e e_fits) (fields_in_range g g_fits) (fields_chosen e e_fits) (fields_chosen g g_fits)
+  where
+    spaced : (xs : List ℕ) (f : Fields) → IsNameAlone xs → xs ≡ fields_line f → ⊥
+    spaced xs f alone so = no_cut 32 xs (line_name f.kind) (with_word f.kind (points_before f.points (fields_text f.values))) (alone_whole xs alone) so
+
+    with_kind : (j k : Kind) (ps qs : List Coordinates) (vs us : List Value) → HasFields j ps vs e → HasFields k qs us g → AreOf (kind_row j) vs × PointsOf j ps → AreOf (kind_row k) us × PointsOf k qs → j ≡ k →
+        points_before ps (fields_text vs) ≡ points_before qs (fields_text us) → e ≡ g
+    with_kind j k ps qs vs us one two e_are g_are same rests =
+        let ends = fields_same j ps qs vs us e_are.1 (subst (λ (m : Kind). PointsOf m qs) (sym same) g_are.1) e_are.0 (subst (λ (m : Kind). AreOf (kind_row m) us) (sym same) g_are.0) rests in
+        let here : HasFields j ps vs g = two ∙ ap (λ (m : Kind). Some (record { kind = m; points = qs; values = us })) (sym same) ∙ ap (λ (xs : List Coordinates). Some (record { kind = j; points = xs; values = us })) (sym ends.0)
+        ∙ ap (λ (xs : List Value). Some (record { kind = j; points = ps; values = xs })) (sym ends.1) in
+        same_entry e g j ps vs one here
+
+    by : (o p : Option Fields) → fields_of e ≡ o → fields_of g ≡ p → LineIs e o → LineIs g p → FieldsOf o → FieldsOf p → FieldsChosen o → FieldsChosen p → e ≡ g
+    by None None one two e_is g_is e_are g_are e_chosen g_chosen = alone_tells e g (alone_is e one) (alone_is g two) is
+    by None (Some h) one two e_is g_is e_are g_are e_chosen g_chosen = absurd (spaced (line e) h e_is (is ∙ g_is))
+    by (Some f) None one two e_is g_is e_are g_are e_chosen g_chosen = absurd (spaced (line g) f g_is (sym is ∙ e_is))
+    by (Some f) (Some h) one two e_is g_is e_are g_are e_chosen g_chosen =
+        let same = one_kind f.kind h.kind (points_before f.points (fields_text f.values)) (points_before h.points (fields_text h.values)) e_chosen g_chosen (sym e_is ∙ is ∙ g_is) in
+        with_kind f.kind h.kind f.points h.points f.values h.values one two e_are g_are same.0 same.1
+
+-- No line contains LF.
+
+-- a visible byte, or a space
+abbrev IsInLine : ℕ → Type 0
+IsInLine b = 31 < b
+
+in_line : (xs : List ℕ) → All IsVisible xs → All IsInLine xs
+in_line xs all = All-weaker IsVisible IsInLine (λ x high. omega (arith, high)) xs all
+
+fields_in : (row : List Sort) (vs : List Value) → AreOf row vs → All IsInLine (fields_text vs)
+fields_in [] [] are = All-nil IsInLine
+fields_in (s ∷ row) (v ∷ []) are = in_line (field_text v) (field_visible s v are.0)
+fields_in (s ∷ row) (v ∷ w ∷ vs) are =
+    All-append IsInLine (field_text v) (32 ∷ fields_text (w ∷ vs)) (in_line (field_text v) (field_visible s v are.0)) (All-cons IsInLine 32 (fields_text (w ∷ vs)) (omega arith) (fields_in row (w ∷ vs) are.1))
+fields_in [] (v ∷ vs) are = absurd are
+fields_in (s ∷ row) [] are = absurd are
+
+points_in : (points : List Coordinates) (last : List ℕ) → All IsInSquare points → All IsInLine last → All IsInLine (points_before points last)
+points_in [] last fit all = all
+points_in (p ∷ points) last fit all =
+    All-append IsInLine (point_text p) (32 ∷ points_before points last) (in_line (point_text p) (point_visible p (All-head IsInSquare p points fit)))
+    (All-cons IsInLine 32 (points_before points last) (omega arith) (points_in points last (All-tail IsInSquare p points fit) all))
+
+word_in : (k : Kind) (rest : List ℕ) → All IsInLine rest → All IsInLine (with_word k rest)
+word_in kinds.Position rest all = All-append IsInLine (codes "APS ") rest (above 31 (codes "APS ") (omega arith)) all
+word_in kinds.Whole rest all = All-append IsInLine (codes "whole ") rest (above 31 (codes "whole ") (omega arith)) all
+word_in k rest all = all
+
+pub points_inside : (k : Kind) (points : List Coordinates) → PointsOf k points → All IsInSquare points
+points_inside k points of = by (points_or_none k)
+  where
+    by : (HasPoints k × ((ps : List Coordinates) → PointsOf k ps → All IsInSquare ps)) ⊎ ((ps : List Coordinates) → PointsOf k ps → ps ≡ []) → All IsInSquare points
+    by (inl has) = has.1 points of
+    by (inr none) = subst (λ (xs : List Coordinates). All IsInSquare xs) (sym (none points of)) (All-nil IsInSquare)
+
+pub line_whole : (e : Entry) → InRange e → All (λ x. x ≢ 10) (line e)
+line_whole e fits = All-weaker IsInLine (λ x. x ≢ 10) (λ x high is. omega (arith, high, is)) (line e) (by (fields_of e) (line_is e) (fields_in_range e fits))
+  where
+    by : (o : Option Fields) → LineIs e o → FieldsOf o → All IsInLine (line e)
+    by None (inl is) are = subst (λ (s : List ℕ). All IsInLine s) (sym is) (above 31 (codes "BELL") (omega arith))
+    by None (inr is) are = subst (λ (s : List ℕ). All IsInLine s) (sym is) (above 31 (codes "END") (omega arith))
+    by (Some f) is are =
+        let rest = points_before f.points (fields_text f.values) in
+        subst (λ (s : List ℕ). All IsInLine s) (sym is)
+        (All-append IsInLine (line_name f.kind) (32 ∷ with_word f.kind rest) (in_line (line_name f.kind) (name_visible f.kind))
+        (All-cons IsInLine 32 (with_word f.kind rest) (omega arith) (word_in f.kind rest (points_in f.points (fields_text f.values) (points_inside f.kind f.points are.1) (fields_in (kind_row f.kind) f.values are.0)))))
+
+-- Lists with equal lines are equal.
+
+-- the lines of a list begin with that of its first entry
+lines_cut : (x : Entry) (d : List Entry) → lines (x ∷ d) ≡ line x ++ 10 ∷ lines d
+lines_cut x d = append_assoc (line x) (10 ∷ []) (lines d)
+
+pub lines_tell : (d e : List Entry) → AllInRange d → AllInRange e → lines d ≡ lines e → d ≡ e
+lines_tell [] [] d_fit e_fit is = refl
+lines_tell [] (y ∷ e) d_fit e_fit is = absurd (no_cut 10 [] (line y) (lines e) (All-nil (λ x. x ≢ 10)) (is ∙ lines_cut y e))
+lines_tell (x ∷ d) [] d_fit e_fit is = absurd (no_cut 10 [] (line x) (lines d) (All-nil (λ x. x ≢ 10)) (sym is ∙ lines_cut x d))
+lines_tell (x ∷ d) (y ∷ e) d_fit e_fit is =
+    let x_fits = All-head InRange x d d_fit in
+    let y_fits = All-head InRange y e e_fit in
+    let same = one_cut 10 (line x) (lines d) (line y) (lines e) (line_whole x x_fits) (line_whole y y_fits) (sym (lines_cut x d) ∙ is ∙ lines_cut y e) in
+    ap₂ (λ (z : Entry) (zs : List Entry). z ∷ zs) (line_tells x y x_fits y_fits same.0) (lines_tell d e (All-tail InRange x d d_fit) (All-tail InRange y e e_fit) same.1)

@@ -1,0 +1,29 @@
+use Rattle.std.proofs.Common.{◌≡◌, ◌++◌, ◌∙◌, [], false, None, Some, Option, refl, List, ℕ, ap, eqb-true, length, sym, subst, arith}
+use Rattle.std.specs.Option.{is_some}
+use Rattle.std.proofs.lemmas.Bool.{eqb-false, false≢true}
+use Rattle.std.proofs.lemmas.List.{nil_from_length}
+use Rattle.nap_lines.specs.Listing.{lines}
+use Rattle.nap_make.specs.ListMaking.{IsUnendedLine}
+use Rattle.nap_make.proofs.FeedLemmas.{finishes_cut, finishes_list}
+use Rattle.nap_make.proofs.lines.reader.LineReader.finish.Goals as goal
+
+pub returns-then-not-is_empty : goal.returns-then-not-is_empty
+returns-then-not-is_empty g c s p has_read =
+    let part = c.args.self.now.part.items in
+    let same = c.as_slice-part.ensures.value in
+    finishes_cut g.S.Sink s has_read.entries c.args.self.now.maker has_read.holds p part c.unended_line_fault.result has_read.parts c.requires.whole
+    (omega (arith, eqb-false _ 0 (sym c.is_empty.ensures ∙ c.if-not-is_empty.true), ap length same))
+    (subst (λ (xs : List ℕ). IsUnendedLine has_read.entries xs c.unended_line_fault.result) same (c.unended_line_fault.ensures s has_read.entries has_read.holds))
+
+none_there : {A : Type 0} (o : Option A) → is_some o ≡ false → o ≡ None
+none_there None h = refl
+none_there (Some x) h = absurd (false≢true (sym h))
+
+pub returns : goal.returns
+returns g c s p has_read =
+    let part = c.args.self.now.part.items in
+    let same = c.as_slice-part.ensures.value in
+    let short : length part ≡ 0 = omega (arith, eqb-true _ 0 (sym c.is_empty.ensures ∙ c.if-not-is_empty.false), ap length same) in
+    let empty : part ≡ [] = nil_from_length part short in
+    finishes_list g.S.Sink s has_read.entries c.args.self.now.maker has_read.holds p (has_read.parts ∙ ap (λ (xs : List ℕ). lines has_read.entries ++ xs) empty)
+    (none_there c.args.self.now.maker.state.definition (sym c.is_some.ensures ∙ c.if-is_some.false))

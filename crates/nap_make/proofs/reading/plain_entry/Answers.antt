@@ -1,0 +1,20 @@
+use Rattle.std.proofs.Common.{List, ◌≡◌, sym, subst}
+use Rattle.nap_make.specs.declared.field.Sort.{Sort}
+use Rattle.nap_make.specs.declared.field.Value.{Value}
+use Rattle.nap_make.specs.Kinds.{kind_row}
+use Rattle.nap_make.specs.Rows.{FitsSort, fields_text}
+use Rattle.nap_make.proofs.ReadingLemmas.{left_fits, plain_tells, plain_wrong}
+use Rattle.nap_make.proofs.reading.plain_entry.Goals as goal
+
+pub overflow_sub-result : goal.overflow_sub-result
+overflow_sub-result c = left_fits c.args.kind _ c.args.rest.now c.in-Err.left c.args.end c.requires.end c.in-Err.ensures
+
+pub returns-in-Ok : goal.returns-in-Ok
+returns-in-Ok c =
+    let read = c.in-Ok.ensures in
+    let P : List Value → Type 0 = λ vs. FitsSort (kind_row c.args.kind) vs × (c.args.rest.now ≡ fields_text vs) in
+    let both = subst P (sym c.as_slice.ensures.value) (subst (λ (r : List Sort). FitsSort r c.read_row.new.values.items) c.row.ensures.row read.0, read.1) in
+    plain_tells c.args.kind c.as_slice.result.now c.args.rest.now _ c.requires.plain both.0 both.1 c.entry_of.ensures
+
+pub returns-in-Err : goal.returns-in-Err
+returns-in-Err c = plain_wrong c.args.kind _ c.args.rest.now c.in-Err.left c.args.end c.requires.plain c.requires.chosen c.requires.end c.row.ensures.row c.in-Err.ensures

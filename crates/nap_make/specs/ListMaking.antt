@@ -1,0 +1,152 @@
+use Rattle.std.specs.Prelude.{ℕ, ◌≡◌, ◌≢◌, ◌⊎◌, ◌+◌, ◌<◌, ◌≤◌, true, false, List, [], ◌∷◌, ◌++◌, All, IsSome, Result, Ok, Err, length}
+use Rattle.nap_list.specs.declared.entry.Entry.{Entry}
+use Rattle.nap_list.specs.declared.sink.Sink.{Ghosts}
+use Rattle.nap_list.specs.Reading.{Reading, NoneFailed, IsCutOff, IsReadWhole}
+use Rattle.nap_list.specs.State.{start, walk, AllFit, Fits}
+use Rattle.nap_lines.specs.Lines.{line}
+use Rattle.nap_lines.specs.Listing.{lines}
+use Rattle.nap_make.specs.Entries.{IsEntryLine, IsProper, TellsColumn}
+use Rattle.nap_make.specs.Laws.{longest_line}
+use Rattle.nap_make.specs.Reading.{IsWritten, WritesNone}
+use Rattle.nap_make.specs.declared.lines.fault.MakeFault.{MakeFault}
+use Rattle.nap_make.specs.declared.lines.fault.MakeFault.TheVariants as faults
+use Rattle.nap_make.specs.declared.lines.reader.LineReader.{LineReader}
+use Rattle.nap_make.specs.declared.lines.maker.LineMaker.{LineMaker}
+use Rattle.nap_make.specs.declared.lines.fault.ListFault.{ListFault}
+use Rattle.nap_make.specs.declared.lines.fault.ListFault.TheVariants as list_faults
+use Rattle.nap_make.specs.Lists.{AreLines, BeginsNoLine, ComeFirst, LinesSoFar, MakesNone, OpenedAt, ShowsNone}
+
+-- What a sink has taken.
+
+-- the sink took these entries, and its device hasn't failed
+pub record SinkTook {S : Type 0} (g : Ghosts S) (s : S) (es : List Entry) (t : S) : Type 0 where
+  pub took : g.took s es t
+  pub works : g.failed t ≡ false
+
+-- the sink took these entries, and its device failed during one more
+pub record SinkBroke {S : Type 0} (g : Ghosts S) (s : S) (es : List Entry) (e : Entry) (t : S) : Type 0 where
+  pub broke : g.broke s es e t
+  pub failed : g.failed t ≡ true
+
+-- what a sink took, where the lines of these entries were read or its device failed during one more
+abbrev pub StopsLinesBy : {S : Type 0} → Ghosts S → S → List ℕ → List Entry → S → MakeFault → Type 0
+StopsLinesBy g s p es t faults.Write = (e : Entry) × ((more : List ℕ) → (rest : List ℕ) × LinesSoFar (p ++ more) (es ++ e ∷ []) rest) × SinkBroke g s es e t
+StopsLinesBy g s p es t fault = ShowsNone p es fault × SinkTook g s es t
+
+-- The maker of a list.
+
+-- A maker put these entries into a sink that was s.
+pub record MakerHasPut {S : Type 0} (g : Ghosts S) (s : S) (es : List Entry) (m : LineMaker S) : Type 0 where
+  pub proper : All IsProper es
+  pub fit : AllFit start es
+  pub kept : SinkTook g s es m.sink
+  pub state : m.state ≡ walk start es
+  pub count : m.lines ≡ length es
+  pub opened : IsSome (walk start es).definition → OpenedAt es m.opening
+
+-- the entry of one more line was put, or the fault says why not
+abbrev pub PutsEntry : {S : Type 0} → Ghosts S → S → List Entry → Entry → LineMaker S → Result (Unit {0}) MakeFault → Type 0
+PutsEntry g s es e m (Ok done) = MakerHasPut g s (es ++ e ∷ []) m
+PutsEntry g s es e m (Err (faults.Misfit number)) = (number ≡ length es + 1) × (Fits (walk start es) e → ⊥) × SinkTook g s es m.sink
+PutsEntry g s es e m (Err faults.Memory) = SinkTook g s es m.sink
+PutsEntry g s es e m (Err faults.Write) = Fits (walk start es) e × SinkBroke g s es e m.sink
+PutsEntry g s es e m (Err _) = ⊥
+
+-- one more line was taken, or the fault says why not
+abbrev pub TakesLine : {S : Type 0} → Ghosts S → S → List Entry → List ℕ → LineMaker S → Result (Unit {0}) MakeFault → Type 0
+TakesLine g s es bytes m (Err (faults.Line number column)) = (number ≡ length es + 1) × WritesNone IsProper line bytes × TellsColumn bytes column × SinkTook g s es m.sink
+TakesLine g s es bytes m (Err faults.Memory) = SinkTook g s es m.sink
+TakesLine g s es bytes m result = (e : Entry) × IsWritten IsProper line bytes e × PutsEntry g s es e m result
+
+-- the fault of a last line without LF
+abbrev pub IsUnendedLine : List Entry → List ℕ → MakeFault → Type 0
+IsUnendedLine es bytes (faults.Line number column) = (number ≡ length es + 1) × TellsColumn bytes column
+IsUnendedLine es bytes faults.Memory = Unit {0}
+IsUnendedLine es bytes _ = ⊥
+
+-- The reader of lines.
+
+-- What holds of a reader between two pieces: its maker and its sink have one state, and what it keeps of a line has no
+-- LF and at most one byte more than a line may have.
+pub record IsReady {S : Type 0} (g : Ghosts S) (r : LineReader S) : Type 0 where
+  pub agrees : g.state r.maker.sink ≡ r.maker.state
+  pub whole : All (λ b. b ≢ 10) r.part.items
+  pub short : length r.part.items ≤ longest_line
+
+-- A reader that began with a sink s has read the bytes p.
+pub record HasReadLines {S : Type 0} (g : Ghosts S) (s : S) (p : List ℕ) (r : LineReader S) : Type 0 where
+  pub entries : List Entry
+  pub holds : MakerHasPut g s entries r.maker
+  pub parts : p ≡ lines entries ++ r.part.items
+
+-- the bytes so far aren't the lines of a list
+pub record StopsLines {S : Type 0} (g : Ghosts S) (s : S) (p : List ℕ) (t : S) (fault : MakeFault) : Type 0 where
+  pub entries : List Entry
+  pub first : ComeFirst p entries
+  pub why : StopsLinesBy g s p entries t fault
+
+-- bytes of a line were read, all of which are these, without LF
+abbrev pub KeepsPart : {S : Type 0} → Ghosts S → S → List Entry → List ℕ → LineMaker S → MakeFault → Type 0
+KeepsPart g s es bytes m (faults.Line number column) = (number ≡ length es + 1) × (0 < length bytes) × ((more : List ℕ) → BeginsNoLine (bytes ++ more) × TellsColumn (bytes ++ more) column) × SinkTook g s es m.sink
+KeepsPart g s es bytes m faults.Memory = SinkTook g s es m.sink
+KeepsPart g s es bytes m _ = ⊥
+
+-- a line was read, with LF
+abbrev pub EndsLine : {S : Type 0} → Ghosts S → S → List Entry → List ℕ → LineMaker S → Result (Unit {0}) MakeFault → Type 0
+EndsLine g s es bytes m (Err (faults.Line number column)) = (number ≡ length es + 1) × ((more : List ℕ) → BeginsNoLine (bytes ++ 10 ∷ more) × TellsColumn (bytes ++ 10 ∷ more) column) × SinkTook g s es m.sink
+EndsLine g s es bytes m (Err faults.Memory) = SinkTook g s es m.sink
+EndsLine g s es bytes m result = (e : Entry) × IsWritten IsProper line bytes e × PutsEntry g s es e m result
+
+-- more bytes were read, or they aren't the lines of a list
+abbrev pub FeedsLines : {S : Type 0} → Ghosts S → S → List ℕ → LineReader S → Result (Unit {0}) MakeFault → Type 0
+FeedsLines g s p r (Ok done) = HasReadLines g s p r
+FeedsLines g s p r (Err fault) = StopsLines g s p r.maker.sink fault
+
+-- The bytes p of an input were read: all of them; or it failed, or was read too often; or no list has these lines. No
+-- read gave zero bytes before its end.
+abbrev pub FeedsFrom : {S : Type 0} → Ghosts S → S → List ℕ → Reading → LineReader S → Result (Unit {0}) ListFault → Type 0
+FeedsFrom g s p seen r (Ok done) = IsReadWhole seen p × HasReadLines g s p r
+FeedsFrom g s p seen r (Err (list_faults.Lines fault)) = NoneFailed seen × (seen.reads ≤ length p) × StopsLines g s p r.maker.sink fault
+FeedsFrom g s p seen r (Err list_faults.Read) = IsCutOff seen p × IsReady g r × HasReadLines g s p r
+
+-- A sink that was s took the list of the lines p.
+pub record MakesList {S : Type 0} (g : Ghosts S) (s : S) (p : List ℕ) (t : S) : Type 0 where
+  pub entries : List Entry
+  pub so_far : LinesSoFar p entries []
+  pub are : AreLines p entries
+  pub kept : SinkTook g s entries t
+
+-- The lines p aren't a list's, and a sink that was s took the entries before the wrong line.
+pub record MakesNoList {S : Type 0} (g : Ghosts S) (s : S) (p : List ℕ) (t : S) (fault : MakeFault) : Type 0 where
+  pub entries : List Entry
+  pub first : ComeFirst p entries
+  pub own : fault ≢ faults.Write
+  pub why : MakesNone p entries fault
+  pub kept : SinkTook g s entries t
+
+-- the lines ended, with this number
+abbrev pub Finishes : {S : Type 0} → Ghosts S → S → List ℕ → S → Result ℕ MakeFault → Type 0
+Finishes g s p t (Ok n) = (made : MakesList g s p t) × (n ≡ length made.entries)
+Finishes g s p t (Err fault) = MakesNoList g s p t fault
+
+-- the entries of lines in memory were put into a sink that was s, with their number; or the lines aren't a list's, or
+-- the sink failed
+abbrev pub PutsLines : {S : Type 0} → Ghosts S → S → List ℕ → S → Result ℕ MakeFault → Type 0
+PutsLines g s p t (Err faults.Write) = StopsLines g s p t faults.Write
+PutsLines g s p t result = Finishes g s p t result
+
+-- The input failed or was read too often. A sink that was s took the entries of the lines so far.
+pub record CutsOffLines {S : Type 0} (g : Ghosts S) (s : S) (p : List ℕ) (seen : Reading) (t : S) : Type 0 where
+  pub cut_off : IsCutOff seen p
+  pub entries : List Entry
+  pub rest : List ℕ
+  pub so_far : LinesSoFar p entries rest
+  pub none : All (λ b. b ≢ 10) rest
+  pub kept : SinkTook g s entries t
+
+-- The bytes p of an input were read, and the sink s became t. Bytes are left unread only if no list has the lines that
+-- were read; no read gave zero bytes then.
+abbrev pub Makes : {S : Type 0} → Ghosts S → S → List ℕ → Reading → S → Result (Unit {0}) ListFault → Type 0
+Makes g s p seen t (Ok done) = IsReadWhole seen p × MakesList g s p t
+Makes g s p seen t (Err (list_faults.Lines fault)) = (IsReadWhole seen p × MakesNoList g s p t fault) ⊎ (NoneFailed seen × (seen.reads ≤ length p) × StopsLines g s p t fault)
+Makes g s p seen t (Err list_faults.Read) = CutsOffLines g s p seen t

@@ -1,0 +1,10 @@
+use Rattle.std.specs.Prelude.{ℕ, ◌≡◌, List}
+use Rattle.nap_list.specs.declared.entry.Entry.{Entry}
+use Rattle.nap_canon.specs.Text.{text}
+use Rattle.nap_make.specs.Lists.{AreLines}
+
+-- The first bytes are the page that these lines make: the canonical text of the list with these lines.
+pub record IsMadeOf (c p : List ℕ) : Type 0 where
+  pub entries : List Entry
+  pub are : AreLines p entries
+  pub text_is : c ≡ text entries

@@ -1,0 +1,94 @@
+//! Lists whose lines an input or memory gives.
+ghost use Rattle.std.specs.Prelude.{◌≡◌, ◌+◌, ◌^◌, ◌<◌, ◌≤◌, ℕ, List, [], OnOk, false, length};
+ghost use Rattle.std.specs.Io.KnownBytes.{Consumes};
+ghost use Rattle.nap_list.specs.Limits.{reads_limit};
+ghost use Rattle.nap_list.specs.Reading.{reading};
+ghost use Rattle.nap_list.specs.State.{start};
+ghost use Rattle.nap_make.specs.ListMaking.{FeedsFrom, HasReadLines, IsReady, Makes, PutsLines};
+
+use crate::lines::reader::LineReader;
+use nap_list::{Inlet, READS, Sink};
+use std::alloc::Global;
+
+mod fault;
+mod maker;
+mod reader;
+
+pub use fault::{ListFault, MakeFault};
+
+/// Feeds a reader all that an input gives, reading into `buffer`. Nothing is read after a wrong line or a failed read.
+fn feed_from<I: Inlet, S: Sink>(
+    alloc: Global,
+    reader: &mut LineReader<S>,
+    input: &mut I,
+    buffer: &mut [u8],
+) -> Result<(), ListFault>
+    requires calls { I.calls input.old < 2 ^ 63 }
+    requires buffer { 0 < length buffer.old }
+    requires ready { IsReady S.Sink reader.old }
+    ensures few { I.calls input.new ≤ I.calls input.old + reads_limit }
+    ensures more { I.calls input.old ≤ I.calls input.new }
+    ensures ready { OnOk result (IsReady S.Sink reader.new) }
+    ensures feeds { let seen = reading I.Inlet input.old input.new in
+        (p : List ℕ) × Consumes (I.left input.old) (I.left input.new) p
+        × ((s : S) → HasReadLines S.Sink s [] reader.old → FeedsFrom S.Sink s p seen reader.new result) }
+{
+    for _ in 0..READS {
+        let Ok(count) = input.read(buffer) else {
+            return Err(ListFault::Read);
+        };
+        if count == 0 {
+            return Ok(());
+        }
+        reader.feed(alloc, &buffer[..count])?;
+    }
+    Err(ListFault::Read)
+}
+
+/// Puts the entries of the lines that an input gives into a sink, as they are read into `buffer`, and returns the sink.
+/// Keeps one line at most (PROFILE.md, Lines that make a page).
+pub fn make_list<I: Inlet, S: Sink + Drop>(
+    alloc: Global,
+    input: &mut I,
+    sink: S,
+    buffer: &mut [u8],
+) -> (S, Result<(), ListFault>)
+    requires calls { I.calls input.old < 2 ^ 63 }
+    requires buffer { 0 < length buffer.old }
+    requires start { S.state sink ≡ start }
+    requires works { S.failed sink ≡ false }
+    ensures few { I.calls input.new ≤ I.calls input.old + reads_limit }
+    ensures more { I.calls input.old ≤ I.calls input.new }
+    ensures makes { let seen = reading I.Inlet input.old input.new in
+        (p : List ℕ) × Consumes (I.left input.old) (I.left input.new) p × Makes S.Sink sink p seen result.0 result.1 }
+{
+    let mut reader = LineReader::new(alloc, sink);
+    if let Err(fault) = feed_from(alloc, &mut reader, input, buffer) {
+        return (reader.into_sink(), Err(fault));
+    }
+    let made = reader.finish(alloc);
+    let sink = reader.into_sink();
+    match made {
+        Ok(_) => (sink, Ok(())),
+        Err(fault) => (sink, Err(ListFault::Lines(fault))),
+    }
+}
+
+/// Puts the entries of these lines into a sink. Returns the sink, and the number of lines (PROFILE.md, Lines that make
+/// a page).
+pub fn put_lines<S: Sink + Drop>(
+    alloc: Global,
+    lines: &[u8],
+    sink: S,
+) -> (S, Result<usize, MakeFault>)
+    requires start { S.state sink ≡ start }
+    requires works { S.failed sink ≡ false }
+    ensures { PutsLines S.Sink sink lines.now result.0 result.1 }
+{
+    let mut reader = LineReader::new(alloc, sink);
+    if let Err(fault) = reader.feed(alloc, lines) {
+        return (reader.into_sink(), Err(fault));
+    }
+    let made = reader.finish(alloc);
+    (reader.into_sink(), made)
+}

@@ -1,0 +1,90 @@
+//! The page of the lines that an input gives.
+ghost use Rattle.std.specs.Prelude.{◌≡◌, ◌+◌, ◌^◌, ◌<◌, ◌≤◌, ℕ, List, true, false};
+ghost use Rattle.std.specs.Io.KnownBytes.{Appends, Consumes};
+ghost use Rattle.nap_canon.specs.Concluding.{EndsOutput};
+ghost use Rattle.nap_list.specs.Flushing.{FlushedOnce};
+ghost use Rattle.nap_list.specs.Limits.{reads_limit};
+ghost use Rattle.nap_list.specs.Reading.{reading};
+ghost use Rattle.nap_make.specs.Pages.{ConcludesPage, MakesPage, ReadsNoMore};
+
+use crate::lines::{ListFault, MakeFault, make_list};
+use nap_canon::CanonSink;
+use nap_list::{Inlet, Outlet, STREAM_READ_SIZE};
+use std::alloc::Global;
+use thiserror::Error;
+
+mod memory;
+
+pub use memory::{MadePage, page_of_input, page_of_lines};
+
+/// Why no page was made, and how many bytes the output took before, saturating at the greatest `u64`.
+#[derive(Clone, Copy, PartialEq, Eq, Debug, Drop, Error)]
+pub enum PageFault {
+    /// The lines aren't those of a list. The text of the lines before is written.
+    #[error("{fault}, once {written} bytes were written")]
+    Lines {
+        /// The fault and its line.
+        fault: MakeFault,
+        /// The number of bytes that the output took.
+        written: u64,
+    },
+    /// A read failed, or there were as many reads as one input may have. The text of the lines so far is written.
+    #[error("the input failed, once {written} bytes were written")]
+    Read {
+        /// The number of bytes that the output took.
+        written: u64,
+    },
+    /// A write or the flush failed.
+    #[error("the output failed, once it had taken {written} bytes")]
+    Write {
+        /// The number of bytes that the output took.
+        written: u64,
+    },
+}
+
+/// Flushes the output, unless a write has failed, and returns it with the answer.
+fn conclude<O: Outlet + Drop>(
+    sink: CanonSink<O>,
+    made: Result<(), ListFault>,
+) -> (O, Result<u64, PageFault>)
+    ensures ends { EndsOutput O.Outlet sink.outlet result.0 }
+    ensures answer { ConcludesPage sink.written made (O.failed result.0) result.1 }
+{
+    let (output, ended) = sink.finish();
+    let answer = match ended {
+        Err(written) => Err(PageFault::Write { written }),
+        Ok(written) => match made {
+            Ok(()) => Ok(written),
+            Err(ListFault::Lines(fault)) => Err(PageFault::Lines { fault, written }),
+            Err(ListFault::Read) => Err(PageFault::Read { written }),
+        },
+    };
+    (output, answer)
+}
+
+/// Writes the page that the lines of an input make, as they are read, and flushes the output. Returns the output, and
+/// the number of bytes that it took. Nothing is read after a failed write. Keeps one line at most, so its memory
+/// doesn't grow with the page (PROFILE.md, Lines that make a page).
+pub fn make_page<I: Inlet, O: Outlet + Drop>(
+    alloc: Global,
+    input: &mut I,
+    output: O,
+) -> (O, Result<u64, PageFault>)
+    requires calls { I.calls input.old < 2 ^ 63 }
+    requires works { O.failed output ≡ false }
+    ensures few { I.calls input.new ≤ I.calls input.old + reads_limit }
+    ensures more { I.calls input.old ≤ I.calls input.new }
+    ensures sent { O.failed result.0 ≡ false → O.sent result.0 ≡ true }
+    ensures makes { let seen = reading I.Inlet input.old input.new in
+        (p : List ℕ) × (q : List ℕ) × Consumes (I.left input.old) (I.left input.new) p × Appends (O.taken output) (O.taken result.0) q
+        × MakesPage p seen q (O.failed result.0) result.1
+        × ReadsNoMore (O.write_failed result.0) p seen
+        × FlushedOnce O.Outlet output result.0 }
+{
+    let sink = CanonSink::new(output);
+    if sink.failed() {
+        return conclude(sink, Ok(()));
+    }
+    let (sink, made) = make_list(alloc, input, sink, &mut [0; STREAM_READ_SIZE]);
+    conclude(sink, made)
+}

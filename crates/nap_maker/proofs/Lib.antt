@@ -1,4 +1,0 @@
-pub mod PageLemmas
-pub mod PublicLaws
-pub mod TextLemmas
-pub mod DenyLemmas

@@ -1,4 +1,0 @@
-pub mod Laws
-pub mod Making
-pub mod Pages
-pub mod Texts

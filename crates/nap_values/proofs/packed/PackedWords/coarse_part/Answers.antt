@@ -1,0 +1,11 @@
+use Rattle.std.proofs.Common.{arith}
+use Rattle.nap_values.proofs.CoarseLemmas.{part_kept}
+use Rattle.nap_values.proofs.MovingPointLemmas.{x_words}
+use Rattle.nap_values.proofs.PackedLemmas.{x_in-below}
+use Rattle.nap_values.proofs.packed.PackedWords.coarse_part.Goals as goal
+
+pub invariant_of-result : goal.invariant_of-result
+invariant_of-result c = x_words _ _ (omega (arith, x_in-below _ c.self.invariant)) (part_kept _ (x_in-below _ c.self.invariant) (rw c.self.view_is c.requires))
+
+pub returns : goal.returns
+returns c = rw (← c.self.view_is) (part_kept _ (x_in-below _ c.self.invariant) (rw c.self.view_is c.requires))

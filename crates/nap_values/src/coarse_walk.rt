@@ -1,0 +1,78 @@
+//! A point that displacements of three words move, of which only the last one is kept.
+
+ghost use Rattle.std.specs.Prelude.{◌≡◌, true, take, Some, IfSome};
+ghost use Rattle.nap_values.specs.Coordinates.{displaced_point};
+ghost use Rattle.nap_values.specs.Operands.{multi_of, operand_words};
+
+use crate::packed::PackedWords;
+use crate::point::Point;
+use std::marker::Model;
+
+/// Selects the highest bits of both numbers.
+const SIGNS: u64 = 0x2000_0000_2000_0000;
+
+/// A point that displacements of three words move, one after another. Such a displacement changes only the nine highest
+/// bits of a coordinate, so these are kept side by side in one number, and the rest as it was at the start. Whether all
+/// points on the way were on the unit screen is told at the end.
+#[derive(Drop)]
+pub struct CoarseWalk {
+    at: PackedWords,
+    /// The bits that were set at any point on the way.
+    seen: u64,
+    start: Point,
+}
+
+impl Model for CoarseWalk {
+    ghost use Rattle.std.specs.Prelude.{◌≡◌, true};
+    ghost use Rattle.nap_values.specs.PackedCoordinates.{x_in};
+    ghost use Rattle.nap_values.specs.Coarse.{Course, IsCoarse, IsInside, coarse_point, is_clear};
+
+    ghost Value = { Course };
+
+    ghost view = { λ w. record { point = coarse_point (x_in w.at) w.start; inside = is_clear w.seen } };
+
+    ghost invariant = { λ w. IsCoarse w.at × (is_clear w.seen ≡ true → IsInside (x_in w.at)) };
+}
+
+impl CoarseWalk {
+    /// Returns a walk that begins at this point.
+    #[inline]
+    pub fn from_point(point: Point) -> CoarseWalk
+        ensures { result ≡ record { point = point; inside = true } }
+    {
+        CoarseWalk {
+            at: PackedWords::from_coordinates(
+                point.y() / 32_768 * 32_768 + point.x() / 32_768 * 8,
+                0,
+            ),
+            seen: 0,
+            start: point,
+        }
+    }
+
+    /// Moves by the displacement that the first three bytes carry.
+    #[inline(always)]
+    pub fn advance(&mut self, block: &[u8; 4])
+        ensures inside { self.new.inside ≡ true → self.old.inside ≡ true }
+        ensures point { self.new.inside ≡ true → displaced_point self.old.point (multi_of (operand_words (take 3 block.now))) ≡ Some self.new.point }
+    {
+        let at = self.at.x_sum(PackedWords::coarse(block)).coarse_part();
+        self.at = at;
+        self.seen |= at.get();
+    }
+
+    /// Returns the point, if all points on the way were on the unit screen.
+    #[inline]
+    pub fn end(&self) -> Option<Point>
+        ensures { IfSome result (λ point. (self.now.inside ≡ true) × (point ≡ self.now.point)) }
+    {
+        if self.seen & SIGNS != 0 {
+            return None;
+        }
+        let coarse = self.at.x_bits();
+        Point::try_new(
+            coarse % 4_096 / 8 * 32_768 + self.start.x() % 32_768,
+            coarse / 32_768 * 32_768 + self.start.y() % 32_768,
+        )
+    }
+}
