@@ -29,7 +29,7 @@ const INK = ["pel", "colour", "texture"], HAND = ["pen", "colour", "text"];
 
 // The lines by their first words: what stands after these, what is made of its groups, and what the entry holds.
 const POINTS = (words, held = INK) => [words, (points) => ({ points: pointsOf(points) }), held];
-const TWO = ` (${PAIR} ${PAIR})`, MORE = `((?: ${PAIR}){3,})`, SOME = `((?: ${PAIR})+)`;
+const TWO = ` (${PAIR} ${PAIR})`, MORE = `((?: ${PAIR}){3,})`, SOME = `((?: ${PAIR}){2,})`;
 const NONE = () => ({});
 const READERS = {
   POINT: POINTS(` (${PAIR})`, ["pel", "colour"]), LINE: POINTS(TWO),

@@ -3,11 +3,14 @@ docs/PROFILE.md has them."""
 import io
 import re
 from dataclasses import dataclass
-from functools import lru_cache
-from typing import Callable, ClassVar, Dict, Iterable, Iterator, Match, Optional, Pattern, Sequence, Tuple, Union
+from functools import lru_cache, partial
+from typing import (
+    Any, Callable, ClassVar, Dict, Iterable, Iterator, NamedTuple, Optional, Pattern, Sequence, Tuple, Union, get_args,
+)
 
 from .answers import MOST_DIGITS
 from .faults import NotALine
+from .kinds import CHOICES, KEYS, KINDS, MORE, SIZES
 from .names import Members
 
 Position = Tuple[int, int]
@@ -19,6 +22,10 @@ ONE = 1 << 23
 
 def _pair(it: Position) -> str:
     return f"{it[0]},{it[1]}"
+
+
+def _code(it: int) -> str:
+    return f"{it:02x}"
 
 
 def _joined(numbers: Iterable[int]) -> str:
@@ -69,16 +76,42 @@ class Look:
         return f"{self.first},{self.second}/{_pen(self.size)}/{flags}"
 
 
-def _ink(pel: Position, colour: Colour, texture: Texture) -> str:
-    return f"pel={_pair(pel)} colour={colour} texture={texture}"
+class _Written:
+    """What each entry is: its line has the words of its kind, and its values as the table of kinds has them."""
 
+    @property
+    def kind(self) -> str:
+        """The first word of its line."""
+        raise NotImplementedError
 
-def _hand(pen: Pen, colour: Colour, text: Look) -> str:
-    return f"pen={_pen(pen)} colour={colour} text={text}"
+    def _values(self) -> Sequence[Any]:
+        """The values after the first word."""
+        return tuple(vars(self).values())
+
+    def __str__(self) -> str:
+        fields = zip(_fields(self.kind), self._values())
+        return " ".join([self.kind, *(sort.key + sort.write(value) for sort, value in fields)])
 
 
 @dataclass(frozen=True)
-class Point:
+class _Shape(_Written):
+    """A shape that is filled, or its outline alone."""
+
+    _name: ClassVar[str]
+
+    filled: bool
+
+    @property
+    def kind(self) -> str:
+        """The first word of its line."""
+        return f"{self._name}-{'FILLED' if self.filled else 'OUTLINED'}"
+
+    def _values(self) -> Sequence[Any]:
+        return super()._values()[1:]
+
+
+@dataclass(frozen=True)
+class Point(_Written):
     """A point, with the pel and the colour that it is drawn with."""
 
     kind: ClassVar[str] = "POINT"
@@ -92,12 +125,9 @@ class Point:
         """The point."""
         return (self.at,)
 
-    def __str__(self) -> str:
-        return f"POINT {_pair(self.at)} pel={_pair(self.pel)} colour={self.colour}"
-
 
 @dataclass(frozen=True)
-class Line:
+class Line(_Written):
     """A line between two points."""
 
     kind: ClassVar[str] = "LINE"
@@ -113,34 +143,25 @@ class Line:
         """Its ends."""
         return (self.start, self.end)
 
-    def __str__(self) -> str:
-        return f"LINE {_pair(self.start)} {_pair(self.end)} {_ink(self.pel, self.colour, self.texture)}"
-
 
 @dataclass(frozen=True)
-class Arc:
+class Arc(_Shape):
     """An arc through three points, or a curve through more; filled or its outline alone."""
 
-    filled: bool
+    _name: ClassVar[str] = "ARC"
+
     points: Tuple[Position, ...]
     pel: Position
     colour: Colour
     texture: Texture
 
-    @property
-    def kind(self) -> str:
-        """The first word of its line."""
-        return "ARC-FILLED" if self.filled else "ARC-OUTLINED"
-
-    def __str__(self) -> str:
-        return f"{self.kind} {' '.join(map(_pair, self.points))} {_ink(self.pel, self.colour, self.texture)}"
-
 
 @dataclass(frozen=True)
-class Rect:
+class Rect(_Shape):
     """A rectangle between two opposite corners; filled or its outline alone."""
 
-    filled: bool
+    _name: ClassVar[str] = "RECT"
+
     start: Position
     end: Position
     pel: Position
@@ -148,40 +169,25 @@ class Rect:
     texture: Texture
 
     @property
-    def kind(self) -> str:
-        """The first word of its line."""
-        return "RECT-FILLED" if self.filled else "RECT-OUTLINED"
-
-    @property
     def points(self) -> Tuple[Position, ...]:
         """The corners."""
         return (self.start, self.end)
 
-    def __str__(self) -> str:
-        return f"{self.kind} {_pair(self.start)} {_pair(self.end)} {_ink(self.pel, self.colour, self.texture)}"
-
 
 @dataclass(frozen=True)
-class Poly:
+class Poly(_Shape):
     """A polygon; filled or its outline alone."""
 
-    filled: bool
+    _name: ClassVar[str] = "POLY"
+
     points: Tuple[Position, ...]
     pel: Position
     colour: Colour
     texture: Texture
 
-    @property
-    def kind(self) -> str:
-        """The first word of its line."""
-        return "POLY-FILLED" if self.filled else "POLY-OUTLINED"
-
-    def __str__(self) -> str:
-        return f"{self.kind} {' '.join(map(_pair, self.points))} {_ink(self.pel, self.colour, self.texture)}"
-
 
 @dataclass(frozen=True)
-class Char:
+class Char(_Written):
     """A character: its set, "primary", "supplementary", "mosaic" or "drcs", and its code in that.
 
     `pen` is a position; or "start", where nothing has set it yet, or "after", where nobody knows, as after text.
@@ -195,12 +201,9 @@ class Char:
     colour: Colour
     text: Look
 
-    def __str__(self) -> str:
-        return f"CHAR {self.set} {self.code:02x} {_hand(self.pen, self.colour, self.text)}"
-
 
 @dataclass(frozen=True)
-class TextMove:
+class TextMove(_Written):
     """A move of the cursor: "APB", "APF", "APD", "APU", "APR", "APH", or "APS" with its two bytes."""
 
     kind: ClassVar[str] = "MOVE"
@@ -211,13 +214,13 @@ class TextMove:
     colour: Colour
     text: Look
 
-    def __str__(self) -> str:
-        bytes_ = "".join(f" {each:02x}" for each in self.bytes)
-        return f"MOVE {self.move}{bytes_} {_hand(self.pen, self.colour, self.text)}"
+    def _values(self) -> Sequence[Any]:
+        move = " ".join([self.move, *map(_code, self.bytes)])
+        return move, self.pen, self.colour, self.text
 
 
 @dataclass(frozen=True)
-class ToEol:
+class ToEol(_Written):
     """REPEAT TO EOL: the last character again, to the end of the line."""
 
     kind: ClassVar[str] = "TO-EOL"
@@ -226,12 +229,9 @@ class ToEol:
     colour: Colour
     text: Look
 
-    def __str__(self) -> str:
-        return f"TO-EOL {_hand(self.pen, self.colour, self.text)}"
-
 
 @dataclass(frozen=True)
-class Map:
+class Map(_Written):
     """An address of the colour map gets a value: green, red and blue."""
 
     kind: ClassVar[str] = "MAP"
@@ -239,12 +239,9 @@ class Map:
     address: int
     value: Tuple[int, ...]
 
-    def __str__(self) -> str:
-        return f"MAP {self.address} {_joined(self.value)}"
-
 
 @dataclass(frozen=True)
-class Blink:
+class Blink(_Written):
     """A blink to the colour of an address: how long on, how long off, and the delay, as the code has them."""
 
     kind: ClassVar[str] = "BLINK"
@@ -255,24 +252,21 @@ class Blink:
     delay: int
     colour: Colour
 
-    def __str__(self) -> str:
-        return f"BLINK {self.address} {self.on},{self.off},{self.delay} colour={self.colour}"
+    def _values(self) -> Sequence[Any]:
+        return self.address, (self.on, self.off, self.delay), self.colour
 
 
 @dataclass(frozen=True)
-class BlinkEnd:
+class BlinkEnd(_Written):
     """The blink of a colour ends."""
 
     kind: ClassVar[str] = "BLINK-END"
 
     colour: Colour
 
-    def __str__(self) -> str:
-        return f"BLINK-END colour={self.colour}"
-
 
 @dataclass(frozen=True)
-class BlinkMark:
+class BlinkMark(_Written):
     """What is drawn from here on blinks, or doesn't."""
 
     on: bool
@@ -283,46 +277,37 @@ class BlinkMark:
         """The first word of its line."""
         return "BLINK-START" if self.on else "BLINK-STOP"
 
-    def __str__(self) -> str:
-        return f"{self.kind} colour={self.colour}"
+    def _values(self) -> Sequence[Any]:
+        return (self.colour,)
 
 
 @dataclass(frozen=True)
-class Wait:
+class Wait(_Written):
     """A wait, in tenths of a second."""
 
     kind: ClassVar[str] = "WAIT"
 
     tenths: int
 
-    def __str__(self) -> str:
-        return f"WAIT {self.tenths}"
-
 
 @dataclass(frozen=True)
-class Bell:
+class Bell(_Written):
     """The bell."""
 
     kind: ClassVar[str] = "BELL"
 
-    def __str__(self) -> str:
-        return "BELL"
-
 
 @dataclass(frozen=True)
-class Cursor:
+class Cursor(_Written):
     """The cursor is "flash", "steady" or "off" from here on."""
 
     kind: ClassVar[str] = "CURSOR"
 
     state: str
 
-    def __str__(self) -> str:
-        return f"CURSOR {self.state}"
-
 
 @dataclass(frozen=True)
-class Field:
+class Field(_Written):
     """The field: its two opposite corners, or None for the whole screen."""
 
     kind: ClassVar[str] = "FIELD"
@@ -336,12 +321,14 @@ class Field:
         return self.corners or ()
 
     def __str__(self) -> str:
-        where = "whole" if self.corners is None else " ".join(map(_pair, self.corners))
-        return f"FIELD {where} pen={_pen(self.pen)}"
+        return f"FIELD whole pen={_pen(self.pen)}" if self.corners is None else super().__str__()
+
+    def _values(self) -> Sequence[Any]:
+        return (*self.points, self.pen)
 
 
 @dataclass(frozen=True)
-class Reset:
+class Reset(_Written):
     """RESET, with its two words."""
 
     kind: ClassVar[str] = "RESET"
@@ -350,90 +337,78 @@ class Reset:
     second: int
     pen: Pen
 
-    def __str__(self) -> str:
-        return f"RESET {self.first} {self.second} pen={_pen(self.pen)}"
-
 
 @dataclass(frozen=True)
-class Clear:
+class Clear(_Written):
     """CS: the screen is cleared."""
 
     kind: ClassVar[str] = "CLEAR"
 
     pen: Pen
 
-    def __str__(self) -> str:
-        return f"CLEAR pen={_pen(self.pen)}"
-
 
 @dataclass(frozen=True)
-class GlyphStart:
+class GlyphStart(_Written):
     """The glyph of a code of the DRCS set begins; what draws it stands before the next DefEnd."""
 
     kind: ClassVar[str] = "GLYPH"
 
     code: int
 
-    def __str__(self) -> str:
-        return f"GLYPH {self.code:02x}"
-
 
 @dataclass(frozen=True)
-class MaskStart:
+class MaskStart(_Written):
     """A mask begins, "A", "B", "C" or "D"; what draws it stands before the next DefEnd."""
 
     kind: ClassVar[str] = "MASK"
 
     mask: str
 
-    def __str__(self) -> str:
-        return f"MASK {self.mask}"
-
 
 @dataclass(frozen=True)
-class DefEnd:
+class DefEnd(_Written):
     """A glyph or a mask ends."""
 
     kind: ClassVar[str] = "END"
 
-    def __str__(self) -> str:
-        return "END"
-
 
 Entry = Union[Point, Line, Arc, Rect, Poly, Char, TextMove, ToEol, Map, Blink, BlinkEnd, BlinkMark, Wait, Bell, Cursor,
               Field, Reset, Clear, GlyphStart, MaskStart, DefEnd]
+# What entries hold, by their classes.
+HELD: Dict[type, Tuple[str, ...]] = {
+    each: tuple(name for name in each.__dataclass_fields__ if name in KEYS.values()) for each in get_args(Entry)}
+# What makes an entry of the values of a line, by the words that this begins with.
+MAKERS: Dict[str, Callable[..., Entry]] = {
+    "POINT": Point, "LINE": Line, "ARC-OUTLINED": partial(Arc, False), "ARC-FILLED": partial(Arc, True),
+    "RECT-OUTLINED": partial(Rect, False), "RECT-FILLED": partial(Rect, True),
+    "POLY-OUTLINED": partial(Poly, False), "POLY-FILLED": partial(Poly, True), "CHAR": Char,
+    "MOVE": lambda move, *hand: TextMove(move, (), *hand),
+    "MOVE APS": lambda row, column, *hand: TextMove("APS", (row, column), *hand), "TO-EOL": ToEol, "MAP": Map,
+    "BLINK": lambda address, times, colour: Blink(address, times[0], times[1], times[2], colour), "BLINK-END": BlinkEnd,
+    "BLINK-START": partial(BlinkMark, True), "BLINK-STOP": partial(BlinkMark, False), "WAIT": Wait, "BELL": Bell,
+    "CURSOR": Cursor, "FIELD whole": partial(Field, None),
+    "FIELD": lambda start, end, pen: Field((start, end), pen), "RESET": Reset, "CLEAR": Clear, "GLYPH": GlyphStart,
+    "MASK": MaskStart, "END": DefEnd}
 
 
 def members_of(it: Entry, place: Optional[int]) -> Members:
     """The members of an entry: kind and place, its own parts, and what it holds."""
-    members: Members = {"kind": it.kind, "place": place, **_members_of_kind(it)}
+    members: Members = {"kind": it.kind, "place": place, **_own_members(it)}
     for name, write in _ATTRIBUTES.items():
         if hasattr(it, name):
             members[name] = write(getattr(it, name))
     return members
 
 
-def _members_of_kind(it: Entry) -> Members:
+def _own_members(it: Entry) -> Members:
     """The parts of its own."""
-    if isinstance(it, Char):
-        return {"set": it.set, "character": it.code}
-    if isinstance(it, TextMove):
-        return {"move": it.move, "bytes": list(it.bytes)}
-    if isinstance(it, Map):
-        return {"address": it.address, "value": list(it.value)}
-    if isinstance(it, Blink):
-        return {"address": it.address, "on": it.on, "off": it.off, "delay": it.delay}
-    if isinstance(it, Wait):
-        return {"tenths": it.tenths}
+    if hasattr(it, "points"):
+        return {"points": [list(each) for each in it.points]}
     if isinstance(it, Reset):
         return {"words": [it.first, it.second]}
-    if isinstance(it, GlyphStart):
-        return {"character": it.code}
-    if isinstance(it, MaskStart):
-        return {"mask": it.mask}
-    if isinstance(it, Cursor):
-        return {"cursor": it.state}
-    return {"points": [list(each) for each in it.points]} if hasattr(it, "points") else {}
+    own = {} if isinstance(it, BlinkMark) else vars(it)
+    return {_MEMBERS.get(name, name): list(value) if isinstance(value, tuple) else value
+            for name, value in own.items() if name not in _ATTRIBUTES}
 
 
 def _pen_members(pen: Pen) -> Members:
@@ -457,6 +432,8 @@ def _look_members(look: Look) -> Members:
             "wrap": look.wrap, "scroll": look.scroll}
 
 
+# Members that have other names than the parts.
+_MEMBERS = {"code": "character", "state": "cursor"}
 # What entries hold, in the order of JSON.
 _ATTRIBUTES: Dict[str, Callable[..., object]] = {
     "pel": list, "colour": _colour_members, "texture": _texture_members, "pen": _pen_members, "text": _look_members}
@@ -464,21 +441,7 @@ _ATTRIBUTES: Dict[str, Callable[..., object]] = {
 
 _NUMBER = "[0-9]{1,10}"
 _POINT = f"-?{_NUMBER},-?{_NUMBER}"
-_THREE = ",".join([_NUMBER] * 3)
-_HEX = "[0-9a-f]{2}"
-_SIZE = f"small|medium|normal|tall|double|{_POINT}"
-# Parts of lines, each with its groups.
-_PEN = f" pen=(start|after|{_POINT})"
-_COLOUR = (f" colour=(own-start|own-reset|reset-2|reset-3|direct:{_THREE}|front:{_NUMBER}|"
-           f"pair:{_NUMBER},{_NUMBER})")
-_PEL = f" pel=({_POINT})"
-_INK = f"{_PEL}{_COLOUR} texture=({_NUMBER}/(?:none|{_POINT}))"
-_HAND = f"{_PEN}{_COLOUR} text=({_NUMBER},{_NUMBER}/(?:{_SIZE})/[r-][u-][w-][s-])"
-_TWO = f" ({_POINT}) ({_POINT})"
-_SOME, _MORE = f"((?: {_POINT})+)", f"((?: {_POINT}){{3,}})"
-
-
-_XY = f"(-?{_NUMBER}),(-?{_NUMBER})"
+_TWO, _THREE = f"{_NUMBER},{_NUMBER}", f"{_NUMBER},{_NUMBER},{_NUMBER}"
 # What the lines of characters begin with.
 OFTEN = "CHAR "
 
@@ -525,77 +488,41 @@ def _look(text: str) -> Look:
     return Look(first, second, _position(size) if "," in size else size, reverse, underline, wrap, scroll)
 
 
-def _read_ink(pel: str, colour: str, texture: str) -> Tuple[Position, Colour, Texture]:
-    return _pel(pel), _colour(colour), _texture(texture)
+class _Sort(NamedTuple):
+    """A sort of fields: the pattern of its text, what reads the value of that and what writes it, and its name."""
+
+    pattern: str
+    read: Callable[[str], Any] = str
+    write: Callable[[Any], str] = str
+    key: str = ""
 
 
-def _read_hand(pen: str, colour: str, look: str) -> Tuple[Pen, Colour, Look]:
-    return _read_pen(pen), _colour(colour), _look(look)
+_SORTS: Dict[str, _Sort] = {
+    **{sort: _Sort("|".join(names)) for sort, names in CHOICES.items()},
+    "Addr": _Sort(_NUMBER, int), "Word": _Sort(_NUMBER, int),
+    "Code": _Sort("[0-9a-f]{2}", lambda text: int(text, 16), _code),
+    "Parts": _Sort(_THREE, _numbers, _joined), "Times": _Sort(_THREE, _numbers, _joined),
+    "Point": _Sort(_POINT, _position, _pair), "Pel": _Sort(_POINT, _pel, _pair),
+    "Colour": _Sort(f"own-start|own-reset|reset-2|reset-3|direct:{_THREE}|front:{_NUMBER}|pair:{_TWO}", _colour),
+    "Texture": _Sort(f"{_NUMBER}/(?:none|{_POINT})", _texture), "Pen": _Sort(f"start|after|{_POINT}", _read_pen, _pen),
+    "Look": _Sort(f"{_TWO}/(?:{'|'.join(SIZES)}|{_POINT})/[r-][u-][w-][s-]", _look)}
 
 
-def _point(it: Match[str]) -> Point:
-    x, y, pel, colour = it.groups()
-    return Point((int(x), int(y)), _pel(pel), _colour(colour))
-
-
-def _line(it: Match[str]) -> Line:
-    a, b, c, d, pel, colour, texture = it.groups()
-    return Line((int(a), int(b)), (int(c), int(d)), _pel(pel), _colour(colour), _texture(texture))
-
-
-def _rect(filled: bool, it: Match[str]) -> Rect:
-    a, b, c, d, *ink = it.groups()
-    return Rect(filled, (int(a), int(b)), (int(c), int(d)), *_read_ink(*ink))
-
-
-def _move(it: Match[str]) -> TextMove:
-    move, *numbers = it[1].split()
-    return TextMove(move, tuple(int(each, 16) for each in numbers), *_read_hand(it[2], it[3], it[4]))
-
-
-def _field(it: Match[str]) -> Field:
-    return Field(None if it[2] is None else (_position(it[2]), _position(it[3])), _read_pen(it[4]))
-
-
-# The lines: their first words, the pattern of what stands after these, and what is made of its groups.
-_LINES: Tuple[Tuple[str, str, Callable[[Match[str]], Entry]], ...] = (
-    ("POINT", f" {_XY}{_PEL}{_COLOUR}", _point),
-    ("LINE", f" {_XY} {_XY}{_INK}", _line),
-    ("ARC-OUTLINED", _MORE + _INK, lambda it: Arc(False, _positions(it[1]), *_read_ink(it[2], it[3], it[4]))),
-    ("ARC-FILLED", _MORE + _INK, lambda it: Arc(True, _positions(it[1]), *_read_ink(it[2], it[3], it[4]))),
-    ("RECT-OUTLINED", f" {_XY} {_XY}{_INK}", lambda it: _rect(False, it)),
-    ("RECT-FILLED", f" {_XY} {_XY}{_INK}", lambda it: _rect(True, it)),
-    ("POLY-OUTLINED", _SOME + _INK, lambda it: Poly(False, _positions(it[1]), *_read_ink(it[2], it[3], it[4]))),
-    ("POLY-FILLED", _SOME + _INK, lambda it: Poly(True, _positions(it[1]), *_read_ink(it[2], it[3], it[4]))),
-    ("CHAR", f" (primary|supplementary|mosaic|drcs) ({_HEX}){_HAND}", lambda it: Char(
-        it[1], int(it[2], 16), *_read_hand(it[3], it[4], it[5]))),
-    ("MOVE", f" (AP[BFDURH]|APS {_HEX} {_HEX}){_HAND}", _move),
-    ("TO-EOL", _HAND, lambda it: ToEol(*_read_hand(it[1], it[2], it[3]))),
-    ("MAP", f" ({_NUMBER}) ({_THREE})", lambda it: Map(int(it[1]), _numbers(it[2]))),
-    ("BLINK", f" ({_NUMBER}) ({_NUMBER}),({_NUMBER}),({_NUMBER}){_COLOUR}", lambda it: Blink(
-        int(it[1]), int(it[2]), int(it[3]), int(it[4]), _colour(it[5]))),
-    ("BLINK-END", _COLOUR, lambda it: BlinkEnd(_colour(it[1]))),
-    ("BLINK-START", _COLOUR, lambda it: BlinkMark(True, _colour(it[1]))),
-    ("BLINK-STOP", _COLOUR, lambda it: BlinkMark(False, _colour(it[1]))),
-    ("WAIT", f" ({_NUMBER})", lambda it: Wait(int(it[1]))),
-    ("BELL", "", lambda it: Bell()),
-    ("CURSOR", " (flash|steady|off)", lambda it: Cursor(it[1])),
-    ("FIELD", f"( whole|{_TWO}){_PEN}", _field),
-    ("RESET", f" ({_NUMBER}) ({_NUMBER}){_PEN}", lambda it: Reset(int(it[1]), int(it[2]), _read_pen(it[3]))),
-    ("CLEAR", _PEN, lambda it: Clear(_read_pen(it[1]))),
-    ("GLYPH", f" ({_HEX})", lambda it: GlyphStart(int(it[1], 16))),
-    ("MASK", " ([A-D])", lambda it: MaskStart(it[1])),
-    ("END", "", lambda it: DefEnd()))
-_READERS = {kind: (rest, make) for kind, rest, make in _LINES}
+@lru_cache(maxsize=None)
+def _fields(words: str) -> Tuple[_Sort, ...]:
+    """The fields after these words; the points of a shape are one."""
+    points, more, rest = KINDS[words].rpartition(MORE)
+    repeated = f"{_POINT}(?: {_POINT}){{{len(points.split()) - 1},}}"
+    shape = [_Sort(repeated, _positions, lambda it: " ".join(map(_pair, it)))] if more else []
+    return (*shape, *(_SORTS[sort]._replace(key=f"{KEYS[sort]}=" if sort in KEYS else "") for sort in rest.split()))
 
 
 @lru_cache(maxsize=64)
-def _reader(kind: str) -> Optional[Tuple[Pattern[str], Callable[[Match[str]], Entry]]]:
-    """What reads the lines that begin with a word, if there are such. Its pattern is compiled when the first comes."""
-    if kind not in _READERS:
-        return None
-    rest, make = _READERS[kind]
-    return re.compile(kind + rest), make
+def _readers(first: str) -> Tuple[Tuple[Pattern[str], Tuple[Callable[[str], Any], ...], Callable[..., Entry]], ...]:
+    """What reads the lines with this first word. The patterns are compiled when the first such line comes."""
+    kinds = [(words, _fields(words)) for words in KINDS if words.partition(" ")[0] == first]
+    return tuple((re.compile(" ".join([words, *(f"{each.key}({each.pattern})" for each in fields)])),
+                  tuple(each.read for each in fields), MAKERS[words]) for words, fields in kinds)
 
 
 def read_line(line: str) -> Entry:
@@ -605,11 +532,11 @@ def read_line(line: str) -> Entry:
 
 
 def _read_line(line: str) -> Entry:
-    known = _reader(line.partition(" ")[0])
-    found = known[0].fullmatch(line) if known else None
-    if known is None or found is None:
-        raise NotALine(line[:200])
-    return known[1](found)
+    for pattern, reads, make in _readers(line.partition(" ")[0]):
+        found = pattern.fullmatch(line)
+        if found:
+            return make(*[read(text) for read, text in zip(reads, found.groups())])
+    raise NotALine(line[:200])
 
 
 _read_again = lru_cache(maxsize=4096)(_read_line)

@@ -6,8 +6,8 @@ from typing import Dict, Iterator, List, NamedTuple, Optional, Sequence, Tuple
 
 from . import letters
 from .entry import (
-    ONE, Arc, Bell, Blink, BlinkEnd, BlinkMark, Char, Clear, Colour, DefEnd, Entry, Field, GlyphStart, Line, Look, Map,
-    MaskStart, Pen, Point, Poly, Position, Rect, Reset, TextMove, Texture, ToEol, Wait,
+    HELD, ONE, Arc, Bell, Blink, Char, Clear, Colour, DefEnd, Entry, Field, GlyphStart, Line, Look, Map, MaskStart, Pen,
+    Point, Poly, Position, Rect, Reset, TextMove, Texture, ToEol, Wait,
 )
 from .pages import make
 
@@ -16,12 +16,6 @@ MOST_KNOWN = 16
 OWN, OWN_AFTER_RESET = Colour("own-start"), Colour("own-reset")
 PLAIN_LOOK = Look(0, 0, "normal", False, False, False, False)
 PLAIN_TEXTURE = Texture(0, None)
-# What entries hold, by their classes.
-_INK, _HAND = ("pel", "colour", "texture"), ("pen", "colour", "text")
-HELD: Dict[type, Tuple[str, ...]] = {
-    Point: ("pel", "colour"), Line: _INK, Arc: _INK, Rect: _INK, Poly: _INK, Char: _HAND, TextMove: _HAND, ToEol: _HAND,
-    Blink: ("colour",), BlinkEnd: ("colour",), BlinkMark: ("colour",), Field: ("pen",), Reset: ("pen",),
-    Clear: ("pen",)}
 # Bits of the words of RESET: the first has a colour code above that of the domain.
 RESET_DOMAIN, RESET_TEXT, RESET_TEXTURE = 1, 1, 8
 

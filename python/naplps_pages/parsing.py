@@ -1,10 +1,11 @@
 """What the words of a command say: its parser is made of what it declares."""
 import argparse
 import contextlib
+import os
 import re
 import sys
 from functools import partial
-from typing import Any, Dict, List, Optional, cast
+from typing import Any, Dict, List, NoReturn, Optional, cast
 
 from naplps.names import shown
 
@@ -22,12 +23,14 @@ HELP = f"`{TOOL} help` lists the commands"
 class Parser(argparse.ArgumentParser):
     """A parser that raises OSError where its help can't be printed, with each version of Python.
 
-    `parts` are those of its command, which `ending` describes too; `notices` tell of words of earlier versions.
+    `parts` are those of its command, which `ending` describes too; `notices` tell of words of earlier versions;
+    `words` are those that it reads.
     """
 
     parts: List[Part] = []
     ending = ""
     notices: List[str]
+    words: List[str] = []
 
     def format_help(self) -> str:
         """The help, which is as wide as the terminal."""
@@ -39,6 +42,14 @@ class Parser(argparse.ArgumentParser):
         """The usage, which is as wide as the terminal."""
         self.formatter_class = argparse.HelpFormatter
         return _single_spaced(super().format_usage())
+
+    def error(self, message: str) -> NoReturn:
+        """Exits, and says how a file is named whose name was taken for an option."""
+        for word in self.words:
+            if word.startswith("-") and word != "-" and os.path.lexists(word):
+                message += f"; the file {shown(word)} is named ./{shown(word)}"
+                break
+        super().error(message)
 
     def _print_message(self, message: str, file: Any = None) -> None:
         if file is not None and file is sys.stdout:
@@ -136,7 +147,8 @@ def read_words(words: List[str]) -> Given:
     renewed = declared.renew(words[1:])
     if renewed:
         parser.notices.append(renewed[1])
-    given, others = parser.parse_known_args(renewed[0] if renewed else words[1:])
+    parser.words = renewed[0] if renewed else words[1:]
+    given, others = parser.parse_known_args(parser.words)
     if others:
         parser.error(f"unrecognized arguments: {' '.join(map(shown, others))}")
     declared.check(given)

@@ -307,6 +307,18 @@ def test_folders_that_are_not_there_leave_nothing(run, tmp_path):
     assert not (tmp_path / "box").exists()
 
 
+@pytest.mark.skipif(os.geteuid() != 0, reason="only root can be another user")
+def test_a_folder_that_cannot_be_read_is_told(run_as_nobody, tmp_path):
+    work = tmp_path / "work"
+    tree(work / "disks", {"a.nap": POINT, "shut/b.nap": POINT})
+    os.chown(work, 65534, 65534)
+    (work / "disks" / "shut").chmod(0)
+    ran = run_as_nobody("box", "disks", "--into", "box", cwd=str(work))
+    assert ran.returncode == 1 and ran.stderr.endswith(b"/disks/shut: Permission denied\n")
+    assert b"\nnot read:        1 folder unreadable\n" in ran.stdout
+    assert b"<dt>unreadable folders</dt><dd>1</dd>" in (work / "box" / "index.html").read_bytes()
+
+
 def test_two_at_once(naplps, run, fake, tmp_path):
     disks, place, go = tmp_path / "disks", tmp_path / "box", tmp_path / "go"
     tree(disks, {f"{number}.nap": b"page %d" % number for number in range(20)})

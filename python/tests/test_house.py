@@ -10,8 +10,11 @@ import sys
 import pytest
 
 from conftest import COMMAND, PACKAGES, TOP, file
+from naplps.entry import members_of, read_line
+from naplps.kinds import KINDS
 from naplps_pages import refusals
 from samples import POINT, has
+from test_kinds import line
 
 TOOL = os.path.join(PACKAGES, "naplps_pages")
 MODULE = os.path.join(PACKAGES, "naplps")
@@ -214,16 +217,21 @@ def test_what_cannot_be_installed_is_named_in_one_line(tmp_path):
     assert len(asked) == 2 and printed.splitlines()[1].startswith(f"couldn't be installed: {FIRST}")
 
 
+def members(value):
+    """The names of all members of an object of JSON."""
+    for name, each in value.items():
+        yield from (name, *(members(each) if isinstance(each, dict) else ()))
+
+
 def test_the_manual_page_names_each_member_of_json():
     with open(os.path.join(TOP, "man", "naplps-pages.1"), encoding="utf-8") as source:
         text = source.read()
     section = text[text.index(".Sh JSON"):text.index(".Sh ENVIRONMENT")]
-    names = set()
-    for path in (os.path.join(TOOL, "schema.py"), os.path.join(MODULE, "entry.py")):
-        with open(path, encoding="utf-8") as source:
-            names.update(re.findall(r"\"(\w+)\":|\b(\w+)=None|\[\"(\w+)\"\] =", source.read()))
+    names = {name for words in KINDS for name in members(members_of(read_line(line(words)), None))}
+    with open(os.path.join(TOOL, "schema.py"), encoding="utf-8") as source:
+        names.update(map("".join, re.findall(r"\"(\w+)\":|\b(\w+)=None|\[\"(\w+)\"\] =", source.read())))
     assert len(names) > 30
-    for name in map("".join, names):
+    for name in names:
         assert re.search(r"\b%s\b" % name, section), name
 
 

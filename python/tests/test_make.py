@@ -18,6 +18,7 @@ from naplps.answers import NONSENSE, Accepted, Unanswered, WrongLine
 from naplps.backends import LibraryBackend, ProgramBackend
 from naplps.client import Client
 from naplps.entry import read_line
+from naplps.kinds import KINDS
 from naplps.limits import MOST_PAGE
 from samples import POINT, POINT_LINE
 from strategies import pages
@@ -27,13 +28,10 @@ sys.path.append(os.path.join(TOP, "scripts"))
 from vectors.notation import bytes_of, lines_of  # noqa: E402
 from vectors.rows import files, vectors_of  # noqa: E402
 
-KINDS = st.sampled_from(list(entries.MAKERS))
+SOME_KIND = st.sampled_from(list(entries.MAKERS))
 CHANCE = st.randoms(use_true_random=False)
-ENTRIES = st.builds(entries.entry, CHANCE, KINDS)
-# The first words of all lines that PROFILE has.
-NAMES = {"POINT", "LINE", "ARC-OUTLINED", "ARC-FILLED", "RECT-OUTLINED", "RECT-FILLED", "POLY-OUTLINED", "POLY-FILLED",
-         "CHAR", "MOVE", "TO-EOL", "MAP", "BLINK", "BLINK-END", "BLINK-START", "BLINK-STOP", "WAIT", "BELL", "CURSOR",
-         "FIELD", "RESET", "CLEAR", "GLYPH", "MASK", "END"}
+ENTRIES = st.builds(entries.entry, CHANCE, SOME_KIND)
+NAMES = {words.split()[0] for words in KINDS}
 
 
 @pytest.fixture(scope="module", params=["library", "program"])

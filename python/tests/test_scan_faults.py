@@ -247,15 +247,16 @@ def test_a_signal_stops_it_in_order(run, fake, tmp_path, store, number):
     assert said.returncode == 0 and len(table(store)) == 400
 
 
-@pytest.mark.parametrize("make", ["other schema", "other database", "no database", "the table of the recipe", "folder"])
+@pytest.mark.parametrize("make", ["other schema", "other database", "no database", "one byte",
+                                  "the table of the recipe", "folder"])
 def test_a_file_that_is_no_store(run, tmp_path, store, make):
     foreign = "is a database of something else, and no store of naplps-pages"
     reason = {"other schema": "is a store of schema 4, and this tool knows schemas 2 and 3", "folder": "isn't a file",
-              "no database": NO_STORE}.get(make, foreign)
+              "no database": NO_STORE, "one byte": NO_STORE}.get(make, foreign)
     if make == "folder":
         os.mkdir(store)
-    elif make == "no database":
-        tree(tmp_path, {"pages.db": b"what is this?" * 100})
+    elif reason == NO_STORE:
+        tree(tmp_path, {"pages.db": b"what is this?" * 100 if make == "no database" else b"\a"})
     else:
         connection = sqlite3.connect(store)
         connection.executescript({
@@ -271,6 +272,16 @@ def test_a_file_that_is_no_store(run, tmp_path, store, make):
         assert (said.stdout, said.returncode) == (b"", 3)
         assert said.stderr.decode() == "naplps-pages: %s: %s\n" % (store, reason)
     assert before == (os.path.isfile(store) and open(store, "rb").read())
+
+
+def test_an_empty_file_is_no_store_until_a_scan_makes_one_of_it(run, tmp_path, store):
+    tree(tmp_path, {"pages.db": b"", "pages/a.nap": b"\a"})
+    for command in ("files", "equal"):
+        said = run([command, store])
+        assert (said.returncode, said.stderr.decode()) == (3, "naplps-pages: %s: %s\n" % (store, NO_STORE))
+    assert os.path.getsize(store) == 0
+    assert run(["scan", os.path.join(str(tmp_path), "pages"), "--into", store]).returncode == 0
+    assert run(["files", store]).returncode == 0
 
 
 def test_a_store_that_isnt_there(run, tmp_path, store):

@@ -164,7 +164,7 @@ def test_workers_that_are_killed_cost_nothing(run, fake, tmp_path, store):
     program = fake(slow(0.05, go))
     scan = start(["scan", pages, "--into", store, "--processes", "2"], program)
     killed = set()
-    for least in (1, 50, 100):                                  # (rows are written every two seconds)
+    for least in (1, 300, 600):    # (by then no file is tried alone, of those of a killed worker)
         wait_until(lambda: count(store) >= least and set(children(scan.pid)) - killed, scan)
         victim = min(set(children(scan.pid)) - killed)
         os.kill(victim, signal.SIGKILL)

@@ -30,6 +30,17 @@ def listed(text):
     return re.findall(r"^  ([a-z]+) {2,}\S", text, re.MULTILINE)
 
 
+def test_a_name_that_looks_like_an_option(run, tmp_path):
+    for name in ("-a.nap", "b.nap"):
+        file(tmp_path, name, POINT)
+    for words in (["check", "-a.nap"], ["check", "b.nap", "-a.nap"]):
+        said = run(words, cwd=str(tmp_path))
+        assert (said.returncode, said.stdout) == (2, b"")
+        assert said.stderr.endswith(b"; the file -a.nap is named ./-a.nap\n")
+    assert run(["check", "--nope", "b.nap"], cwd=str(tmp_path)).stderr.endswith(b"unrecognized arguments: --nope\n")
+    assert run(["check", "./-a.nap"], cwd=str(tmp_path)).returncode == 0
+
+
 def test_the_first_help_has_twelve_commands_at_most(run):
     first, every = (run(words).stdout.decode() for words in (["help"], ["help", "--all"]))
     assert run(["--help"]).stdout.decode() == run(["-h"]).stdout.decode() == first

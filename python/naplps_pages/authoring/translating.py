@@ -7,11 +7,10 @@ from io import StringIO
 from typing import Any, Callable, Dict, Iterator, List, NamedTuple, Optional, Sequence, Tuple
 
 from naplps import letters
-from naplps.entry import (
-    ONE, Arc, Bell, Blink, BlinkEnd, BlinkMark, Char, Clear, Colour, Cursor, DefEnd, Entry, Field, GlyphStart, Line,
-    Map, MaskStart, Pen, Point, Poly, Position, Rect, Reset, TextMove, ToEol, Wait,
-)
-from naplps.writer import HELD, Attributes, PageState
+from naplps.entry import HELD, MAKERS, ONE, Arc, Char, Colour, Entry, Pen, Position
+from naplps.kinds import CHOICES, KEYS, MORE
+from naplps.kinds import KINDS as OF_LINES
+from naplps.writer import Attributes, PageState
 
 from .. import messages
 from . import values
@@ -93,16 +92,15 @@ def _quoted(line: str, start: int) -> Tuple[LinePart, int]:
 
 # The most points of a shape.
 MOST_POINTS = 2001
-SETS, MASKS = ("primary", "supplementary", "mosaic", "drcs"), ("A", "B", "C", "D")
-STEPS = ("APB", "APF", "APD", "APU", "APR", "APH", "APS")
 INK, HAND = ("pel", "colour", "texture"), ("pen", "colour", "text")
 SET, TEXT = "SET", "TEXT"
 LONGEST_NAME = 20
 
 
 class Operand(NamedTuple):
-    """A word of a line that is no field: what it is, and what reads it."""
+    """A word of a line that is no field: how it looks, what it is, and what reads it."""
 
+    form: str
     what: str
     read: Callable[[str], Any]
 
@@ -126,26 +124,39 @@ class LineKind(NamedTuple):
         return " ".join([self.form, *(name + "=.." for name in self.fields)])
 
 
-def _one_of(*choices: str) -> Operand:
+def _one_of(form: str, *choices: str) -> Operand:
     what = ", ".join(choices[:-1]) + " or " + choices[-1] if len(choices) > 1 else choices[0]
 
     def read(text: str) -> str:
         if text not in choices:
             raise expected(what, text)
         return text
-    return Operand(what, read)
+    return Operand(form, what, read)
 
 
-POINT, CODE = Operand(values.A_POINT, values.point), Operand(messages.A_CODE, values.code)
-ADDRESS = Operand(values.AN_ADDRESS, values.address)
-WORD = Operand(messages.A_NUMBER.format(most=values.MOST_WORD), values.word)
-VALUE = Operand(messages.A_MAP_COLOUR, values.map_value)
-ON_OFF_DELAY = Operand(messages.ON_OFF_DELAY, values.words)
+# The operands of lines, by the sorts of fields that they are.
+OPERANDS: Dict[str, Operand] = {
+    "Point": Operand("x,y", values.A_POINT, values.point), "Code": Operand("XX", messages.A_CODE, values.code),
+    "Addr": Operand("A", values.AN_ADDRESS, values.address),
+    "Word": Operand("N", messages.A_NUMBER.format(most=values.MOST_WORD), values.word),
+    "Parts": Operand("COLOUR", messages.A_MAP_COLOUR, values.map_value),
+    "Times": Operand("on,off,delay", messages.ON_OFF_DELAY, values.words),
+    "Set": _one_of("SET", *CHOICES["Set"]), "Step": _one_of("APB", *CHOICES["Step"], "APS"),
+    "Cursor": _one_of("flash", *CHOICES["Cursor"]), "Mask": _one_of("A", *CHOICES["Mask"])}
 
 
-def _shape(name: str, least: int, make: Callable[[Tuple[Position, ...], Attributes], Entry]) -> LineKind:
-    return LineKind(name + " x,y" * least + " ..", (POINT,) * least, INK, lambda it, by: make(tuple(it), by),
-                    MOST_POINTS)
+def _line_kind(words: str, row: str) -> LineKind:
+    """The lines of sources that begin with the words of a line of a list, which have its fields."""
+    name, *second = words.split(" ")
+    sorts, is_shape = row.replace(MORE, " ").split(), MORE in row
+    fields = tuple(KEYS[sort] for sort in sorts if sort in KEYS)
+    operands = [*(_one_of(word, word) for word in second), *(OPERANDS[sort] for sort in sorts if sort not in KEYS)]
+
+    def make(it: Sequence[Any], by: Attributes) -> Entry:
+        read = (tuple(it),) if is_shape else it[len(second):]
+        return MAKERS[words](*read, *(getattr(by, field) for field in fields))
+    form = " ".join([name, *(each.form for each in operands), *[MORE.strip()] * is_shape])
+    return LineKind(form, tuple(operands), fields, make, MOST_POINTS if is_shape else 0)
 
 
 def _circle(name: str, filled: bool) -> LineKind:
@@ -155,49 +166,13 @@ def _circle(name: str, filled: bool) -> LineKind:
             raise NotUnderstood(0, messages.CIRCLE_LEAVES)
         left, right = (x - radius, y), (x + radius, y)
         return Arc(filled, (left, right, left), by.pel, by.colour, by.texture)
-    return LineKind(name + " x,y r", (POINT, Operand(values.A_RADIUS, values.radius)), INK, make)
-
-
-def _rect(name: str, filled: bool) -> LineKind:
-    return LineKind(name + " x,y x,y", (POINT, POINT), INK,
-                    lambda it, by: Rect(filled, it[0], it[1], by.pel, by.colour, by.texture))
+    return LineKind(name + " x,y r", (OPERANDS["Point"], Operand("r", values.A_RADIUS, values.radius)), INK, make)
 
 
 # A second word stands in a name where it says what follows.
 KINDS: Dict[str, LineKind] = {
-    "POINT": LineKind("POINT x,y", (POINT,), INK[:2], lambda it, by: Point(it[0], by.pel, by.colour)),
-    "LINE": LineKind("LINE x,y x,y", (POINT, POINT), INK,
-                     lambda it, by: Line(it[0], it[1], by.pel, by.colour, by.texture)),
-    "ARC-OUTLINED": _shape("ARC-OUTLINED", 3, lambda it, by: Arc(False, it, by.pel, by.colour, by.texture)),
-    "ARC-FILLED": _shape("ARC-FILLED", 3, lambda it, by: Arc(True, it, by.pel, by.colour, by.texture)),
-    "CIRCLE": _circle("CIRCLE", False), "CIRCLE-FILLED": _circle("CIRCLE-FILLED", True),
-    "RECT-OUTLINED": _rect("RECT-OUTLINED", False),
-    "RECT-FILLED": _rect("RECT-FILLED", True),
-    "POLY-OUTLINED": _shape("POLY-OUTLINED", 2, lambda it, by: Poly(False, it, by.pel, by.colour, by.texture)),
-    "POLY-FILLED": _shape("POLY-FILLED", 2, lambda it, by: Poly(True, it, by.pel, by.colour, by.texture)),
-    "CHAR": LineKind("CHAR SET XX", (_one_of(*SETS), CODE), HAND,
-                     lambda it, by: Char(it[0], it[1], by.pen, by.colour, by.text)),
-    "MOVE": LineKind("MOVE APB", (_one_of(*STEPS),), HAND,
-                     lambda it, by: TextMove(it[0], (), by.pen, by.colour, by.text)),
-    "MOVE APS": LineKind("MOVE APS XX XX", (_one_of("APS"), CODE, CODE), HAND,
-                         lambda it, by: TextMove(it[0], tuple(it[1:]), by.pen, by.colour, by.text)),
-    "TO-EOL": LineKind("TO-EOL", (), HAND, lambda _, by: ToEol(by.pen, by.colour, by.text)),
-    "MAP": LineKind("MAP A COLOUR", (ADDRESS, VALUE), (), lambda it, _: Map(it[0], it[1])),
-    "BLINK": LineKind("BLINK A on,off,delay", (ADDRESS, ON_OFF_DELAY), ("colour",),
-                      lambda it, by: Blink(it[0], it[1][0], it[1][1], it[1][2], by.colour)),
-    "BLINK-END": LineKind("BLINK-END", (), ("colour",), lambda _, by: BlinkEnd(by.colour)),
-    "BLINK-START": LineKind("BLINK-START", (), ("colour",), lambda _, by: BlinkMark(True, by.colour)),
-    "BLINK-STOP": LineKind("BLINK-STOP", (), ("colour",), lambda _, by: BlinkMark(False, by.colour)),
-    "WAIT": LineKind("WAIT N", (WORD,), (), lambda it, _: Wait(it[0])),
-    "BELL": LineKind("BELL", (), (), lambda *_: Bell()),
-    "CURSOR": LineKind("CURSOR flash", (_one_of("flash", "steady", "off"),), (), lambda it, _: Cursor(it[0])),
-    "FIELD": LineKind("FIELD x,y x,y", (POINT, POINT), ("pen",), lambda it, by: Field((it[0], it[1]), by.pen)),
-    "FIELD whole": LineKind("FIELD whole", (_one_of("whole"),), ("pen",), lambda _, by: Field(None, by.pen)),
-    "RESET": LineKind("RESET N N", (WORD, WORD), ("pen",), lambda it, by: Reset(it[0], it[1], by.pen)),
-    "CLEAR": LineKind("CLEAR", (), ("pen",), lambda _, by: Clear(by.pen)),
-    "GLYPH": LineKind("GLYPH XX", (CODE,), (), lambda it, _: GlyphStart(it[0])),
-    "MASK": LineKind("MASK A", (_one_of(*MASKS),), (), lambda it, _: MaskStart(it[0])),
-    "END": LineKind("END", (), (), lambda *_: DefEnd())}
+    **{words: _line_kind(words, row) for words, row in OF_LINES.items()},
+    "CIRCLE": _circle("CIRCLE", False), "CIRCLE-FILLED": _circle("CIRCLE-FILLED", True)}
 NAMES = tuple(sorted({name.split()[0] for name in KINDS} | {SET, TEXT}))
 
 

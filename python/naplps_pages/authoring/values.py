@@ -4,6 +4,7 @@ from functools import lru_cache
 from typing import Callable, Dict, List, NamedTuple, Optional, Tuple, TypeVar, Union
 
 from naplps.entry import ONE, Colour, Look, Pen, Position, Texture
+from naplps.kinds import SIZES
 
 from .. import messages
 
@@ -40,7 +41,6 @@ def expected(what: str, text: str, offset: int = 0) -> NotUnderstood:
 MOST_WORD, MOST_PART, ADDRESSES = 63, 65535, 1 << 24
 # Digits of a whole number, and of a fraction.
 MOST_DIGITS, MOST_FRACTION = 9, 30
-SIZES = ("small", "medium", "normal", "tall", "double")
 FLAGS = "ruws"
 # The parts red, green and blue of the colours that have a name, of 255.
 NAMED: Dict[str, Tuple[int, int, int]] = {

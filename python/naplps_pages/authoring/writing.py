@@ -4,10 +4,10 @@ from typing import Any, Dict, Iterable, Iterator, List, NamedTuple, Optional, Se
 
 from naplps import letters
 from naplps.entry import (
-    ONE, Arc, Blink, Char, Colour, Entry, Field, GlyphStart, Line, Look, Map, MaskStart, Pen, Point, Poly, Position,
-    Rect, Reset, TextMove, Texture, ToEol,
+    HELD, ONE, Arc, Blink, Char, Colour, Entry, Field, GlyphStart, Line, Look, Map, MaskStart, Pen, Point, Poly,
+    Position, Rect, Reset, TextMove, Texture, ToEol,
 )
-from naplps.writer import HELD, Attributes
+from naplps.writer import Attributes
 
 from .translating import Translator
 from .values import ADDRESSES, EDGE_BIT, FILL_BITS, LINE_BITS, NAMED, TEXTURES, TOP, TOP_NAME

@@ -34,7 +34,7 @@ from ..collection.scan import ScanOptions, ScanRun, missing, scanned
 from ..collection.tables import File
 from ..collection.search import apart
 from ..collection.session import Names
-from ..collection.status import UNKNOWN, WORDS, Status, status
+from ..collection.status import SHUT, UNKNOWN, WORDS, Status, status
 from ..collection.store import open_to_read
 from ..console import COMPLETE, SOME_LACK, NotWritten, Output, tell
 from ..new_files import make_folders, put_inside, replace
@@ -374,11 +374,12 @@ def _formats(it: Status) -> str:
 
 
 def _unread_line(it: Status) -> str:
-    """Files without an answer, by their states."""
+    """Files without an answer, by their states, and the folders that can't be read."""
     some = [f"{it.counts[tables.FILE_STATES[state]]} {word}" for state, word in WORDS.items()
             if it.counts.get(tables.FILE_STATES[state])]
-    lacking = it.counts.get(tables.PAGE_STATES[tables.NO_ANSWER])
-    return ", ".join([*some, *([f"{lacking} without an answer"] if lacking else [])]) or "nothing"
+    lacking, shut = it.counts.get(tables.PAGE_STATES[tables.NO_ANSWER]), it.tally.left.get(SHUT)
+    return ", ".join([*some, *([f"{lacking} without an answer"] if lacking else []),
+                      *([f"{numbered(shut, 'folder')} unreadable"] if shut else [])]) or "nothing"
 
 
 Given = argparse.Namespace

@@ -29,7 +29,7 @@ PACKS = f"""SELECT count(*) FROM folders d JOIN files f ON f.folder = d.id AND f
 FOLDERS = "SELECT count(*) FROM folders WHERE run = ? AND state = ?"
 WORDS = {tables.UNREADABLE: "unreadable", tables.VANISHED: "vanished", tables.TOO_LONG: "too long",
          tables.NOT_A_FILE: "not regular files", tables.CHANGED: "changed meanwhile"}
-UNKNOWN = "of unknown kind"
+UNKNOWN, SHUT = "of unknown kind", "unreadable folders"
 
 
 # Accepted files by their kinds; of those that are still as a store of the schema before has them it isn't known.
@@ -255,7 +255,7 @@ def status(connection: sqlite3.Connection, path: str) -> Status:
         tally.take(alike)
     shut, = connection.execute("SELECT count(*) FROM folders WHERE state = ?", (tables.UNREADABLE,)).fetchone()
     if shut:
-        tally.left["unreadable folders"] = shut
+        tally.left[SHUT] = shut
     options = kept(connection)
     for table in CANON_TABLES:
         number = table.find_wanted(connection) if table.option in options else 0

@@ -13,7 +13,7 @@ from .. import TOOL, messages
 from ..console import FAILED, NotWritten, tell
 from ..unexpected import Unexpected, failure_message
 from . import tables
-from .store_files import APPLICATION, LOG, foreign, is_held, place
+from .store_files import APPLICATION, LOG, MAGIC, foreign, is_held, place
 from .tables import Row, checked
 
 # A reader may hold a store that has only a rollback journal so long, in seconds.
@@ -102,7 +102,7 @@ def show_present(connection: sqlite3.Connection) -> bool:
 def open_to_write(path: str) -> sqlite3.Connection:
     """The store, to be written; it is made where there is none. Raises StoreFailed or sqlite3.Error."""
     if os.path.lexists(path):
-        _look(path)
+        _look(path, may_be_empty=True)
     _look_beside(path)
     connection = _checked(path, "rwc")
     try:
@@ -114,14 +114,18 @@ def open_to_write(path: str) -> sqlite3.Connection:
         raise
 
 
-def _look(path: str) -> None:
-    """Raises StoreFailed where there is no such file, with the system's reason, or where a foreign one is beside it."""
+def _look(path: str, may_be_empty: bool = False) -> None:
+    """Raises StoreFailed where there is no such file, with the system's reason; where it is no database, which SQLite
+    would make of one byte too; or where a foreign file is beside it."""
     try:
         if not stat.S_ISREG(os.stat(path).st_mode):
             raise StoreFailed(path, messages.NOT_A_FILE)
-        os.close(os.open(path, os.O_RDONLY | os.O_NONBLOCK | os.O_CLOEXEC))
+        with open(os.open(path, os.O_RDONLY | os.O_NONBLOCK | os.O_CLOEXEC), "rb") as file:
+            begins = file.read(len(MAGIC))
     except OSError as error:
         raise StoreFailed(path, error.strerror or str(error)) from None
+    if begins != MAGIC and (begins or not may_be_empty):
+        raise StoreFailed(path, messages.NOT_A_STORE)
     _look_beside(path)
 
 

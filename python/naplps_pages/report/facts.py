@@ -9,7 +9,7 @@ from naplps.treating.treatments import graded
 from .. import refusals
 from ..collection import equal, every_file, tables
 from ..collection.tables import Count, FileState, Hash, PageKind, PageState, Path, RefusalNumber, Text, checked
-from ..collection.status import LACK, LACKING, UNKNOWN, LastRun, status
+from ..collection.status import LACK, LACKING, SHUT, UNKNOWN, LastRun, status
 from . import MOST_FOLDERS
 from .files import FROM, REASONS, THERE, Roots, has_words, load_roots, reason, summary
 
@@ -261,7 +261,7 @@ def load_facts(connection: sqlite3.Connection, path: str, groups: List[GroupSumm
     counts = [("files", files), ("accepted", number("accepted", 0)), *kinds, ("refused", number("refused", 0)),
               *([("refused: captures", it.tally.captures)] if it.tally.captures else []),
               ("without an answer", number("no answer", 0)), ("not read", files - answered),
-              *_lacking(connection),
+              *([(SHUT, it.tally.left[SHUT])] if SHUT in it.tally.left else []), *_lacking(connection),
               ("different pages", it.pages), ("different canonical pages", it.canonical),
               ("groups of equal pages that are spelled differently", spelled),
               ("groups of copies alone", len(groups) - spelled)]
