@@ -51,7 +51,7 @@ PARTS: Dict[str, Part] = {
     "making": Part(
         "pages of lines and of what people write: what each line makes, mistakes and hostile sources, the writer, and "
         "the documents of that",
-        ("make", "authoring", "authoring_hostile", "making", "page_source", "sources_made", "writer",
+        ("kinds", "make", "authoring", "authoring_hostile", "making", "page_source", "sources_made", "writer",
          "making_documents"),
     ),
     "module": Part(

@@ -5,3 +5,4 @@ mod LawLemmas
 mod LooseLemmas
 mod MadeLemmas
 mod TextLemmas
+mod WalkNames

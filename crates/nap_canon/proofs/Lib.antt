@@ -1,3 +1,4 @@
+mod Common
 pub mod prelude
 pub mod reading
 pub mod spelling

@@ -2,8 +2,7 @@
 
 use Rattle.nap_list.specs.declared.device.outlet.Outlet as outlet
 use Rattle.nap_canon.specs.declared.form.Form.TheVariants.{One, Two}
-use Rattle.nap_canon.specs.Sinking.{WritesText}
-use Rattle.nap_canon.specs.Laws.{PreludeLeads, TextOfPrefix, TextIsPlain, PlainOperandLengths, TextIsRead, TextLeads, FormsAgree, CanonicalStreamsAgree}
+use Rattle.nap_canon.proofs.Common.{CanonicalStreamsAgree, FormsAgree, PlainOperandLengths, PreludeLeads, TextIsPlain, TextIsRead, TextLeads, TextOfPrefix, WritesText}
 use Rattle.nap_canon.proofs.operand_lengths.ActingLemmas as acting
 use Rattle.nap_canon.proofs.reading_back.CanonicalLaws as canonical
 use Rattle.nap_canon.proofs.reading_back.FormLemmas as forms

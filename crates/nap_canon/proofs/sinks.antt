@@ -6,3 +6,4 @@ pub mod CutLemmas
 pub mod JoinLemmas
 pub mod PrefixLemmas
 pub mod PutLemmas
+pub mod StartLemmas

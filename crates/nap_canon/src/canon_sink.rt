@@ -1,6 +1,6 @@
 //! A sink that writes the canonical text of its entries (PROFILE.md, Canonical text).
 ghost use Rattle.std.specs.Prelude.{◌≡◌, ◌<◌, ◌≤◌, [], ◌∷◌, length, drop, true, false, OnOk, IsErrOf};
-ghost use Rattle.nap_list.specs.Batches.{EachIsCurrent, FirstIsCurrent, batch_entries};
+ghost use Rattle.nap_list.specs.Batches.{EachIsCurrent, FirstIsCurrent, batch_entries, text_entries};
 ghost use Rattle.nap_list.specs.State.{AllFit, Fits, after};
 ghost use Rattle.nap_canon.specs.Batches.{PutsAfter, PutsFirst, PutsSome};
 ghost use Rattle.nap_canon.specs.Concluding.{EndsOutput, bytes_taken};
@@ -10,7 +10,8 @@ ghost use Rattle.nap_canon.specs.SinkLaws.{took_none, took_more, took_broke};
 use crate::form::Form;
 use crate::output::Output;
 use crate::writer::Writer;
-use nap_list::{Batch, BatchFault, Entry, Outlet, Shape, Sink, SinkFault};
+use nap_codes::CharSet;
+use nap_list::{Batch, BatchFault, Drawing, Entry, Outlet, Pen, Shape, Sink, SinkFault};
 use std::alloc::Global;
 use std::marker::Model;
 
@@ -92,6 +93,49 @@ impl<O: Outlet + Drop> CanonSink<O> {
         self.put_ref(&batch.entry(0))
     }
 
+    /// Takes the first byte of a text at this pen, and those after it that make one write with it. Returns their number;
+    /// so does the error.
+    #[inline(always)]
+    fn put_text<'a>(
+        &mut self,
+        set: CharSet,
+        codes: &'a [u8],
+        pen: &Pen,
+        drawing: &'a Drawing,
+    ) -> Result<usize, usize>
+        requires some { 0 < length codes.now }
+        requires fit { AllFit self.old.state (text_entries drawing.now pen.now set codes.now) }
+        ensures { PutsSome O.Outlet (text_entries drawing.now pen.now set codes.now) self.old self.new result }
+    {
+        if self.failed() {
+            return Err(0);
+        }
+        self.writer.put_text(set, codes, pen, drawing)
+    }
+
+    /// Takes the first entry of a batch, and those of a text that make one write with it. Returns their number; so does
+    /// the error.
+    #[inline(always)]
+    fn put_start(&mut self, batch: &Batch) -> Result<usize, usize>
+        requires some { 0 < length (batch_entries batch.now) }
+        requires fit { AllFit self.old.state (batch_entries batch.now) }
+        ensures { PutsSome O.Outlet (batch_entries batch.now) self.old self.new result }
+    {
+        if let Batch::Text {
+            set,
+            codes,
+            pen,
+            drawing,
+        } = batch
+        {
+            return self.put_text(*set, codes, pen, drawing);
+        }
+        match self.put_first(batch) {
+            Ok(()) => Ok(1),
+            Err(_) => Err(0),
+        }
+    }
+
     /// Takes entries of a batch from `first`, whose attributes are current: as many as make one write, at least one.
     /// Returns their number; so does the error.
     #[inline(always)]
@@ -128,6 +172,22 @@ impl<O: Outlet + Drop> CanonSink<O> {
         Ok(())
     }
 
+    /// Takes a batch up to a failed write, with the prelude of its first entry. The error has the number of entries that
+    /// were taken.
+    #[inline(never)]
+    fn put_with_prelude(&mut self, batch: &Batch) -> Result<(), usize>
+        requires { AllFit self.old.state (batch_entries batch.now) }
+        ensures { PutsAfter O.Outlet 0 (batch_entries batch.now) self.old self.new result }
+    {
+        if batch.is_empty() {
+            return Ok(());
+        }
+        match self.put_start(batch) {
+            Ok(count) => self.put_current(batch, count),
+            Err(taken) => Err(taken),
+        }
+    }
+
     /// Takes a batch up to a failed write. The error has the number of entries that were taken.
     #[inline(always)]
     fn put_all(&mut self, batch: &Batch) -> Result<(), usize>
@@ -137,13 +197,7 @@ impl<O: Outlet + Drop> CanonSink<O> {
         if self.first_is_joinable(batch) {
             return self.put_current(batch, 0);
         }
-        if batch.is_empty() {
-            return Ok(());
-        }
-        if self.put_first(batch).is_err() {
-            return Err(0);
-        }
-        self.put_current(batch, 1)
+        self.put_with_prelude(batch)
     }
 
     /// Returns how many bytes the outlet took from this sink, saturating at the greatest `u64`.

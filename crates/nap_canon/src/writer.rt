@@ -24,6 +24,7 @@ use nap_values::Point;
 mod figures;
 mod joining;
 mod single;
+mod starting;
 
 /// The greatest number of displacements that are buffered for one write.
 const MAX_DISPLACEMENTS: usize = 128;

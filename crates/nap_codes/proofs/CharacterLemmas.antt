@@ -1,16 +1,6 @@
-use Rattle.std.proofs.Common.{ℕ, ◌≡◌, ◌↔◌, [], ◌∷◌, Option, Some, None}
+use Rattle.nap_codes.proofs.Common.{CharSet, CodeSet, CodeSets, IsCall, IsCharacter, IsGraphic, Left, LexerState, List, None, Opcode, Option, Some, [], char_set_of, complete, control0_front, front, gl_front, left_out_opcode, non_pdi_code, opcode_front, opcode_rows, pdi_front, refl, row_of, set_at, ℕ, ◌↔◌, ◌∷◌, ◌≡◌}
 use Rattle.nap_codes.specs.declared.code.Code.TheVariants as codes
-use Rattle.nap_codes.specs.declared.code_set.CharSet.{CharSet}
-use Rattle.nap_codes.specs.declared.code_set.CodeSet.{CodeSet}
 use Rattle.nap_codes.specs.declared.code_set.CodeSet.TheVariants as code_sets
-use Rattle.nap_codes.specs.declared.code_set.CodeSets.{CodeSets}
-use Rattle.nap_codes.specs.declared.opcode.Left.{Left}
-use Rattle.nap_codes.specs.declared.opcode.Opcode.{Opcode}
-use Rattle.nap_codes.specs.CodeSets.{char_set_of, set_at}
-use Rattle.nap_codes.specs.Front.{complete, non_pdi_code, opcode_front, pdi_front, gl_front, control0_front, front}
-use Rattle.nap_codes.specs.Laws.{IsGraphic}
-use Rattle.nap_codes.specs.Lexer.{LexerState, IsCharacter}
-use Rattle.nap_codes.specs.Tables.{row_of, opcode_rows, left_out_opcode}
 use Rattle.nap_codes.proofs.TableLemmas.{graphic_test, no_control0, space}
 use Rattle.nap_codes.proofs.CodeRanges.{code_ranges}
 
@@ -66,3 +56,8 @@ all_amid lexer set some = (λ e. cc, λ k. absurd (some (k 0x20 space).0))
 pub none_beyond : (lexer : LexerState) (byte : ℕ) (set : CharSet) → (IsGraphic byte → ⊥) → (None ≡ Some set) ↔ IsCharacter lexer byte set
 none_beyond lexer byte set other =
     (λ e. cc, λ k. absurd (other (code_ranges lexer.sets (byte ∷ []) (codes.Char set byte) 1 lexer.sets k.1)))
+
+-- A byte calls the macro that it names, if the macro set is in GL.
+pub call_front : (lexer : LexerState) (byte : ℕ) → IsCall lexer byte → (rest : List ℕ) → front lexer.sets (byte ∷ rest) ≡ complete (codes.Call byte) 1 lexer.sets
+unfolding front control0_front gl_front non_pdi_code
+call_front lexer byte (rests, macros, graphic) rest = rw (no_control0 byte graphic.0, graphic_test byte graphic, macros) refl

@@ -1,17 +1,7 @@
-use Rattle.std.proofs.Common.{ℕ, ◌≡◌, ◌<◌, List, length, take, Some, IfSome, Bool, true, false, refl, sym, ◌∙◌, arith}
-use Rattle.std.proofs.lemmas.List.{length-take-le}
-use Rattle.nap_codes.specs.declared.code.Code.{Code}
+use Rattle.nap_codes.proofs.Common.{Bool, Code, CodeRanges, CodeSet, CodeSets, IfSome, IsCodeInRange, IsGraphic, List, OneByteOpcode, OneByteOperand, Row, Some, Spells, arith, complete, control0_rows, control1_rows, false, front, length, length-take-le, non_pdi_code, number_rows, refl, row_of, set_at, sym, take, true, ℕ, ◌<◌, ◌∙◌, ◌≡◌}
 use Rattle.nap_codes.specs.declared.code.Code.TheVariants as codes
-use Rattle.nap_codes.specs.declared.code_set.CodeSet.{CodeSet}
 use Rattle.nap_codes.specs.declared.code_set.CodeSet.TheVariants as code_sets
-use Rattle.nap_codes.specs.declared.code_set.CodeSets.{CodeSets}
-use Rattle.nap_codes.specs.declared.control.Row.{Row}
 use Rattle.nap_codes.specs.declared.control.Row.TheVariants.{Whole}
-use Rattle.nap_codes.specs.CodeSets.{set_at}
-use Rattle.nap_codes.specs.Tables.{row_of, number_rows, control0_rows, control1_rows}
-use Rattle.nap_codes.specs.Front.{complete, non_pdi_code, front}
-use Rattle.nap_codes.specs.Laws.{IsGraphic, IsCodeInRange, CodeRanges, OneByteOpcode, OneByteOperand}
-use Rattle.nap_codes.specs.Spelling.{Spells}
 use Rattle.nap_codes.specs.Spelling as spelling
 use Rattle.nap_codes.proofs.RowLemmas.{row_found}
 use Rattle.nap_codes.proofs.FrontLaws.{code_length}

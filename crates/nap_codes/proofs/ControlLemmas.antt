@@ -1,17 +1,7 @@
-use Rattle.std.proofs.Common.{ℕ, ◌≡◌, ◌≢◌, [], ◌∷◌, Option, Some, None, refl, ◌⊎◌, inl, inr}
-use Rattle.std.proofs.lemmas.Bool.{ne_eqb}
-use Rattle.nap_codes.specs.declared.code.Code.{Code}
+use Rattle.nap_codes.proofs.Common.{Code, CodeSets, FormatEffectorFront, FormatEffectorKnown, LexerState, None, Option, Row, Some, Steps, TextStep, [], after_control0, complete, control0_front, control0_rows, front, inl, inr, ne_eqb, refl, row_of, text_step_of_row, ℕ, ◌∷◌, ◌≡◌, ◌≢◌, ◌⊎◌}
 use Rattle.nap_codes.specs.declared.code.Code.TheVariants as codes
 use Rattle.nap_codes.specs.declared.code.Step.TheVariants as steps
-use Rattle.nap_codes.specs.declared.code_set.CodeSets.{CodeSets}
-use Rattle.nap_codes.specs.declared.control.Row.{Row}
 use Rattle.nap_codes.specs.declared.control.Row.TheVariants.{Whole}
-use Rattle.nap_codes.specs.declared.control.TextStep.{TextStep}
-use Rattle.nap_codes.specs.CodeSets.{after_control0}
-use Rattle.nap_codes.specs.Front.{complete, control0_front, front}
-use Rattle.nap_codes.specs.Lexer.{LexerState, Steps}
-use Rattle.nap_codes.specs.Tables.{row_of, control0_rows, text_step_of_row}
-use Rattle.nap_codes.specs.Laws.{FormatEffectorFront, FormatEffectorKnown}
 use Rattle.nap_codes.proofs.TableLemmas.{control0_below, effector_known, shift_out_row, shift_in_row}
 
 -- Controls of the C0 set that are complete codes.

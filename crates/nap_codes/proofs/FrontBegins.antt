@@ -1,17 +1,7 @@
-use Rattle.std.proofs.Common.{ℕ, zero, suc, ◌+◌, ◌≡◌, ◌≤◌, List, [], ◌∷◌, ◌++◌, length, refl, ap, ◌∙◌, arith}
-use Rattle.std.proofs.lemmas.Bool.{ne_eqb, le-leb}
-use Rattle.nap_codes.specs.declared.code.Code.{Code}
-use Rattle.nap_codes.specs.declared.code.CodeFault.{CodeFault}
+use Rattle.nap_codes.proofs.Common.{Code, CodeFault, CodeSets, Front, HalfRead, IsGraphic, IsHalfRead, List, [], ap, argument_of, arith, complete, control0_front, control0_rows, control1_front, control1_rows, designation_front, escape_front, front, gl_front, half_read_bytes, le-leb, length, more_front, ne_eqb, non_pdi_code, one_byte_later, opcode_rows, pdi_front, position_front, refl, refused, rest_front, row_of, sequence_front, set_at, suc, unfinished, zero, ℕ, ◌++◌, ◌+◌, ◌∙◌, ◌∷◌, ◌≡◌, ◌≤◌}
 use Rattle.nap_codes.specs.declared.code_set.CodeSet.TheVariants as code_sets
-use Rattle.nap_codes.specs.declared.code_set.CodeSets.{CodeSets}
 use Rattle.nap_codes.specs.declared.control.Argument.TheVariants as arguments
-use Rattle.nap_codes.specs.declared.lexer.HalfRead.{HalfRead}
 use Rattle.nap_codes.specs.declared.lexer.HalfRead.TheVariants.{Control, Designation, SpacedDesignation, PositionRow}
-use Rattle.nap_codes.specs.CodeSets.{set_at}
-use Rattle.nap_codes.specs.Tables.{row_of, control0_rows, control1_rows, opcode_rows}
-use Rattle.nap_codes.specs.Front.{Front, unfinished, complete, refused, one_byte_later, non_pdi_code, pdi_front, gl_front, position_front, argument_of, designation_front, sequence_front, control1_front, escape_front, more_front, control0_front, front}
-use Rattle.nap_codes.specs.HalfReadCodes.{half_read_bytes, IsHalfRead, rest_front}
-use Rattle.nap_codes.specs.Laws.{IsGraphic}
 use Rattle.nap_codes.proofs.TableLemmas.{graphic_test, no_control0, no_control1}
 
 -- The front of a list, by the front of the bytes after its first ones.

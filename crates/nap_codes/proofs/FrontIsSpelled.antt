@@ -1,29 +1,11 @@
-use Rattle.std.proofs.Common.{ℕ, suc, ◌≡◌, ◌≢◌, ◌<◌, ◌≤◌, ◌⊎◌, inl, inr, List, [], ◌∷◌, ◌++◌, take, get_or, Option, Some, None, Bool, true, false, cond, eqb, ltb, leb, ◌&&◌, refl, ap, ◌∙◌, subst, arith, append_assoc, append-nil}
-use Rattle.std.proofs.lemmas.Bool.{eqb-true}
-use Rattle.std.proofs.lemmas.Bool.Decides.{nat_tests}
-use Rattle.std.specs.Option.{option_map}
-use Rattle.nap_codes.specs.declared.code.Code.{Code}
+use Rattle.nap_codes.proofs.Common.{Argument, Bool, Code, CodeFault, CodeSet, CodeSets, Front, IsGraphic, IsProperPrefix, IsSpelling, Left, List, Mask, None, Opcode, Option, Row, Some, Spells, SpellsRefused, [], accepted, after_control0, ap, append-nil, append_assoc, argument_front, argument_of, arith, bad_byte, bad_byte_fault, column_front, complete, cond, control0_front, control0_rows, control1_front, control1_rows, control_of, designated_front, designation, designation_front, eqb, eqb-true, escape_fault, escape_front, escaped_fault, false, final_front, front, get_or, gl_front, inl, inr, is_graphic, last_byte, leb, left_out_opcode, ltb, mask_rows, more_front, nat_tests, non_pdi_code, number_rows, one_byte_later, opcode_front, opcode_rows, option_map, pdi_front, place_fault, position_front, refl, refusal, refused, row_of, sequence_front, set_at, set_rows, shifted_front, single_shift_front, subst, suc, take, true, unfinished, with_argument, with_set, ℕ, ◌&&◌, ◌++◌, ◌<◌, ◌∙◌, ◌∷◌, ◌≡◌, ◌≢◌, ◌≤◌, ◌⊎◌}
 use Rattle.nap_codes.specs.declared.code.Code.TheVariants as codes
-use Rattle.nap_codes.specs.declared.code.CodeFault.{CodeFault}
 use Rattle.nap_codes.specs.declared.code.CodeFault.TheVariants.{BadEscape, ShiftAlone, ShiftedCode, BadArgument}
-use Rattle.nap_codes.specs.declared.code_set.CodeSet.{CodeSet}
 use Rattle.nap_codes.specs.declared.code_set.CodeSet.TheVariants as code_sets
-use Rattle.nap_codes.specs.declared.code_set.CodeSets.{CodeSets}
 use Rattle.nap_codes.specs.declared.code_set.GSet.TheVariants.{G0, G1}
-use Rattle.nap_codes.specs.declared.control.Argument.{Argument}
 use Rattle.nap_codes.specs.declared.control.Argument.TheVariants as arguments
-use Rattle.nap_codes.specs.declared.control.Mask.{Mask}
-use Rattle.nap_codes.specs.declared.control.Row.{Row}
 use Rattle.nap_codes.specs.declared.control.Row.TheVariants.{Whole, More, Out}
 use Rattle.nap_codes.specs.declared.control.TextStep.TheVariants.{Aps}
-use Rattle.nap_codes.specs.declared.opcode.Left.{Left}
-use Rattle.nap_codes.specs.declared.opcode.Opcode.{Opcode}
-use Rattle.nap_codes.specs.CodeSets.{set_at, with_set, after_control0}
-use Rattle.nap_codes.specs.Tables.{row_of, number_rows, set_rows, designation, control0_rows, control1_rows, mask_rows, opcode_rows, left_out_opcode}
-use Rattle.nap_codes.specs.Front.{Front, unfinished, complete, refused, one_byte_later, is_graphic, bad_byte, last_byte, non_pdi_code, opcode_front, pdi_front, gl_front, shifted_front, single_shift_front, column_front, position_front, argument_of, with_argument, argument_front, designated_front, final_front, designation_front, sequence_front, control1_front, escape_front, more_front, control0_front, front}
-use Rattle.nap_codes.specs.HalfReadCodes.{control_of}
-use Rattle.nap_codes.specs.Laws.{IsGraphic}
-use Rattle.nap_codes.specs.Spelling.{Spells, SpellsRefused, IsSpelling, IsProperPrefix, accepted, refusal, escape_fault, escaped_fault, place_fault, bad_byte_fault}
 use Rattle.nap_codes.specs.Spelling as spelling
 use Rattle.nap_codes.proofs.RowLemmas.{row_missing}
 use Rattle.nap_codes.proofs.TableLemmas.{graphic_range, space, control0_missing, opcode_missing, no_control1, IsLongControl, long_control, shift2, escape, position, shift3, shifts_alone, shift_out_row, shift_in_row, control_of-argument_of, no_plain_code, option_pair-rows}

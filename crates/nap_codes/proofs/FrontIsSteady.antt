@@ -1,17 +1,6 @@
-use Rattle.std.proofs.Common.{ℕ, List, ◌∷◌, Option, Some, None, Bool, true, false, cond, eqb, leb, ◌&&◌, refl}
-use Rattle.nap_codes.specs.declared.code.Code.{Code}
-use Rattle.nap_codes.specs.declared.code.CodeFault.{CodeFault}
+use Rattle.nap_codes.proofs.Common.{Argument, Bool, Code, CodeFault, CodeSet, CodeSets, Front, Left, List, None, Opcode, Option, Row, Some, argument_front, argument_of, bad_byte, column_front, cond, control0_front, control0_rows, control1_front, control1_rows, designated_front, designation, designation_front, eqb, escape_front, false, final_front, front, gl_front, is_graphic, last_byte, leb, left_out_opcode, more_front, non_pdi_code, opcode_front, opcode_rows, pdi_front, position_front, refl, row_of, sequence_front, set_at, shifted_front, single_shift_front, true, with_argument, ℕ, ◌&&◌, ◌∷◌}
 use Rattle.nap_codes.specs.declared.code.CodeFault.TheVariants.{EighthBit, BadEscape, ShiftAlone, BadArgument}
-use Rattle.nap_codes.specs.declared.code_set.CodeSet.{CodeSet}
-use Rattle.nap_codes.specs.declared.code_set.CodeSets.{CodeSets}
-use Rattle.nap_codes.specs.declared.control.Argument.{Argument}
-use Rattle.nap_codes.specs.declared.control.Row.{Row}
 use Rattle.nap_codes.specs.declared.control.Row.TheVariants.{Whole, More, Out}
-use Rattle.nap_codes.specs.declared.opcode.Left.{Left}
-use Rattle.nap_codes.specs.declared.opcode.Opcode.{Opcode}
-use Rattle.nap_codes.specs.CodeSets.{set_at}
-use Rattle.nap_codes.specs.Tables.{row_of, control0_rows, control1_rows, opcode_rows, left_out_opcode, designation}
-use Rattle.nap_codes.specs.Front.{Front, is_graphic, bad_byte, last_byte, non_pdi_code, opcode_front, pdi_front, gl_front, shifted_front, single_shift_front, column_front, position_front, argument_of, with_argument, argument_front, designated_front, final_front, designation_front, sequence_front, control1_front, escape_front, more_front, control0_front, front}
 use Rattle.nap_codes.proofs.FrontLemmas.{Steady, Opens, ends, fails, continues, Opens-cond, opens-Steady}
 
 -- The front of a list depends only on the bytes of its code or refusal.

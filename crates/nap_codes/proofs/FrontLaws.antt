@@ -1,9 +1,4 @@
-use Rattle.std.proofs.Common.{ℕ, zero, suc, ◌≡◌, ◌≢◌, ◌≤◌, List, take, refl, ap, sym, ◌∙◌, arith}
-use Rattle.nap_codes.specs.declared.code.Code.{Code}
-use Rattle.nap_codes.specs.declared.code.CodeFault.{CodeFault}
-use Rattle.nap_codes.specs.declared.code_set.CodeSets.{CodeSets}
-use Rattle.nap_codes.specs.Front.{Front, unfinished, complete, refused, front}
-use Rattle.nap_codes.specs.Laws.{CodeStays, RefusedStays, CodeLength, RefusedIndex, CodeByItsBytes, RefusedByItsBytes, EarlierUnfinished, UnfinishedBefore}
+use Rattle.nap_codes.proofs.Common.{Code, CodeByItsBytes, CodeFault, CodeLength, CodeSets, CodeStays, EarlierUnfinished, Front, List, RefusedByItsBytes, RefusedIndex, RefusedStays, UnfinishedBefore, ap, arith, complete, front, refl, refused, suc, sym, take, unfinished, zero, ℕ, ◌∙◌, ◌≡◌, ◌≢◌, ◌≤◌}
 use Rattle.nap_codes.proofs.FrontLemmas.{size, from_taken, earlier}
 use Rattle.nap_codes.proofs.FrontIsSteady.{front-Steady}
 

@@ -1,9 +1,4 @@
-use Rattle.std.proofs.Common.{ℕ, suc, ◌≡◌, ◌≢◌, ◌<◌, ◌≤◌, List, [], ◌∷◌, ◌++◌, length, take, drop, Bool, true, false, cond, refl, ap, sym, ◌∙◌, subst, arith, length-take, lt_of_not-le}
-use Rattle.std.proofs.lemmas.List.{take-append-drop, take-take}
-use Rattle.nap_codes.specs.declared.code.Code.{Code}
-use Rattle.nap_codes.specs.declared.code.CodeFault.{CodeFault}
-use Rattle.nap_codes.specs.declared.code_set.CodeSets.{CodeSets}
-use Rattle.nap_codes.specs.Front.{Front, unfinished, complete, refused, one_byte_later}
+use Rattle.nap_codes.proofs.Common.{Bool, Code, CodeFault, CodeSets, Front, List, [], ap, arith, complete, cond, drop, false, length, length-take, lt_of_not-le, one_byte_later, refl, refused, subst, suc, sym, take, take-append-drop, take-take, true, unfinished, ℕ, ◌++◌, ◌<◌, ◌∙◌, ◌∷◌, ◌≡◌, ◌≢◌, ◌≤◌}
 
 -- Functions from lists to fronts that depend only on the bytes of their answer.
 

@@ -1,19 +1,8 @@
-use Rattle.std.proofs.Common.{ℕ, ◌≡◌, ◌≢◌, ◌<◌, ◌≤◌, [], ◌∷◌, length, Some, None, refl, ap, sym, ◌∙◌, subst, arith, append-nil, length-append}
-use Rattle.std.proofs.lemmas.Bool.{ne_eqb}
-use Rattle.nap_codes.specs.declared.code.Step.{Step}
+use Rattle.nap_codes.proofs.Common.{Argument, ByteOutcome, CodeSets, Front, HalfRead, IsHalfRead, IsLastOutcome, IsOutcomeBy, IsOutcomeOf, LexerState, None, Some, Step, Steps, StepsBy, [], ap, append-nil, argument_front, argument_of, arith, column_front, complete, control0_front, control0_rows, control1_front, control1_rows, control_of, designation_front, escape_front, final_front, front, gl_front, half_read_after, half_read_bytes, length, length-append, more_front, ne_eqb, non_pdi_code, one_byte_later, position_front, refl, refused, rest_front, row_of, set_at, single_shift_front, subst, sym, unfinished, ℕ, ◌<◌, ◌∙◌, ◌∷◌, ◌≡◌, ◌≢◌, ◌≤◌}
 use Rattle.nap_codes.specs.declared.code.Step.TheVariants as steps
-use Rattle.nap_codes.specs.declared.code_set.CodeSets.{CodeSets}
-use Rattle.nap_codes.specs.declared.control.Argument.{Argument}
 use Rattle.nap_codes.specs.declared.control.Row.TheVariants.{More}
-use Rattle.nap_codes.specs.declared.lexer.HalfRead.{HalfRead}
 use Rattle.nap_codes.specs.declared.lexer.HalfRead.TheVariants.{Nothing, Escape, Control, Designation}
-use Rattle.nap_codes.specs.declared.lexer.ByteOutcome.{ByteOutcome}
 use Rattle.nap_codes.specs.declared.lexer.ByteOutcome.TheVariants as turns
-use Rattle.nap_codes.specs.Tables.{row_of, control0_rows, control1_rows}
-use Rattle.nap_codes.specs.Front.{Front, unfinished, complete, refused, one_byte_later, non_pdi_code, gl_front, argument_of, argument_front, column_front, final_front, designation_front, control1_front, escape_front, position_front, single_shift_front, more_front, control0_front, front}
-use Rattle.nap_codes.specs.CodeSets.{set_at}
-use Rattle.nap_codes.specs.HalfReadCodes.{control_of, half_read_bytes, half_read_after, IsHalfRead, rest_front, IsLastOutcome, IsOutcomeBy, IsOutcomeOf}
-use Rattle.nap_codes.specs.Lexer.{LexerState, StepsBy, Steps}
 use Rattle.nap_codes.proofs.TableLemmas.{graphic_test, IsLongControl, long_control, shift2, escape, position, shift3, control_of-argument_of}
 use Rattle.nap_codes.proofs.FrontBegins.{further, further-unfinished, further-complete, further-refused, front_of_half}
 

@@ -1,12 +1,5 @@
-use Rattle.std.proofs.Common.{ℕ, zero, suc, ◌≡◌, ◌<◌, List, [], ◌∷◌, ◌++◌, length, drop, Option, Some, refl, ap, sym, ◌∙◌, subst, arith, append_assoc, append-nil, length-drop}
-use Rattle.std.proofs.Math.Seq.{take-append_seam, drop-append_seam}
-use Rattle.nap_codes.specs.declared.code.Code.{Code}
-use Rattle.nap_codes.specs.declared.code.CodeFault.{CodeFault}
+use Rattle.nap_codes.proofs.Common.{Code, CodeFault, CodeSets, Front, LexResult, LexerState, List, Option, Some, StepsBy, StepsGiveLexResult, StepsThrough, [], ap, append-nil, append_assoc, arith, at_code, at_end, at_fault, at_more, complete, drop, drop-append_seam, front, length, length-drop, lex_result, lex_result_by, lex_result_within, refl, refused, subst, suc, sym, take-append_seam, unfinished, zero, ℕ, ◌++◌, ◌<◌, ◌∙◌, ◌∷◌, ◌≡◌}
 use Rattle.nap_codes.specs.declared.code.Step.TheVariants as steps
-use Rattle.nap_codes.specs.declared.code_set.CodeSets.{CodeSets}
-use Rattle.nap_codes.specs.Front.{Front, unfinished, complete, refused, front}
-use Rattle.nap_codes.specs.Lexer.{LexerState, StepsBy}
-use Rattle.nap_codes.specs.LexResults.{LexResult, lex_result_by, lex_result_within, lex_result, StepsThrough, at_end, at_more, at_code, at_fault, StepsGiveLexResult}
 use Rattle.nap_codes.proofs.FrontLaws.{code_stays, refused_stays, code_length}
 
 -- The steps of a lexer give the codes of a list.

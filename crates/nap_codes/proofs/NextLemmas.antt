@@ -1,11 +1,6 @@
-use Rattle.std.proofs.Common.{ℕ, ◌≡◌, List, [], refl, ap₂, sym, ◌∙◌}
+use Rattle.nap_codes.proofs.Common.{CodeSets, Front, IsNext, IsNextOf, LexerState, List, NextCode, [], ap₂, complete, front, next_of, refl, refused, sets_after, sym, unfinished, ℕ, ◌∙◌, ◌≡◌}
 use Rattle.nap_codes.specs.declared.code.Code.TheVariants as codes
-use Rattle.nap_codes.specs.declared.code_set.CodeSets.{CodeSets}
-use Rattle.nap_codes.specs.declared.next_code.NextCode.{NextCode}
 use Rattle.nap_codes.specs.declared.next_code.NextCode.TheVariants as nexts
-use Rattle.nap_codes.specs.Front.{Front, unfinished, complete, refused, front}
-use Rattle.nap_codes.specs.Lexer.{LexerState}
-use Rattle.nap_codes.specs.NextCodes.{next_of, sets_after, IsNextOf, IsNext}
 use Rattle.nap_codes.proofs.CodeRanges.{one_byte_opcode, one_byte_operand}
 
 -- The code at the beginning of bytes.

@@ -1,8 +1,6 @@
-use Rattle.std.proofs.Common.{ℕ, ◌≡◌, ◌↔◌, ◌<◌, ◌≤◌, [], ◌∷◌, Some, None, ap, ◌∙◌, arith}
+use Rattle.nap_codes.proofs.Common.{IsOpcode, LexerState, None, Some, [], ap, arith, complete, front, opcode_front, pdi_front, ℕ, ◌<◌, ◌↔◌, ◌∙◌, ◌∷◌, ◌≡◌, ◌≤◌}
 use Rattle.nap_codes.specs.declared.code.Code.TheVariants as codes
 use Rattle.nap_codes.specs.declared.opcode.Opcode.{Opcode}
-use Rattle.nap_codes.specs.Front.{complete, opcode_front, pdi_front, front}
-use Rattle.nap_codes.specs.Lexer.{LexerState, IsOpcode}
 use Rattle.nap_codes.proofs.FrontBegins.{pdi_begins}
 use Rattle.nap_codes.proofs.TableLemmas.{no_opcode, opcode_range}
 

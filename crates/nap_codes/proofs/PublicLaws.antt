@@ -1,6 +1,4 @@
-use Rattle.nap_codes.specs.Laws.{CodeStays, RefusedStays, CodeLength, RefusedIndex, CodeByItsBytes, RefusedByItsBytes, EarlierUnfinished, UnfinishedBefore, CodeRanges, OneByteOpcode, OneByteOperand, FormatEffectorFront, FormatEffectorKnown}
-use Rattle.nap_codes.specs.SpellingLaws.{CodeIsSpelled, RefusedIsSpelled, UnfinishedIsPrefix}
-use Rattle.nap_codes.specs.LexResults.{StepsGiveLexResult}
+use Rattle.nap_codes.proofs.Common.{CodeByItsBytes, CodeIsSpelled, CodeLength, CodeRanges, CodeStays, EarlierUnfinished, FormatEffectorFront, FormatEffectorKnown, OneByteOpcode, OneByteOperand, RefusedByItsBytes, RefusedIndex, RefusedIsSpelled, RefusedStays, StepsGiveLexResult, UnfinishedBefore, UnfinishedIsPrefix}
 use Rattle.nap_codes.proofs.FrontLaws as fronts
 use Rattle.nap_codes.proofs.SpellingLaws as spellings
 use Rattle.nap_codes.proofs.CodeRanges as ranges

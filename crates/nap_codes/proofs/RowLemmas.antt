@@ -1,6 +1,4 @@
-use Rattle.std.proofs.Common.{ℕ, zero, suc, ◌+◌, ◌≡◌, ◌≤◌, List, [], ◌∷◌, Some, None, Bool, true, false, cond, eqb, is_some, refl, sym, subst, arith}
-use Rattle.std.proofs.lemmas.Bool.{eqb-true, eqb-false}
-use Rattle.nap_codes.specs.Tables.{row_of}
+use Rattle.nap_codes.proofs.Common.{Bool, List, None, Some, [], arith, cond, eqb, eqb-false, eqb-true, false, is_some, refl, row_of, subst, suc, sym, true, zero, ℕ, ◌+◌, ◌∷◌, ◌≡◌, ◌≤◌}
 
 -- What the rows of a table have in common, and which bytes have a row.
 

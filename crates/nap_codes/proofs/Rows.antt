@@ -1,14 +1,10 @@
-use Rattle.std.proofs.Common.{◌≡◌, [], ◌∷◌, Some, None, refl}
+use Rattle.nap_codes.proofs.Common.{None, Some, [], after_control0, argument_front, bad_byte, column_front, complete, control0_front, control0_rows, control1_front, control1_rows, designated_front, designation, designation_front, escape_front, final_front, front, gl_front, last_byte, left_out_opcode, lex_result, lex_result_within, more_front, non_pdi_code, number_rows, one_byte_later, opcode_front, opcode_rows, pdi_front, position_front, refl, refused, row_of, sequence_front, set_rows, shifted_front, single_shift_front, start_sets, unfinished, with_set, ◌∷◌, ◌≡◌}
 use Rattle.nap_codes.specs.declared.code.Code.TheVariants as codes
 use Rattle.nap_codes.specs.declared.code.CodeFault.TheVariants as faults
 use Rattle.nap_codes.specs.declared.code_set.CharSet.TheVariants as chars
 use Rattle.nap_codes.specs.declared.code_set.CodeSet.TheVariants as code_sets
 use Rattle.nap_codes.specs.declared.code_set.GSet.TheVariants.{G1}
 use Rattle.nap_codes.specs.declared.opcode.Left.TheVariants as lefts
-use Rattle.nap_codes.specs.CodeSets.{start_sets, with_set, after_control0}
-use Rattle.nap_codes.specs.Tables.{row_of, number_rows, set_rows, designation, control0_rows, control1_rows, opcode_rows, left_out_opcode}
-use Rattle.nap_codes.specs.Front.{unfinished, complete, refused, one_byte_later, bad_byte, last_byte, non_pdi_code, opcode_front, pdi_front, gl_front, shifted_front, single_shift_front, column_front, position_front, argument_front, designated_front, final_front, designation_front, sequence_front, control1_front, escape_front, more_front, control0_front, front}
-use Rattle.nap_codes.specs.LexResults.{lex_result_within, lex_result}
 
 -- Worked rows of the definitions.
 

@@ -1,14 +1,6 @@
-use Rattle.std.proofs.Common.{ℕ, suc, ◌≡◌, List, [], ◌∷◌, length, None, refl, ap, arith}
-use Rattle.std.proofs.lemmas.Bool.{ne_eqb, le-leb, lt-ltb}
-use Rattle.nap_codes.specs.declared.code.Code.{Code}
-use Rattle.nap_codes.specs.declared.code.CodeFault.{CodeFault}
-use Rattle.nap_codes.specs.declared.code_set.CodeSets.{CodeSets}
+use Rattle.nap_codes.proofs.Common.{Code, CodeFault, CodeSets, List, None, Spells, SpellsRefused, [], after_control0, ap, argument_front, arith, column_front, complete, control0_front, control1_front, control1_rows, designated_front, designation, designation_front, escape_front, final_front, front, gl_front, last_byte, le-leb, length, lt-ltb, ne_eqb, non_pdi_code, one_byte_later, opcode_front, pdi_front, refl, refused, row_of, sequence_front, shifted_front, single_shift_front, suc, with_argument, ℕ, ◌∷◌, ◌≡◌}
 use Rattle.nap_codes.specs.declared.control.Argument.TheVariants as arguments
 use Rattle.nap_codes.specs.declared.lexer.HalfRead.TheVariants.{Escape, Control, Designation, SpacedDesignation, SingleShift2, SingleShift3, PositionRow}
-use Rattle.nap_codes.specs.CodeSets.{after_control0}
-use Rattle.nap_codes.specs.Tables.{row_of, designation, control1_rows}
-use Rattle.nap_codes.specs.Front.{complete, refused, one_byte_later, last_byte, non_pdi_code, opcode_front, pdi_front, gl_front, shifted_front, single_shift_front, column_front, with_argument, argument_front, designated_front, final_front, designation_front, sequence_front, control1_front, escape_front, control0_front, front}
-use Rattle.nap_codes.specs.Spelling.{Spells, SpellsRefused}
 use Rattle.nap_codes.specs.Spelling as spelling
 use Rattle.nap_codes.proofs.TableLemmas.{graphic_test, no_opcode, opcode_range, intermediate_range, no_space, shift_out_row, shift_in_row}
 use Rattle.nap_codes.proofs.ControlLemmas.{no_shift_after}

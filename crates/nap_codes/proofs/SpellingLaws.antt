@@ -1,14 +1,5 @@
-use Rattle.std.proofs.Common.{ℕ, suc, ◌≡◌, ◌≢◌, ◌<◌, ◌⊎◌, inl, inr, List, [], ◌∷◌, ◌++◌, length, take, get_or, Bool, true, false, refl, ap, sym, ◌∙◌, subst, arith, append-nil, length-append}
-use Rattle.std.proofs.lemmas.Bool.Decides.{nat_tests}
-use Rattle.std.proofs.Math.Seq.{take-append_seam}
-use Rattle.std.proofs.lemmas.List.{take_all, length-take-le}
-use Rattle.nap_codes.specs.declared.code.Code.{Code}
-use Rattle.nap_codes.specs.declared.code.CodeFault.{CodeFault}
+use Rattle.nap_codes.proofs.Common.{Bool, Code, CodeFault, CodeIsSpelled, CodeSets, Front, IsBadByte, IsSpelling, List, RefusedIsSpelled, Spells, SpellsRefused, UnfinishedIsPrefix, [], accepted, ap, append-nil, arith, bad_byte_fault, complete, escape_fault, escaped_fault, false, front, get_or, inl, inr, left_out_control0, left_out_control1, left_out_of_pdi, length, length-append, length-take-le, nat_tests, place_fault, refl, refusal, refused, shifted2, shifted3, subst, suc, sym, take, take-append_seam, take_all, true, unfinished, ℕ, ◌++◌, ◌<◌, ◌∙◌, ◌∷◌, ◌≡◌, ◌≢◌, ◌⊎◌}
 use Rattle.nap_codes.specs.declared.code.CodeFault.TheVariants.{ShiftedCode, LeftOut}
-use Rattle.nap_codes.specs.declared.code_set.CodeSets.{CodeSets}
-use Rattle.nap_codes.specs.Front.{Front, unfinished, complete, refused, front}
-use Rattle.nap_codes.specs.Spelling.{Spells, SpellsRefused, IsSpelling, accepted, refusal, left_out_control0, left_out_control1, left_out_of_pdi, shifted2, shifted3, escape_fault, escaped_fault, place_fault, bad_byte_fault}
-use Rattle.nap_codes.specs.SpellingLaws.{CodeIsSpelled, IsBadByte, RefusedIsSpelled, UnfinishedIsPrefix}
 use Rattle.nap_codes.proofs.FrontIsSpelled.{front-Answers, Answers-complete, Answers-unfinished, Answers-refused}
 use Rattle.nap_codes.proofs.FrontIsSteady.{front-Steady}
 use Rattle.nap_codes.proofs.FrontLaws.{refused_stays, code_length, refused_index, refused_taken, unfinished_before, front_from_taken}

@@ -1,17 +1,7 @@
-use Rattle.std.proofs.Common.{ℕ, ◌≡◌, ◌≢◌, ◌<◌, ◌≤◌, Option, Some, None, true, eqb, ◌||◌, refl, ap, arith}
-use Rattle.std.proofs.lemmas.Bool.{le-leb, lt-ltb}
-use Rattle.std.proofs.lemmas.Bool.Decides.{nat_tests}
+use Rattle.nap_codes.proofs.Common.{CodeSet, FormatEffector, IsGraphic, None, Opcode, Option, Row, Some, TextStep, ap, argument_of, arith, backward, control0_rows, control1_rows, control_of, down, eqb, forward, home, is_graphic, le-leb, lt-ltb, nat_tests, non_pdi_code, number_rows, opcode_rows, option_pair, refl, return, row_of, set_rows, true, up, ℕ, ◌<◌, ◌||◌, ◌≡◌, ◌≢◌, ◌≤◌}
 use Rattle.nap_codes.specs.declared.code.Code.TheVariants as codes
-use Rattle.nap_codes.specs.declared.code_set.CodeSet.{CodeSet}
 use Rattle.nap_codes.specs.declared.code_set.CodeSet.TheVariants as code_sets
-use Rattle.nap_codes.specs.declared.control.Row.{Row}
 use Rattle.nap_codes.specs.declared.control.Row.TheVariants.{Whole, More}
-use Rattle.nap_codes.specs.declared.opcode.Opcode.{Opcode}
-use Rattle.nap_codes.specs.Tables.{row_of, number_rows, set_rows, option_pair, control0_rows, control1_rows, opcode_rows}
-use Rattle.nap_codes.specs.Front.{is_graphic, non_pdi_code, argument_of}
-use Rattle.nap_codes.specs.HalfReadCodes.{control_of}
-use Rattle.nap_codes.specs.declared.control.TextStep.{TextStep}
-use Rattle.nap_codes.specs.Laws.{IsGraphic, FormatEffector, backward, forward, down, up, return, home}
 use Rattle.nap_codes.proofs.RowLemmas.{row_found, no_row, row_missing}
 
 -- Which bytes the tables of codes have, and what their rows say.

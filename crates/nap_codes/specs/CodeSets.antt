@@ -1,10 +1,7 @@
 use Rattle.std.specs.Prelude.{ℕ, ◌==◌, if◌then◌else◌, Option, Some, None}
-use Rattle.nap_codes.specs.declared.code_set.CharSet.{CharSet}
+use Rattle.nap_codes.specs.Types.{CharSet, CodeSet, CodeSets, GSet}
 use Rattle.nap_codes.specs.declared.code_set.CharSet.TheVariants as chars
-use Rattle.nap_codes.specs.declared.code_set.CodeSet.{CodeSet}
 use Rattle.nap_codes.specs.declared.code_set.CodeSet.TheVariants.{Primary, Supplementary, Pdi, Mosaic, Macros, Drcs}
-use Rattle.nap_codes.specs.declared.code_set.CodeSets.{CodeSets}
-use Rattle.nap_codes.specs.declared.code_set.GSet.{GSet}
 use Rattle.nap_codes.specs.declared.code_set.GSet.TheVariants.{G0, G1, G2, G3}
 
 -- the code sets at the start of a stream

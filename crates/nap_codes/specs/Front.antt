@@ -1,21 +1,14 @@
 use Rattle.std.specs.Prelude.{ℕ, suc, ◌-◌, ◌==◌, nat_le, nat_lt, Bool, true, false, ◌&&◌, if◌then◌else◌, List, [], ◌∷◌, Option, Some, None}
 use Rattle.std.specs.Option.{option_map}
-use Rattle.nap_codes.specs.declared.code.Code.{Code}
+use Rattle.nap_codes.specs.Types.{Argument, Code, CodeFault, CodeSet, CodeSets, Left, Opcode, Row}
 use Rattle.nap_codes.specs.declared.code.Code.TheVariants.{Step, Shifted, Designated, Char, Call, Op, Operand, DefMacro, DefGlyph, DefMask, Repeat}
-use Rattle.nap_codes.specs.declared.code.CodeFault.{CodeFault}
 use Rattle.nap_codes.specs.declared.code.CodeFault.TheVariants.{EighthBit, BadEscape, ShiftAlone, ShiftedCode, BadArgument, LeftOut}
 use Rattle.nap_codes.specs.declared.code_set.CharSet.TheVariants as chars
-use Rattle.nap_codes.specs.declared.code_set.CodeSet.{CodeSet}
 use Rattle.nap_codes.specs.declared.code_set.CodeSet.TheVariants as code_sets
-use Rattle.nap_codes.specs.declared.code_set.CodeSets.{CodeSets}
 use Rattle.nap_codes.specs.declared.code_set.GSet.TheVariants.{G2, G3}
-use Rattle.nap_codes.specs.declared.control.Argument.{Argument}
 use Rattle.nap_codes.specs.declared.control.Argument.TheVariants as arguments
-use Rattle.nap_codes.specs.declared.control.Row.{Row}
 use Rattle.nap_codes.specs.declared.control.Row.TheVariants.{Whole, More, Out}
 use Rattle.nap_codes.specs.declared.control.TextStep.TheVariants.{Aps}
-use Rattle.nap_codes.specs.declared.opcode.Left.{Left}
-use Rattle.nap_codes.specs.declared.opcode.Opcode.{Opcode}
 use Rattle.nap_codes.specs.CodeSets.{set_at, with_set, after_control0}
 use Rattle.nap_codes.specs.Tables.{row_of, designation, control0_rows, control1_rows, mask_rows, opcode_rows, left_out_opcode}
 

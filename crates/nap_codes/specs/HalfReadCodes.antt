@@ -1,10 +1,7 @@
 use Rattle.std.specs.Prelude.{ℕ, ◌==◌, if◌then◌else◌, ◌≡◌, ◌≤◌, List, [], ◌∷◌, ◌++◌}
-use Rattle.nap_codes.specs.declared.code_set.CodeSets.{CodeSets}
-use Rattle.nap_codes.specs.declared.control.Argument.{Argument}
+use Rattle.nap_codes.specs.Types.{Argument, ByteOutcome, CodeSets, HalfRead}
 use Rattle.nap_codes.specs.declared.control.Argument.TheVariants as arguments
-use Rattle.nap_codes.specs.declared.lexer.HalfRead.{HalfRead}
 use Rattle.nap_codes.specs.declared.lexer.HalfRead.TheVariants.{Nothing, Escape, Control, Designation, SpacedDesignation, SingleShift2, SingleShift3, Position, PositionRow}
-use Rattle.nap_codes.specs.declared.lexer.ByteOutcome.{ByteOutcome}
 use Rattle.nap_codes.specs.declared.lexer.ByteOutcome.TheVariants as turns
 use Rattle.nap_codes.specs.Front.{Front, unfinished, complete, refused, front, escape_front, argument_front, designation_front, final_front, single_shift_front, position_front, column_front}
 use Rattle.nap_codes.specs.Laws.{IsGraphic}

@@ -1,8 +1,6 @@
 use Rattle.std.specs.Prelude.{ℕ, zero, suc, ◌≡◌, List, [], ◌∷◌, length, take, drop, Option, Some, None}
-use Rattle.nap_codes.specs.declared.code.Code.{Code}
-use Rattle.nap_codes.specs.declared.code.CodeFault.{CodeFault}
+use Rattle.nap_codes.specs.Types.{Code, CodeFault, CodeSets}
 use Rattle.nap_codes.specs.declared.code.Step.TheVariants as steps
-use Rattle.nap_codes.specs.declared.code_set.CodeSets.{CodeSets}
 use Rattle.nap_codes.specs.Front.{Front, unfinished, complete, refused, front}
 use Rattle.nap_codes.specs.Lexer.{LexerState, Steps}
 

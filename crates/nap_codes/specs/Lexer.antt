@@ -1,16 +1,13 @@
 use Rattle.std.specs.Prelude.{ℕ, ◌≡◌, ◌⊎◌, List, [], ◌∷◌, ◌++◌, length, Some, None}
 use Rattle.nap_codes.specs.declared.code.Code.TheVariants as codes
-use Rattle.nap_codes.specs.declared.code.Step.{Step}
+use Rattle.nap_codes.specs.Types.{CharSet, CodeSets, Opcode, Step, TextStep}
 use Rattle.nap_codes.specs.declared.code.Step.TheVariants as steps
-use Rattle.nap_codes.specs.declared.code_set.CharSet.{CharSet}
-use Rattle.nap_codes.specs.declared.code_set.CodeSet.TheVariants.{Pdi}
-use Rattle.nap_codes.specs.declared.code_set.CodeSets.{CodeSets}
+use Rattle.nap_codes.specs.declared.code_set.CodeSet.TheVariants.{Macros, Pdi}
 use Rattle.nap_codes.specs.declared.control.Row.TheVariants.{Whole}
-use Rattle.nap_codes.specs.declared.control.TextStep.{TextStep}
-use Rattle.nap_codes.specs.declared.opcode.Opcode.{Opcode}
 use Rattle.nap_codes.specs.CodeSets.{set_at}
 use Rattle.nap_codes.specs.Tables.{row_of, control0_rows, opcode_rows, left_out_opcode}
 use Rattle.nap_codes.specs.Front.{Front, unfinished, complete, refused, front}
+use Rattle.nap_codes.specs.Laws.{IsGraphic}
 
 -- the state of a lexer: its code sets, and the bytes of an incomplete code
 pub record LexerState : Type 0 where
@@ -40,6 +37,10 @@ IsCharacter lexer byte set = (lexer.half ≡ []) × (front lexer.sets (byte ∷ 
 abbrev pub IsOpcode : LexerState → ℕ → Opcode → Type 0
 IsOpcode lexer byte op =
     (lexer.half ≡ []) × (set_at lexer.sets lexer.sets.gl ≡ Pdi) × (row_of opcode_rows byte ≡ Some op) × (left_out_opcode op ≡ None)
+
+-- The byte calls the macro that it names in this state: no code is incomplete, and the macro set is in GL.
+abbrev pub IsCall : LexerState → ℕ → Type 0
+IsCall lexer byte = (lexer.half ≡ []) × (set_at lexer.sets lexer.sets.gl ≡ Macros) × IsGraphic byte
 
 -- The byte is this format effector in this state: no code is incomplete, and the C0 set has the format effector for the
 -- byte.

@@ -1,3 +1,4 @@
+pub mod Types
 pub mod Tables
 pub mod CodeSets
 pub mod Front

@@ -1,8 +1,6 @@
 use Rattle.std.specs.Prelude.{ℕ, ◌≡◌, List, []}
-use Rattle.nap_codes.specs.declared.code.Code.{Code}
+use Rattle.nap_codes.specs.Types.{Code, CodeSets, NextCode}
 use Rattle.nap_codes.specs.declared.code.Code.TheVariants as codes
-use Rattle.nap_codes.specs.declared.code_set.CodeSets.{CodeSets}
-use Rattle.nap_codes.specs.declared.next_code.NextCode.{NextCode}
 use Rattle.nap_codes.specs.declared.next_code.NextCode.TheVariants as nexts
 use Rattle.nap_codes.specs.Front.{Front, complete, front}
 use Rattle.nap_codes.specs.Lexer.{LexerState}

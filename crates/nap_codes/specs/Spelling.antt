@@ -1,18 +1,11 @@
 use Rattle.std.specs.Prelude.{ℕ, ◌-◌, ◌==◌, ◌≡◌, ◌≢◌, ◌<◌, ◌≤◌, nat_le, ◌||◌, true, false, if◌then◌else◌, List, [], ◌∷◌, ◌++◌, Option, Some, None}
-use Rattle.nap_codes.specs.declared.code.Code.{Code}
+use Rattle.nap_codes.specs.Types.{Code, CodeFault, CodeSet, CodeSets, Left, Mask, Opcode, Row}
 use Rattle.nap_codes.specs.declared.code.Code.TheVariants as codes
-use Rattle.nap_codes.specs.declared.code.CodeFault.{CodeFault}
 use Rattle.nap_codes.specs.declared.code.CodeFault.TheVariants.{EighthBit, BadEscape, ShiftAlone, ShiftedCode, BadArgument, LeftOut}
-use Rattle.nap_codes.specs.declared.code_set.CodeSet.{CodeSet}
 use Rattle.nap_codes.specs.declared.code_set.CodeSet.TheVariants.{Pdi}
-use Rattle.nap_codes.specs.declared.code_set.CodeSets.{CodeSets}
 use Rattle.nap_codes.specs.declared.code_set.GSet.TheVariants.{G0, G1, G2, G3}
-use Rattle.nap_codes.specs.declared.control.Mask.{Mask}
-use Rattle.nap_codes.specs.declared.control.Row.{Row}
 use Rattle.nap_codes.specs.declared.control.Row.TheVariants.{Whole, Out}
 use Rattle.nap_codes.specs.declared.control.TextStep.TheVariants.{Aps}
-use Rattle.nap_codes.specs.declared.opcode.Left.{Left}
-use Rattle.nap_codes.specs.declared.opcode.Opcode.{Opcode}
 use Rattle.nap_codes.specs.CodeSets.{set_at, with_set}
 use Rattle.nap_codes.specs.Front.{non_pdi_code}
 use Rattle.nap_codes.specs.Laws.{IsGraphic}

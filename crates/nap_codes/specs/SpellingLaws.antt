@@ -1,7 +1,5 @@
 use Rattle.std.specs.Prelude.{ℕ, suc, ◌≡◌, ◌<◌, ◌≤◌, ◌⊎◌, ◌↔◌, List, length, take, slice_index}
-use Rattle.nap_codes.specs.declared.code.Code.{Code}
-use Rattle.nap_codes.specs.declared.code.CodeFault.{CodeFault}
-use Rattle.nap_codes.specs.declared.code_set.CodeSets.{CodeSets}
+use Rattle.nap_codes.specs.Types.{Code, CodeFault, CodeSets}
 use Rattle.nap_codes.specs.Front.{unfinished, complete, refused, front}
 use Rattle.nap_codes.specs.Spelling.{Spells, SpellsRefused, IsPrefix, IsProperPrefix, bad_byte_fault}
 

@@ -1,11 +1,11 @@
 //! The lexer, which cuts a stream into codes.
 
-ghost use Rattle.std.specs.Prelude.{ℕ, ◌≡◌, ◌↔◌, ◌≤◌, ◌<◌, [], ◌∷◌, Some, IfSome, IsTrue};
+ghost use Rattle.std.specs.Prelude.{ℕ, List, ◌≡◌, ◌↔◌, ◌≤◌, ◌<◌, [], ◌∷◌, Some, IfSome, IsTrue};
 ghost use Rattle.nap_codes.specs.CodeSets.{set_at, start_sets};
 ghost use Rattle.nap_codes.specs.Front.{argument_front, column_front, byte_fault, final_front, front, gl_front, non_pdi_code, single_shift_front, unfinished, complete};
 ghost use Rattle.nap_codes.specs.HalfReadCodes.{IsLastOutcome, half_read_after, IsHalfRead, IsOutcomeOf};
 ghost use Rattle.nap_codes.specs.Laws.{IsGraphic};
-ghost use Rattle.nap_codes.specs.Lexer.{IsCharacter, IsFormatEffector, IsOpcode, IsShift, Steps};
+ghost use Rattle.nap_codes.specs.Lexer.{IsCall, IsCharacter, IsFormatEffector, IsOpcode, IsShift, Steps};
 ghost use Rattle.nap_codes.specs.NextCodes.{IsNext};
 ghost use Rattle.nap_codes.specs.declared.code.Code.TheVariants as codes;
 
@@ -138,6 +138,19 @@ impl Lexer {
             None => Some(op),
             Some(_) => None,
         }
+    }
+
+    /// Whether this byte calls the macro that it names in the current state: no code is incomplete, and the macro set is
+    /// in GL.
+    #[inline]
+    pub fn is_call(&self, byte: u8) -> bool
+        ensures is { IsTrue result ↔ IsCall self.now byte }
+        ensures front { IsTrue result → (rest : List ℕ) → front self.now.sets (byte ∷ rest) ≡ complete (codes.Call byte) 1 self.now.sets }
+    {
+        byte >= 0x20
+            && byte < 0x80
+            && self.at_rest()
+            && self.sets.set_at(self.sets.gl) == CodeSet::Macros
     }
 
     /// Returns the format effector that this byte is in the current state, if no code is incomplete. APS isn't one,

@@ -31,6 +31,10 @@ pub(crate) fn next_control(sets: &mut CodeSets, control: u8, rest: &[u8]) -> Nex
     requires { control < 0x20 }
     ensures { IsNextOf (front sets.old (control ∷ rest.now)) sets.old result sets.new }
 {
+    // The most common one.
+    if control == 0x1B {
+        return after_escape(sets, rest);
+    }
     match control0(control) {
         Some(Row::Whole(code)) => {
             *sets = sets.after_control0(control);

@@ -1,33 +1,9 @@
-use Rattle.std.proofs.Common.{ℕ, ◌≡◌, ◌⊎◌, ◌^◌, ◌≤◌, Bool, false, List, [], ◌++◌, length, Option, Some, Result, Ok, Err, refl, ap, sym, subst, ◌∙◌, inl, inr, length-append, arith}
-use Rattle.std.specs.Prelude.{MatchResult}
-use Rattle.std.specs.Io.KnownBytes.{Appends}
-use Rattle.nap_list.specs.declared.count_sink.CountSink.{CountSink}
+use Rattle.nap_command.proofs.Common.{Action, Appends, Bool, Canonical, Collects, Command, CountLacksMemory, CountSink, CountsEntries, Denies, Entry, Err, Fails, Failure, Fault, Finds, Ghosts, IsPageText, IsRead, IsReadWhole, IsStreamRefusal, LacksMemoryFor, LacksWithin, List, MatchResult, Ok, Option, PageText, Printout, PrintsBy, PrintsCount, Reading, Refusal, RefusedBy, Result, Some, StartsText, Took, Uncounted, Verdict, [], ap, arith, canon_text, cause_of, count_line, false, inl, inr, length, length-append, list_of, means, refl, refusal_of_text, sink_writes_text, subst, sym, text, ℕ, ◌++◌, ◌^◌, ◌∙◌, ◌≡◌, ◌≤◌, ◌⊎◌}
 use Rattle.nap_list.specs.declared.device.outlet.Outlet as outlet
-use Rattle.nap_list.specs.declared.entry.Entry.{Entry}
-use Rattle.nap_list.specs.declared.sink.Sink.{Ghosts}
-use Rattle.nap_list.specs.Counting.{CountsEntries, Uncounted}
-use Rattle.nap_list.specs.Reading.{Reading, IsReadWhole}
-use Rattle.nap_reader.specs.declared.fault.Fault.{Fault}
 use Rattle.nap_reader.specs.declared.fault.Fault.TheVariants as fault
-use Rattle.nap_reader.specs.declared.fault.Refusal.{Refusal}
-use Rattle.nap_reader.specs.Breaking.{cause_of, LacksWithin}
-use Rattle.nap_reader.specs.Stream.{means}
-use Rattle.nap_canon.specs.declared.page.PageText.{PageText}
-use Rattle.nap_canon.specs.PageTexts.{IsPageText, refusal_of_text}
-use Rattle.nap_canon.specs.Sinking.{StartsText, Canonical, Took}
-use Rattle.nap_canon.specs.Streams.{list_of}
-use Rattle.nap_canon.specs.Text.{text}
-use Rattle.nap_canon.proofs.PublicLaws.{sink_writes_text}
-use Rattle.nap_command.specs.declared.answer.Printout.{Printout}
-use Rattle.nap_command.specs.declared.answer.Verdict.{Verdict}
 use Rattle.nap_command.specs.declared.answer.Verdict.TheVariants as verdict
-use Rattle.nap_command.specs.declared.command.Action.{Action}
 use Rattle.nap_command.specs.declared.command.Action.TheVariants as action
-use Rattle.nap_command.specs.declared.command.Command.{Command}
-use Rattle.nap_command.specs.declared.failure.Failure.{Failure}
 use Rattle.nap_command.specs.declared.failure.Failure.TheVariants as failure
-use Rattle.nap_reader.specs.Collecting.{Collects, IsRead, LacksMemoryFor, RefusedBy}
-use Rattle.nap_command.specs.Commands.{Denies, Fails, Finds, IsStreamRefusal, CountLacksMemory, PrintsBy, PrintsCount, canon_text, count_line}
 
 -- What was read of a page gives the answer of a command.
 

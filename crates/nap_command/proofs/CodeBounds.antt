@@ -1,43 +1,14 @@
 -- How many entries a character or a control adds, and how long their canonical text is.
 
-use Rattle.std.proofs.Common.{ℕ, zero, suc, ◌+◌, ◌*◌, ◌≤◌, ◌≡◌, ◌==◌, ◌&&◌, Bool, true, false, if◌then◌else◌, List, [], ◌∷◌, length, map, take, Option, Some, None, Result, Ok, Err, refl, ap, subst, arith}
-use Rattle.std.proofs.lemmas.Bool.Decides.{nat_tests, Decides-int_eq}
-use Rattle.std.proofs.lemmas.List.{length-take-le}
-use Rattle.nap_codes.specs.declared.code.Code.{Code}
+use Rattle.nap_command.proofs.Common.{Bool, CharSize, Code, CodeSet, CodeSets, Colour, Decides-int_eq, DrawFault, Drawing, Entry, Err, LastChar, List, None, Ok, OpenDefinition, Option, Pen, Result, Row, RuleResult, Some, Spells, State, TextLook, Work, [], after, ap, arith, attributes, char_on, code_is_spelled, code_rule, colour_prelude, command_piece, control0, control0_rows, control1, control1_rows, def_drcs, def_macro, def_texture, definition_ended_by, definition_opened, defp_macro, designation, entry_pieces, false, given_size_commands, hand_of, if◌then◌else◌, in_gl, length, length-take-le, locking_shift2, locking_shift3, look_result, map, named_size_commands, nat_tests, non_pdi_code, one_entry_result, opcode, operand, pel_prelude, pen_prelude, pieces, position, prelude, refl, repeat, repeated_chars, row_of, rule_result, same_colour, same_flag, same_pen, same_size, shift_in, shift_out, single_shift2, single_shift3, spaced_designation, spelling_pieces, subst, suc, take, text_prelude, texture_prelude, true, with_attributes, with_last, zero, ℕ, ◌&&◌, ◌*◌, ◌+◌, ◌==◌, ◌∷◌, ◌≡◌, ◌≤◌}
 use Rattle.nap_codes.specs.declared.code.Code.TheVariants as codes
 use Rattle.nap_codes.specs.declared.code_set.CharSet.TheVariants as chars
-use Rattle.nap_codes.specs.declared.code_set.CodeSet.{CodeSet}
 use Rattle.nap_codes.specs.declared.code_set.CodeSet.TheVariants as code_sets
-use Rattle.nap_codes.specs.declared.code_set.CodeSets.{CodeSets}
-use Rattle.nap_codes.specs.declared.control.Row.{Row}
 use Rattle.nap_codes.specs.declared.control.Row.TheVariants.{Whole}
 use Rattle.nap_codes.specs.Front as front
-use Rattle.nap_codes.specs.Front.{non_pdi_code}
-use Rattle.nap_codes.specs.Spelling.{Spells, control0, control1, def_drcs, def_macro, def_texture, defp_macro, designation, in_gl, locking_shift2, locking_shift3, opcode, operand, position, repeat, shift_in, shift_out, single_shift2, single_shift3, spaced_designation}
-use Rattle.nap_codes.specs.Tables.{row_of, control0_rows, control1_rows}
-use Rattle.nap_codes.proofs.PublicLaws.{code_is_spelled}
-use Rattle.nap_list.specs.declared.attribute.CharSize.{CharSize}
 use Rattle.nap_list.specs.declared.attribute.CharSize.TheVariants as sizes
-use Rattle.nap_list.specs.declared.attribute.Colour.{Colour}
-use Rattle.nap_list.specs.declared.attribute.Pen.{Pen}
-use Rattle.nap_list.specs.declared.attribute.TextLook.{TextLook}
-use Rattle.nap_list.specs.declared.entry.Entry.{Entry}
 use Rattle.nap_list.specs.declared.entry.Entry.TheVariants as entries
-use Rattle.nap_list.specs.declared.state.Drawing.{Drawing}
-use Rattle.nap_list.specs.declared.state.LastChar.{LastChar}
-use Rattle.nap_list.specs.declared.state.OpenDefinition.{OpenDefinition}
-use Rattle.nap_list.specs.declared.state.State.{State}
-use Rattle.nap_list.specs.Entry.{attributes}
-use Rattle.nap_list.specs.State.{after, hand_of, with_attributes}
-use Rattle.nap_draw.specs.declared.work.Work.{Work}
-use Rattle.nap_draw.specs.declared.fault.DrawFault.{DrawFault}
-use Rattle.nap_draw.specs.Rule.{RuleResult, rule_result}
-use Rattle.nap_draw.specs.Codes.{char_on, code_rule, definition_ended_by, definition_opened, repeated_chars, look_result, one_entry_result, with_last}
 use Rattle.nap_canon.specs.declared.form.Form.TheVariants.{Two}
-use Rattle.nap_canon.specs.Equality.{same_colour, same_flag, same_pen, same_size}
-use Rattle.nap_canon.specs.Preludes.{colour_prelude, given_size_commands, named_size_commands, pel_prelude, pen_prelude, prelude, text_prelude, texture_prelude}
-use Rattle.nap_canon.specs.Spelling.{command_piece, spelling_pieces}
-use Rattle.nap_canon.specs.Text.{entry_pieces, pieces}
 use Rattle.nap_command.proofs.RunBounds.{AddsAtMost, Few, few_none, few_one, points_of}
 use Rattle.nap_command.proofs.TextBounds.{char_few, cost, cost_append, entries_few, prelude_few}
 

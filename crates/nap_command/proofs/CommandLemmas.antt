@@ -1,12 +1,5 @@
-use Rattle.std.proofs.Common.{◌≡◌, ◌≤◌, inl, inr, ℕ, zero, suc, List, [], Bool, true, Option, Err, refl, sym, subst, take, length, length-take, arith}
-use Rattle.std.specs.Io.KnownBytes.{Appends}
-use Rattle.nap_command.specs.declared.command.Command.{Command}
-use Rattle.nap_command.specs.declared.failure.Failure.{Failure}
+use Rattle.nap_command.proofs.Common.{Appends, Bool, Command, EndsWhole, Err, Fails, Failure, Finds, IsPartly, List, Option, Reading, TakesText, Verdict, [], arith, inl, inr, length, length-take, refl, subst, suc, sym, take, true, zero, ℕ, ◌≡◌, ◌≤◌}
 use Rattle.nap_command.specs.declared.failure.Failure.TheVariants as failure
-use Rattle.nap_command.specs.declared.answer.Verdict.{Verdict}
-use Rattle.nap_list.specs.Reading.{Reading}
-use Rattle.nap_command.specs.Devices.{TakesText}
-use Rattle.nap_command.specs.Commands.{EndsWhole, Fails, Finds, IsPartly}
 
 -- The end of a command whose output fails.
 

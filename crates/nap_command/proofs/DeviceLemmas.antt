@@ -1,8 +1,4 @@
-use Rattle.std.proofs.Common.{◌≡◌, ◌∙◌, ◌||◌, Bool, true, false, ℕ, ◌+◌, ◌-◌, List, Option, take, drop, take-add, length, length-drop, arith, refl, subst, sym}
-use Rattle.std.proofs.lemmas.List.{take_all}
-use Rattle.std.specs.Io.KnownBytes.{Appends}
-use Rattle.std.proofs.Math.Bool.{or-false}
-use Rattle.std.proofs.KnownBytes.{Appends-trans}
+use Rattle.nap_command.proofs.Common.{Bool, false, or-false, refl, sym, true, ◌||◌, ◌∙◌, ◌≡◌}
 
 -- Reads and writes in sequence.
 

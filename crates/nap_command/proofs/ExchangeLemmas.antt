@@ -1,17 +1,7 @@
-use Rattle.std.proofs.Common.{ℕ, ◌+◌, ◌≡◌, List, [], ◌++◌, Result, Ok, Err, take, drop, refl, sym, subst, ◌∙◌, inr, append-nil}
-use Rattle.std.specs.Io.KnownBytes.{Consumes}
-use Rattle.std.proofs.KnownBytes.{Appends-nil}
-use Rattle.std.proofs.lemmas.List.{take-append-drop}
+use Rattle.nap_command.proofs.Common.{Appends-nil, Buffered, Consumes, Ended, Err, Exchange, IsAnswered, IsAsked, IsExchange, IsExchanged, IsRequest, IsWhole, KeepsWithin, List, Ok, Pipes, ReadingEnds, RequestLine, Result, SendsText, StopsIn, [], append-nil, drop, inr, no_memory, pipes, reading, reading_between, refl, subst, sym, take, take-append-drop, ℕ, ◌++◌, ◌+◌, ◌∙◌, ◌≡◌}
 use Rattle.nap_list.specs.declared.device.inlet.Inlet as inlet
 use Rattle.nap_list.specs.declared.device.outlet.Outlet as outlet
-use Rattle.nap_list.specs.Reading.{reading}
-use Rattle.nap_command.specs.declared.batch.request.RequestLine.{RequestLine}
-use Rattle.nap_command.specs.declared.batch.service.Ended.{Ended}
 use Rattle.nap_command.specs.declared.batch.service.Ended.TheVariants as ended
-use Rattle.nap_command.specs.Buffering.{Buffered, KeepsWithin}
-use Rattle.nap_command.specs.Requests.{IsRequest, IsWhole}
-use Rattle.nap_command.specs.Sessions.{Exchange, IsAnswered, IsExchange, IsExchanged, Pipes, SendsText, StopsIn, no_memory, pipes, reading_between}
-use Rattle.nap_command.specs.Waiting.{IsAsked, ReadingEnds}
 use Rattle.nap_command.proofs.FrontLemmas.{page_is, whole_request}
 use Rattle.nap_command.proofs.SessionLemmas.{stops_alike}
 

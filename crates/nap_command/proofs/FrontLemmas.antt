@@ -1,13 +1,5 @@
-use Rattle.std.proofs.Common.{ℕ, zero, suc, ◌+◌, ◌-◌, ◌<◌, ◌≤◌, ◌≡◌, ◌≢◌, inl, inr, List, [], ◌∷◌, ◌++◌, length, take, drop, take-add, refl, ap, sym, subst, ◌∙◌, append_assoc, length-append, arith}
-use Rattle.std.specs.Prelude.{All, ◌==◌, if◌then◌else◌}
-use Rattle.std.proofs.lemmas.List.{drop_at, length-take-le, take_at}
-use Rattle.std.proofs.lemmas.List.Elements.{All-append, All-cons, All-nil}
-use Rattle.nap_command.specs.declared.batch.request.Question.{Question}
+use Rattle.nap_command.proofs.Common.{All, All-append, All-cons, All-nil, BegunRequestsAreNone, IsBegun, IsCutShort, IsLine, IsMore, IsRequest, IsWhole, List, NeverStarts, Question, RequestLine, RequestsAreCutOneWay, SplitsAtByte, StartsNone, [], ap, append_assoc, arith, drop, drop_at, if◌then◌else◌, inl, inr, length, length-append, length-take-le, line_for, question_name, refl, subst, suc, sym, take, take-add, take_at, zero, ℕ, ◌++◌, ◌+◌, ◌-◌, ◌<◌, ◌==◌, ◌∙◌, ◌∷◌, ◌≡◌, ◌≢◌, ◌≤◌}
 use Rattle.nap_command.specs.declared.batch.request.Question.TheVariants as question
-use Rattle.nap_command.specs.declared.batch.request.RequestLine.{RequestLine}
-use Rattle.nap_command.specs.Laws.{BegunRequestsAreNone, RequestsAreCutOneWay}
-use Rattle.nap_make.specs.Cutting.{SplitsAtByte}
-use Rattle.nap_command.specs.Requests.{IsBegun, IsLine, IsMore, IsRequest, IsCutShort, IsWhole, NeverStarts, StartsNone, line_for, question_name}
 use Rattle.nap_command.proofs.RequestLemmas.{apart, cut_once, digits_above, first_cut, name_above, no_cut, parts_of, second_cut}
 
 -- No line of a request contains LF.
@@ -150,11 +142,7 @@ line_within (x ∷ buffered) (y ∷ line) more rest same less =
     (found.0, cc)
 
 name_short : (c : Question) → length (question_name c) ≤ 6
-name_short question.Check = omega arith
-name_short question.List = omega arith
-name_short question.Canon = omega arith
-name_short question.Places = omega arith
-name_short question.Make = omega arith
+name_short c = grind arith
 
 line_short : (line : List ℕ) (h : RequestLine) → IsLine line h → length line ≤ 24
 line_short line h is =

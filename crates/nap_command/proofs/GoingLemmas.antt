@@ -1,14 +1,6 @@
-use Rattle.std.proofs.Common.{ℕ, Bool, zero, suc, ◌+◌, ◌-◌, ◌^◌, ◌≡◌, ◌≢◌, true, false, List, [], ◌∷◌, ◌++◌, length, min, refl, ap, sym, subst, ◌∙◌, inr, append-nil, append_assoc, length-append, arith}
-use Rattle.std.specs.Prelude.{All, flat_map}
-use Rattle.std.specs.Io.KnownBytes.{Appends, Consumes}
-use Rattle.std.proofs.KnownBytes.{Appends-nil, Appends-trans, Consumes-nil, Consumes-trans}
-use Rattle.std.proofs.lemmas.List.Elements.{All-nil}
-use Rattle.nap_list.specs.Flushing.{flush_count}
+use Rattle.nap_command.proofs.Common.{All, All-nil, AnswersRequest, Appends, Appends-nil, Appends-trans, Bool, Buffered, Consumes, Consumes-nil, Consumes-trans, Exchange, FlushedTimes, IsExchange, List, Pipes, Session, StopsIn, StopsServing, [], ap, append-nil, append_assoc, arith, false, flat_map, flush_count, flushed_once, flushes_of, inr, length, length-append, min, refl, requests_limit, subst, suc, sym, true, zero, ℕ, ◌++◌, ◌+◌, ◌-◌, ◌^◌, ◌∙◌, ◌∷◌, ◌≡◌, ◌≢◌}
 use Rattle.nap_command.specs.declared.batch.service.Ended.{Ended}
 use Rattle.nap_command.specs.declared.batch.service.Ended.TheVariants as ended
-use Rattle.nap_command.specs.Buffering.{Buffered}
-use Rattle.nap_command.specs.Limits.{requests_limit}
-use Rattle.nap_command.specs.Sessions.{AnswersRequest, Exchange, FlushedTimes, IsExchange, Pipes, Session, StopsServing, StopsIn, flushed_once, flushes_of}
 use Rattle.nap_command.proofs.SessionLemmas.{answered_more, count_more, each_more, ends_after, read_on}
 
 -- The number of flushes.

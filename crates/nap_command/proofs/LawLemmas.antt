@@ -1,16 +1,8 @@
-use Rattle.std.proofs.Common.{ℕ, ◌≡◌, ◌≢◌, List, [], refl, inl, inr}
+use Rattle.nap_command.proofs.Common.{Action, AnswersAreThoseOfCommands, AsCheck, AsCommand, AsRefused, IsAnswer, IsStreamRefusal, LacksWith, List, PrintsBy, Question, RefusesWith, [], inl, inr, list_of, page_command, refl, refusal, text, ℕ, ◌≡◌, ◌≢◌}
 use Rattle.nap_reader.specs.declared.fault.Fault.TheVariants as fault
-use Rattle.nap_reader.specs.Stream.{refusal}
-use Rattle.nap_canon.specs.Streams.{list_of}
-use Rattle.nap_canon.specs.Text.{text}
 use Rattle.nap_command.specs.declared.answer.Verdict.TheVariants as verdict
-use Rattle.nap_command.specs.declared.command.Action.{Action}
 use Rattle.nap_command.specs.declared.command.Action.TheVariants as action
-use Rattle.nap_command.specs.Commands.{IsStreamRefusal, PrintsBy}
-use Rattle.nap_command.specs.declared.batch.request.Question.{Question}
 use Rattle.nap_command.specs.declared.batch.request.Question.TheVariants as question
-use Rattle.nap_command.specs.Answers.{IsAnswer, LacksWith, RefusesWith, page_command}
-use Rattle.nap_command.specs.Laws.{AnswersAreThoseOfCommands, AsCheck, AsCommand, AsRefused}
 
 -- The answers and the commands.
 

@@ -1,37 +1,11 @@
-use Rattle.std.proofs.Common.{◌≡◌, ◌<◌, ◌++◌, ℕ, zero, suc, List, [], ◌∷◌, Bool, true, false, cond, nat_lt, Option, Some, None, refl, arith}
-use Rattle.std.specs.Prelude.{ℤ, pos, negsuc, ⊤, ◌/◌, ◌%◌, ◌==◌, ◌+◌, if◌then◌else◌, codes, decimal}
-use Rattle.std.specs.Fmt.{digit_glyph, digits, digits_onto, signed_decimal}
-use Rattle.std.specs.Char.{digit_char}
-use Rattle.std.proofs.lemmas.Bool.{ne_eqb}
-use Rattle.nap_values.specs.Colours.{Components}
-use Rattle.nap_values.specs.Coordinates.{Coordinates, Displacement}
-use Rattle.nap_codes.specs.declared.code_set.CharSet.{CharSet}
-use Rattle.nap_codes.specs.declared.code_set.CharSet.TheVariants as char_set
-use Rattle.nap_codes.specs.declared.control.CursorKind.{CursorKind}
-use Rattle.nap_codes.specs.declared.control.CursorKind.TheVariants as cursor
-use Rattle.nap_codes.specs.declared.control.Mask.{Mask}
-use Rattle.nap_codes.specs.declared.control.Mask.TheVariants as mask
-use Rattle.nap_codes.specs.declared.control.Size.TheVariants as size
-use Rattle.nap_codes.specs.declared.control.TextStep.{TextStep}
+use Rattle.nap_command.proofs.Common.{Area, Bool, CharSet, CharSize, Colour, Components, Coordinates, CursorKind, Displacement, Entry, Hand, Ink, List, Mask, None, Option, Pen, Some, TextLook, TextStep, Texture, [], arith, codes, cond, decimal, digit_char, digit_glyph, digits, digits_onto, false, if◌then◌else◌, line, nat_lt, ne_eqb, negsuc, pos, refl, signed_decimal, suc, true, zero, ℕ, ℤ, ⊤, ◌%◌, ◌++◌, ◌+◌, ◌/◌, ◌<◌, ◌==◌, ◌∷◌, ◌≡◌}
 use Rattle.nap_codes.specs.declared.control.TextStep.TheVariants as step
-use Rattle.nap_list.specs.declared.attribute.Area.{Area}
 use Rattle.nap_list.specs.declared.attribute.Area.TheVariants as area
-use Rattle.nap_list.specs.declared.attribute.CharSize.{CharSize}
 use Rattle.nap_list.specs.declared.attribute.CharSize.TheVariants as char_size
-use Rattle.nap_list.specs.declared.attribute.Colour.{Colour}
 use Rattle.nap_list.specs.declared.attribute.Colour.TheVariants as colour
-use Rattle.nap_list.specs.declared.attribute.Hand.{Hand}
-use Rattle.nap_list.specs.declared.attribute.Ink.{Ink}
-use Rattle.nap_list.specs.declared.attribute.Origin.TheVariants as origin
-use Rattle.nap_list.specs.declared.attribute.Pen.{Pen}
 use Rattle.nap_list.specs.declared.attribute.Pen.TheVariants as pen
-use Rattle.nap_list.specs.declared.attribute.Preset.TheVariants as preset
-use Rattle.nap_list.specs.declared.attribute.TextLook.{TextLook}
-use Rattle.nap_list.specs.declared.attribute.Texture.{Texture}
-use Rattle.nap_list.specs.declared.entry.Entry.{Entry}
 use Rattle.nap_list.specs.declared.entry.Entry.TheVariants as entry
 use Rattle.nap_lines.specs.Lines as text
-use Rattle.nap_lines.specs.Lines.{line}
 
 -- No line holds the byte that ends one.
 
@@ -120,13 +94,11 @@ grb_plain : (c : Components) → IsPlain (text.grb_text c)
 grb_plain c = joined (decimal c.g) (codes "," ∷ decimal c.r ∷ codes "," ∷ decimal c.b ∷ []) (decimal_plain c.g) (refl, (decimal_plain c.r, (refl, (decimal_plain c.b, tt))))
 
 colour_plain : (c : Colour) → IsPlain (text.colour_text c)
-colour_plain (colour.Own origin.AtStart) = refl
-colour_plain (colour.Own origin.AfterReset) = refl
+colour_plain (colour.Own origin) = grind arith
 colour_plain (colour.Direct grb) = grb_plain grb
 colour_plain (colour.Front addr) = decimal_plain addr
 colour_plain (colour.Pair front back) = joined (codes "pair:") (decimal front ∷ codes "," ∷ decimal back ∷ []) refl (decimal_plain front, (refl, (decimal_plain back, tt)))
-colour_plain (colour.ByReset preset.Two) = refl
-colour_plain (colour.ByReset preset.Three) = refl
+colour_plain (colour.ByReset preset) = grind arith
 
 pen_plain : (p : Pen) → IsPlain (text.pen_text p)
 pen_plain pen.Start = refl
@@ -145,11 +117,7 @@ ink_plain ink =
     joined (codes "pel=") (text.move_text ink.pel ∷ codes " colour=" ∷ text.colour_text ink.colour ∷ codes " texture=" ∷ text.texture_text ink.texture ∷ []) refl (move_plain ink.pel, (refl, (colour_plain ink.colour, (refl, (texture_plain ink.texture, tt)))))
 
 size_plain : (s : CharSize) → IsPlain (text.size_text s)
-size_plain (char_size.Named size.Small) = refl
-size_plain (char_size.Named size.Medium) = refl
-size_plain (char_size.Named size.Normal) = refl
-size_plain (char_size.Named size.Tall) = refl
-size_plain (char_size.Named size.Double) = refl
+size_plain (char_size.Named size) = grind arith
 size_plain (char_size.Given m) = move_plain m
 
 flag_plain : (on : Bool) (letter : List ℕ) → IsPlain letter → IsPlain (text.flag_text on letter)
@@ -173,10 +141,7 @@ fill_plain true = refl
 fill_plain false = refl
 
 set_plain : (set : CharSet) → IsPlain (text.set_text set)
-set_plain char_set.Primary = refl
-set_plain char_set.Supplementary = refl
-set_plain char_set.Mosaic = refl
-set_plain char_set.Drcs = refl
+set_plain set = grind arith
 
 step_plain : (s : TextStep) → IsPlain (text.step_text s)
 step_plain step.Apb = refl
@@ -196,15 +161,10 @@ mark_plain true = refl
 mark_plain false = refl
 
 cursor_plain : (kind : CursorKind) → IsPlain (text.cursor_text kind)
-cursor_plain cursor.Flash = refl
-cursor_plain cursor.Steady = refl
-cursor_plain cursor.Off = refl
+cursor_plain kind = grind arith
 
 mask_plain : (m : Mask) → IsPlain (text.mask_text m)
-mask_plain mask.A = refl
-mask_plain mask.B = refl
-mask_plain mask.C = refl
-mask_plain mask.D = refl
+mask_plain m = grind arith
 
 pub line_plain : (e : Entry) → plain (line e) ≡ true
 line_plain (entry.Point at pel colour) =

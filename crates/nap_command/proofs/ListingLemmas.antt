@@ -1,45 +1,23 @@
-use Rattle.std.proofs.Common.{ℕ, zero, suc, Option, ◌≡◌, Bool, true, false, List, [], ◌∷◌, ◌++◌, length, take, None, ◌||◌, Result, Ok, Err, refl, ap, sym, subst, ◌∙◌, inl, inr, append-nil, append_assoc, arith}
-use Rattle.std.proofs.Math.Seq.{take-append_seam}
-use Rattle.std.proofs.KnownBytes.{Appends-kept}
-use Rattle.std.specs.Prelude.{MatchResult}
-use Rattle.std.specs.Io.KnownBytes.{Appends, Keeps}
-use Rattle.nap_draw.specs.Draws.{Cause, stream, memory, device}
+use Rattle.nap_command.proofs.Common.{Appends, Appends-kept, Bool, BreaksWithin, BrokeLines, Cause, Closes, EndsListed, EndsSo, Err, Fails, Finds, FlushedOnce, Grows, IsPartly, IsReadTwice, IsReadWhole, IsStream, IsStreamRefusal, Keeps, List, MatchResult, NeverWants, None, Ok, Option, Printing, Reading, ReadsTwice, RefusedBy, Result, SendsPart, TakesText, TookLines, TookPrefix, TwiceFault, [], ap, append-nil, append_assoc, arith, cause_of, device, ended_so, false, flush_count, grows_none, inl, inr, length, lines, lines_join, list_of, means, memory, passes_more, refl, sending, sending_by, start, stream, subst, suc, sym, take, take-append_seam, true, zero, ℕ, ◌++◌, ◌||◌, ◌∙◌, ◌∷◌, ◌≡◌, ◌≢◌}
 use Rattle.nap_list.specs.declared.count_sink.CountSink.{CountSink}
 use Rattle.nap_list.specs.declared.device.outlet.Outlet as outlet
 use Rattle.nap_list.specs.declared.entry.Entry.{Entry}
 use Rattle.nap_list.specs.declared.sink.Sink.{Ghosts}
-use Rattle.nap_list.specs.Flushing.{FlushedOnce, flush_count}
-use Rattle.nap_list.specs.Reading.{Reading, IsReadWhole}
-use Rattle.nap_list.specs.State.{start}
-use Rattle.nap_list.specs.Sending.{Grows, grows_none, sending}
-use Rattle.nap_lines.specs.Listing.{lines, lines_join}
-use Rattle.nap_lines.specs.Printing.{BrokeLines, Closes, SendsPart, Printing, TookLines, sending_by}
-use Rattle.nap_lines.specs.PrintingLaws.{passes_more}
 use Rattle.nap_reader.specs.declared.fault.Fault.{Fault}
 use Rattle.nap_reader.specs.declared.fault.Fault.TheVariants as fault
 use Rattle.nap_reader.specs.declared.fault.Refusal.{Refusal}
-use Rattle.nap_reader.specs.Breaking.{cause_of, BreaksWithin, TookPrefix}
-use Rattle.nap_reader.specs.Collecting.{RefusedBy}
-use Rattle.nap_reader.specs.Stream.{means}
-use Rattle.nap_reader.specs.Twice.{IsReadTwice, ReadsTwice}
-use Rattle.nap_canon.specs.Streams.{list_of}
+use Rattle.nap_reader.specs.declared.twice.TwiceFault.TheVariants as twice_fault
 use Rattle.nap_command.specs.declared.answer.Verdict.{Verdict}
 use Rattle.nap_command.specs.declared.answer.Verdict.TheVariants as verdict
 use Rattle.nap_command.specs.declared.command.Action.TheVariants as action
 use Rattle.nap_command.specs.declared.command.Command.{Command}
 use Rattle.nap_command.specs.declared.failure.Failure.{Failure}
 use Rattle.nap_command.specs.declared.failure.Failure.TheVariants as failure
-use Rattle.nap_command.specs.Commands.{EndsListed, EndsSo, ended_so, Fails, Finds, IsPartly, IsStreamRefusal, IsStream}
-use Rattle.nap_command.specs.Devices.{TakesText}
 
 -- What `list` prints of a page that it reads twice.
 
 prefix_taken : (q left whole : List ℕ) → whole ≡ q ++ left → take (length q) whole ≡ q
 prefix_taken q left whole is = ap (take (length q)) is ∙ take-append_seam q left
-
-memory_fault : (f : Fault) → cause_of f ≡ memory → f ≡ fault.Memory
-memory_fault fault.Memory is = refl
-memory_fault _ is = cc
 
 -- a page that was counted is refused for this reason
 refusal_by : {S : Type 0} (g : Ghosts S) (s : S) (sound : (t : S) → g.failed t ≡ false) (c : Command) (page : List ℕ) (f : Fault) (place : ℕ) →
@@ -66,31 +44,40 @@ listed_after c p seen before old new b (failure.Write n) h k e = (
     nothing (suc n) = refl
 listed_after c p seen before old new b _ h k e = absurd k
 
-module _ {O : Type 0} (o : outlet.Ghosts O) (w : O) (works : o.failed w ≡ false) (c : Command) (list : c.action ≡ action.List) (page : List ℕ) where
+module _ {O : Type 0} (o : outlet.Ghosts O) (w : O) (works : o.failed w ≡ false) (c : Command) (list : c.action ≡ action.List) (page : List ℕ) (space : ℕ) where
   abbrev begun : Printing O
-  begun = record { outlet = w; written = 0; buffered = []; state = start }
+  begun = record { outlet = w; written = 0; buffered = []; state = start; space = space }
 
   -- any input that gives this page
   abbrev ForPage : (List ℕ → Reading → Type 0) → Type 0
   ForPage claim = (p : List ℕ) (seen : Reading) → IsReadWhole seen p → IsStream c.hex p page → claim p seen
 
   -- what was printed, a prefix of what the command prints
-  pub record Leaves (u : O) (n : ℕ) (read : Result CountSink Refusal) : Type 0 where
+  pub record Leaves (u : O) (n : ℕ) (read : Result CountSink TwiceFault) : Type 0 where
     pub q : List ℕ
     pub grows : Grows (sending o w 0) q (sending o u n)
     pub partly : ForPage (λ p seen. IsPartly c p seen q)
     pub ends : o.failed u ≡ false → ForPage (λ p seen. EndsListed c p seen q false (ended_so read))
 
   -- the page is refused, and nothing was printed
-  none_printed : (u : O) (n : ℕ) (r : Refusal) → u ≡ w → n ≡ 0 → IsStreamRefusal c page r → Leaves u n (Err r)
+  none_printed : (u : O) (n : ℕ) (r : Refusal) → u ≡ w → n ≡ 0 → IsStreamRefusal c page r → Leaves u n (Err (twice_fault.Refused r))
   none_printed u n r output written refusal =
       let fails : ForPage (λ p seen. Fails c p seen (failure.Refused r)) = λ p seen whole streams. list_refuses c p page seen r list whole streams refusal in
       record {
         q = [];
         grows = rw (output, written) (grows_none (sending o w 0));
         partly = λ p seen whole streams. inr (failure.Refused r, fails p seen whole streams, refl);
-        ends = λ clear p seen whole streams. (fails p seen whole streams, inl refl);
+        ends = λ clear p seen whole streams. (refl, fails p seen whole streams);
       }
+
+  -- the page is accepted, and nothing was printed for lack of memory
+  none_begun : (u : O) (n : ℕ) → u ≡ w → n ≡ 0 → Leaves u n (Err twice_fault.Memory)
+  none_begun u n output written = record {
+    q = [];
+    grows = rw (output, written) (grows_none (sending o w 0));
+    partly = λ p seen whole streams. inr (failure.Memory, whole.none_failed, refl);
+    ends = λ clear p seen whole streams. (refl, whole.none_failed);
+  }
 
   module _ (accepted : (means c.budget page).refusal ≡ None) (u : O) (n : ℕ) (v : Printing O) where
     finds : ForPage (λ p seen. Finds c p seen (lines (list_of c.budget page)) verdict.Accepted)
@@ -113,55 +100,49 @@ module _ {O : Type 0} (o : outlet.Ghosts O) (w : O) (works : o.failed w ≡ fals
               subst (λ (q : List ℕ). Finds c p seen q verdict.Accepted) same (finds p seen whole streams);
         }
 
-    module _ (r : Refusal) (place : BreaksWithin c.budget page r.place) (output : u ≡ v.outlet) (written : n ≡ v.written) where
-      refuses : r.fault ≡ fault.Memory → ForPage (λ p seen. Fails c p seen (failure.Refused r))
-      refuses is p seen whole streams = list_refuses c p page seen r list whole streams (record { refused = λ no. absurd (no is); memory = λ _. place })
-
-      -- a prefix of the lines was printed
-      some_printed : (first rest : List Entry) (left : List ℕ) → list_of c.budget page ≡ first ++ rest → SendsPart (sending o w 0) [] (lines first) left (sending_by o v) →
-          (o.failed v.outlet ≡ false → r.fault ≡ fault.Memory) → Leaves u n (Err r)
-      some_printed first rest left entries passes fault_is =
-          let parts : lines (list_of c.budget page) ≡ passes.sent ++ (left ++ lines rest) =
-          ap lines entries ∙ lines_join first rest ∙ ap (λ (bytes : List ℕ). bytes ++ lines rest) passes.parts ∙ append_assoc passes.sent left (lines rest) in
-          record {
-            q = passes.sent;
-            grows = rw (output, written) passes.grows;
-            partly = partly_of passes.sent (left ++ lines rest) parts;
-            ends = λ clear p seen whole streams.
-                let is = fault_is (ap o.failed (sym output) ∙ clear) in (
-                  refuses is p seen whole streams,
-                  inr (is, (lines (list_of c.budget page), finds p seen whole streams, prefix_taken passes.sent (left ++ lines rest) (lines (list_of c.budget page)) parts)),
-                );
-          }
+    -- a prefix of the lines was printed, and then a write failed
+    some_printed : (r : Refusal) (first rest : List Entry) (left : List ℕ) → u ≡ v.outlet → n ≡ v.written → list_of c.budget page ≡ first ++ rest → SendsPart (sending o w 0) [] (lines first) left (sending_by o v) →
+        o.failed v.outlet ≡ true → Leaves u n (Err (twice_fault.Refused r))
+    some_printed r first rest left output written entries passes failed =
+        let parts : lines (list_of c.budget page) ≡ passes.sent ++ (left ++ lines rest) =
+        ap lines entries ∙ lines_join first rest ∙ ap (λ (bytes : List ℕ). bytes ++ lines rest) passes.parts ∙ append_assoc passes.sent left (lines rest) in
+        record {
+          q = passes.sent;
+          grows = rw (output, written) passes.grows;
+          partly = partly_of passes.sent (left ++ lines rest) parts;
+          ends = λ clear. (let bad : true ≡ false = sym failed ∙ ap o.failed (sym output) ∙ clear in cc);
+        }
 
   -- The results of both readings, the second into a printer.
   module _ (g : Ghosts CountSink) (s : CountSink) (sound : (t : CountSink) → g.failed t ≡ false) (k : Ghosts (Printing O)) (fresh : k.failed begun ≡ false)
       (took_is : (t : Printing O) (d : List Entry) → k.took begun d t → TookLines o begun d t) (broke_is : (t : Printing O) (d : List Entry) (e : Entry) → k.broke begun d e t → BrokeLines o begun d e t)
+      (dry : NeverWants k begun)
       (u : O) (n : ℕ) (v : Printing O) where
-    breaks : (accepted : (means c.budget page).refusal ≡ None) (r : Refusal) (cause : Cause) → cause_of r.fault ≡ cause → BreaksWithin c.budget page r.place →
-        TookPrefix k begun [] (means c.budget page).entries v cause → u ≡ v.outlet → n ≡ v.written → Leaves u n (Err r)
-    breaks accepted r stream is place part output written = absurd part
-    breaks accepted r memory is place (first, rest, entries, took) output written =
-        some_printed accepted u n v r place output written first rest v.buffered entries (took_is v first took).passes (λ _. memory_fault r.fault is)
-    breaks accepted r device is place (inl (failed, part)) output written = let bad : ⊥ = cc in absurd bad
-    breaks accepted r device is place (inr (prefix, next, rest, entries, broke)) output written =
+    breaks : (accepted : (means c.budget page).refusal ≡ None) (r : Refusal) (cause : Cause) → cause_of r.fault ≡ cause → cause ≢ memory →
+        TookPrefix k begun [] (means c.budget page).entries v cause → u ≡ v.outlet → n ≡ v.written → Leaves u n (Err (twice_fault.Refused r))
+    breaks accepted r stream is lacks part output written = absurd part
+    breaks accepted r memory is lacks part output written = absurd (lacks refl)
+    breaks accepted r device is lacks (inl (failed, part)) output written = let bad : ⊥ = cc in absurd bad
+    breaks accepted r device is lacks (inr (prefix, next, rest, entries, broke)) output written =
         let h = broke_is v prefix next broke in
-        some_printed accepted u n v r place output written (prefix ++ next ∷ []) rest h.left (entries ∙ sym (append_assoc prefix (next ∷ []) rest)) h.passes
-        (λ clear. (let bad : true ≡ false = sym h.failed ∙ clear in cc))
+        some_printed accepted u n v r (prefix ++ next ∷ []) rest h.left output written (entries ∙ sym (append_assoc prefix (next ∷ []) rest)) h.passes h.failed
 
-    by : (read : Result CountSink Refusal) → ReadsTwice g k s begun c.budget page v read → MatchResult read (λ _. Closes o v u n) (λ _. (u ≡ v.outlet) × (n ≡ v.written)) → Leaves u n read
+    by : (read : Result CountSink TwiceFault) → ReadsTwice g k s begun c.budget page v read → MatchResult read (λ _. Closes o v u n) (λ _. (u ≡ v.outlet) × (n ≡ v.written)) → Leaves u n read
     by (Ok t) (accepted, counted, took) closes = all_printed accepted u n v t (took_is v (means c.budget page).entries took) closes
-    by (Err r) (inl (refused, same)) (output, written) =
+    by (Err (twice_fault.Refused r)) (inl (refused, same)) (output, written) =
         none_printed u n r (output ∙ ap (λ (v : Printing O). v.outlet) same) (written ∙ ap (λ (v : Printing O). v.written) same) (refusal_by g s sound c page r.fault r.place refused)
-    by (Err r) (inr (accepted, broke)) (output, written) = breaks accepted r (cause_of r.fault) refl broke.place broke.part output written
+    by (Err (twice_fault.Refused r)) (inr (accepted, breaks_off)) (output, written) =
+        breaks accepted r (cause_of r.fault) refl (breaks_off.lacks dry) breaks_off.broke.part output written
+    by (Err twice_fault.Memory) (accepted, same) (output, written) =
+        none_begun u n (output ∙ ap (λ (v : Printing O). v.outlet) same) (written ∙ ap (λ (v : Printing O). v.written) same)
 
-    pub leaves : (printer : Printing O) → printer ≡ begun → (bytes : List ℕ) → bytes ≡ page → (read : Result CountSink Refusal) → IsReadTwice g k s printer c.budget bytes v read →
+    pub leaves : (printer : Printing O) → printer ≡ begun → (bytes : List ℕ) → bytes ≡ page → (read : Result CountSink TwiceFault) → IsReadTwice g k s printer c.budget bytes v read →
         MatchResult read (λ _. Closes o v u n) (λ _. (u ≡ v.outlet) × (n ≡ v.written)) → Leaves u n read
     leaves printer new bytes same read h =
         by read (subst (λ (p : List ℕ). ReadsTwice g k s begun c.budget p v read) same (subst (λ (x : Printing O). ReadsTwice g k s x c.budget bytes v read) new h.reads))
 
   -- the output that is returned
-  module _ (u v : O) (n : ℕ) (found : Result CountSink Refusal) (answer : Result Verdict Failure) (out : Leaves u n found) (keeps : Keeps (o.taken u) (o.taken v))
+  module _ (u v : O) (n : ℕ) (found : Result CountSink TwiceFault) (answer : Result Verdict Failure) (out : Leaves u n found) (keeps : Keeps (o.taken u) (o.taken v))
       (fails : o.failed u ≡ true → o.failed v ≡ true) (so : EndsSo found n (o.failed v) answer) where
     works_on : (b : Bool) → o.failed u ≡ b → o.failed v ≡ false → b ≡ false
     works_on false is whole = refl
@@ -175,7 +156,7 @@ module _ {O : Type 0} (o : outlet.Ghosts O) (w : O) (works : o.failed w ≡ fals
     ends = (out.q, Appends-kept (o.taken w) (o.taken u) (o.taken v) out.q out.grows.taken keeps, at (o.failed v) refl so)
 
   -- the output was flushed once, if no write failed
-  pub flushes_once : (u v : O) (n : ℕ) (found : Result CountSink Refusal) → Leaves u n found → o.write_failed w ≡ false → o.flushes v ≡ flush_count (o.failed u) (o.flushes u) →
+  pub flushes_once : (u v : O) (n : ℕ) (found : Result CountSink TwiceFault) → Leaves u n found → o.write_failed w ≡ false → o.flushes v ≡ flush_count (o.failed u) (o.flushes u) →
       o.write_failed v ≡ o.write_failed u → FlushedOnce o w v
   flushes_once u v n found out none flushes wrote =
       let same : o.failed u ≡ o.write_failed u = out.grows.writes.failed ∙ ap (λ (b : Bool). b || out.grows.writes.fails) (works ∙ sym none) ∙ sym out.grows.writes.write_failed in

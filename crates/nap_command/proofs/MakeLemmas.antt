@@ -1,16 +1,9 @@
 -- The end of `make`.
 
-use Rattle.std.proofs.Common.{◌≡◌, ◌≤◌, inl, inr, ℕ, zero, suc, List, [], Bool, true, false, Option, Ok, Err, refl, sym, subst, take, length, length-take, arith}
-use Rattle.std.specs.Io.KnownBytes.{Appends}
-use Rattle.nap_list.specs.Reading.{Reading}
-use Rattle.nap_make.specs.declared.lines.fault.MakeFault.{MakeFault}
+use Rattle.nap_command.proofs.Common.{Appends, Bool, DeniesInput, EndsMadeWhole, Err, FailsToMake, Failure, FindsPage, IsPartlyMade, List, MakeFault, Option, Reading, TakesText, [], arith, failure_of, inl, inr, length, length-take, refl, subst, suc, sym, take, true, zero, ℕ, ◌≡◌, ◌≤◌}
 use Rattle.nap_make.specs.declared.lines.fault.MakeFault.TheVariants as make_faults
 use Rattle.nap_make.specs.declared.lines.fault.ListFault.TheVariants as list_faults
-use Rattle.nap_make.specs.Texts.{DeniesInput}
-use Rattle.nap_command.specs.declared.failure.Failure.{Failure}
 use Rattle.nap_command.specs.declared.failure.Failure.TheVariants as failure
-use Rattle.nap_command.specs.Devices.{TakesText}
-use Rattle.nap_command.specs.Making.{EndsMadeWhole, FailsToMake, FindsPage, IsPartlyMade, failure_of}
 
 -- the lines make no page
 pub lines_refused : (p : List ℕ) (seen : Reading) (fault : MakeFault) → DeniesInput p seen (list_faults.Lines fault) → FailsToMake p seen (failure_of fault)

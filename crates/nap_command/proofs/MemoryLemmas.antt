@@ -1,10 +1,5 @@
-use Rattle.std.proofs.Common.{ℕ, zero, suc, ◌+◌, ◌-◌, ◌<◌, ◌≤◌, ◌≡◌, inl, inr, List, ◌++◌, length, max, take, drop, refl, ap, sym, ◌∙◌, append_assoc, length-append, arith}
-use Rattle.std.proofs.lemmas.Bool.{cases_lt}
-use Rattle.std.proofs.lemmas.List.{length-take-le, take-append-drop, take-append-le, take_at}
+use Rattle.nap_command.proofs.Common.{IsCutShort, IsMore, IsRequest, KeepsWithin, List, ap, append_assoc, arith, cases_lt, drop, inl, inr, length, length-append, length-take-le, max, memory_for, read_limit, refl, suc, sym, take, take-append-drop, take-append-le, take_at, zero, ℕ, ◌++◌, ◌+◌, ◌-◌, ◌<◌, ◌∙◌, ◌≡◌, ◌≤◌}
 use Rattle.nap_command.specs.declared.batch.request.Question.{Question}
-use Rattle.nap_command.specs.Buffering.{KeepsWithin, memory_for}
-use Rattle.nap_list.specs.Limits.{read_limit}
-use Rattle.nap_command.specs.Requests.{IsMore, IsRequest, IsCutShort}
 use Rattle.nap_command.proofs.FrontLemmas.{begun_requests_are_none, made_whole, more_begun, requests_are_cut_one_way, short_front, still_short}
 
 -- A read takes no more memory than the request in work and one read need.

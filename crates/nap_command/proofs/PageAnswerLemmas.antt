@@ -1,20 +1,6 @@
-use Rattle.std.proofs.Common.{ℕ, ◌≡◌, ◌≢◌, ◌⊎◌, false, List, [], Option, None, Some, Result, Ok, Err, length, refl, ap, sym, subst, ◌∙◌, inl, inr}
-use Rattle.std.specs.Prelude.{IfSome, IsSome}
-use Rattle.nap_list.specs.declared.sink.Sink.{Ghosts}
-use Rattle.nap_reader.specs.declared.fault.Fault.{Fault}
+use Rattle.nap_command.proofs.Common.{AnswersLines, AnswersPage, BreaksWithin, Err, Fault, Ghosts, IfSome, IsAccepted, IsAnswer, IsCount, IsCounted, IsMadeOf, IsPageText, IsPlaced, IsSome, List, None, Ok, Option, PageText, Question, Refusal, RefusesPage, Result, ShowsText, Some, [], accepted_body_of, ap, count_line, ended_line, false, inl, inr, length, list_of, means, refl, refused_body_of, refused_line, subst, sym, ℕ, ◌∙◌, ◌≡◌, ◌≢◌, ◌⊎◌}
 use Rattle.nap_reader.specs.declared.fault.Fault.TheVariants as fault
-use Rattle.nap_reader.specs.declared.fault.Refusal.{Refusal}
-use Rattle.nap_reader.specs.Breaking.{BreaksWithin}
-use Rattle.nap_reader.specs.Collecting.{IsCount, IsCounted}
-use Rattle.nap_reader.specs.Stream.{means}
-use Rattle.nap_canon.specs.declared.page.PageText.{PageText}
-use Rattle.nap_canon.specs.PageTexts.{IsPageText, RefusesPage}
-use Rattle.nap_canon.specs.Streams.{IsAccepted, list_of}
-use Rattle.nap_make.specs.Making.{IsMadeOf}
-use Rattle.nap_command.specs.Commands.{count_line}
-use Rattle.nap_command.specs.declared.batch.request.Question.{Question}
 use Rattle.nap_command.specs.declared.batch.request.Question.TheVariants as question
-use Rattle.nap_command.specs.Answers.{AnswersLines, AnswersPage, IsAnswer, IsPlaced, ShowsText, accepted_body_of, ended_line, refused_body_of, refused_line}
 
 -- What was read of a page gives the answer to its request.
 

@@ -1,31 +1,12 @@
 -- How many entries a page has, and how long its canonical text is.
 
-use Rattle.std.proofs.Common.{ℕ, zero, suc, ◌+◌, ◌*◌, ◌-◌, ◌≤◌, ◌≡◌, nat_lt, Bool, true, false, if◌then◌else◌, List, [], ◌∷◌, ◌++◌, length, take, drop, subst, Option, Some, None, Result, Ok, Err, refl, ap, length-append, arith}
-use Rattle.std.proofs.lemmas.List.{length-map, length-drop, take-append-drop}
-use Rattle.std.proofs.lemmas.Bool.{ltb-false}
-use Rattle.nap_codes.specs.declared.code.Code.{Code}
+use Rattle.nap_command.proofs.Common.{Bool, Code, DrawFault, EntriesAreBounded, Entry, Err, List, Machine, Mode, None, Ok, Opcode, OpenDefinition, Option, Outcome, Placed, Refusal, Result, RuleResult, Some, State, StreamFront, TextIsBounded, Unfinished, [], after, after_body, all_at, ap, arith, begun, between, body_front, body_front_by, body_of, bound_front, bytes_of, carried_words, closed_front, code_front, code_length, code_rule, drawn_front, drop, ended_by, entry_pieces, false, front_by, front_in, half_code, half_read, if◌then◌else◌, in_body, kind_of, length, length-append, length-drop, length-map, ltb-false, means, nat_lt, nothing, open_body, open_run, opened_front, pieces, place_at, placed_from, refl, refusal, rule, run_length, run_limit, shown_front, start, start_machine, steps_left, store_limit, stream_front, subst, suc, take, take-append-drop, text_end_after_header, true, walk, with_code, with_definition, with_drawn, with_end, with_run, with_run_by, zero, ℕ, ◌*◌, ◌++◌, ◌+◌, ◌-◌, ◌∷◌, ◌≡◌, ◌≤◌}
 use Rattle.nap_codes.specs.declared.code.Code.TheVariants as code
-use Rattle.nap_codes.specs.declared.opcode.Opcode.{Opcode}
 use Rattle.nap_codes.specs.Front as codes
-use Rattle.nap_codes.proofs.PublicLaws.{code_length}
-use Rattle.nap_list.specs.declared.entry.Entry.{Entry}
-use Rattle.nap_list.specs.declared.state.OpenDefinition.{OpenDefinition}
-use Rattle.nap_list.specs.declared.state.State.{State}
-use Rattle.nap_list.specs.State.{after, start, walk}
-use Rattle.nap_draw.specs.declared.fault.DrawFault.{DrawFault}
-use Rattle.nap_draw.specs.Rule.{RuleResult, rule}
-use Rattle.nap_draw.specs.Codes.{code_rule}
 use Rattle.nap_reader.specs.declared.fault.Fault.TheVariants as faults
-use Rattle.nap_reader.specs.declared.fault.Refusal.{Refusal}
 use Rattle.nap_reader.specs.Bodies as bodies
-use Rattle.nap_reader.specs.Bodies.{Mode, between, in_body, body_front, body_of, store_limit}
 use Rattle.nap_reader.specs.Course as course
-use Rattle.nap_reader.specs.Kinds.{kind_of}
-use Rattle.nap_draw.specs.Limits.{run_limit}
-use Rattle.nap_reader.specs.Stream.{StreamFront, Machine, Outcome, Placed, Unfinished, after_body, all_at, begun, body_front_by, bound_front, bytes_of, closed_front, code_front, drawn_front, ended_by, stream_front, front_by, front_in, half_code, half_read, steps_left, means, nothing, open_body, open_run, opened_front, place_at, placed_from, refusal, run_length, shown_front, start_machine, with_code, with_definition, with_drawn, with_end, with_run, with_run_by, carried_words}
 use Rattle.nap_canon.specs.declared.form.Form.TheVariants.{Two}
-use Rattle.nap_canon.specs.Text.{entry_pieces, pieces, text_end_after_header}
-use Rattle.nap_command.specs.Laws.{EntriesAreBounded, TextIsBounded}
 use Rattle.nap_command.proofs.RunBounds.{rule_adds}
 use Rattle.nap_command.proofs.TextBounds.{cost, cost_append, pieces_few}
 use Rattle.nap_command.proofs.CodeBounds.{AddsFor, Bounded, code_adds, few_for}

@@ -1,27 +1,6 @@
-use Rattle.std.proofs.Common.{ℕ, zero, suc, ◌+◌, ◌-◌, ◌<◌, ◌≤◌, ◌≡◌, ◌≢◌, true, false, List, [], ◌∷◌, ◌++◌, Option, None, Some, Result, Ok, Err, length, take, drop, get_or, refl, ap, sym, subst, ◌∙◌, inr, append-nil, append_assoc, length-append, length-drop, take-add, arith}
-use Rattle.std.proofs.lemmas.List.{drop-append-le, drop_all, drop_at, get_or_append_left, take-append-drop, take-append-le, take-take, take_all, take_more}
-use Rattle.nap_draw.specs.Draws.{stream}
-use Rattle.nap_list.specs.declared.entry.Entry.{Entry}
-use Rattle.nap_list.specs.declared.sink.Sink.{Ghosts}
-use Rattle.nap_list.specs.State.{start}
-use Rattle.nap_lines.specs.Lines.{line}
-use Rattle.nap_lines.specs.Listing.{LineSinkState, TakesLinesOf, lines}
-use Rattle.nap_reader.specs.declared.fault.Fault.{Fault}
+use Rattle.nap_command.proofs.Common.{AddsAhead, Ahead, AllocError, Answers, AnswersBy, AreNew, BreaksInRun, BreaksWithin, Entry, Err, Fault, Ghosts, HasRead, IfOk, IsPlaced, LineSinkState, List, None, Ok, Option, Outcome, PlacesText, Reader, Refusal, Result, Some, StopsAt, StopsBy, TakesLinesOf, [], ap, append-nil, append_assoc, arith, begun, begun_comes_first, budget_of, bytes_ahead, came_with, cause_of, drop, drop-append-le, drop_all, drop_at, ended_by, entries_added, false, fed_breaks_among, get_or, get_or_append_left, inr, left_of, length, length-append, length-drop, line, line_at, lines, lines_at, lines_on, means, more_bytes_keep_entries, more_bytes_keep_refusal, places, places_before, refl, refusal_of, sink_of, start, step_of, stream, subst, suc, sym, take, take-add, take-append-drop, take-append-le, take-take, take_all, true, zero, ℕ, ◌++◌, ◌+◌, ◌-◌, ◌<◌, ◌∙◌, ◌∷◌, ◌≡◌, ◌≢◌, ◌≤◌}
 use Rattle.nap_reader.specs.declared.fault.Fault.TheVariants as fault
-use Rattle.nap_reader.specs.declared.fault.Refusal.{Refusal}
-use Rattle.nap_reader.specs.declared.reader.Reader.{Reader}
-use Rattle.std.specs.Prelude.{IfOk}
-use Rattle.std.specs.declared.alloc.AllocError.{AllocError}
-use Rattle.nap_reader.specs.declared.reader.ahead.Ahead.{Ahead}
 use Rattle.nap_reader.specs.declared.reader.ahead.Ahead.TheVariants as ahead
-use Rattle.nap_reader.specs.Looking.{AddsAhead, bytes_ahead}
-use Rattle.nap_reader.specs.Breaking.{BreaksInRun, BreaksWithin, cause_of}
-use Rattle.nap_reader.specs.ReaderAnswers.{Answers, AnswersBy, HasRead, StopsAt, StopsBy, budget_of, left_of, refusal_of, sink_of}
-use Rattle.nap_reader.specs.Stream.{Outcome, begun, ended_by, means}
-use Rattle.nap_reader.proofs.PublicLaws.{begun_comes_first, fed_breaks_among, more_bytes_keep_entries, more_bytes_keep_refusal}
-use Rattle.nap_command.specs.declared.batch.places.PlacesText.{PlacesText}
-use Rattle.nap_command.specs.Answers.{IsPlaced, entries_added, came_with, line_at, lines_at, places, places_before}
-use Rattle.nap_command.specs.Placing.{AreNew, lines_on, step_of}
 use Rattle.nap_command.proofs.WriteLemmas.{all_alike, one_on}
 
 -- The lines of a page's entries, each after its place, byte by byte.

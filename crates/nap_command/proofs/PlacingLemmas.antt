@@ -1,17 +1,8 @@
 -- The places of the entries of a page.
 
-use Rattle.std.proofs.Common.{ℕ, zero, suc, ◌+◌, ◌-◌, ◌<◌, ◌≤◌, ◌≡◌, ◌⊎◌, List, [], ◌∷◌, ◌++◌, All, length, take, drop, take-add, refl, ap, sym, subst, ◌∙◌, inl, inr, append_assoc, length-append, arith}
-use Rattle.std.proofs.lemmas.Bool.{cases_lt}
-use Rattle.std.proofs.lemmas.List.{drop_all, drop_at, take_all, take-append-le, drop-append-le}
-use Rattle.std.proofs.lemmas.List.Elements.{All-nil, All-cons, All-head, All-tail, All-same, All-append, All-take, All-drop, All-weaker}
-use Rattle.nap_codes.specs.declared.code_set.CodeSets.{CodeSets}
+use Rattle.nap_command.proofs.Common.{All, All-append, All-cons, All-drop, All-head, All-nil, All-same, All-tail, All-take, All-weaker, CodeSets, Entry, List, Machine, NeverFalls, Outcome, PartsAt, PlacesAreExact, [], ap, append_assoc, arith, begun, begun_comes_first, came_with, cases_lt, drop, drop-append-le, drop_all, drop_at, entries_added, front_after_front, inl, inr, length, length-append, line_at, lines_at, lines_placed, means, more_bytes_keep_entries, nothing, outcome_from, placed_from, places, places_before, refl, start_machine, stream_front, subst, suc, sym, take, take-add, take-append-le, take_all, zero, ℕ, ◌++◌, ◌+◌, ◌-◌, ◌<◌, ◌∙◌, ◌∷◌, ◌≡◌, ◌≤◌, ◌⊎◌}
 use Rattle.nap_codes.specs.Front as codes
-use Rattle.nap_list.specs.declared.entry.Entry.{Entry}
 use Rattle.nap_reader.specs.Course as course
-use Rattle.nap_reader.specs.Stream.{Machine, Outcome, begun, stream_front, means, nothing, outcome_from, placed_from, start_machine}
-use Rattle.nap_reader.proofs.PublicLaws.{begun_comes_first, front_after_front, more_bytes_keep_entries}
-use Rattle.nap_command.specs.Answers.{entries_added, came_with, line_at, lines_at, places, places_before}
-use Rattle.nap_command.specs.Laws.{ArePlaces, NeverFalls, PartsAt, PlacesAreExact, lines_placed}
 
 -- one place for each entry
 abbrev repeated : ℕ → List Entry → List ℕ

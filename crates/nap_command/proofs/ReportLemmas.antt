@@ -1,15 +1,7 @@
-use Rattle.std.proofs.Common.{◌≡◌, ◌≤◌, ◌||◌, ℕ, List, Bool, true, false, Option, Result, Ok, Err, is_err, refl, sym, subst, ◌∙◌, take, length, length-take, arith}
-use Rattle.std.proofs.lemmas.List.{take_all}
-use Rattle.std.proofs.Math.Bool.{or-true}
-use Rattle.std.specs.Io.KnownBytes.{Appends}
-use Rattle.nap_command.specs.declared.failure.Failure.{Failure}
+use Rattle.nap_command.proofs.Common.{Appends, Bool, Ended, Err, Failure, List, Ok, Option, ReportsEnd, Result, TakesText, arith, ended_text, exit_status, false, is_err, length, length-take, or-true, refl, reported_text, subst, sym, take, take_all, true, ℕ, ◌||◌, ◌∙◌, ◌≡◌, ◌≤◌}
 use Rattle.nap_command.specs.declared.failure.Failure.TheVariants as failure
-use Rattle.nap_command.specs.Devices.{TakesText}
 use Rattle.nap_command.specs.Commands as commands
-use Rattle.nap_command.specs.Failures.{exit_status, reported_text}
-use Rattle.nap_command.specs.declared.batch.service.Ended.{Ended}
 use Rattle.nap_command.specs.declared.batch.service.Ended.TheVariants as ended
-use Rattle.nap_command.specs.Sessions.{ReportsEnd, ended_text}
 
 -- The report of an end on standard error.
 

@@ -1,19 +1,4 @@
-use Rattle.std.proofs.Common.{ℕ, ◌^◌, ◌<◌, ◌≤◌, ◌≡◌, ◌≢◌, List, [], ◌∷◌, ◌++◌, length, take, get_or, zero, suc, refl, ap, sym, subst, ◌∙◌, arith}
-use Rattle.std.specs.Prelude.{All}
-use Rattle.std.specs.Char.{digit_value}
-use Rattle.std.specs.Str.Parse.{AllDigits, digits_value}
-use Rattle.std.proofs.Math.Nat.{pow-le-pow_right}
-use Rattle.std.proofs.lemmas.Int.Digits.{digits_value-lt}
-use Rattle.std.proofs.lemmas.List.{length-take-le}
-use Rattle.std.proofs.lemmas.Str.Parse.{digit_from_value}
-use Rattle.std.proofs.lemmas.List.Elements.{All-cons, All-head, All-nil, All-tail}
-use Rattle.nap_command.specs.declared.batch.request.Question.{Question}
-use Rattle.nap_command.specs.declared.batch.request.Question.TheVariants as question
-use Rattle.nap_command.specs.declared.batch.request.RequestLine.{RequestLine}
-use Rattle.nap_reader.specs.Budgets.{most_budget}
-use Rattle.nap_command.specs.Limits.{page_limit}
-use Rattle.nap_make.specs.Cutting.{SplitsAtByte}
-use Rattle.nap_command.specs.Requests.{IsLine, IsNumber, question_name}
+use Rattle.nap_command.proofs.Common.{All, All-cons, All-head, All-nil, All-tail, AllDigits, IsLine, IsNumber, List, Question, RequestLine, SplitsAtByte, [], ap, arith, digit_from_value, most_budget, page_limit, question_name, refl, subst, sym, ℕ, ◌++◌, ◌<◌, ◌∙◌, ◌∷◌, ◌≡◌, ◌≢◌, ◌≤◌}
 
 -- A list is split at the first byte of a value in one way.
 
@@ -47,11 +32,7 @@ apart b [] least above = All-nil (λ x. x ≢ b)
 apart b (x ∷ xs) least above = All-cons (λ y. y ≢ b) x xs (λ is. omega arith) (apart b xs least above.1)
 
 pub name_above : (c : Question) → Above (question_name c)
-name_above question.Check = omega arith
-name_above question.List = omega arith
-name_above question.Canon = omega arith
-name_above question.Places = omega arith
-name_above question.Make = omega arith
+name_above c = grind arith
 
 pub digits_above : (ds : List ℕ) → AllDigits 10 ds → Above ds
 digits_above [] all = tt

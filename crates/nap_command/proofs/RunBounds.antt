@@ -1,29 +1,10 @@
 -- How many entries an opcode adds.
 
-use Rattle.std.proofs.Common.{ℕ, zero, suc, ◌+◌, ◌-◌, ◌%◌, ◌/◌, ◌==◌, nat_lt, option_and_then, if◌then◌else◌, ◌≤◌, ◌≡◌, Bool, true, false, List, [], ◌∷◌, ◌++◌, length, map, Option, Some, None, option_map, Result, Ok, Err, refl, slice_index, arith}
-use Rattle.std.proofs.lemmas.List.{length-map}
-use Rattle.nap_values.specs.Coordinates.{Coordinates, Displacement, point_at, displaced_point}
-use Rattle.nap_values.specs.Colours.{Components}
-use Rattle.nap_values.specs.Operands.{multi_of, colour_of}
-use Rattle.nap_codes.specs.declared.opcode.Opcode.{Opcode}
+use Rattle.nap_command.proofs.Common.{Area, Bool, Colour, Components, Coordinates, Displacement, DrawFault, Drawing, Entry, Err, List, None, Ok, Opcode, Option, Result, RuleResult, Some, Work, [], absolute_spans, and_then, arc_on, arc_points, area_of, arith, at_least_one, at_most_limit, blink, blinks, circle_closed, colour_of, complete_pairs, cons_if_all, corner, cut_operands, displaced_point, domain_in, domain_rule, entries_result, entry_result, false, field_on, first_and_more, from_pen, if◌then◌else◌, is_known, length, length-map, map, map_rule, moves, moves_of, multi_of, nat_lt, operands, option_and_then, option_map, pen_point, pen_result, point_at, point_entry, points_at, points_reached, poly_on, poly_points, polyline_spans, rect_chain_spans, rect_on, refl, relative_spans, rule, rule_result, set_color_rule, set_color_under, shape_from_pen, shape_from_point, slice_index, span, span_by, span_line_entry, steps_limit, suc, true, with_domain, with_map_colour, with_operands, with_pairs, zero, ℕ, ◌%◌, ◌++◌, ◌+◌, ◌-◌, ◌/◌, ◌==◌, ◌∷◌, ◌≡◌, ◌≤◌}
 use Rattle.nap_codes.specs.declared.opcode.Opcode.TheVariants as opcodes
-use Rattle.nap_list.specs.declared.attribute.Colour.{Colour}
 use Rattle.nap_list.specs.declared.attribute.Colour.TheVariants as colours
-use Rattle.nap_list.specs.declared.attribute.Area.{Area}
-use Rattle.nap_list.specs.declared.entry.Entry.{Entry}
 use Rattle.nap_list.specs.declared.entry.Entry.TheVariants as entries
-use Rattle.nap_list.specs.declared.state.Drawing.{Drawing}
-use Rattle.nap_list.specs.Limits.{steps_limit}
-use Rattle.nap_list.specs.Known.{is_known}
-use Rattle.nap_list.specs.Batches.{point_entry}
-use Rattle.nap_list.specs.Shapes.{circle_closed}
-use Rattle.nap_list.specs.State.{corner}
-use Rattle.nap_draw.specs.declared.work.Work.{Work}
-use Rattle.nap_draw.specs.declared.fault.DrawFault.{DrawFault}
 use Rattle.nap_draw.specs.declared.fault.DrawFault.TheVariants as faults
-use Rattle.nap_draw.specs.Operands.{cut_operands, operands, moves}
-use Rattle.nap_draw.specs.Geometry.{arc_points, poly_points, cons_if_all, points_at, points_reached, polyline_spans, span_by, span, absolute_spans, relative_spans, rect_chain_spans}
-use Rattle.nap_draw.specs.Rule.{RuleResult, and_then, arc_on, poly_on, at_least_one, at_most_limit, area_of, blink, blinks, complete_pairs, domain_in, domain_rule, field_on, entries_result, entry_result, first_and_more, from_pen, map_rule, moves_of, pen_point, pen_result, rule, rule_result, set_color_rule, set_color_under, shape_from_pen, shape_from_point, span_line_entry, rect_on, with_domain, with_map_colour, with_operands, with_pairs}
 
 -- the number of points of arcs and polygons
 

@@ -1,14 +1,7 @@
-use Rattle.std.proofs.Common.{ℕ, ◌+◌, ◌^◌, ◌-◌, ◌≡◌, ◌≤◌, List, ◌++◌, Bool, true, Option, Result, Ok, Err, length, min, take, take-add, drop, ap, subst, sym, ◌∙◌, arith, length-append, length-drop}
-use Rattle.std.proofs.KnownBytes.{Appends-kept, Appends-trans}
-use Rattle.std.proofs.Math.Seq.{take-append-add}
-use Rattle.std.proofs.lemmas.List.{length-take, length-take-le, take-append-le, take_all}
-use Rattle.std.specs.Io.KnownBytes.{Appends, Keeps}
+use Rattle.nap_command.proofs.Common.{Appends-trans, Bool, Err, List, Ok, Result, SendsBytes, SendsHead, SendsText, ap, arith, count_on, flush_count, flushed_once, length, length-append, length-take, length-take-le, min, stopped_grows, sym, take, take-append-add, take-append-le, ℕ, ◌++◌, ◌+◌, ◌-◌, ◌^◌, ◌∙◌, ◌≡◌, ◌≤◌}
 use Rattle.nap_list.specs.declared.device.outlet.Outlet as outlet
-use Rattle.nap_list.specs.Flushing.{flush_count}
-use Rattle.nap_list.specs.Sending.{SendsBytes, stopped_grows}
 use Rattle.nap_command.specs.declared.batch.service.Ended.{Ended}
 use Rattle.nap_command.specs.declared.batch.service.Ended.TheVariants as ended
-use Rattle.nap_command.specs.Sessions.{SendsHead, SendsText, count_on, flushed_once}
 
 -- An answer is sent in two parts.
 

@@ -1,14 +1,6 @@
-use Rattle.std.proofs.Common.{ℕ, ◌+◌, ◌-◌, ◌^◌, ◌≡◌, List, [], ◌∷◌, ◌++◌, length, min, refl, ap, sym, ◌∙◌, inl, inr, append_assoc, length-append, arith}
-use Rattle.std.specs.Prelude.{All, flat_map}
-use Rattle.std.specs.Io.KnownBytes.{IsAtEnd}
-use Rattle.std.proofs.lemmas.List.{flat_map_more}
-use Rattle.std.proofs.lemmas.List.Elements.{All-push}
-use Rattle.nap_list.specs.Reading.{Reading, NoneFailed}
+use Rattle.nap_command.proofs.Common.{All, All-push, Exchange, IsAtEnd, IsBegun, IsExchange, List, NoneFailed, Pipes, Reading, ReadingEnds, RunEnds, StopsIn, [], ap, append_assoc, arith, end_of, flat_map, flat_map_more, inl, inr, length, length-append, min, reading_between, refl, sym, ℕ, ◌++◌, ◌+◌, ◌-◌, ◌^◌, ◌∙◌, ◌∷◌, ◌≡◌}
 use Rattle.nap_command.specs.declared.batch.service.Ended.{Ended}
 use Rattle.nap_command.specs.declared.batch.service.Ended.TheVariants as ended
-use Rattle.nap_command.specs.Requests.{IsBegun}
-use Rattle.nap_command.specs.Sessions.{RunEnds, Exchange, IsExchange, Pipes, StopsIn, reading_between}
-use Rattle.nap_command.specs.Waiting.{ReadingEnds, end_of}
 
 -- Requests and answers in sequence, and how they end.
 

@@ -1,12 +1,6 @@
-use Rattle.std.proofs.Common.{◌≡◌, ◌≤◌, ◌||◌, ℕ, List, Bool, Option, Result, Ok, Err, is_err, refl, sym, subst, take, length, length-take, arith}
-use Rattle.std.proofs.lemmas.List.{take_all}
-use Rattle.std.proofs.Math.Bool.{or-true}
-use Rattle.std.specs.Io.KnownBytes.{Appends}
+use Rattle.nap_command.proofs.Common.{Appends, Bool, Err, List, Ok, Option, Reports, Result, TakesText, arith, is_err, length, length-take, or-true, refl, reported_text, status_of, subst, sym, take, take_all, ℕ, ◌||◌, ◌≡◌, ◌≤◌}
 use Rattle.nap_command.specs.declared.failure.Failure.{Failure}
 use Rattle.nap_command.specs.declared.failure.Failure.TheVariants as failure
-use Rattle.nap_command.specs.Devices.{TakesText}
-use Rattle.nap_command.specs.Commands.{Reports}
-use Rattle.nap_command.specs.Failures.{status_of, reported_text}
 
 -- What standard error took of a line that was written.
 

@@ -1,43 +1,14 @@
 -- How many bytes the canonical text of an entry takes at most.
 
-use Rattle.std.proofs.Common.{ℕ, zero, suc, ◌+◌, ◌*◌, ◌%◌, ◌^◌, ◌==◌, ◌&&◌, ◌≤◌, ◌≡◌, Bool, true, false, if◌then◌else◌, List, [], ◌∷◌, ◌++◌, length, map, Option, Some, None, refl, ap, length-append, arith}
-use Rattle.std.proofs.lemmas.List.{length-map}
-use Rattle.nap_values.specs.Colours.{Components}
-use Rattle.nap_values.specs.Coordinates.{Coordinates, Displacement, displacement_to}
-use Rattle.nap_values.specs.Digits.{digits_of}
-use Rattle.nap_values.specs.TwosComplement.{bits_of}
-use Rattle.nap_values.specs.Spellings.{addr_bytes, grb_bytes, move_bytes, point_bytes, words_of_pairs, words_of_triples}
-use Rattle.nap_codes.specs.declared.code_set.CharSet.{CharSet}
-use Rattle.nap_codes.specs.declared.code_set.CharSet.TheVariants as chars
-use Rattle.nap_codes.specs.declared.code_set.GSet.{GSet}
-use Rattle.nap_codes.specs.declared.code_set.GSet.TheVariants.{G0, G1, G2, G3}
-use Rattle.nap_codes.specs.declared.control.TextStep.{TextStep}
-use Rattle.nap_codes.specs.declared.control.TextStep.TheVariants as steps
-use Rattle.nap_list.specs.declared.attribute.Area.{Area}
+use Rattle.nap_command.proofs.Common.{Area, Attributes, Base, Bool, CharSet, CharSize, Colour, Components, Coordinates, Displacement, Drawing, Entry, GSet, List, None, Option, Pen, Piece, Some, State, TextEnd, TextLook, TextStep, Texture, [], addr_bytes, after, ap, area_bytes, arith, attributes, base_commands, bits_of, char_piece, colour_commands, colour_prelude, command_piece, control, digits_of, displacement_bytes, displacement_to, domain_again, entry_pieces, escape, false, flag_commands, given_size_commands, gl_of, grb_bytes, group, if◌then◌else◌, joins_open_run, length, length-append, length-map, line_between, line_piece, map, mask_commands, move_bytes, named_size_commands, pel_prelude, pen_commands, pen_prelude, piece_bytes, pieces, pieces_bytes, point_bytes, prelude, primary, refl, same_base, same_colour, same_flag, same_move, same_pen, same_size, same_texture, shape_bytes, shift_to_opcodes, shift_to_primary, spelling_pieces, step_bytes, suc, text_end_after_piece, text_prelude, texture_prelude, true, unless, with_attributes, word_byte, words_commands, words_of_pairs, words_of_triples, zero, ℕ, ◌%◌, ◌&&◌, ◌*◌, ◌++◌, ◌+◌, ◌==◌, ◌^◌, ◌∷◌, ◌≡◌, ◌≤◌}
 use Rattle.nap_list.specs.declared.attribute.Area.TheVariants as areas
-use Rattle.nap_list.specs.declared.attribute.Attributes.{Attributes}
-use Rattle.nap_list.specs.declared.attribute.Base.{Base}
 use Rattle.nap_list.specs.declared.attribute.Base.TheVariants as bases
-use Rattle.nap_list.specs.declared.attribute.CharSize.{CharSize}
 use Rattle.nap_list.specs.declared.attribute.CharSize.TheVariants as sizes
-use Rattle.nap_list.specs.declared.attribute.Colour.{Colour}
 use Rattle.nap_list.specs.declared.attribute.Colour.TheVariants as colours
-use Rattle.nap_list.specs.declared.attribute.Pen.{Pen}
 use Rattle.nap_list.specs.declared.attribute.Pen.TheVariants as pens
-use Rattle.nap_list.specs.declared.attribute.TextLook.{TextLook}
-use Rattle.nap_list.specs.declared.attribute.Texture.{Texture}
-use Rattle.nap_list.specs.declared.entry.Entry.{Entry}
 use Rattle.nap_list.specs.declared.entry.Entry.TheVariants as entries
-use Rattle.nap_list.specs.declared.state.Drawing.{Drawing}
-use Rattle.nap_list.specs.declared.state.State.{State}
-use Rattle.nap_list.specs.Entry.{attributes}
-use Rattle.nap_list.specs.State.{after, with_attributes}
 use Rattle.nap_canon.specs.declared.form.Form.TheVariants.{Two}
-use Rattle.nap_canon.specs.declared.text_end.TextEnd.{TextEnd}
-use Rattle.nap_canon.specs.Equality.{same_base, same_colour, same_flag, same_move, same_pen, same_size, same_texture}
-use Rattle.nap_canon.specs.Preludes.{base_commands, colour_commands, colour_prelude, flag_commands, given_size_commands, mask_commands, named_size_commands, pel_prelude, pen_commands, pen_prelude, prelude, text_prelude, texture_prelude, unless, words_commands}
-use Rattle.nap_canon.specs.Spelling.{Piece, area_bytes, char_piece, domain_again, escape, line_piece, word_byte, command_piece, control, displacement_bytes, group, line_between, opcode, primary, shape_bytes, spelling_pieces, step_bytes}
-use Rattle.nap_canon.specs.Text.{entry_pieces, gl_of, joins_open_run, piece_bytes, pieces, pieces_bytes, shift_to_opcodes, shift_to_primary, text_end_after_piece}
+use Rattle.nap_canon.specs.Spelling.{opcode}
 use Rattle.nap_command.proofs.RunBounds.{points_in, points_of}
 
 -- the bytes of a piece at most: its own, those of an opcode, and that of a shift
@@ -57,16 +28,10 @@ cost_append [] qs = omega arith
 cost_append (p ∷ ps) qs = omega (arith, cost_append ps qs)
 
 shift_out_few : (gl : GSet) → length (shift_to_opcodes gl) ≤ 1
-shift_out_few G0 = omega arith
-shift_out_few G1 = omega arith
-shift_out_few G2 = omega arith
-shift_out_few G3 = omega arith
+shift_out_few gl = grind arith
 
 shift_in_few : (gl : GSet) → length (shift_to_primary gl) ≤ 1
-shift_in_few G0 = omega arith
-shift_in_few G1 = omega arith
-shift_in_few G2 = omega arith
-shift_in_few G3 = omega arith
+shift_in_few gl = grind arith
 
 piece_few : (t : TextEnd) (p : Piece) → length (piece_bytes t p) ≤ cost_of p
 piece_few t (opcode byte operands) = omega (arith, length-append (shift_to_opcodes (gl_of t)) (byte ∷ operands), shift_out_few (gl_of t))
@@ -159,11 +124,7 @@ pel_few old None = omega arith
 pel_few old (Some m) = unless_few 11 (same_move old m) _ (omega (arith, move_few m))
 
 base_few : (old : Colour) → cost (map command_piece (base_commands old)) ≤ 2
-base_few (colours.Own origin) = omega arith
-base_few (colours.Direct grb) = omega arith
-base_few (colours.Front a) = omega arith
-base_few (colours.Pair a b) = omega arith
-base_few (colours.ByReset preset) = omega arith
+base_few old = grind arith
 
 colour_commands_few : (base : Base) (old colour : Colour) → cost (map command_piece (colour_commands base old colour)) ≤ 12
 colour_commands_few base old (colours.Own origin) = omega arith
@@ -238,19 +199,10 @@ shape_few [] = omega arith
 shape_few (p ∷ ps) = omega (arith, length-append (point_bytes p) (displacement_bytes p ps), point_few p, displacements_few p ps)
 
 pub char_few : (set : CharSet) (code : ℕ) → cost_of (char_piece set code) ≤ 8
-char_few chars.Primary code = omega arith
-char_few chars.Supplementary code = omega arith
-char_few chars.Mosaic code = omega arith
-char_few chars.Drcs code = omega arith
+char_few set code = grind arith
 
 step_few : (step : TextStep) → length (step_bytes step) ≤ 3
-step_few steps.Apb = omega arith
-step_few steps.Apf = omega arith
-step_few steps.Apd = omega arith
-step_few steps.Apu = omega arith
-step_few steps.Apr = omega arith
-step_few steps.Aph = omega arith
-step_few (steps.Aps a b) = omega arith
+step_few step = grind arith
 
 area_few : (area : Area) → length (area_bytes area) ≤ 16
 area_few areas.Whole = omega arith

@@ -1,19 +1,9 @@
-use Rattle.std.proofs.Common.{ℕ, ◌+◌, ◌-◌, ◌≤◌, ◌≡◌, ◌≢◌, List, [], ◌∷◌, ◌++◌, Option, None, Some, Result, Ok, Err, length, max, refl, ap, sym, subst, ◌∙◌, inl, inr, append-nil, append_assoc, length-append, arith}
-use Rattle.std.specs.Io.KnownBytes.{Consumes, IsAtEnd, Keeps}
-use Rattle.std.proofs.KnownBytes.{Consumes-trans}
+use Rattle.nap_command.proofs.Common.{Buffered, Consumes, Consumes-trans, Ended, Err, FindsRequest, FoundRequest, IsAsked, IsAtEnd, IsBegun, IsCutShort, IsDropped, IsFound, IsLast, IsMore, IsSkipped, IsStep, IsWhole, Keeps, KeepsWithin, List, NeverStarts, None, NoneFailed, Ok, Option, Reading, ReadingEnds, ReadsOn, RequestLine, Result, Skips, Some, TakesMemory, [], ap, append-nil, append_assoc, arith, end_of, inl, inr, length, length-append, max, memory_for, reading, reads_limit, refl, subst, sym, ℕ, ◌++◌, ◌+◌, ◌-◌, ◌∙◌, ◌∷◌, ◌≡◌, ◌≢◌, ◌≤◌}
 use Rattle.nap_list.specs.declared.device.inlet.Inlet as inlet
-use Rattle.nap_list.specs.Limits.{reads_limit}
-use Rattle.nap_list.specs.Reading.{Reading, NoneFailed, reading}
 use Rattle.nap_command.specs.declared.batch.input_buffer.Stop.TheVariants as stop
-use Rattle.nap_command.specs.declared.batch.request.RequestLine.{RequestLine}
-use Rattle.nap_command.specs.declared.batch.service.Ended.{Ended}
 use Rattle.nap_command.specs.declared.batch.service.Ended.TheVariants as ended
-use Rattle.nap_command.specs.declared.batch.waiting.FoundRequest.{FoundRequest}
 use Rattle.nap_command.specs.declared.batch.waiting.FoundRequest.TheVariants as found
 use Rattle.nap_command.specs.declared.batch.waiting.ReadStep.TheVariants as step
-use Rattle.nap_command.specs.Buffering.{Buffered, KeepsWithin, TakesMemory, memory_for}
-use Rattle.nap_command.specs.Requests.{IsBegun, IsMore, IsCutShort, IsWhole, NeverStarts}
-use Rattle.nap_command.specs.Waiting.{FindsRequest, IsAsked, IsDropped, IsFound, IsLast, IsSkipped, IsStep, ReadsOn, Skips, ReadingEnds, end_of}
 use Rattle.nap_command.proofs.FrontLemmas.{made_whole, more_begun, some_front, still_short}
 use Rattle.nap_command.proofs.MemoryLemmas.{keeps_on, stays_within, takes_within}
 use Rattle.nap_command.proofs.SessionLemmas.{ends_there, stops_alike}

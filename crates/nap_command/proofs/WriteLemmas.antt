@@ -1,14 +1,5 @@
-use Rattle.std.proofs.Common.{ℕ, zero, suc, ◌+◌, ◌-◌, ◌≡◌, ◌≢◌, ◌<◌, ◌≤◌, List, [], ◌∷◌, ◌++◌, Bool, true, false, cond, length, take, drop, get_or, Option, Some, None, refl, ap, sym, subst, ◌∙◌, arith, append-nil, append_assoc, length-append}
-use Rattle.std.specs.Prelude.{decimal, ◌==◌}
-use Rattle.std.proofs.lemmas.Bool.{eq-eqb, eqb-true}
-use Rattle.std.proofs.lemmas.List.{drop_at, get_or_append_left, take_at, take_all}
-use Rattle.std.proofs.Math.Seq.{get_or-append_seam}
-use Rattle.memchr.specs.Find.{IsFirstByte, is_byte}
+use Rattle.nap_command.proofs.Common.{AreNew, Bool, IsFirstByte, List, None, Some, [], ap, append-nil, append_assoc, arith, cond, decimal, drop, drop_at, eq-eqb, eqb-true, false, get_or, get_or-append_seam, get_or_append_left, is_byte, length, length-append, line, line_at, lines, lines_at, lines_join, lines_on, refl, subst, suc, sym, take, take_at, true, zero, ℕ, ◌++◌, ◌+◌, ◌<◌, ◌==◌, ◌∙◌, ◌∷◌, ◌≡◌, ◌≢◌, ◌≤◌}
 use Rattle.nap_list.specs.declared.entry.Entry.{Entry}
-use Rattle.nap_lines.specs.Lines.{line}
-use Rattle.nap_lines.specs.Listing.{lines, lines_join}
-use Rattle.nap_command.specs.Answers.{line_at, lines_at}
-use Rattle.nap_command.specs.Placing.{AreNew, lines_on}
 use Rattle.nap_command.proofs.LineLemmas.{line_plain, plain}
 
 -- How lines are written after their places.

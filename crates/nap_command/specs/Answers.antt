@@ -1,25 +1,18 @@
 use Rattle.std.specs.Prelude.{ℕ, zero, suc, ◌≡◌, ◌≢◌, ◌⊎◌, ◌+◌, ◌^◌, ◌≤◌, false, List, [], ◌∷◌, ◌++◌, Some, Result, Ok, Err, decimal, drop, flat_map, length, take, IfSome, IsSome}
-use Rattle.nap_list.specs.declared.entry.Entry.{Entry}
+use Rattle.nap_command.specs.Types.{Action, Command, Entry, Failure, MakeFault, PageText, Question, Refusal}
 use Rattle.nap_reader.specs.declared.fault.Fault.TheVariants as fault
-use Rattle.nap_reader.specs.declared.fault.Refusal.{Refusal}
 use Rattle.nap_reader.specs.Breaking.{BreaksWithin, LacksWithin}
 use Rattle.nap_reader.specs.Stream.{begun, means, refusal}
-use Rattle.nap_canon.specs.declared.page.PageText.{PageText}
 use Rattle.nap_canon.specs.Streams.{IsAccepted, list_of}
 use Rattle.nap_canon.specs.Text.{text}
 use Rattle.nap_lines.specs.Lines.{line}
 use Rattle.nap_lines.specs.Listing.{lines}
-use Rattle.nap_make.specs.declared.lines.fault.MakeFault.{MakeFault}
 use Rattle.nap_make.specs.Making.{IsMadeOf}
 use Rattle.nap_make.specs.Texts.{DeniesLines}
-use Rattle.nap_command.specs.declared.command.Action.{Action}
 use Rattle.nap_command.specs.declared.command.Action.TheVariants as action
-use Rattle.nap_command.specs.declared.command.Command.{Command}
-use Rattle.nap_command.specs.declared.failure.Failure.{Failure}
 use Rattle.nap_command.specs.Commands.{Denies, count_line}
 use Rattle.nap_command.specs.Failures.{failure_text, refusal_text}
 use Rattle.nap_command.specs.Making.{failure_of}
-use Rattle.nap_command.specs.declared.batch.request.Question.{Question}
 use Rattle.nap_command.specs.declared.batch.request.Question.TheVariants as question
 
 -- The line of an answer.

@@ -1,7 +1,6 @@
 use Rattle.std.specs.Prelude.{ℕ, ◌≡◌, ◌+◌, ◌*◌, ◌<◌, ◌≤◌, List, ◌++◌, Result, Err, length, max}
-use Rattle.nap_command.specs.declared.batch.input_buffer.Stop.{Stop}
+use Rattle.nap_command.specs.Types.{Question, Stop}
 use Rattle.nap_command.specs.declared.batch.input_buffer.Stop.TheVariants as stop
-use Rattle.nap_command.specs.declared.batch.request.Question.{Question}
 use Rattle.nap_list.specs.Limits.{read_limit}
 use Rattle.nap_command.specs.Requests.{IsRequest}
 

@@ -1,25 +1,22 @@
 use Rattle.std.specs.Prelude.{ℕ, ◌≡◌, ◌≢◌, ◌⊎◌, ◌==◌, ◌||◌, ◌+◌, ◌^◌, ◌≤◌, not, Bool, true, false, List, [], ◌∷◌, ◌++◌, length, take, filter, codes, decimal, Some, Result, Ok, Err, IsErr}
 use Rattle.std.specs.Io.KnownBytes.{Appends, Consumes}
 use Rattle.hex.specs.Hex.{decode_of, encode_lower}
-use Rattle.nap_list.specs.declared.count_sink.CountSink.{CountSink}
+use Rattle.nap_command.specs.Types.{Action, Command, CountSink, Failure, Refusal, Verdict}
 use Rattle.nap_reader.specs.declared.fault.Fault.TheVariants as fault
-use Rattle.nap_reader.specs.declared.fault.Refusal.{Refusal}
+use Rattle.nap_reader.specs.declared.twice.TwiceFault.{TwiceFault}
+use Rattle.nap_reader.specs.declared.twice.TwiceFault.TheVariants as twice_fault
 use Rattle.nap_reader.specs.Stream.{means}
 use Rattle.nap_reader.specs.Breaking.{BreaksWithin, LacksWithin}
 use Rattle.nap_canon.specs.declared.conversion.ConvertFault.{ConvertFault}
 use Rattle.nap_canon.specs.declared.conversion.ConvertFault.TheVariants as convert_fault
 use Rattle.nap_canon.specs.Converting.{Converts, StopsAtOnce, count_of}
 use Rattle.nap_canon.specs.Streams.{IsAccepted, list_of, IsCanonicalOf}
-use Rattle.nap_command.specs.declared.answer.Verdict.{Verdict}
 use Rattle.nap_command.specs.declared.answer.Verdict.TheVariants as verdict
-use Rattle.nap_command.specs.declared.command.Action.{Action}
 use Rattle.nap_command.specs.declared.command.Action.TheVariants as action
-use Rattle.nap_command.specs.declared.command.Command.{Command}
 use Rattle.nap_list.specs.Flushing.{flush_count}
 use Rattle.nap_list.specs.Limits.{reads_limit}
 use Rattle.nap_list.specs.declared.device.inlet.Inlet as inlet
 use Rattle.nap_list.specs.Reading.{Reading, NoneFailed, IsCutOff, IsReadWhole}
-use Rattle.nap_command.specs.declared.failure.Failure.{Failure}
 use Rattle.nap_command.specs.declared.failure.Failure.TheVariants as failure
 use Rattle.nap_lines.specs.Listing.{lines}
 use Rattle.nap_command.specs.Failures.{exit_status, refusal_text, reported_text}
@@ -123,26 +120,22 @@ EndsWhole c p input q false (Err f) = (q ≡ []) × Fails c p input f
 EndsWhole c p input q true (Err (failure.Write taken)) = (taken ≡ length q) × IsPartly c p input q
 EndsWhole c p input q true (Err _) = ⊥
 
--- Lines that are printed as they are made: if memory runs out, a prefix of them is printed.
-abbrev pub PrintsPart : Command → List ℕ → Reading → List ℕ → Failure → Type 0
-PrintsPart c p input q (failure.Refused r) = (r.fault ≡ fault.Memory) × ((whole : List ℕ) × Finds c p input whole verdict.Accepted × (take (length q) whole ≡ q))
-PrintsPart c p input q _ = ⊥
-
--- `list` read the bytes p, and printed q once all of the page was accepted. If it fails it prints nothing, except where
--- memory runs out as lines are made.
+-- `list` read the bytes p, and printed q once all of the page was accepted. If it fails it prints nothing, unless a write
+-- fails.
 abbrev pub EndsListed : Command → List ℕ → Reading → List ℕ → Bool → Result Verdict Failure → Type 0
 EndsListed c p input q false (Ok v) = Finds c p input q v
 EndsListed c p input q true (Ok v) = ⊥
-EndsListed c p input q false (Err f) = Fails c p input f × ((q ≡ []) ⊎ PrintsPart c p input q f)
+EndsListed c p input q false (Err f) = (q ≡ []) × Fails c p input f
 EndsListed c p input q true (Err (failure.Write taken)) = (taken ≡ count_of q) × IsPartly c p input q
 EndsListed c p input q true (Err _) = ⊥
 
 -- how a command ends after reading with this result, where the output took a number of bytes and has failed or hasn't
-abbrev pub ended_so : {S : Type 0} → Result S Refusal → Result Verdict Failure
+abbrev pub ended_so : {S : Type 0} → Result S TwiceFault → Result Verdict Failure
 ended_so (Ok s) = Ok verdict.Accepted
-ended_so (Err r) = Err (failure.Refused r)
+ended_so (Err (twice_fault.Refused r)) = Err (failure.Refused r)
+ended_so (Err twice_fault.Memory) = Err failure.Memory
 
-abbrev pub EndsSo : {S : Type 0} → Result S Refusal → ℕ → Bool → Result Verdict Failure → Type 0
+abbrev pub EndsSo : {S : Type 0} → Result S TwiceFault → ℕ → Bool → Result Verdict Failure → Type 0
 EndsSo found n true ended = ended ≡ Err (failure.Write n)
 EndsSo found n false ended = ended ≡ ended_so found
 

@@ -1,16 +1,12 @@
 use Rattle.std.specs.Prelude.{ℕ, ◌+◌, ◌*◌, ◌≡◌, ◌≢◌, ◌⊎◌, ◌<◌, ◌≤◌, List, [], ◌∷◌, ◌++◌, All, length, take, drop}
-use Rattle.nap_list.specs.declared.entry.Entry.{Entry}
+use Rattle.nap_command.specs.Types.{Action, Entry, Question, Refusal, Verdict}
 use Rattle.nap_reader.specs.declared.fault.Fault.TheVariants as fault
-use Rattle.nap_reader.specs.declared.fault.Refusal.{Refusal}
 use Rattle.nap_reader.specs.Stream.{begun, means}
 use Rattle.nap_canon.specs.Text.{text}
-use Rattle.nap_command.specs.declared.answer.Verdict.{Verdict}
 use Rattle.nap_command.specs.declared.answer.Verdict.TheVariants as verdict
-use Rattle.nap_command.specs.declared.command.Action.{Action}
 use Rattle.nap_command.specs.declared.command.Action.TheVariants as action
 use Rattle.nap_command.specs.declared.failure.Failure.TheVariants as failure
 use Rattle.nap_command.specs.Commands.{PrintsBy}
-use Rattle.nap_command.specs.declared.batch.request.Question.{Question}
 use Rattle.nap_command.specs.Answers.{DeniesPage, IsAnswer, line_at, page_command, places, question_of, refused_line}
 use Rattle.nap_command.specs.Requests.{IsBegun, IsRequest, StartsNone}
 

@@ -1,4 +1,5 @@
 -- A command.
+pub mod Types
 pub mod Failures
 pub mod Devices
 pub mod Commands

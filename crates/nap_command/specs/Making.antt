@@ -3,15 +3,13 @@ use Rattle.std.specs.Io.KnownBytes.{Appends, Consumes}
 use Rattle.nap_list.specs.Flushing.{flush_count}
 use Rattle.nap_list.specs.Limits.{reads_limit}
 use Rattle.nap_list.specs.Reading.{Reading, NoneFailed, IsCutOff, IsReadWhole}
-use Rattle.nap_make.specs.declared.lines.fault.MakeFault.{MakeFault}
+use Rattle.nap_command.specs.Types.{Failure, MakeFault, Verdict}
 use Rattle.nap_make.specs.declared.lines.fault.MakeFault.TheVariants as make_faults
 use Rattle.nap_make.specs.declared.page.PageFault.{PageFault}
 use Rattle.nap_make.specs.declared.page.PageFault.TheVariants as page_faults
 use Rattle.nap_make.specs.Making.{IsMadeOf}
 use Rattle.nap_make.specs.Pages.{MakesPage, RefusesLinesBy, ReadsNoMore}
-use Rattle.nap_command.specs.declared.answer.Verdict.{Verdict}
 use Rattle.nap_command.specs.declared.answer.Verdict.TheVariants as verdict
-use Rattle.nap_command.specs.declared.failure.Failure.{Failure}
 use Rattle.nap_command.specs.declared.failure.Failure.TheVariants as failure
 use Rattle.nap_command.specs.Commands.{Reports}
 use Rattle.nap_command.specs.Devices.{Devices, reading_of}

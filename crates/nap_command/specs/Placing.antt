@@ -1,7 +1,6 @@
 use Rattle.std.specs.Prelude.{ℕ, ◌≡◌, ◌+◌, List, [], ◌∷◌, ◌++◌, length}
-use Rattle.nap_list.specs.declared.entry.Entry.{Entry}
+use Rattle.nap_command.specs.Types.{Ahead, Entry}
 use Rattle.nap_lines.specs.Listing.{lines}
-use Rattle.nap_reader.specs.declared.reader.ahead.Ahead.{Ahead}
 use Rattle.nap_reader.specs.declared.reader.ahead.Ahead.TheVariants as ahead
 use Rattle.nap_command.specs.declared.batch.written.Written.{Written}
 use Rattle.nap_command.specs.Answers.{line_at}

@@ -5,9 +5,8 @@ use Rattle.nap_make.specs.Cutting.{SplitsAtByte}
 use Rattle.nap_make.specs.Numbers.{digits_limit}
 use Rattle.nap_command.specs.declared.batch.request.RequestFront.{RequestFront}
 use Rattle.nap_command.specs.declared.batch.request.RequestFront.TheVariants as front
-use Rattle.nap_command.specs.declared.batch.request.Question.{Question}
+use Rattle.nap_command.specs.Types.{Question, RequestLine}
 use Rattle.nap_command.specs.declared.batch.request.Question.TheVariants as question
-use Rattle.nap_command.specs.declared.batch.request.RequestLine.{RequestLine}
 use Rattle.nap_command.specs.Limits.{request_line_limit, page_limit}
 
 -- at most eight decimal digits write this number, which is at most `most`

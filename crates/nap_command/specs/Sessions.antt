@@ -7,8 +7,7 @@ use Rattle.nap_list.specs.Reading.{Reading}
 use Rattle.nap_command.specs.declared.failure.Failure.TheVariants as failure
 use Rattle.nap_command.specs.Devices.{Devices}
 use Rattle.nap_command.specs.Failures.{failure_text}
-use Rattle.nap_command.specs.declared.batch.request.Question.{Question}
-use Rattle.nap_command.specs.declared.batch.service.Ended.{Ended}
+use Rattle.nap_command.specs.Types.{Ended, Question}
 use Rattle.nap_command.specs.declared.batch.service.Ended.TheVariants as ended
 use Rattle.nap_command.specs.Answers.{IsAnswer, answer_text}
 use Rattle.nap_command.specs.Buffering.{Buffered}

@@ -4,14 +4,10 @@ use Rattle.nap_list.specs.declared.device.inlet.Inlet as inlet
 use Rattle.nap_list.specs.declared.device.DeviceFault.{DeviceFault}
 use Rattle.nap_list.specs.Limits.{read_limit, reads_limit}
 use Rattle.nap_list.specs.Reading.{Reading, NoneFailed, reading}
-use Rattle.nap_command.specs.declared.batch.input_buffer.Stop.{Stop}
+use Rattle.nap_command.specs.Types.{Ended, FoundRequest, Question, ReadStep, Stop}
 use Rattle.nap_command.specs.declared.batch.input_buffer.Stop.TheVariants as stop
-use Rattle.nap_command.specs.declared.batch.request.Question.{Question}
-use Rattle.nap_command.specs.declared.batch.service.Ended.{Ended}
 use Rattle.nap_command.specs.declared.batch.service.Ended.TheVariants as ended
-use Rattle.nap_command.specs.declared.batch.waiting.FoundRequest.{FoundRequest}
 use Rattle.nap_command.specs.declared.batch.waiting.FoundRequest.TheVariants as found
-use Rattle.nap_command.specs.declared.batch.waiting.ReadStep.{ReadStep}
 use Rattle.nap_command.specs.declared.batch.waiting.ReadStep.TheVariants as step
 use Rattle.nap_command.specs.Buffering.{Buffered, KeepsWithin}
 use Rattle.nap_command.specs.Requests.{IsBegun, IsRequest, IsWhole, NeverStarts}

@@ -29,7 +29,7 @@ pub enum Verdict {
 
 /// What a command prints, with what it says about the stream.
 #[derive(Drop)]
-pub struct Printout {
+pub(crate) struct Printout {
     /// The bytes to print.
     pub text: Vec<u8>,
     /// Whether the stream is accepted.
@@ -72,7 +72,7 @@ pub(crate) fn bytes_of_hex(alloc: Global, text: &[u8]) -> Result<Vec<u8>, Failur
 }
 
 /// Returns the line with the number of entries.
-pub fn count_line(alloc: Global, count: u64) -> Result<Vec<u8>, AllocError>
+pub(crate) fn count_line(alloc: Global, count: u64) -> Result<Vec<u8>, AllocError>
     ensures { IfOk result (λ text. text.items ≡ count_line count) }
 {
     let line = format!(in alloc; "accepted {count} entries\n")?;
@@ -89,7 +89,7 @@ fn hex_line(alloc: Global, stream: &[u8]) -> Result<Vec<u8>, AllocError>
 }
 
 /// Returns the line of a refusal, with LF.
-pub fn refusal_line(alloc: Global, refusal: Refusal) -> Result<Vec<u8>, AllocError>
+pub(crate) fn refusal_line(alloc: Global, refusal: Refusal) -> Result<Vec<u8>, AllocError>
     ensures { IfOk result (λ text. text.items ≡ refusal_text refusal ++ 10 ∷ []) }
 {
     let line = Failure::Refused(refusal).line();
@@ -172,7 +172,11 @@ fn print_text(found: Result<TextSink, Refusal>) -> Result<Printout, Failure>
 }
 
 /// Returns what a command prints of a stream.
-pub fn answer_stream(alloc: Global, command: &Command, stream: &[u8]) -> Result<Printout, Failure>
+pub(crate) fn answer_stream(
+    alloc: Global,
+    command: &Command,
+    stream: &[u8],
+) -> Result<Printout, Failure>
     ensures { MatchResult result (λ a. PrintsBy command.now.action command.now stream.now a.text.items a.verdict) (Denies command.now stream.now) }
 {
     let budget = command.budget;
@@ -193,7 +197,7 @@ pub fn answer_stream(alloc: Global, command: &Command, stream: &[u8]) -> Result<
 }
 
 /// Returns what a command prints of hexadecimal text.
-pub fn answer_text(alloc: Global, command: &Command, text: &[u8]) -> Result<Printout, Failure>
+fn answer_text(alloc: Global, command: &Command, text: &[u8]) -> Result<Printout, Failure>
     requires { command.now.hex ≡ true }
     ensures { MatchResult result (λ a. Prints command.now text.now a.text.items a.verdict) (FailsOn command.now text.now) }
 {
@@ -202,7 +206,7 @@ pub fn answer_text(alloc: Global, command: &Command, text: &[u8]) -> Result<Prin
 }
 
 /// Returns what a command prints of the bytes that an input gives, none of which is kept.
-pub fn answer_input<I: Inlet>(
+fn answer_input<I: Inlet>(
     alloc: Global,
     command: &Command,
     input: &mut I,

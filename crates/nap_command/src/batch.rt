@@ -14,4 +14,4 @@ pub use answer::{BatchAnswer, answer_page};
 pub use body::Body;
 pub use places::{PlacesText, read_places};
 pub use request::{PAGE_LIMIT, Question, RequestFront, RequestLine, parse_line, request_front_of};
-pub use service::{Ended, REQUESTS, batch, serve};
+pub use service::{Ended, REQUESTS, batch};

@@ -13,12 +13,10 @@ mod make;
 mod name;
 mod printing;
 
-pub use answer::{
-    Printout, Verdict, answer_input, answer_stream, answer_text, count_line, refusal_line,
-};
+pub use answer::Verdict;
 pub use command::{Action, Command};
-pub use device::{read_whole, write_whole};
+pub use device::write_whole;
 pub use execution::{execute, report};
 pub use failure::{FAILURE_LINE_SIZE, Failure};
-pub use make::{execute_make, lines_failure};
+pub use make::execute_make;
 pub use name::fault_name;

@@ -1,10 +1,10 @@
 //! `list` on its input, which it keeps since it reads it twice, and its output.
-ghost use Rattle.std.specs.Prelude.{◌≡◌, ◌+◌, ◌<◌, ◌≤◌, ◌^◌, ℕ, List, false, true, MatchResult};
+ghost use Rattle.std.specs.Prelude.{◌≡◌, ◌+◌, ◌<◌, ◌≤◌, ◌^◌, ℕ, List, false, true, vec_capacity, MatchResult};
 ghost use Rattle.std.specs.Io.KnownBytes.{Appends, Consumes, Keeps};
 ghost use Rattle.nap_list.specs.Flushing.{FlushedOnce, flush_count};
 ghost use Rattle.nap_list.specs.Limits.{reads_limit};
 ghost use Rattle.nap_list.specs.Reading.{IsReadWhole, Reading, reading};
-ghost use Rattle.nap_lines.specs.Printing.{Closes};
+ghost use Rattle.nap_lines.specs.Printing.{Closes, line_memory};
 ghost use Rattle.nap_command.specs.Commands.{EndsListed, EndsSo, Fails, IsStream};
 
 use crate::answer::{Verdict, bytes_of_hex};
@@ -13,7 +13,7 @@ use crate::device::{read_whole, write_whole};
 use crate::failure::Failure;
 use nap_lines::{LINE_MEMORY, LinePrinter};
 use nap_list::{CountSink, Inlet, Outlet};
-use nap_reader::{Refusal, read_twice};
+use nap_reader::{TwiceFault, read_twice};
 use std::alloc::Global;
 
 /// A page, and the memory in which its lines are made.
@@ -21,6 +21,7 @@ use std::alloc::Global;
 struct KeptPage {
     page: Vec<u8>,
     memory: Vec<u8>,
+    ghost enough: { line_memory ≤ vec_capacity memory },
 }
 
 /// Returns the bytes of the page that a command reads, those of its input or those that its hexadecimal text spells,
@@ -46,7 +47,7 @@ fn read_page<I: Inlet>(alloc: Global, command: &Command, input: &mut I) -> Resul
 fn end_list<O: Outlet>(
     output: &mut O,
     written: u64,
-    read: Result<CountSink, Refusal>,
+    read: Result<CountSink, TwiceFault>,
 ) -> Result<Verdict, Failure>
     ensures taken { Keeps (O.taken output.old) (O.taken output.new) }
     ensures failed { O.failed output.old ≡ true → O.failed output.new ≡ true }
@@ -60,7 +61,8 @@ fn end_list<O: Outlet>(
     }
     match read {
         Ok(_) => Ok(Verdict::Accepted),
-        Err(refusal) => Err(Failure::Refused(refusal)),
+        Err(TwiceFault::Refused(refusal)) => Err(Failure::Refused(refusal)),
+        Err(TwiceFault::Memory) => Err(Failure::Memory),
     }
 }
 
@@ -68,7 +70,7 @@ fn end_list<O: Outlet>(
 /// readings accepted the page.
 fn finished<O: Outlet + Drop>(
     printer: LinePrinter<O>,
-    read: &Result<CountSink, Refusal>,
+    read: &Result<CountSink, TwiceFault>,
 ) -> (O, u64)
     ensures { MatchResult read.now (λ _. Closes O.Outlet printer result.0 result.1) (λ _. (result.0 ≡ printer.outlet) × (result.1 ≡ printer.written)) }
 {

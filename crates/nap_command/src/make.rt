@@ -16,7 +16,7 @@ use nap_make::{ListFault, MakeFault, PageFault, make_page, page_of_input};
 use std::alloc::Global;
 
 /// Returns the failure of `make` whose lines make no page. A failed write to memory is lack of memory.
-pub fn lines_failure(fault: MakeFault) -> Failure
+pub(crate) fn lines_failure(fault: MakeFault) -> Failure
     ensures { result ≡ failure_of fault }
 {
     match fault {

@@ -1,14 +1,5 @@
-use Rattle.std.proofs.Common.{◌≡◌, List, [], ◌∷◌, Option, Some, None, Err, refl, sym}
-use Rattle.nap_values.specs.Coordinates.{Coordinates, Displacement, point_at}
-use Rattle.nap_list.specs.declared.attribute.Pen.{Pen}
+use Rattle.nap_draw.proofs.Common.{Coordinates, Displacement, DrawFault, Err, List, None, Option, Pen, Some, Span, Work, [], and_then, area_of, area_part, draw_cause, ok_or, option_map, pen_point, point_at, refl, span_by, stream, sym, ◌∷◌, ◌≡◌}
 use Rattle.nap_list.specs.declared.attribute.Pen.TheVariants as pens
-use Rattle.nap_draw.specs.declared.fault.DrawFault.{DrawFault}
-use Rattle.nap_draw.specs.declared.spans.Span.{Span}
-use Rattle.nap_draw.specs.declared.work.Work.{Work}
-use Rattle.nap_draw.specs.Geometry.{span_by}
-use Rattle.nap_draw.specs.Draws.{stream, draw_cause}
-use Rattle.nap_draw.specs.Rule.{and_then, area_of, area_part, pen_point}
-use Rattle.std.specs.Option.{option_map, ok_or}
 use Rattle.nap_list.specs.declared.attribute.Area.TheVariants as areas
 use Rattle.nap_draw.specs.declared.fault.DrawFault.TheVariants as faults
 

@@ -1,22 +1,7 @@
-use Rattle.std.proofs.Common.{◌≡◌, ◌/◌, ◌%◌, eqb, cond, ℕ, ◌+◌, ◌<◌, ◌≤◌, ◌≢◌, min, List, [], ◌∷◌, map, length, take, drop, true, false, None, Ok, Err, refl, ◌∙◌, ap, arith, length-drop}
-use Rattle.std.proofs.lemmas.List.{take_all}
-use Rattle.std.specs.List.{slice_index}
-use Rattle.nap_list.specs.declared.attribute.Pen.{Pen}
-use Rattle.nap_values.specs.Domains.{OperandLengths}
-use Rattle.nap_values.specs.Colours.{Components}
-use Rattle.nap_values.specs.Operands.{colour_of}
+use Rattle.nap_draw.proofs.Common.{Components, Drawing, Err, List, MapColour, ModeZeroIsBase, None, Ok, OperandLengths, Pen, State, Work, [], ap, arith, blink, blink_rule, blinks, colour_of, cond, drop, eqb, false, is_known, known_after_reset, length, length-drop, map, map_rule, min, operands, refl, reset, reset_rule, rule_result, set_color_rule, set_color_under, slice_index, start_domain, take, take_all, true, walk, with_known_colour, ℕ, ◌%◌, ◌+◌, ◌/◌, ◌<◌, ◌∙◌, ◌∷◌, ◌≡◌, ◌≢◌, ◌≤◌}
 use Rattle.nap_list.specs.declared.entry.Entry.TheVariants as entries
-use Rattle.nap_list.specs.declared.state.Drawing.{Drawing}
-use Rattle.nap_list.specs.declared.state.State.{State}
-use Rattle.nap_list.specs.declared.known.MapColour.{MapColour}
-use Rattle.nap_list.specs.Known.{is_known, with_known_colour, known_after_reset}
-use Rattle.nap_list.specs.State.{reset, walk}
-use Rattle.nap_list.specs.Agreement.{ModeZeroIsBase}
 use Rattle.nap_draw.proofs.Walks.{left_by}
 use Rattle.nap_draw.specs.declared.fault.DrawFault.TheVariants as faults
-use Rattle.nap_draw.specs.declared.work.Work.{Work}
-use Rattle.nap_draw.specs.Operands.{operands}
-use Rattle.nap_draw.specs.Rule.{start_domain, reset_rule, rule_result, map_rule, set_color_under, set_color_rule, blink, blinks, blink_rule}
 use Rattle.nap_draw.proofs.Cuts.{operands-first, operands_none}
 use Rattle.nap_draw.proofs.Still.{walk_stays, wait_stays, blink_stays}
 

@@ -1,7 +1,4 @@
-use Rattle.std.proofs.Common.{◌≡◌, ◌%◌, ℕ, ◌<◌, ◌≤◌, min, List, [], ◌∷◌, ◌++◌, length, map, take, drop, refl, sym, ◌∙◌, ap, arith}
-use Rattle.std.proofs.lemmas.List.{length-map, map-append, take-map, drop-map}
-use Rattle.nap_values.specs.Operands.{operand_words, multi_of, single_of}
-use Rattle.nap_draw.specs.Operands.{cut_operands, operands, moves, addresses}
+use Rattle.nap_draw.proofs.Common.{List, [], addresses, ap, arith, cut_operands, drop, drop-map, length, length-map, map, map-append, min, moves, multi_of, operand_words, operands, refl, single_of, sym, take, take-map, ℕ, ◌%◌, ◌++◌, ◌<◌, ◌∙◌, ◌∷◌, ◌≡◌, ◌≤◌}
 use Rattle.nap_draw.proofs.Cuts as words
 
 -- A run of bytes is cut as the words that they carry.

@@ -1,24 +1,8 @@
-use Rattle.std.proofs.Common.{ℕ, zero, suc, [], ◌∷◌, Bool, Option, Some, None, IfSome, Result, Ok, subst, arith}
-use Rattle.std.proofs.lemmas.List.Elements.{All-nil, All-cons, All-append}
+use Rattle.nap_draw.proofs.Common.{All-append, All-cons, All-nil, AllInRange, Bool, CodeValuesAreInRange, DrawFault, Entry, HandInRange, IfSome, InRange, IsByte, IsCode, IsMade, LastChar, None, Ok, OpenDefinition, Option, Result, RuleResult, Some, State, StateInRange, StepInRange, StepMade, TextInRange, TextLook, TextStep, Work, [], after, arith, char_on, code_rule, definition_ended, definition_ended_by, definition_result, hand_of, look_result, repeated_chars, subst, suc, with_last, zero, ℕ, ◌∷◌}
 use Rattle.nap_codes.specs.declared.code.Code.{Code}
 use Rattle.nap_codes.specs.declared.code.Code.TheVariants as codes
-use Rattle.nap_codes.specs.declared.control.TextStep.{TextStep}
 use Rattle.nap_codes.specs.declared.control.TextStep.TheVariants as steps
-use Rattle.nap_list.specs.declared.attribute.TextLook.{TextLook}
-use Rattle.nap_list.specs.declared.entry.Entry.{Entry}
 use Rattle.nap_list.specs.declared.entry.Entry.TheVariants as entries
-use Rattle.nap_list.specs.declared.state.LastChar.{LastChar}
-use Rattle.nap_list.specs.declared.state.OpenDefinition.{OpenDefinition}
-use Rattle.nap_list.specs.declared.state.State.{State}
-use Rattle.nap_list.specs.Entry.{IsCode, StepMade}
-use Rattle.nap_list.specs.State.{after}
-use Rattle.nap_list.specs.Range.{IsByte, TextInRange, HandInRange, StepInRange, InRange, AllInRange, StateInRange}
-use Rattle.nap_draw.specs.declared.work.Work.{Work}
-use Rattle.nap_draw.specs.declared.fault.DrawFault.{DrawFault}
-use Rattle.nap_draw.specs.Rule.{RuleResult}
-use Rattle.nap_list.specs.State.{hand_of}
-use Rattle.nap_draw.specs.Codes.{IsMade, char_on, repeated_chars, definition_ended, definition_ended_by, definition_result, look_result, with_last, code_rule}
-use Rattle.nap_draw.specs.Laws.{CodeValuesAreInRange}
 use Rattle.nap_draw.proofs.WalkRanges.{after_ranged, walk_ranged}
 use Rattle.nap_draw.proofs.RangeLemmas.{Ranged, silent_ranged, list_ranged, one_ranged}
 

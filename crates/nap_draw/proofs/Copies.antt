@@ -1,21 +1,6 @@
-use Rattle.std.proofs.Common.{◌≡◌, ◌≢◌, ℕ, zero, suc, ◌<◌, List, [], ◌∷◌, All, Option, Some, None, IfSome, Ok, refl, sym, ◌∙◌, ap, subst, replicate, take, arith}
-use Rattle.std.proofs.lemmas.List.{take-replicate}
-use Rattle.std.proofs.lemmas.List.Elements.{All-replicate}
+use Rattle.nap_draw.proofs.Common.{All, All-replicate, AllFit, Entry, EqualCurrent, IfSome, IsCode, IsTextByte, LastChar, List, ModeZeroIsBase, None, Ok, Option, Some, State, StatesAgree, TextStep, Work, [], after, ap, arith, attributes, char_on, code_rule, drawn_text, format_effector, format_effector_front, hand_of, refl, repeated_chars, replicate, rule_result, subst, suc, sym, take, take-replicate, text_entry, walk, with_last, with_pen, zero, ℕ, ◌<◌, ◌∙◌, ◌∷◌, ◌≡◌, ◌≢◌}
 use Rattle.nap_codes.specs.declared.code.Code.TheVariants as codes
-use Rattle.nap_codes.specs.declared.control.TextStep.{TextStep}
-use Rattle.nap_codes.specs.Tables.{format_effector}
-use Rattle.nap_codes.proofs.PublicLaws.{format_effector_front}
 use Rattle.nap_list.specs.declared.attribute.Pen.TheVariants as pens
-use Rattle.nap_list.specs.declared.entry.Entry.{Entry}
-use Rattle.nap_list.specs.declared.state.LastChar.{LastChar}
-use Rattle.nap_list.specs.declared.state.State.{State}
-use Rattle.nap_list.specs.Entry.{attributes, IsCode}
-use Rattle.nap_list.specs.Batches.{IsTextByte, text_entry}
-use Rattle.nap_list.specs.State.{AllFit, after, walk, with_pen, hand_of}
-use Rattle.nap_list.specs.Agreement.{ModeZeroIsBase, StatesAgree, EqualCurrent}
-use Rattle.nap_draw.specs.declared.work.Work.{Work}
-use Rattle.nap_draw.specs.Codes.{char_on, repeated_chars, drawn_text, with_last, code_rule}
-use Rattle.nap_draw.specs.Rule.{rule_result}
 use Rattle.nap_draw.proofs.Texts.{text_fits}
 use Rattle.nap_draw.proofs.Walks.{left_by}
 

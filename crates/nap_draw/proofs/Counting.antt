@@ -1,24 +1,5 @@
-use Rattle.std.proofs.Common.{◌≡◌, ℕ, suc, ◌+◌, ◌-◌, ◌*◌, ◌/◌, ◌%◌, ◌<◌, ◌≤◌, Bool, false, true, List, [], ◌∷◌, ◌++◌, length, length-append, length-drop, map, take, drop, Option, Some, None, refl, sym, ◌∙◌, ap, arith}
-use Rattle.std.proofs.Common.{IfSome, get_or}
-use Rattle.std.proofs.lemmas.List.{length-map}
-use Rattle.std.specs.Option.{option_map}
-use Rattle.nap_values.specs.Coarse.{Course}
-use Rattle.nap_values.specs.Coordinates.{Coordinates, Displacement, displaced_point}
-use Rattle.nap_values.specs.Operands.{operand_words, multi_of}
-use Rattle.nap_list.specs.declared.attribute.Base.{Base}
-use Rattle.nap_list.specs.declared.attribute.Colour.{Colour}
+use Rattle.nap_draw.proofs.Common.{Arrives, Base, Bool, Colour, Coordinates, Course, Displacement, Displaces, Drawing, Entry, Filling, IfSome, List, None, Option, Some, Span, State, [], after, ap, arith, base_after, cons_if_all, displaced_point, drop, false, get_or, last_or, length, length-append, length-drop, length-map, map, moves, multi_of, operand_words, option_map, point_entry, points_reached, polyline_spans, refl, span_line_entry, suc, sym, take, true, walk, ℕ, ◌%◌, ◌*◌, ◌++◌, ◌+◌, ◌-◌, ◌/◌, ◌<◌, ◌∙◌, ◌∷◌, ◌≡◌, ◌≤◌}
 use Rattle.nap_list.specs.declared.attribute.Colour.TheVariants as colours
-use Rattle.nap_list.specs.declared.entry.Entry.{Entry}
-use Rattle.nap_list.specs.declared.state.Drawing.{Drawing}
-use Rattle.nap_list.specs.declared.state.State.{State}
-use Rattle.nap_list.specs.Batches.{point_entry}
-use Rattle.nap_list.specs.State.{after, base_after, walk}
-use Rattle.nap_draw.specs.Counted.{Arrives, Displaces}
-use Rattle.nap_draw.specs.Execution.{Filling}
-use Rattle.nap_draw.specs.declared.spans.Span.{Span}
-use Rattle.nap_draw.specs.Geometry.{cons_if_all, last_or, points_reached, polyline_spans}
-use Rattle.nap_draw.specs.Rule.{span_line_entry}
-use Rattle.nap_draw.specs.Operands.{moves}
 use Rattle.nap_draw.proofs.ByteRuns.{moves_turn}
 use Rattle.nap_draw.proofs.Cuts.{moves_none}
 use Rattle.nap_draw.proofs.Decoding.{filling_begins, filling_end, filling_more}

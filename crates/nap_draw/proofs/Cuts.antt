@@ -1,18 +1,5 @@
-use Rattle.std.proofs.Common.{◌≡◌, ℕ, suc, zero, ◌+◌, ◌-◌, ◌*◌, ◌<◌, ◌≤◌, ◌≢◌, min, List, [], ◌∷◌, ◌++◌, length, map, take, drop, Result, Ok, Err, refl, sym, ◌∙◌, ap, arith, append_assoc, append-nil, length-drop, Bool, true, false, leb, nat_lt}
-use Rattle.std.proofs.Math.Nat.{add-div_left, add-mod_left, div-eq_of_lt, mod-eq_of_lt}
-use Rattle.std.proofs.Math.Seq.{take-append_seam, drop-append_seam}
-use Rattle.std.proofs.lemmas.List.{length-map}
-use Rattle.std.proofs.lemmas.Grind.{div_ceil_times}
-use Rattle.std.proofs.lemmas.Nat.{mul-le}
-use Rattle.std.proofs.lemmas.Bool.Decides.{nat_tests}
-use Rattle.std.specs.Int.{div_ceil}
-use Rattle.nap_values.specs.Operands.{multi_of}
+use Rattle.nap_draw.proofs.Common.{Bool, Displacement, DrawFault, Err, List, Ok, Result, RuleResult, Work, [], add-div_left, add-mod_left, and_then, ap, append-nil, append_assoc, arith, at_least_one, cut_operands, div-eq_of_lt, div_ceil, div_ceil_times, drop, drop-append_seam, false, leb, length, length-drop, length-map, map, min, mod-eq_of_lt, moves, moves_of, mul-le, multi_of, nat_lt, nat_tests, operands, refl, suc, sym, take, take-append_seam, true, with_operands, zero, ℕ, ◌*◌, ◌++◌, ◌+◌, ◌-◌, ◌<◌, ◌∙◌, ◌∷◌, ◌≡◌, ◌≢◌, ◌≤◌}
 use Rattle.nap_draw.specs.declared.fault.DrawFault.TheVariants.{Missing}
-use Rattle.nap_draw.specs.Operands.{cut_operands, operands, moves}
-use Rattle.nap_draw.specs.declared.fault.DrawFault.{DrawFault}
-use Rattle.nap_draw.specs.declared.work.Work.{Work}
-use Rattle.nap_values.specs.Coordinates.{Displacement}
-use Rattle.nap_draw.specs.Rule.{RuleResult, and_then, at_least_one, moves_of, with_operands}
 
 -- How a run is cut into operands.
 

@@ -1,12 +1,5 @@
-use Rattle.std.proofs.Common.{◌≡◌, ◌||◌, List, [], ◌∷◌, ◌++◌, Bool, true, false, cond, Option, Some, None, Result, Ok, Err, IfOk, IfErr, refl, sym, ◌∙◌, ap, subst, append_assoc, append-nil}
-use Rattle.std.specs.Option.{option_map}
-use Rattle.std.specs.Result.{is_ok, is_err}
-use Rattle.nap_values.specs.Coordinates.{Coordinates}
-use Rattle.nap_list.specs.State.{corner}
-use Rattle.nap_draw.specs.declared.fault.DrawFault.{DrawFault}
+use Rattle.nap_draw.proofs.Common.{Bool, Coordinates, DrawFault, Err, Filling, Fills, Holding, IfErr, IfOk, IsErrOf, LacksPlaces, List, None, Ok, OnErr, Option, Result, Some, Span, Vec, [], ap, append-nil, append_assoc, arith, cond, corner, false, is_err, is_ok, length, length-append, min, option_map, pair_spans, rect_spans, refl, span_ends, subst, sym, true, vec_capacity, vec_len, ℕ, ◌++◌, ◌+◌, ◌<◌, ◌||◌, ◌∙◌, ◌∷◌, ◌≡◌, ◌≤◌}
 use Rattle.nap_draw.specs.declared.fault.DrawFault.TheVariants.{Memory}
-use Rattle.nap_draw.specs.declared.spans.Span.{Span}
-use Rattle.nap_draw.specs.Execution.{Fills, Filling, rect_spans, span_ends, pair_spans}
 
 -- Decoding of a run, operand by operand.
 
@@ -51,6 +44,35 @@ pub pushed : {A E : Type 0} (r : Result (Unit {0}) E) (full failed : Bool) (old 
 pushed (Ok u) full failed old new x is fails e = is
 pushed (Err why) true failed old new x is fails e = let bad : ⊥ = cc in absurd bad
 pushed (Err why) false failed old new x is fails e = let bad : ⊥ = cc in absurd bad
+
+-- a chunk has at least one byte
+pub chunk_less : {A : Type 0} (k size : ℕ) (left x rest : List A) → size ≡ k → 1 ≤ k → left ≡ x ++ rest → length x ≡ min size (length left) → 0 < length left → length rest < length left
+chunk_less k size left x rest is some parts long more = omega (arith, is, some, ap length parts, length-append x rest, long, more)
+
+-- memory ran out before a point or for it
+pub lacks_more : {E Lacks Full : Type 0} (r : Result (Unit {0}) E) (full failed : Bool) → (full ≡ true → Lacks) → failed ≡ is_err r → (Full → Lacks) → OnErr r Full → (full || failed) ≡ true → Lacks
+lacks_more r true failed before fails more full set = before refl
+lacks_more (Ok u) false failed before fails more full set = let bad : ⊥ = cc in absurd bad
+lacks_more (Err e) false failed before fails more full set = more full
+
+pub lacks_if : {A Lacks : Type 0} (full : Bool) (r : Result A DrawFault) → (full ≡ true → Lacks) → IfErr r (λ fault. (full ≡ true) × (fault ≡ Memory)) → IsErrOf r Memory → Lacks
+lacks_if full (Ok x) before fails is = let bad : ⊥ = cc in absurd bad
+lacks_if full (Err fault) before fails is = before fails.0
+
+-- a scratch list holds one more point, or lacks memory for it
+pub held_more : {X Z E : Type 0} (old at now : Vec X Z) (all before left : ℕ) (full failed : Bool) (r : Result (Unit {0}) E) → Holding old at all before full → left < before → vec_capacity at ≤ vec_capacity now →
+    vec_len now ≤ vec_len at + 1 → failed ≡ is_err r → OnErr r (vec_capacity at ≤ vec_len at) → Holding old now all left (full || failed)
+held_more old at now all before left true failed r h less space one fails lacks =
+    record { space = omega (arith, h.space, space); few = omega (arith, h.few, less, one); lacks = λ _. h.lacks refl }
+held_more old at now all before left false failed (Ok u) h less space one fails lacks =
+    record { space = omega (arith, h.space, space); few = omega (arith, h.few, less, one); lacks = λ set. (let bad : ⊥ = cc in absurd bad) }
+held_more old at now all before left false failed (Err e) h less space one fails lacks =
+    record { space = omega (arith, h.space, space); few = omega (arith, h.few, less, one); lacks = λ _. omega (arith, h.space, h.few, less, lacks) }
+
+-- what a loop that has ended says of the memory
+pub held : {X Z A : Type 0} (old now : Vec X Z) (all left : ℕ) (full : Bool) (r : Result A DrawFault) → Holding old now all left full → IfErr r (λ fault. (full ≡ true) × (fault ≡ Memory)) → LacksPlaces all old now r
+held old now all left full (Ok u) h fails = (h.space, λ is. (let bad : ⊥ = cc in absurd bad))
+held old now all left full (Err fault) h fails = (h.space, λ _. h.lacks fails.0)
 
 -- corners that were kept
 

@@ -1,14 +1,4 @@
-use Rattle.std.proofs.Common.{◌≡◌, ℕ, ◌/◌, List, [], ◌∷◌, eqb, false, Option, Result, Ok, refl, sym, ◌∙◌, ap, arith}
-use Rattle.std.specs.List.{slice_get}
-use Rattle.std.specs.Option.{unwrap_or}
-use Rattle.std.proofs.lemmas.Bool.Decides.{nat_tests}
-use Rattle.nap_values.specs.Coordinates.{Displacement}
-use Rattle.nap_values.specs.Domains.{OperandLengths}
-use Rattle.nap_list.specs.State.{walk}
-use Rattle.nap_draw.specs.declared.work.Work.{Work}
-use Rattle.nap_draw.specs.declared.fault.DrawFault.{DrawFault}
-use Rattle.nap_draw.specs.Operands.{moves}
-use Rattle.nap_draw.specs.Rule.{RuleResult, with_drawing, domain_in, domain_rule}
+use Rattle.nap_draw.proofs.Common.{Displacement, DrawFault, List, Ok, OperandLengths, Option, Result, RuleResult, Work, [], ap, arith, domain_in, domain_rule, eqb, false, moves, nat_tests, refl, slice_get, sym, unwrap_or, walk, with_drawing, ℕ, ◌/◌, ◌∙◌, ◌∷◌, ◌≡◌}
 
 -- The result of DOMAIN.
 

@@ -1,15 +1,6 @@
-use Rattle.std.proofs.Common.{◌≡◌, ◌≢◌, List, [], ◌∷◌, ◌++◌, true, false, Option, Some, None, is_some, refl, sym, ◌∙◌, ap}
-use Rattle.nap_list.specs.declared.state.OpenDefinition.{OpenDefinition}
-use Rattle.nap_list.specs.declared.entry.Entry.{Entry}
+use Rattle.nap_draw.proofs.Common.{Definition, Entry, Fits, List, None, OpenDefinition, Option, RuleResult, Some, WellMade, Work, [], ap, definition_ended, definition_ended_by, definition_start, false, is_some, refl, rule_result, sym, true, walk, ◌++◌, ◌∙◌, ◌∷◌, ◌≡◌, ◌≢◌}
 use Rattle.nap_list.specs.declared.entry.Entry.TheVariants as entries
-use Rattle.nap_list.specs.declared.state.Definition.{Definition}
 use Rattle.nap_list.specs.declared.state.Definition.TheVariants as definitions
-use Rattle.nap_list.specs.Entry.{WellMade}
-use Rattle.nap_list.specs.State.{Fits, walk}
-use Rattle.nap_draw.specs.declared.work.Work.{Work}
-use Rattle.nap_draw.specs.Codes.{definition_ended, definition_ended_by}
-use Rattle.nap_draw.specs.Rule.{RuleResult, rule_result}
-use Rattle.nap_draw.specs.Execution.{definition_start}
 
 -- The result of ending a definition, by whether one is open.
 

@@ -1,52 +1,18 @@
-use Rattle.std.proofs.Common.{◌≡◌, ℕ, ◌+◌, ◌/◌, List, [], ◌∷◌, ◌++◌, map, Bool, true, false, cond, eqb, ltb, ◌<◌, ◌≤◌, length, arith, Option, Some, None, IsSome, Result, Ok, Err, refl, sym, subst, ap, ◌∙◌}
-use Rattle.std.specs.Option.{option_map, option_and_then, option_or}
-use Rattle.nap_list.specs.Limits.{steps_limit}
-use Rattle.nap_values.specs.Coordinates.{Coordinates, Displacement, point_at}
-use Rattle.nap_codes.specs.declared.opcode.Opcode.{Opcode}
+use Rattle.nap_draw.proofs.Common.{Agrees, AllFit, Base, Bool, CodeFits, Colour, ColourAgrees, Components, Coordinates, Definition, Displacement, DrawFault, Drawing, Entry, EqualCurrent, Err, IsMade, IsSome, LastChar, List, MaskFits, MayCome, MayFollow, ModeZeroIsBase, None, Ok, Opcode, OpenDefinition, Option, Result, RuleFits, RuleResult, ShapeKind, Some, State, StatesAgree, TextLook, Texture, TextureFits, WellMade, Work, [], absolute_spans, after, agreeing_fits, and_then, ap, area_of, arith, at_least_one, at_most_limit, attributes, blink, blinks, code_rule, colour_of, colour_of_base, cond, definition_ended, definition_ended_by, definition_opened, definition_result, definition_start, displaced_points, domain_in, domain_rule, entries_result, entry_result, eqb, false, field_on, field_rule, first_and_more, fits_join, hand_attributes, hand_of, is_known, last_or, length, ltb, map, map_rule, moves_of, nat_tests, no_attributes, one_entry_result, operands, option_and_then, option_map, option_or, pen_point, pen_result, point_at, point_entry, points_at, points_reached, polyline_spans, rect_chain_spans, rect_on, refl, relative_spans, repeated_chars, reset_rule, rule, rule_result, selected_colour, set_color_rule, set_color_under, shape_from_pen, shape_from_point, shape_on, span_line_entry, steps_limit, subst, sym, true, walk, walks_join, with_colour, with_domain, with_drawing, with_known_colour, with_last, with_map_colour, with_pen_at, with_pen_moved_to, ℕ, ◌++◌, ◌+◌, ◌/◌, ◌<◌, ◌∙◌, ◌∷◌, ◌≡◌, ◌≤◌}
 use Rattle.nap_codes.specs.declared.opcode.Opcode.TheVariants as opcodes
 use Rattle.nap_list.specs.declared.attribute.Pen.TheVariants as pens
-use Rattle.nap_list.specs.declared.attribute.Base.{Base}
 use Rattle.nap_list.specs.declared.attribute.Base.TheVariants as bases
-use Rattle.nap_list.specs.declared.attribute.Colour.{Colour}
 use Rattle.nap_list.specs.declared.attribute.Colour.TheVariants as colours
-use Rattle.nap_list.specs.declared.attribute.TextLook.{TextLook}
-use Rattle.nap_list.specs.declared.attribute.Texture.{Texture}
-use Rattle.nap_values.specs.Colours.{Components}
-use Rattle.nap_values.specs.Operands.{colour_of}
-use Rattle.nap_draw.specs.Operands.{operands}
 use Rattle.nap_draw.proofs.Still.{Stays, wait_stays, blink_stays, stays_fit}
 use Rattle.nap_list.specs.declared.entry.Entry.TheVariants as entries
-use Rattle.nap_list.specs.declared.entry.Entry.{Entry}
-use Rattle.nap_list.specs.declared.state.Definition.{Definition}
 use Rattle.nap_list.specs.declared.state.Definition.TheVariants as definitions
-use Rattle.nap_list.specs.declared.state.OpenDefinition.{OpenDefinition}
-use Rattle.nap_list.specs.declared.state.Drawing.{Drawing}
-use Rattle.nap_list.specs.declared.state.State.{State}
-use Rattle.nap_list.specs.declared.state.LastChar.{LastChar}
 use Rattle.nap_codes.specs.declared.code.Code.{Code}
 use Rattle.nap_codes.specs.declared.code.Code.TheVariants as codes
-use Rattle.nap_list.specs.Entry.{attributes, hand_attributes, no_attributes, WellMade}
-use Rattle.nap_list.specs.Known.{is_known, with_known_colour}
-use Rattle.nap_list.specs.State.{AllFit, MayCome, TextureFits, MaskFits, with_colour, after, walk, with_pen_at}
-use Rattle.nap_list.specs.Agreement.{Agrees, ColourAgrees, ModeZeroIsBase, EqualCurrent, StatesAgree}
-use Rattle.nap_list.proofs.PublicLaws.{agreeing_fits, fits_join, walks_join}
-use Rattle.nap_draw.specs.declared.work.Work.{Work}
-use Rattle.std.proofs.lemmas.Bool.Decides.{nat_tests}
-use Rattle.nap_draw.specs.declared.fault.DrawFault.{DrawFault}
 use Rattle.nap_draw.specs.declared.fault.DrawFault.TheVariants as faults
-use Rattle.nap_draw.specs.Geometry.{last_or, points_at, points_reached, polyline_spans, absolute_spans, relative_spans, rect_chain_spans}
-use Rattle.nap_list.specs.Batches.{point_entry}
-use Rattle.nap_draw.specs.Rule.{RuleResult, and_then, at_least_one, first_and_more, at_most_limit, moves_of, pen_point, rule_result, with_map_colour, entries_result, entry_result, pen_result, with_drawing, domain_rule, domain_in, with_domain, shape_from_pen, shape_from_point, area_of, field_rule, span_line_entry, rect_on, field_on, reset_rule, colour_of_base, selected_colour, map_rule, set_color_under, set_color_rule, blink, blinks, rule}
-use Rattle.nap_list.specs.State.{hand_of}
-use Rattle.nap_draw.specs.Codes.{IsMade, repeated_chars, definition_ended, definition_ended_by, definition_opened, definition_result, one_entry_result, with_last, code_rule}
-use Rattle.nap_draw.specs.Laws.{RuleFits, CodeFits}
-use Rattle.nap_draw.specs.Execution.{MayFollow, with_pen_moved_to, displaced_points, definition_start}
 use Rattle.nap_draw.proofs.Copies.{copies_fit, last_is_code}
 use Rattle.nap_draw.proofs.Endings.{ended_closed}
 use Rattle.nap_draw.proofs.Walks.{Lands, one, point_lands, line_lands, rect_lands}
-use Rattle.nap_list.specs.declared.shape.ShapeKind.{ShapeKind}
 use Rattle.nap_list.specs.declared.shape.ShapeKind.TheVariants as kinds
-use Rattle.nap_list.specs.Shapes.{shape_on}
 use Rattle.nap_draw.proofs.Outlines.{arc_made, poly_made, holds_shape, shape_comes}
 
 -- The entries of a rule's result fit.

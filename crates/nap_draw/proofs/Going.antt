@@ -1,15 +1,6 @@
-use Rattle.std.proofs.Common.{◌≡◌, ◌≢◌, ℕ, List, [], ◌∷◌, ◌++◌, false, Option, Some, None, Result, Ok, Err, refl, sym, ◌∙◌, ap}
-use Rattle.std.specs.Option.{option_map}
-use Rattle.nap_values.specs.Coordinates.{Coordinates, Displacement, displaced_point, point_at}
-use Rattle.nap_list.specs.declared.attribute.Pen.{Pen}
+use Rattle.nap_draw.proofs.Common.{Coordinates, Displacement, DrawFault, Drawing, Err, List, None, Ok, Option, Pen, Result, RuleResult, Some, Work, [], and_then, ap, at_least_one, cons_if_all, displaced_point, false, from_pen, last_or, moves_of, option_map, pen_point, pen_result, point_at, points_at, points_reached, refl, sym, walk, with_drawing, with_operands, with_pen, with_pen_at, ℕ, ◌++◌, ◌∙◌, ◌∷◌, ◌≡◌, ◌≢◌}
 use Rattle.nap_list.specs.declared.attribute.Pen.TheVariants as pens
-use Rattle.nap_list.specs.declared.state.Drawing.{Drawing}
-use Rattle.nap_list.specs.State.{with_pen, with_pen_at, walk}
-use Rattle.nap_draw.specs.declared.work.Work.{Work}
-use Rattle.nap_draw.specs.declared.fault.DrawFault.{DrawFault}
 use Rattle.nap_draw.specs.declared.fault.DrawFault.TheVariants.{Missing}
-use Rattle.nap_draw.specs.Geometry.{cons_if_all, last_or, points_reached, points_at}
-use Rattle.nap_draw.specs.Rule.{RuleResult, with_drawing, and_then, at_least_one, pen_point, from_pen, pen_result, moves_of, with_operands}
 
 -- Where the pen moves without drawing.
 

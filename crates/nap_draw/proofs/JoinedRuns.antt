@@ -1,26 +1,7 @@
-use Rattle.std.proofs.Common.{◌≡◌, ℕ, suc, ◌+◌, ◌*◌, ◌%◌, List, [], ◌∷◌, ◌++◌, length, map, take, drop, Bool, true, false, cond, eqb, Option, Some, None, Result, Ok, Err, refl, sym, ◌∙◌, ap, ap₂, subst, arith, append_assoc, length-append, length-take, length-drop, take-append-drop, suc-mul}
-use Rattle.std.proofs.lemmas.List.{map-append}
-use Rattle.std.proofs.lemmas.Bool.Decides.{nat_tests}
-use Rattle.std.specs.Option.{option_map}
-use Rattle.nap_values.specs.Coordinates.{Coordinates, Displacement, point_at}
-use Rattle.nap_values.specs.Operands.{multi_of}
+use Rattle.nap_draw.proofs.Common.{AreWholeOperands, Bool, Coordinates, Displacement, DrawFault, Entry, Err, Ink, List, None, Ok, Option, Pen, Result, RuleResult, RunsJoin, Some, Span, State, Work, [], absolute_spans, after, and_then, ap, append_assoc, ap₂, arith, at_least_one, complete_pairs, cond, cons_if_all, drop, entries_result, eqb, false, ink_of, length, length-append, length-drop, length-take, map, map-append, moves, moves_of, multi_of, nat_tests, operands, option_map, pen_point, point_at, points_at, polyline_spans, refl, relative_spans, rule_result, span, span_by, subst, suc, suc-mul, sym, take, take-append-drop, true, walk, walks_join, ℕ, ◌%◌, ◌*◌, ◌++◌, ◌+◌, ◌∙◌, ◌∷◌, ◌≡◌}
 use Rattle.nap_codes.specs.declared.opcode.Opcode.TheVariants as opcodes
-use Rattle.nap_list.specs.declared.attribute.Ink.{Ink}
-use Rattle.nap_list.specs.declared.attribute.Pen.{Pen}
-use Rattle.nap_list.specs.declared.entry.Entry.{Entry}
 use Rattle.nap_list.specs.declared.entry.Entry.TheVariants as entries
-use Rattle.nap_list.specs.declared.state.State.{State}
-use Rattle.nap_list.specs.State.{after, walk}
-use Rattle.nap_list.proofs.PublicLaws.{walks_join}
-use Rattle.nap_draw.specs.declared.fault.DrawFault.{DrawFault}
 use Rattle.nap_draw.specs.declared.fault.DrawFault.TheVariants.{Missing}
-use Rattle.nap_draw.specs.declared.spans.Span.{Span}
-use Rattle.nap_draw.specs.declared.work.Work.{Work}
-use Rattle.nap_draw.specs.Operands.{operands, moves}
-use Rattle.nap_draw.specs.Geometry.{cons_if_all, points_at, polyline_spans, span, span_by, absolute_spans, relative_spans}
-use Rattle.nap_list.specs.State.{ink_of}
-use Rattle.nap_draw.specs.Rule.{RuleResult, and_then, rule_result, entries_result, moves_of, at_least_one, complete_pairs, pen_point}
-use Rattle.nap_draw.specs.Joining.{AreWholeOperands, RunsJoin}
 use Rattle.nap_draw.proofs.Cuts.{moves_chunk}
 use Rattle.nap_draw.proofs.Outlines.{mapped_some}
 

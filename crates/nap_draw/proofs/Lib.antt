@@ -1,3 +1,4 @@
+mod Common
 pub mod Acting
 pub mod Areas
 pub mod Attributes

@@ -1,17 +1,6 @@
-use Rattle.std.proofs.Common.{ℕ, suc, ◌≡◌, ◌+◌, ◌<◌, List, [], ◌∷◌, ◌++◌, length, get_or, map, drop, drop-cons, add-one, Option, Some, refl, sym, ◌∙◌, ap, arith}
-use Rattle.nap_values.specs.Coordinates.{Coordinates}
-use Rattle.std.specs.Option.{option_map}
-use Rattle.nap_list.specs.declared.entry.Entry.{Entry}
+use Rattle.nap_draw.proofs.Common.{Coordinates, Drawing, Entry, Figure, List, Option, Some, Span, [], add-one, ap, arith, chain_spans, drop, drop-cons, figure_end, figure_entry, get_or, ink_of, last_or, length, map, option_map, pair_spans, polyline_entries, polyline_spans, rect_spans, refl, span_line_entry, suc, sym, ℕ, ◌++◌, ◌+◌, ◌<◌, ◌∙◌, ◌∷◌, ◌≡◌}
 use Rattle.nap_list.specs.declared.entry.Entry.TheVariants.{Line}
-use Rattle.nap_list.specs.declared.state.Drawing.{Drawing}
-use Rattle.nap_draw.specs.declared.spans.Figure.{Figure}
 use Rattle.nap_draw.specs.declared.spans.Figure.TheVariants as figures
-use Rattle.nap_draw.specs.declared.spans.Span.{Span}
-use Rattle.nap_list.specs.Batches.{polyline_entries}
-use Rattle.nap_list.specs.State.{ink_of}
-use Rattle.nap_draw.specs.Geometry.{last_or, polyline_spans}
-use Rattle.nap_draw.specs.Rule.{span_line_entry}
-use Rattle.nap_draw.specs.Execution.{chain_spans, rect_spans, pair_spans, figure_entry, figure_end}
 
 -- What is left of a list in a loop.
 

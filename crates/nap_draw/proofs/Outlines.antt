@@ -1,28 +1,9 @@
-use Rattle.std.proofs.Common.{◌-◌, ℕ, true, ◌≡◌, suc, ◌<◌, ◌≤◌, min, List, [], ◌∷◌, length, take, drop, Bool, false, ltb, Option, Some, None, Result, Ok, Err, refl, sym, ◌∙◌, ap, arith}
-use Rattle.std.specs.Option.{option_map, option_and_then, unwrap_or}
-use Rattle.nap_values.specs.Coordinates.{Coordinates, Displacement, displaced_point, point_at}
-use Rattle.std.proofs.lemmas.Bool.Decides.{nat_tests}
-use Rattle.nap_list.specs.declared.entry.Entry.{Entry}
-use Rattle.nap_list.specs.declared.state.Drawing.{Drawing}
-use Rattle.nap_list.specs.declared.state.State.{State}
-use Rattle.nap_list.specs.Entry.{attributes, WellMade}
-use Rattle.nap_list.specs.State.{MayCome, after, with_pen, with_pen_at}
-use Rattle.nap_list.specs.Agreement.{EqualCurrent, ModeZeroIsBase}
+use Rattle.nap_draw.proofs.Common.{Bool, Coordinates, Displacement, DrawFault, Drawing, Entry, EqualCurrent, Err, List, MayCome, ModeZeroIsBase, None, Ok, Option, Result, RuleResult, ShapeKind, Some, State, WellMade, Work, [], after, and_then, ap, arc_points, arith, at_least_one, at_most_limit, attributes, circle_closed, cons_if_all, displaced_point, displaced_points, drop, entry_result, false, first_and_more, length, ltb, min, moves_of, multi_of, nat_tests, option_and_then, option_map, outline, pen_point, point_at, points_limit, points_reached, poly_points, refl, shape_end, shape_on, shape_result, slice_get, steps_limit, suc, sym, take, true, unwrap_or, with_pen, with_pen_at, with_pen_moved, ℕ, ◌-◌, ◌<◌, ◌∙◌, ◌∷◌, ◌≡◌, ◌≤◌}
 use Rattle.nap_list.specs.declared.attribute.Pen.TheVariants as pens
-use Rattle.std.specs.List.{slice_get}
 use Rattle.nap_draw.proofs.Walks.{left_by}
 use Rattle.nap_draw.specs.declared.fault.DrawFault.TheVariants.{Missing, ManyPoints}
-use Rattle.nap_list.specs.declared.shape.ShapeKind.{ShapeKind}
 use Rattle.nap_list.specs.declared.shape.ShapeKind.TheVariants as kinds
-use Rattle.nap_list.specs.Shapes.{outline, circle_closed, shape_end, shape_on}
-use Rattle.nap_draw.specs.declared.work.Work.{Work}
-use Rattle.nap_draw.specs.Rule.{RuleResult, moves_of, and_then, at_least_one, at_most_limit, first_and_more, pen_point, entry_result}
 use Rattle.nap_draw.proofs.Cuts.{moves_turn, run_some, one_at_most}
-use Rattle.nap_draw.specs.Execution.{shape_result, with_pen_moved, displaced_points}
-use Rattle.nap_list.specs.Limits.{points_limit, steps_limit}
-use Rattle.nap_draw.specs.Geometry.{cons_if_all, points_reached, arc_points, poly_points}
-use Rattle.nap_values.specs.Operands.{multi_of}
-use Rattle.nap_draw.specs.declared.fault.DrawFault.{DrawFault}
 
 -- The points of arcs and polygons, and the rules that draw them.
 

@@ -1,9 +1,5 @@
-use Rattle.std.proofs.Common.{◌++◌, refl, arith, length-append}
+use Rattle.nap_draw.proofs.Common.{CodeFits, CodeValuesAreInRange, DrawnValuesAreInRange, NoOperands, OpcodesAreDrawn, RuleFits, RunsJoin, TextByteRule, WholeOperandFirst, arith, left_out_opcode, length-append, operands, refl, ◌++◌}
 use Rattle.nap_codes.specs.declared.opcode.Opcode.TheVariants as opcodes
-use Rattle.nap_codes.specs.Tables.{left_out_opcode}
-use Rattle.nap_draw.specs.Operands.{operands}
-use Rattle.nap_draw.specs.Laws.{RuleFits, CodeFits, CodeValuesAreInRange, DrawnValuesAreInRange, OpcodesAreDrawn, WholeOperandFirst, NoOperands, TextByteRule}
-use Rattle.nap_draw.specs.Joining.{RunsJoin}
 use Rattle.nap_draw.proofs.Cuts.{operands_chunk}
 use Rattle.nap_draw.proofs.Fits as fits
 use Rattle.nap_draw.proofs.RangeLemmas as ranges

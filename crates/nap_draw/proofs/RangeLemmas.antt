@@ -1,41 +1,12 @@
-use Rattle.std.proofs.Common.{ℕ, zero, suc, ◌+◌, ◌-◌, ◌/◌, ◌≡◌, ◌++◌, eqb, List, [], ◌∷◌, map, take, drop, All, Bool, true, false, Option, Some, None, IfSome, option_map, Result, Ok, Err, IfOk, refl, subst, arith}
-use Rattle.std.specs.Option.{option_and_then, option_or}
-use Rattle.std.specs.Prelude.{slice_get, slice_index, unwrap_or, ok_or}
-use Rattle.std.proofs.lemmas.Bool.{cond_both}
-use Rattle.std.proofs.lemmas.List.Elements.{All-nil, All-cons, All-head, All-tail, All-map, All-append, All-take, All-drop, All-weaker}
-use Rattle.nap_values.specs.Coordinates.{Coordinates, Displacement, IsInSquare, IsInRange, point_at, displaced_point}
-use Rattle.nap_values.specs.Colours.{Components, HasSixteenBitParts}
-use Rattle.nap_values.specs.Operands.{multi_of, single_of, colour_of}
-use Rattle.nap_values.specs.Laws.{IsWord}
-use Rattle.nap_values.proofs.PublicLaws.{points_are_inside, displacements_are_unique, values_are_in_range}
-use Rattle.nap_codes.specs.declared.opcode.Opcode.{Opcode}
+use Rattle.nap_draw.proofs.Common.{All, All-append, All-cons, All-drop, All-head, All-map, All-nil, All-tail, All-take, All-weaker, AllInRange, AreaInRange, Base, BaseInRange, Bool, CharSize, Colour, ColourInRange, Components, Coordinates, Displacement, DrawFault, Drawing, DrawingInRange, DrawnValuesAreInRange, Entry, Err, HasSixteenBitParts, IfOk, IfSome, InRange, InkInRange, IsAddress, IsInRange, IsInSquare, IsWord, List, None, Ok, Opcode, Option, Pen, PenInRange, Result, RuleResult, SizeInRange, Some, Span, StateInRange, Work, [], absolute_spans, addresses, and_then, arc_on, arc_points, area_of, area_part, arith, at_least_one, at_most_limit, blink, blink_rule, blinks, circle_closed, colour_of, colour_of_base, cond_both, cons_if_all, corner, cut_operands, displaced_point, displacements_are_unique, domain_in, domain_rule, drop, entries_result, entry_result, eqb, false, field_on, field_rule, first_and_more, first_move, from_pen, ink_of, is_known, last_or, map, map_rule, moves, moves_of, multi_of, ok_or, operands, option_and_then, option_map, option_or, pen_point, pen_result, point_at, point_entry, points_are_inside, points_at, points_reached, poly_on, poly_points, polyline_spans, rect_chain_spans, rect_on, refl, relative_spans, rule, rule_result, select_rule, selected_colour, set_color_rule, set_color_under, shape_from_pen, shape_from_point, single_of, slice_get, slice_index, span, span_by, span_line_entry, subst, suc, take, text_rule, texture_rule, true, unwrap_or, values_are_in_range, walk, with_colour, with_drawing, with_pen_at, zero, ℕ, ◌++◌, ◌+◌, ◌-◌, ◌/◌, ◌∷◌, ◌≡◌}
 use Rattle.nap_codes.specs.declared.opcode.Opcode.TheVariants as opcodes
-use Rattle.nap_list.specs.declared.attribute.Pen.{Pen}
 use Rattle.nap_list.specs.declared.attribute.Pen.TheVariants as pens
 use Rattle.nap_list.specs.declared.attribute.Area.TheVariants as areas
-use Rattle.nap_list.specs.declared.attribute.Base.{Base}
 use Rattle.nap_list.specs.declared.attribute.Base.TheVariants as bases
-use Rattle.nap_list.specs.declared.attribute.CharSize.{CharSize}
 use Rattle.nap_list.specs.declared.attribute.CharSize.TheVariants as sizes
-use Rattle.nap_list.specs.declared.attribute.Colour.{Colour}
 use Rattle.nap_list.specs.declared.attribute.Colour.TheVariants as colours
-use Rattle.nap_list.specs.declared.entry.Entry.{Entry}
 use Rattle.nap_list.specs.declared.entry.Entry.TheVariants as entries
-use Rattle.nap_list.specs.declared.state.Drawing.{Drawing}
-use Rattle.nap_list.specs.Known.{is_known}
-use Rattle.nap_list.specs.State.{corner, walk, with_colour, with_pen_at}
-use Rattle.nap_list.specs.Range.{IsAddress, PenInRange, BaseInRange, ColourInRange, SizeInRange, InkInRange, AreaInRange, InRange, AllInRange, DrawingInRange, StateInRange}
-use Rattle.nap_draw.specs.declared.spans.Span.{Span}
-use Rattle.nap_draw.specs.declared.work.Work.{Work}
-use Rattle.nap_draw.specs.declared.fault.DrawFault.{DrawFault}
 use Rattle.nap_draw.specs.declared.fault.DrawFault.TheVariants as faults
-use Rattle.nap_draw.specs.Operands.{cut_operands, operands, moves, addresses}
-use Rattle.nap_draw.specs.Geometry.{cons_if_all, last_or, points_at, points_reached, polyline_spans, span, span_by, absolute_spans, relative_spans, rect_chain_spans, arc_points, poly_points}
-use Rattle.nap_list.specs.Shapes.{circle_closed}
-use Rattle.nap_list.specs.State.{ink_of}
-use Rattle.nap_list.specs.Batches.{point_entry}
-use Rattle.nap_draw.specs.Rule.{RuleResult, rule, rule_result, with_drawing, entries_result, entry_result, pen_result, and_then, at_least_one, moves_of, first_move, pen_point, first_and_more, at_most_limit, from_pen, shape_from_pen, shape_from_point, domain_in, domain_rule, area_part, area_of, field_rule, text_rule, texture_rule, colour_of_base, selected_colour, select_rule, map_rule, set_color_under, set_color_rule, blink, blinks, blink_rule, span_line_entry, rect_on, arc_on, poly_on, field_on}
-use Rattle.nap_draw.specs.Laws.{DrawnValuesAreInRange}
 use Rattle.nap_draw.proofs.WalkRanges.{setting_ranged, unwrap_ranged, with_pen_at_ranged, with_colour_ranged, at_ranged, walk_ranged}
 
 -- The results of rules are in range.

@@ -1,12 +1,5 @@
-use Rattle.std.proofs.Common.{◌≡◌, ℕ, ◌%◌, Bool, true, false, cond, List, [], ◌∷◌, length, Option, Some, None, refl, ◌∙◌, ap, arith}
-use Rattle.std.specs.Option.{option_map}
-use Rattle.nap_values.specs.Coordinates.{Coordinates, Displacement, point_at}
+use Rattle.nap_draw.proofs.Common.{Bool, Coordinates, Displacement, List, None, Option, Some, Span, Work, [], absolute_spans, ap, arith, cond, cons_if_all, entries_result, false, from_pen, length, option_map, pair_spans, point_at, points_at, rect_chain_spans, rect_on, refl, rule, span, true, ℕ, ◌%◌, ◌∙◌, ◌∷◌, ◌≡◌}
 use Rattle.nap_codes.specs.declared.opcode.Opcode.TheVariants as opcodes
-use Rattle.nap_draw.specs.declared.spans.Span.{Span}
-use Rattle.nap_draw.specs.declared.work.Work.{Work}
-use Rattle.nap_draw.specs.Geometry.{cons_if_all, points_at, span, absolute_spans, rect_chain_spans}
-use Rattle.nap_draw.specs.Rule.{from_pen, entries_result, rect_on, rule}
-use Rattle.nap_draw.specs.Execution.{pair_spans}
 
 -- Other forms of rules.
 

@@ -1,17 +1,6 @@
-use Rattle.std.proofs.Common.{◌≡◌, ◌<◌, ◌≤◌, ℕ, Bool, List, length, take, drop, Some, None, Ok, Err, ◌∙◌, ap, ap₂, arith, subst, sym}
-use Rattle.nap_values.specs.Coordinates.{Coordinates, point_at}
-use Rattle.nap_values.specs.Operands.{operand_words, multi_of}
-use Rattle.nap_list.specs.declared.shape.ShapeKind.{ShapeKind}
-use Rattle.nap_list.specs.Limits.{steps_limit}
-use Rattle.nap_list.specs.Shapes.{shape_on}
-use Rattle.nap_draw.specs.declared.fault.DrawFault.{DrawFault}
+use Rattle.nap_draw.proofs.Common.{Bool, Coordinates, DrawFault, Err, List, None, Ok, ShapeKind, ShapeStart, Some, Work, ap, ap₂, arith, displaced_points, drop, length, moves_of, multi_of, operand_words, pen_point, point_at, points_reached, shape_from, shape_on, shape_result, start_size, steps_limit, subst, sym, take, ℕ, ◌<◌, ◌∙◌, ◌≡◌, ◌≤◌}
 use Rattle.nap_draw.specs.declared.fault.DrawFault.TheVariants.{Missing, ManyPoints, Outside}
-use Rattle.nap_draw.specs.declared.shapes.ShapeStart.{ShapeStart}
 use Rattle.nap_draw.specs.declared.shapes.ShapeStart.TheVariants as starts
-use Rattle.nap_draw.specs.declared.work.Work.{Work}
-use Rattle.nap_draw.specs.Geometry.{points_reached}
-use Rattle.nap_draw.specs.Rule.{moves_of, pen_point}
-use Rattle.nap_draw.specs.Execution.{shape_result, shape_from, displaced_points, start_size}
 use Rattle.nap_draw.proofs.ByteRuns.{words_prefix, carried_length, carried_rest}
 use Rattle.nap_draw.proofs.Outlines.{pen_none, pen_many, pen_lost, pen_goes, point_missing, point_many, point_few, point_goes}
 

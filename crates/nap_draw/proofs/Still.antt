@@ -1,19 +1,6 @@
-use Rattle.std.proofs.Common.{◌≡◌, ℕ, ◌+◌, ◌%◌, List, [], ◌∷◌, ◌++◌, map, length, take, drop, drop-cons, add-one, get_or, min, ◌<◌, arith, Option, None, refl, sym, ◌∙◌, ap, subst}
-use Rattle.std.proofs.lemmas.List.{take_min, drop_min}
-use Rattle.nap_values.specs.Operands.{operand_words, single_of}
-use Rattle.nap_draw.specs.Operands.{operands}
+use Rattle.nap_draw.proofs.Common.{AllFit, Colour, Drawing, Entry, EqualCurrent, LastChar, List, MayCome, ModeZeroIsBase, None, Option, State, StatesAgree, WellMade, [], add-one, after, agreeing_fits, ap, arith, attributes, blink, drop, drop-cons, drop_min, get_or, length, map, min, operand_words, operands, refl, single_of, subst, sym, take, take_min, walk, ℕ, ◌%◌, ◌++◌, ◌+◌, ◌<◌, ◌∙◌, ◌∷◌, ◌≡◌}
 use Rattle.nap_draw.proofs.ByteRuns.{operands_chunk}
-use Rattle.nap_list.specs.declared.attribute.Colour.{Colour}
-use Rattle.nap_list.specs.declared.entry.Entry.{Entry}
 use Rattle.nap_list.specs.declared.entry.Entry.TheVariants as entries
-use Rattle.nap_list.specs.declared.state.Drawing.{Drawing}
-use Rattle.nap_list.specs.declared.state.LastChar.{LastChar}
-use Rattle.nap_list.specs.declared.state.State.{State}
-use Rattle.nap_list.specs.Entry.{attributes, WellMade}
-use Rattle.nap_list.specs.State.{AllFit, MayCome, after, walk}
-use Rattle.nap_list.specs.Agreement.{ModeZeroIsBase, EqualCurrent, StatesAgree}
-use Rattle.nap_list.proofs.PublicLaws.{agreeing_fits}
-use Rattle.nap_draw.specs.Rule.{blink}
 use Rattle.nap_draw.proofs.Walks.{left_by}
 
 -- Entries that leave the attributes as they are.

@@ -1,19 +1,5 @@
-use Rattle.std.proofs.Common.{◌≡◌, ℕ, suc, length, List, [], ◌∷◌, ◌++◌, All, Option, Some, None, Ok, refl, sym, ◌∙◌, ap, subst, arith}
-use Rattle.nap_codes.specs.declared.code_set.CharSet.{CharSet}
-use Rattle.nap_codes.specs.declared.control.TextStep.{TextStep}
-use Rattle.nap_codes.specs.Tables.{format_effector}
+use Rattle.nap_draw.proofs.Common.{All, AllFit, CharSet, Entry, EqualCurrent, IsTextByte, LastChar, List, MayCome, ModeZeroIsBase, None, Ok, Option, Some, State, StatesAgree, TextByteRule, TextStep, [], after, agreeing_fits, ap, arith, attributes, code_as, code_rule, drawn_text, format_effector, hand_of, last_after, last_char_of_text, length, refl, rule_result, start_drawing, subst, suc, sym, text_entries_in, text_entry, text_entry_as, text_leaves, typed_made, walk, with_pen, ℕ, ◌++◌, ◌∙◌, ◌∷◌, ◌≡◌}
 use Rattle.nap_list.specs.declared.attribute.Pen.TheVariants as pens
-use Rattle.nap_list.specs.declared.entry.Entry.{Entry}
-use Rattle.nap_list.specs.declared.state.LastChar.{LastChar}
-use Rattle.nap_list.specs.declared.state.State.{State}
-use Rattle.nap_list.specs.Entry.{attributes}
-use Rattle.nap_list.specs.Batches.{IsTextByte, text_entries_in, text_entry, text_entry_as, last_char_of_text}
-use Rattle.nap_list.specs.State.{AllFit, MayCome, after, walk, with_pen, hand_of, start_drawing, last_after}
-use Rattle.nap_list.specs.Agreement.{EqualCurrent, ModeZeroIsBase, StatesAgree}
-use Rattle.nap_list.proofs.PublicLaws.{agreeing_fits, text_leaves, typed_made}
-use Rattle.nap_draw.specs.Codes.{code_as, code_rule, drawn_text}
-use Rattle.nap_draw.specs.Laws.{TextByteRule}
-use Rattle.nap_draw.specs.Rule.{rule_result}
 use Rattle.nap_draw.proofs.Walks.{left_by}
 
 -- The state after the characters of a text and the moves among them.

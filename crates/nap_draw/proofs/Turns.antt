@@ -1,9 +1,4 @@
-use Rattle.std.proofs.Common.{◌≡◌, List, [], ◌∷◌, Option, Some, None, ◌∙◌, ap}
-use Rattle.std.specs.Option.{option_map}
-use Rattle.nap_values.specs.Coordinates.{Coordinates, Displacement, point_at, displaced_point}
-use Rattle.nap_list.specs.State.{corner}
-use Rattle.nap_draw.specs.Geometry.{cons_if_all, points_at, points_reached, span, span_by, relative_spans, rect_chain_spans}
-use Rattle.nap_draw.specs.Execution.{rect_spans}
+use Rattle.nap_draw.proofs.Common.{Coordinates, Displacement, List, None, Option, Some, [], ap, cons_if_all, corner, displaced_point, option_map, point_at, points_at, points_reached, rect_chain_spans, rect_spans, relative_spans, span, span_by, ◌∙◌, ◌∷◌, ◌≡◌}
 
 -- The points that operands reach, after one more.
 

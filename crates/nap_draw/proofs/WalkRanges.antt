@@ -1,28 +1,7 @@
-use Rattle.std.proofs.Common.{ℕ, zero, suc, ◌-◌, ◌/◌, ◌%◌, eqb, List, [], ◌∷◌, All, length, Option, Some, None, IfSome, arith}
-use Rattle.std.specs.Prelude.{slice_get, take, unwrap_or}
-use Rattle.std.proofs.lemmas.Bool.{cond_both}
-use Rattle.std.proofs.lemmas.List.Elements.{All-nil, All-cons, All-head, All-tail, All-take, All-filter}
-use Rattle.nap_values.specs.Coordinates.{Coordinates, IsInSquare, IsInRange}
-use Rattle.nap_values.specs.Colours.{Components, HasSixteenBitParts}
-use Rattle.nap_list.specs.declared.attribute.Pen.{Pen}
+use Rattle.nap_draw.proofs.Common.{All, All-cons, All-filter, All-head, All-nil, All-tail, All-take, AllInRange, Attributes, Base, BaseInRange, Colour, ColourInRange, Components, Coordinates, Drawing, DrawingInRange, Entry, Hand, HandInRange, HasSixteenBitParts, IfSome, InRange, Ink, InkInRange, IsAddress, IsByte, IsInRange, IsInSquare, LastChar, List, MapColour, MapColourInRange, None, OpenDefinition, OpenedInRange, Option, Pen, PenInRange, Some, State, StateInRange, TextInRange, TextureInRange, [], after, arith, attributes, base_after, colour_code, colour_only, cond_both, corner, definition_after, effect_on_drawing, eqb, hand_attributes, ink_attributes, known_after, last_after, length, pen_only, reset, restored_drawing, slice_get, start_drawing, start_text, start_texture, suc, take, unwrap_or, walk, with_attributes, with_colour, with_known_colour, with_pen, with_pen_at, without_address, zero, ℕ, ◌%◌, ◌-◌, ◌/◌, ◌∷◌}
 use Rattle.nap_list.specs.declared.attribute.Pen.TheVariants as pens
-use Rattle.nap_list.specs.declared.attribute.Base.{Base}
-use Rattle.nap_list.specs.declared.attribute.Colour.{Colour}
 use Rattle.nap_list.specs.declared.attribute.Colour.TheVariants as colours
-use Rattle.nap_list.specs.declared.attribute.Ink.{Ink}
-use Rattle.nap_list.specs.declared.attribute.Hand.{Hand}
-use Rattle.nap_list.specs.declared.attribute.Attributes.{Attributes}
-use Rattle.nap_list.specs.declared.entry.Entry.{Entry}
 use Rattle.nap_list.specs.declared.entry.Entry.TheVariants as entries
-use Rattle.nap_list.specs.declared.state.Drawing.{Drawing}
-use Rattle.nap_list.specs.declared.state.OpenDefinition.{OpenDefinition}
-use Rattle.nap_list.specs.declared.state.LastChar.{LastChar}
-use Rattle.nap_list.specs.declared.state.State.{State}
-use Rattle.nap_list.specs.Entry.{attributes, ink_attributes, hand_attributes, colour_only, pen_only}
-use Rattle.nap_list.specs.declared.known.MapColour.{MapColour}
-use Rattle.nap_list.specs.Known.{colour_code, without_address, with_known_colour}
-use Rattle.nap_list.specs.State.{start_drawing, start_texture, start_text, base_after, with_attributes, with_pen, with_pen_at, with_colour, corner, reset, restored_drawing, effect_on_drawing, definition_after, last_after, known_after, after, walk}
-use Rattle.nap_list.specs.Range.{IsAddress, IsByte, MapColourInRange, PenInRange, BaseInRange, ColourInRange, TextureInRange, TextInRange, InkInRange, HandInRange, InRange, AllInRange, DrawingInRange, OpenedInRange, StateInRange}
 
 -- A walk over entries in range, from a state in range, leads to a state in range.
 

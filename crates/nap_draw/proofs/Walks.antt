@@ -1,23 +1,5 @@
-use Rattle.std.proofs.Common.{◌≡◌, suc, ◌-◌, length, arith, List, [], ◌∷◌, map, Bool, false, Option, Some, None, Result, Ok, refl, sym, ◌∙◌, ap}
-use Rattle.std.specs.Option.{option_map}
-use Rattle.std.specs.List.{slice_get}
-use Rattle.nap_values.specs.Coordinates.{Coordinates}
-use Rattle.nap_list.specs.declared.attribute.Pen.{Pen}
-use Rattle.nap_list.specs.declared.entry.Entry.{Entry}
-use Rattle.nap_list.specs.declared.state.Drawing.{Drawing}
-use Rattle.nap_list.specs.declared.state.State.{State}
-use Rattle.nap_list.specs.Entry.{attributes, WellMade}
-use Rattle.nap_list.specs.State.{with_pen, effect_on_drawing, definition_after, last_after, known_after, after, walk, MayCome, corner}
-use Rattle.nap_list.specs.Agreement.{ModeZeroIsBase, EqualCurrent}
-use Rattle.nap_list.proofs.PublicLaws.{taking_nothing}
-use Rattle.nap_draw.specs.declared.spans.Figure.{Figure}
+use Rattle.nap_draw.proofs.Common.{Bool, Coordinates, DrawFault, Drawing, Entry, EqualCurrent, Figure, List, MayCome, ModeZeroIsBase, None, Ok, Option, Pen, Result, RuleResult, Some, State, WellMade, Work, [], after, ap, arith, attributes, corner, definition_after, effect_on_drawing, entries_result, false, figure_end, figure_entry, known_after, last_after, last_or, length, map, option_map, point_entry, rect_on, refl, slice_get, span_line_entry, suc, sym, taking_nothing, walk, with_pen, with_pen_moved_to, ◌-◌, ◌∙◌, ◌∷◌, ◌≡◌}
 use Rattle.nap_draw.specs.declared.spans.Figure.TheVariants as figures
-use Rattle.nap_draw.specs.declared.work.Work.{Work}
-use Rattle.nap_draw.specs.declared.fault.DrawFault.{DrawFault}
-use Rattle.nap_draw.specs.Geometry.{last_or}
-use Rattle.nap_list.specs.Batches.{point_entry}
-use Rattle.nap_draw.specs.Rule.{RuleResult, entries_result, span_line_entry, rect_on}
-use Rattle.nap_draw.specs.Execution.{with_pen_moved_to, figure_entry, figure_end}
 
 -- The points that entries which only move the pen lead to.
 

@@ -21,6 +21,10 @@ Acts g clears by w v s t (Err fault) = (v ≡ w) × DrawsBy g.took g.broke g.fai
 abbrev pub clears_macros : Bool → Bool
 clears_macros clears = clears
 
+-- the sink may lack memory for some entries
+abbrev pub WantsFor : {S : Type 0} → Ghosts S → S → Type 0
+WantsFor g s = (list : List Entry) × g.wants s list
+
 -- memory ran out for one of these entries, where the sink may lack it for them
 pub record WantsEntry {S : Type 0} (g : Ghosts S) (list : List Entry) (s t : S) : Type 0 where
   pub wants : g.wants s list

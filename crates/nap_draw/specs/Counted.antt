@@ -25,4 +25,4 @@ pub record Displaces (old new : Course) (bytes : List ℕ) : Type 0 where
 
 -- a code acted by the result of its rule
 abbrev pub ActsFully : {S : Type 0} → (g : Ghosts S) → Result RuleResult DrawFault → Work → Work → S → S → Type 0
-ActsFully g by w v s t = ActsByRule {A = Unit {0}} g clears_nothing by w v s t (Ok (tt {0}))
+ActsFully g by w v s t = ActsByRule {A = Unit {0}} g clears_nothing ⊥ by w v s t (Ok (tt {0}))

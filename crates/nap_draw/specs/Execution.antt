@@ -1,4 +1,5 @@
-use Rattle.std.specs.Prelude.{ℕ, min, ◌≡◌, ◌++◌, IsErrOf, Bool, true, false, List, [], ◌∷◌, Option, Some, None, option_map, Result, Ok, Err}
+use Rattle.std.specs.Prelude.{ℕ, min, ◌≡◌, ◌<◌, ◌≤◌, ◌⊎◌, ◌+◌, ◌++◌, vec_len, vec_capacity, IsErrOf, Bool, true, false, List, [], ◌∷◌, Option, Some, None, option_map, Result, Ok, Err}
+use Rattle.std.specs.declared.vec.Vec.{Vec}
 use Rattle.nap_values.specs.Coordinates.{Coordinates, Displacement}
 use Rattle.nap_list.specs.declared.attribute.Ink.{Ink}
 use Rattle.nap_list.specs.declared.attribute.Pen.{Pen}
@@ -30,7 +31,7 @@ use Rattle.nap_draw.specs.declared.work.Work.{Work}
 use Rattle.nap_draw.specs.Rule.{RuleResult, entry_result, shape_from_pen, shape_from_point}
 use Rattle.nap_draw.specs.Geometry.{polyline_spans, arc_points, poly_points}
 use Rattle.nap_draw.specs.Draws.{Cause, stream, memory, device, DrawsBy, draw_cause}
-use Rattle.nap_draw.specs.Acts.{WantsBy, GivesSome}
+use Rattle.nap_draw.specs.Acts.{WantsBy, WantsFor, GivesSome}
 
 -- The steps in which a code is executed: its run is decoded into the scratch list, its entries are put, and the work is
 -- changed.
@@ -48,6 +49,17 @@ pub record Filling {A : Type 0} (all rest : Option (List A)) (full : Bool) (Keep
   pub prefix : List A
   pub parts : all ≡ option_map (λ xs. prefix ++ xs) rest
   pub kept : full ≡ false → Keeps prefix
+
+-- A scratch list gave no memory back, and lacked it only if it had none for a point of each of n bytes.
+abbrev pub LacksPlaces : {X Z A : Type 0} → ℕ → Vec X Z → Vec X Z → Result A DrawFault → Type 0
+LacksPlaces n old new r = (vec_capacity old ≤ vec_capacity new) × (IsErrOf r faults.Memory → vec_capacity old < n)
+
+-- The progress of decoding a run of `all` bytes, of which these are left, into the scratch list: it gave no memory back,
+-- has no more points than bytes were read, and memory ran out only if it had none for a point of each byte.
+pub record Holding {X Z : Type 0} (old now : Vec X Z) (all left : ℕ) (full : Bool) : Type 0 where
+  pub space : vec_capacity old ≤ vec_capacity now
+  pub few : vec_len now + left ≤ all
+  pub lacks : full ≡ true → vec_capacity old < all
 
 -- the entry of a figure on a span, with these attributes
 abbrev pub figure_with_ink : Figure → Ink → Span → Entry
@@ -125,12 +137,13 @@ PutsList g list s t r = puts.PutSome (sink_model_of g) list s t r
 abbrev pub PutsSoFar : {S : Type 0} → Ghosts S → S → S → List Entry → List Entry → Type 0
 PutsSoFar g s t whole rest = puts.Putting (sink_model_of g) s t whole rest
 
--- a code acted by the result of its rule, and all macros were cleared exactly if the answer says so
-abbrev pub ActsByRule : {S A : Type 0} → (g : Ghosts S) → (A → Bool) → Result RuleResult DrawFault → Work → Work → S → S → Result A DrawFault → Type 0
-ActsByRule g clears by w v s t (Ok x) = (entries : List Entry) × (by ≡ Ok (record { entries = entries; work = v; clears = clears x })) × g.took s entries t
+-- a code acted by the result of its rule, and all macros were cleared exactly if the answer says so; it lacked memory only
+-- for points or for entries
+abbrev pub ActsByRule : {S A : Type 0} → (g : Ghosts S) → (A → Bool) → Type 0 → Result RuleResult DrawFault → Work → Work → S → S → Result A DrawFault → Type 0
+ActsByRule g clears short by w v s t (Ok x) = (entries : List Entry) × (by ≡ Ok (record { entries = entries; work = v; clears = clears x })) × g.took s entries t
     × (g.state t ≡ walk (g.state s) entries) × (g.failed s ≡ false → g.failed t ≡ false)
-ActsByRule g clears by w v s t (Err fault) = (v ≡ w) × DrawsBy g.took g.broke g.failed by s t fault (draw_cause fault) × (fault ≡ faults.Sink → g.failed t ≡ true)
-    × (g.failed s ≡ false → g.failed t ≡ true → fault ≡ faults.Sink)
+ActsByRule g clears short by w v s t (Err fault) = (v ≡ w) × DrawsBy g.took g.broke g.failed by s t fault (draw_cause fault) × (fault ≡ faults.Sink → g.failed t ≡ true)
+    × (g.failed s ≡ false → g.failed t ≡ true → fault ≡ faults.Sink) × (fault ≡ faults.Memory → short ⊎ WantsFor g s)
 
 -- the answer says nothing about macros, which stay
 abbrev pub clears_nothing : Unit {0} → Bool
@@ -138,14 +151,14 @@ clears_nothing _ = false
 
 -- a character or control acted by the result of its rule, and lacked memory or a device only for its entries
 pub record AppliesControl {S : Type 0} (g : Ghosts S) (by : Result RuleResult DrawFault) (w v : Work) (s t : S) (r : Result (Unit {0}) DrawFault) : Type 0 where
-  pub does : ActsByRule g clears_nothing by w v s t r
+  pub does : ActsByRule g clears_nothing ⊥ by w v s t r
   pub wants : IsErrOf r faults.Memory → WantsBy g by s t
   pub gives : IsErrOf r faults.Sink → GivesSome by
 
 -- the rule refuses the code with this fault, if the cause is the stream
 abbrev pub RuleRefuses : Result RuleResult DrawFault → DrawFault → Cause → Type 0
 RuleRefuses by fault stream = by ≡ Err fault
-RuleRefuses by fault memory = (d : RuleResult) × (by ≡ Ok d)
+RuleRefuses by fault memory = ⊥
 RuleRefuses by fault device = ⊥
 
 -- an opcode without entries changed the work by the result of its rule

@@ -6,9 +6,8 @@ ghost use Rattle.nap_draw.specs.Limits.{run_limit};
 ghost use Rattle.nap_draw.specs.Rule.{rule, IsDrawn};
 ghost use Rattle.nap_draw.specs.Draws.{Draws};
 
-use crate::act::RUN_LIMIT;
 use crate::fault::DrawFault;
-use crate::work::{Effects, Work};
+use crate::work::{Effects, RUN_LIMIT, Work};
 use nap_codes::Opcode;
 use nap_list::Sink;
 use nap_values::Word;

@@ -23,7 +23,7 @@ impl Work {
 
     pub(crate) fn set_color<S: Sink>(&mut self, run: &[u8], sink: &mut S) -> Result<(), DrawFault>
         requires { StatesAgree self.old.state (S.state sink.old) }
-        ensures { ActsByRule S.Sink clears_nothing (rule self.old Opcode.SetColor (operand_words run.now)) self.old self.new sink.old sink.new result }
+        ensures { ActsByRule S.Sink clears_nothing ⊥ (rule self.old Opcode.SetColor (operand_words run.now)) self.old self.new sink.old sink.new result }
     {
         let size = self.domain.multi();
         if run.is_empty() {
@@ -60,7 +60,7 @@ impl Work {
     /// the map).
     fn put_map<S: Sink>(&mut self, addr: Addr, grb: Grb, sink: &mut S) -> Result<(), DrawFault>
         requires { StatesAgree self.old.state (S.state sink.old) }
-        ensures { ActsByRule S.Sink clears_nothing (map_rule self.old addr grb) self.old self.new sink.old sink.new result }
+        ensures { ActsByRule S.Sink clears_nothing ⊥ (map_rule self.old addr grb) self.old self.new sink.old sink.new result }
     {
         if self.state.known.has(addr, grb) {
             return Ok(());

@@ -15,7 +15,7 @@ use nap_values::{Move, Point, multi_bytes};
 impl Work {
     pub(crate) fn field<S: Sink>(&mut self, run: &[u8], sink: &mut S) -> Result<(), DrawFault>
         requires { StatesAgree self.old.state (S.state sink.old) }
-        ensures { ActsByRule S.Sink clears_nothing (rule self.old Opcode.Field (operand_words run.now)) self.old self.new sink.old sink.new result }
+        ensures { ActsByRule S.Sink clears_nothing ⊥ (rule self.old Opcode.Field (operand_words run.now)) self.old self.new sink.old sink.new result }
     {
         let area = self.area_of(run)?;
         let pen = self.pen();

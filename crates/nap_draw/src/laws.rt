@@ -3,7 +3,7 @@ ghost use Rattle.std.specs.Prelude.{◌≡◌};
 ghost use Rattle.nap_draw.specs.Laws.{RuleFits, CodeFits, DrawnValuesAreInRange, CodeValuesAreInRange, OpcodesAreDrawn, WholeOperandFirst, NoOperands, TextByteRule};
 ghost use Rattle.nap_draw.specs.Joining.{RunsJoin};
 ghost use Rattle.nap_draw.specs.Limits.{run_limit};
-ghost use Rattle.nap_draw.specs.declared.act.TheConstants.{RUN_LIMIT};
+ghost use Rattle.nap_draw.specs.declared.work.TheConstants.{RUN_LIMIT};
 
 /// If the states agree, the entries of an opcode fit one after another, and the states agree again after them.
 pub fn rule_fits()

@@ -18,7 +18,7 @@ impl Work {
     /// Executes RESET, and returns whether all macros are cleared.
     pub(crate) fn reset<S: Sink>(&mut self, run: &[u8], sink: &mut S) -> Result<bool, DrawFault>
         requires { StatesAgree self.old.state (S.state sink.old) }
-        ensures { ActsByRule S.Sink clears_macros (rule self.old Opcode.Reset (operand_words run.now)) self.old self.new sink.old sink.new result }
+        ensures { ActsByRule S.Sink clears_macros ⊥ (rule self.old Opcode.Reset (operand_words run.now)) self.old self.new sink.old sink.new result }
     {
         let first = word_at(run, 0);
         let second = word_at(run, 1);

@@ -1,6 +1,6 @@
 //! The scratch list of points that a run is decoded into. It is borrowed from the caller; its contents before are
 //! ignored.
-ghost use Rattle.std.specs.Prelude.{◌≡◌, [], true, false, nat_le, vec_capacity, IfOk, IfErr};
+ghost use Rattle.std.specs.Prelude.{◌≡◌, ◌<◌, ◌≤◌, [], true, false, nat_le, vec_len, vec_capacity, IfOk, IfErr};
 ghost use Rattle.nap_draw.specs.declared.fault.DrawFault.TheVariants.{Memory};
 
 mod points;
@@ -19,6 +19,7 @@ pub(crate) use steps::steps_into;
 #[inline(always)]
 fn take_vector(scratch: &mut Vec<Point>) -> Vec<Point>
     ensures items { result.items ≡ scratch.old.items }
+    ensures len { vec_len result ≡ vec_len scratch.old }
     ensures capacity { vec_capacity result ≡ vec_capacity scratch.old }
     ensures after { vec_capacity scratch.new ≡ 0 }
 {
@@ -39,12 +40,15 @@ fn put_back(scratch: &mut Vec<Point>, points: Vec<Point>)
 /// out.
 #[inline(always)]
 fn reset_scratch(scratch: &mut Vec<Point>, bytes: usize, domain: Domain) -> bool
-    ensures { scratch.new.items ≡ [] }
+    ensures items { scratch.new.items ≡ [] }
+    ensures len { vec_len scratch.new ≡ 0 }
+    ensures space { vec_capacity scratch.old ≤ vec_capacity scratch.new }
+    ensures lacks { result ≡ true → vec_capacity scratch.old < bytes }
 {
     if clear_if_fits(scratch, bytes) {
         return false;
     }
-    let places = bytes.div_ceil(usize::from(domain.multi()));
+    let places = bytes.div_ceil(usize::from(domain.multi())).min(bytes);
     scratch.reserve_exact(places).is_err()
 }
 
@@ -52,6 +56,8 @@ fn reset_scratch(scratch: &mut Vec<Point>, bytes: usize, domain: Domain) -> bool
 #[inline(always)]
 fn clear_if_fits(scratch: &mut Vec<Point>, places: usize) -> bool
     ensures items { scratch.new.items ≡ [] }
+    ensures len { vec_len scratch.new ≡ 0 }
+    ensures space { vec_capacity scratch.new ≡ vec_capacity scratch.old }
     ensures places { result ≡ nat_le places (vec_capacity scratch.new) }
 {
     scratch.clear();

@@ -1,5 +1,5 @@
 //! ARC and POLY, and their SET forms.
-ghost use Rattle.std.specs.Prelude.{◌≡◌, ◌<◌, ◌≤◌, Bool, Err, length, nat_lt, IfOk, IfErr};
+ghost use Rattle.std.specs.Prelude.{◌≡◌, ◌<◌, ◌≤◌, Bool, Err, length, nat_lt, IfOk, IfErr, vec_capacity};
 ghost use Rattle.nap_values.specs.Operands.{operand_words};
 ghost use Rattle.nap_list.specs.declared.shape.ShapeKind.{ShapeKind};
 ghost use Rattle.nap_list.specs.Agreement.{StatesAgree};
@@ -54,6 +54,7 @@ fn shape_start<'a>(
     run: &'a [u8],
 ) -> Result<(Point, &'a [u8]), DrawFault>
     ensures ok { IfOk result (λ (p, steps). (kind : ShapeKind) (filled : Bool) → shape_from start work.now (operand_words run.now) (shape_on kind filled) (displaced_points kind) ≡ shape_result work.now kind filled p (points_reached p (moves_of work.now (operand_words steps.now)))) }
+    ensures within { IfOk result (λ (p, steps). length steps.now ≤ length run.now) }
     ensures some { IfOk result (λ (p, steps). 0 < length (moves_of work.now (operand_words steps.now))) }
     ensures few { IfOk result (λ (p, steps). length (moves_of work.now (operand_words steps.now)) ≤ steps_limit) }
     ensures err { IfErr result (λ fault. (draw_cause fault ≡ stream) × ((kind : ShapeKind) (filled : Bool) → shape_from start work.now (operand_words run.now) (shape_on kind filled) (displaced_points kind) ≡ Err fault)) }
@@ -93,7 +94,8 @@ impl Work {
         sink: &mut S,
     ) -> Result<(), DrawFault>
         requires { StatesAgree self.old.state (S.state sink.old) }
-        ensures { ActsByRule S.Sink clears_nothing (shape_from start self.old (operand_words run.now) (shape_on kind filled) (displaced_points kind)) self.old self.new sink.old sink.new result }
+        ensures acts { ActsByRule S.Sink clears_nothing (vec_capacity scratch.old < length run.now) (shape_from start self.old (operand_words run.now) (shape_on kind filled) (displaced_points kind)) self.old self.new sink.old sink.new result }
+        ensures space { vec_capacity scratch.old ≤ vec_capacity scratch.new }
     {
         let (from, steps) = match shape_start(self, start, run) {
             Ok(begun) => begun,

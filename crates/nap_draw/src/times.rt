@@ -13,7 +13,7 @@ use nap_list::{Entry, Sink};
 impl Work {
     pub(crate) fn wait<S: Sink>(&mut self, run: &[u8], sink: &mut S) -> Result<(), DrawFault>
         requires { StatesAgree self.old.state (S.state sink.old) }
-        ensures { ActsByRule S.Sink clears_nothing (rule self.old Opcode.Wait (operand_words run.now)) self.old self.new sink.old sink.new result }
+        ensures { ActsByRule S.Sink clears_nothing ⊥ (rule self.old Opcode.Wait (operand_words run.now)) self.old self.new sink.old sink.new result }
     {
         if run.is_empty() {
             return Ok(());
@@ -25,7 +25,7 @@ impl Work {
 
     pub(crate) fn blink<S: Sink>(&mut self, run: &[u8], sink: &mut S) -> Result<(), DrawFault>
         requires { StatesAgree self.old.state (S.state sink.old) }
-        ensures { ActsByRule S.Sink clears_nothing (rule self.old Opcode.Blink (operand_words run.now)) self.old self.new sink.old sink.new result }
+        ensures { ActsByRule S.Sink clears_nothing ⊥ (rule self.old Opcode.Blink (operand_words run.now)) self.old self.new sink.old sink.new result }
     {
         if run.is_empty() {
             let colour = self.colour();

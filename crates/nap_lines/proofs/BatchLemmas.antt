@@ -1,30 +1,8 @@
-use Rattle.std.proofs.Common.{rules, ℕ, zero, suc, ◌≡◌, if◌then◌else◌, is_ok, is_err, ◌-◌, ◌+◌, ◌<◌, ◌≤◌, List, [], ◌∷◌, ◌++◌, Bool, false, Result, Ok, Err, OnOk, Option, Some, None, codes, flat_map, map, length, take, drop, get_or, add-one, refl, ap, sym, ◌∙◌, append-nil, append_assoc, length-append, length-take, arith}
-use Rattle.std.proofs.lemmas.List.{take-take, take_more}
-use Rattle.std.proofs.lemmas.List.Concat.{flat_map-append}
-use Rattle.std.proofs.Math.Seq.{drop-append_seam, take-append_seam}
-use Rattle.std.specs.Str.{IsUtf8}
-use Rattle.nap_values.specs.Coordinates.{Coordinates}
-use Rattle.nap_codes.specs.declared.code_set.CharSet.{CharSet}
+use Rattle.nap_lines.proofs.Common.{Batch, Bool, CharSet, Coordinates, Drawing, Entry, Err, Hand, Ink, IsUtf8, LineSinkState, LinesContinue, List, NeedsLines, NeedsUpTo, None, Ok, OnErr, OnOk, Option, Pen, Result, SinkModel, Some, TakesLinesOf, TextStep, Vec, [], add-one, ap, append-nil, append_assoc, arith, batch_entries, char_front, codes, colour_text, drop, drop-append_seam, false, flat_map, flat_map-append, format_effector, format_effector_front, get_or, hand_of, hand_text, hand_text_without_pen, if◌then◌else◌, ink_of, ink_text, is_err, is_ok, last_point, length, length-append, length-drop, length-take, length-take-le, line, line_front, line_limit, lines, lines_prefix, lines_rest, lines_with, look_text, map, move_front, move_text, mul-le-mul_left, pen_at, pen_text, point_end, point_entry, point_front, points_prefix, points_rest, polyline_entries, refl, rules, set_text, sink_model, subst, suc, sym, take, take-append_seam, take-take, take_more, text_byte_front, text_byte_front_as, text_entries_in, text_entry, text_entry_as, text_prefix, true, vec_capacity, vec_len, zero, ℕ, ◌*◌, ◌++◌, ◌+◌, ◌-◌, ◌<◌, ◌∙◌, ◌∷◌, ◌≡◌, ◌≤◌}
 use Rattle.nap_codes.specs.declared.code_set.CharSet.TheVariants as sets
-use Rattle.nap_codes.specs.declared.control.TextStep.{TextStep}
-use Rattle.nap_codes.specs.Tables.{format_effector}
-use Rattle.nap_codes.proofs.PublicLaws.{format_effector_front}
-use Rattle.nap_list.specs.declared.attribute.Hand.{Hand}
-use Rattle.nap_list.specs.declared.attribute.Ink.{Ink}
-use Rattle.nap_list.specs.declared.attribute.Pen.{Pen}
 use Rattle.nap_list.specs.declared.attribute.Pen.TheVariants.{After}
-use Rattle.nap_list.specs.declared.entry.Entry.{Entry}
 use Rattle.nap_list.specs.declared.entry.Entry.TheVariants as entries
-use Rattle.nap_list.specs.declared.state.Drawing.{Drawing}
-use Rattle.nap_list.specs.State.{hand_of, ink_of}
-use Rattle.nap_list.specs.declared.batch.Batch.{Batch}
 use Rattle.nap_list.specs.declared.batch.Batch.TheVariants as batches
-use Rattle.nap_list.specs.Batches.{last_point, point_entry, polyline_entries, text_entries_in, text_entry, text_entry_as, batch_entries}
-use Rattle.nap_list.specs.BatchLaws.{points_prefix, lines_prefix, text_prefix, points_rest, lines_rest}
-use Rattle.nap_list.specs.Putting.{SinkModel, sink_model}
-use Rattle.nap_lines.specs.Lines.{line, ink_text, pen_text, move_text, colour_text, look_text, hand_text, set_text}
-use Rattle.nap_lines.specs.Listing.{LineSinkState, TakesLinesOf, lines}
-use Rattle.nap_lines.specs.Batches.{point_front, point_end, line_front, char_front, move_front, text_byte_front_as, text_byte_front, hand_text_without_pen, lines_with, pen_at, LinesContinue}
 
 -- The lines of a batch.
 
@@ -62,6 +40,39 @@ appended (Err _) failed now old bytes is was works = let bad : ⊥ = cc in absur
 pub worked : {T E : Type 0} (r : Result T E) (A : Type 0) (failed : Bool) → failed ≡ is_err r → failed ≡ false → OnOk r A → A
 worked (Ok _) A failed was works so = so
 worked (Err _) A failed was works so = let bad : ⊥ = cc in absurd bad
+
+-- the length of a text that grew
+pub grown : {T E : Type 0} (r : Result T E) (failed : Bool) (now old more : ℕ) → failed ≡ is_err r → failed ≡ false → now ≡ (if is_ok r then old + more else old) → now ≡ old + more
+grown (Ok _) failed now old more was works is = is
+grown (Err _) failed now old more was works is = let bad : ⊥ = cc in absurd bad
+
+-- a text that didn't grow
+pub not_grown : {T E A : Type 0} (r : Result T E) (failed : Bool) (now old more : ℕ) → failed ≡ is_err r → failed ≡ true → now ≡ (if is_ok r then old + more else old) → OnErr r A → (now ≡ old) × A
+not_grown (Ok _) failed now old more was fails is so = let bad : ⊥ = cc in absurd bad
+not_grown (Err _) failed now old more was fails is so = (is, so)
+
+-- a text that grew had room, or got it
+pub needed : {X Z E : Type 0} (n : ℕ) (old new : Vec X Z) (r : Result (Unit {0}) E) (failed : Bool) → failed ≡ is_err r → failed ≡ false → NeedsUpTo n old new r →
+    (vec_capacity old ≤ vec_capacity new) × (vec_len new ≤ vec_len old + n)
+needed n old new (Ok _) failed was works so = so
+needed n old new (Err _) failed was works so = let bad : ⊥ = cc in absurd bad
+
+-- a text whose memory had no room for one more line
+pub no_room : {X Z E : Type 0} (n : ℕ) (old new : Vec X Z) (r : Result (Unit {0}) E) (failed : Bool) → failed ≡ is_err r → failed ≡ true → NeedsUpTo n old new r →
+    (vec_capacity old ≤ vec_capacity new) × (vec_capacity old < vec_len old + n)
+no_room n old new (Ok _) failed was fails so = let bad : ⊥ = cc in absurd bad
+no_room n old new (Err _) failed was fails so = so
+
+-- a part has as many items as it was asked for
+pub needs_all : {A X Z : Type 0} (few all : List A) (first count : ℕ) (old new : Vec X Z) (written : ℕ) → few ≡ take count (drop first all) → first + count ≤ length all → NeedsLines (length few) old new written →
+    NeedsLines count old new written
+needs_all few all first count old new written is within needs =
+    let size : length few ≡ count = ap length is ∙ length-take-le count (drop first all) (omega (arith, within, length-drop first all)) in
+    subst (λ (n : ℕ). NeedsLines n old new written) size needs
+
+-- so many lines of this size
+pub block_few : (count size n : ℕ) → n ≤ count * size → size ≤ line_limit → n ≤ line_limit * count
+block_few count size n is few = omega (arith, is, mul-le-mul_left count few)
 
 pub one_more : {A : Type 0} (f : A → List ℕ) (xs : List A) (i : ℕ) (x d : A) → i < length xs → x ≡ get_or xs i d → flat_map f (take (i + 1) xs) ≡ flat_map f (take i xs) ++ f x
 one_more {A} f xs i x d less is =

@@ -1,14 +1,4 @@
-use Rattle.std.proofs.Common.{ℕ, zero, suc, ◌≡◌, ◌+◌, ◌*◌, ◌≤◌, List, [], ◌∷◌, ◌++◌, flat_map, length, take, drop, refl, ap, sym, ◌∙◌, append-nil, append_assoc, length-append, length-drop, arith}
-use Rattle.std.specs.Prelude.{All}
-use Rattle.std.proofs.lemmas.List.{take-append-drop, take-take, drop-append-le, drop-drop, length-take-le}
-use Rattle.std.proofs.lemmas.List.Concat.{flat_map-append}
-use Rattle.std.proofs.lemmas.List.Elements.{All-head, All-tail}
-use Rattle.std.proofs.Math.Nat.{suc-mul}
-use Rattle.std.proofs.Math.Seq.{take-add, take-append-add, drop-append-add, take-append_seam, drop-append_seam}
-use Rattle.nap_codes.specs.declared.code_set.CharSet.{CharSet}
-use Rattle.nap_lines.specs.Lines.{code_text}
-use Rattle.nap_lines.specs.Batches.{text_byte_front}
-use Rattle.nap_lines.specs.Blocks.{patched, recoded, repeated}
+use Rattle.nap_lines.proofs.Common.{All, All-head, All-tail, CharSet, List, [], ap, append-nil, append_assoc, arith, code_text, drop, drop-append-add, drop-append-le, drop-append_seam, drop-drop, flat_map, flat_map-append, length, length-append, length-drop, length-take-le, patched, recoded, refl, repeated, suc, suc-mul, sym, take, take-add, take-append-add, take-append-drop, take-append_seam, take-take, text_byte_front, zero, ℕ, ◌*◌, ◌++◌, ◌+◌, ◌∙◌, ◌∷◌, ◌≡◌, ◌≤◌}
 use Rattle.nap_lines.proofs.BatchLemmas.{char_start, letter_typed}
 
 -- Blocks of lines.

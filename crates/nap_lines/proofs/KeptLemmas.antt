@@ -1,11 +1,4 @@
-use Rattle.std.proofs.Common.{ℕ, ◌≡◌, ◌+◌, ◌-◌, ◌^◌, ◌<◌, ◌≤◌, suc, List, [], ◌∷◌, ◌++◌, codes, decimal, length, set, take, drop, drop_at, append_assoc, ap, sym, ◌∙◌, arith, length-append}
-use Rattle.std.specs.Str.{IsUtf8}
-use Rattle.std.proofs.lemmas.Fmt.{IsAscii-decimal, length-decimal-le}
-use Rattle.std.proofs.lemmas.Str.{IsAscii-append, IsUtf8-from_ascii}
-use Rattle.std.proofs.lemmas.Str.Ascii.{IsAscii-cons, IsAscii-nil}
-use Rattle.std.proofs.lemmas.List.{drop-append-le, drop-drop, drop-take, length-take-le}
-use Rattle.std.proofs.lemmas.List.Edits.{sets-eq}
-use Rattle.std.proofs.Math.Seq.{drop-append-add, take-append_seam}
+use Rattle.nap_lines.proofs.Common.{IsAscii-append, IsAscii-cons, IsAscii-decimal, IsAscii-nil, IsUtf8, IsUtf8-from_ascii, List, [], ap, append_assoc, arith, codes, decimal, drop, drop-append-add, drop-append-le, drop-drop, drop-take, drop_at, length, length-append, length-decimal-le, length-take-le, set, sets-eq, suc, sym, take, take-append_seam, ℕ, ◌++◌, ◌+◌, ◌-◌, ◌<◌, ◌^◌, ◌∙◌, ◌∷◌, ◌≡◌, ◌≤◌}
 use borrow.Rule.Slice.PartMut.{put_mid}
 
 -- Bytes that are copied from the beginning of a buffer, and pushed again.

@@ -1,3 +1,4 @@
+mod Common
 pub mod BatchLemmas
 pub mod BlockLemmas
 pub mod KeptLemmas

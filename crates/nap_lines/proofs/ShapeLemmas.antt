@@ -1,18 +1,5 @@
-use Rattle.std.proofs.Common.{ℕ, ◌≡◌, Bool, List, [], ◌∷◌, ◌++◌, Result, Ok, Err, codes, length, take, refl, ap, sym, ◌∙◌, append-nil, append_assoc, length-append, arith}
-use Rattle.std.specs.Result.{IsErr}
-use Rattle.std.proofs.lemmas.List.{take-take}
-use Rattle.std.proofs.Math.Seq.{take-append_seam}
-use Rattle.std.proofs.lemmas.List.Concat.{flat_map-append}
-use Rattle.nap_values.specs.Coordinates.{Coordinates}
-use Rattle.nap_list.specs.declared.shape.Shape.{Shape}
-use Rattle.nap_list.specs.declared.shape.ShapeKind.{ShapeKind}
+use Rattle.nap_lines.proofs.Common.{AppendsText, Bool, Coordinates, Err, Ink, IsErr, List, Ok, Result, Shape, ShapeKind, WellMade, [], ap, append-nil, append_assoc, arith, closing_points, codes, entry_of_shape, fill_text, flat_map-append, ink_of, ink_text, length, length-append, line, outline, point_text, points_text, refl, shape_entry, shape_name, shape_points, sym, take, take-append_seam, take-take, ℕ, ◌++◌, ◌∙◌, ◌∷◌, ◌≡◌, ◌≤◌}
 use Rattle.nap_list.specs.declared.shape.ShapeKind.TheVariants as kinds
-use Rattle.nap_list.specs.Shapes.{entry_of_shape, outline, shape_entry, shape_points}
-use Rattle.nap_list.specs.State.{ink_of}
-use Rattle.nap_list.specs.declared.attribute.Ink.{Ink}
-use Rattle.nap_lines.specs.Lines.{fill_text, ink_text, line, point_text, points_text}
-use Rattle.nap_lines.specs.Shapes.{closing_points, shape_name}
-use Rattle.nap_lines.specs.Writing.{AppendsText}
 
 -- The line of a shape, part by part.
 
@@ -60,3 +47,11 @@ shape_line kinds.Poly filled points ink = parts (codes "POLY-") (fill_text fille
 pub drawn_line : (shape : Shape) → line (entry_of_shape shape) ++ 10 ∷ [] ≡
     (shape_name shape.kind ++ fill_text shape.filled) ++ (points_text (shape_points shape) ++ (codes " " ++ ink_text (ink_of shape.drawing.now) ++ 10 ∷ []))
 drawn_line shape = shape_line shape.kind shape.filled (shape_points shape) (ink_of shape.drawing.now)
+
+-- a shape has few points after its start
+few_displaced : (kind : ShapeKind) (filled : Bool) (p : Coordinates) (others : List Coordinates) (ink : Ink) → WellMade (shape_entry kind filled (outline kind (p ∷ others)) ink) → length others ≤ 2000
+few_displaced kinds.Arc filled p others ink made = omega (arith, made.1, ap length (way_is kinds.Arc p others), length-append others (closing_points kinds.Arc p others))
+few_displaced kinds.Poly filled p others ink made = omega (arith, made.1, ap length (way_is kinds.Poly p others), length-append others (closing_points kinds.Poly p others))
+
+pub few_others : (shape : Shape) → WellMade (entry_of_shape shape) → length shape.others.now ≤ 2000
+few_others shape made = few_displaced shape.kind shape.filled shape.from shape.others.now (ink_of shape.drawing.now) made

@@ -1,14 +1,5 @@
-use Rattle.std.proofs.Common.{ℕ, ◌≡◌, List, [], ◌∷◌, ◌++◌, Result, refl, ap, sym, subst, ◌∙◌}
-use Rattle.std.specs.Result.{IsErrAnd}
-use Rattle.nap_list.specs.declared.entry.Entry.{Entry}
-use Rattle.nap_list.specs.declared.sink.SinkFault.{SinkFault}
+use Rattle.nap_lines.proofs.Common.{Entry, IsErrAnd, LineSinkState, List, PutSome, Result, SinkFault, State, TakesAll, [], after, ap, line, lists_none, refl, subst, sym, walk, wanting_put, ℕ, ◌++◌, ◌∙◌, ◌∷◌, ◌≡◌}
 use Rattle.nap_list.specs.declared.sink.SinkFault.TheVariants as faults
-use Rattle.nap_list.specs.declared.state.State.{State}
-use Rattle.nap_list.specs.Putting.{PutSome, TakesAll}
-use Rattle.nap_list.specs.PuttingLaws.{wanting_put}
-use Rattle.nap_list.specs.State.{after, walk}
-use Rattle.nap_lines.specs.Lines.{line}
-use Rattle.nap_lines.specs.Listing.{LineSinkState, lists_none}
 use Rattle.nap_lines.proofs.BatchLemmas.{lines_shows}
 use Rattle.nap_lines.proofs.PrintLemmas.{one_line}
 

@@ -18,13 +18,18 @@ pub record SendsPart (s : Sending) (buffered bytes left : List ℕ) (t : Sending
   pub parts : buffered ++ bytes ≡ sent ++ left
   pub grows : Grows s sent t
 
--- A printer: its outlet, the number of bytes that it took, the buffered bytes, and the state that the next entry has to
--- fit.
+-- the least memory in which a printer never lacks any, in bytes
+abbrev pub line_memory : ℕ
+line_memory = 131072
+
+-- A printer: its outlet, the number of bytes that it took, the buffered bytes, the state that the next entry has to fit,
+-- and the number of bytes that its memory can hold.
 pub record Printing (O : Type 0) : Type 0 where
   pub outlet : O
   pub written : ℕ
   pub buffered : List ℕ
   pub state : State
+  pub space : ℕ
 
 abbrev pub sending_by : {O : Type 0} → outlet.Ghosts O → Printing O → Sending
 sending_by o s = sending o s.outlet s.written
@@ -34,6 +39,7 @@ pub record TookLines {O : Type 0} (o : outlet.Ghosts O) (s : Printing O) (d : Li
   pub passes : SendsPart (sending_by o s) s.buffered (lines d) t.buffered (sending_by o t)
   pub failed : o.failed t.outlet ≡ o.failed s.outlet
   pub state : t.state ≡ walk s.state d
+  pub space : t.space ≡ s.space
 
 -- a printer took these entries, and a write failed in their lines or in the line of one more entry
 pub record BrokeLines {O : Type 0} (o : outlet.Ghosts O) (s : Printing O) (d : List Entry) (e : Entry) (t : Printing O) : Type 0 where
@@ -53,21 +59,21 @@ pub record Closes {O : Type 0} (o : outlet.Ghosts O) (s : Printing O) (w : O) (c
 -- Lines that are printed up to a failure.
 
 -- the buffered bytes were sent, or are still buffered, or a write failed in them
-abbrev pub SendsBuffered : {O : Type 0} → outlet.Ghosts O → Printing O → Printing O → Result (Unit {0}) DeviceFault → Type 0
-SendsBuffered o s t (Ok done) = SendsPart (sending_by o s) s.buffered [] t.buffered (sending_by o t) × (o.failed t.outlet ≡ o.failed s.outlet) × (t.state ≡ s.state)
-SendsBuffered o s t (Err fault) = ((left : List ℕ) × SendsPart (sending_by o s) s.buffered [] left (sending_by o t)) × (o.failed t.outlet ≡ true) × (t.state ≡ s.state)
+abbrev pub SendsBuffered : Sending → List ℕ → List ℕ → Sending → Result (Unit {0}) DeviceFault → Type 0
+SendsBuffered s buffered now t (Ok done) = SendsPart s buffered [] now t × (t.failed ≡ s.failed)
+SendsBuffered s buffered now t (Err fault) = ((left : List ℕ) × SendsPart s buffered [] left t) × (t.failed ≡ true)
 
--- n lines of a list were printed, and then memory ran out or a write failed, with an outlet that hadn't failed
--- before
+-- n lines of a list were printed, and then memory ran out, which is less than a printer needs, or a write failed, with an
+-- outlet that hadn't failed before
 abbrev pub PrintsUpTo : {O : Type 0} → outlet.Ghosts O → Printing O → List Entry → ℕ → Printing O → SinkFault → Type 0
-PrintsUpTo o s d n t faults.Memory = SendsPart (sending_by o s) s.buffered (lines (take n d)) t.buffered (sending_by o t) × (o.failed t.outlet ≡ false)
+PrintsUpTo o s d n t faults.Memory = SendsPart (sending_by o s) s.buffered (lines (take n d)) t.buffered (sending_by o t) × (o.failed t.outlet ≡ false) × (s.space < line_memory)
 PrintsUpTo o s d n t faults.Write = ((left : List ℕ) × SendsPart (sending_by o s) s.buffered (lines (take n d)) left (sending_by o t)) × (o.failed t.outlet ≡ true)
 
 -- the lines of a list were printed, all of them or as many as the error says, with an outlet that hadn't failed before;
--- the state is unchanged
+-- the state is unchanged, and so is the memory
 abbrev pub PrintsLines : {O : Type 0} → outlet.Ghosts O → Printing O → List Entry → Printing O → Result (Unit {0}) BatchFault → Type 0
-PrintsLines o s d t (Ok done) = SendsPart (sending_by o s) s.buffered (lines d) t.buffered (sending_by o t) × (o.failed t.outlet ≡ false) × (t.state ≡ s.state)
-PrintsLines o s d t (Err stop) = PrintsUpTo o s d stop.taken t stop.fault × (stop.taken < length d) × (t.state ≡ s.state)
+PrintsLines o s d t (Ok done) = SendsPart (sending_by o s) s.buffered (lines d) t.buffered (sending_by o t) × (o.failed t.outlet ≡ false) × (t.state ≡ s.state) × (t.space ≡ s.space)
+PrintsLines o s d t (Err stop) = PrintsUpTo o s d stop.taken t stop.fault × (stop.taken < length d) × (t.state ≡ s.state) × (t.space ≡ s.space)
 
 -- how many of a number of entries were taken
 abbrev pub taken_count : ℕ → Result (Unit {0}) BatchFault → ℕ

@@ -1,4 +1,4 @@
-use Rattle.std.proofs.Common.{ℕ, ◌≡◌, List, [], ◌∷◌, ◌++◌, refl, ap, sym, ◌∙◌, append-nil, append_assoc}
+use Rattle.std.proofs.Common.{ℕ, ◌≡◌, ◌<◌, List, [], ◌∷◌, ◌++◌, refl, ap, sym, subst, ◌∙◌, append-nil, append_assoc}
 use Rattle.nap_list.specs.declared.device.outlet.Outlet as outlet
 use Rattle.nap_list.specs.declared.entry.Entry.{Entry}
 use Rattle.nap_list.specs.declared.state.State.{State}
@@ -6,7 +6,7 @@ use Rattle.nap_list.specs.Sending.{Sending, grows_none, grows_more}
 use Rattle.nap_list.specs.State.{walk}
 use Rattle.nap_list.proofs.PublicLaws.{walks_join}
 use Rattle.nap_lines.specs.Listing.{lines, lines_join}
-use Rattle.nap_lines.specs.Printing.{SendsPart, Printing, sending_by, TookLines, BrokeLines}
+use Rattle.nap_lines.specs.Printing.{SendsPart, Printing, sending_by, TookLines, BrokeLines, line_memory}
 
 -- Bytes that are sent in two steps are sent.
 
@@ -38,7 +38,7 @@ passes_on s t buffered left a b first = record {
 module _ {O : Type 0} (o : outlet.Ghosts O) where
   pub took_none : (s : Printing O) → TookLines o s [] s
   unfolding walk
-  took_none s = record { passes = passes_none (sending_by o s) s.buffered; failed = refl; state = refl }
+  took_none s = record { passes = passes_none (sending_by o s) s.buffered; failed = refl; state = refl; space = refl }
 
   state_join : (s t : Printing O) (d e : List Entry) → t.state ≡ walk s.state d → walk t.state e ≡ walk s.state (d ++ e)
   state_join s t d e is = ap (λ (state : State). walk state e) is ∙ sym (walks_join s.state d e)
@@ -48,7 +48,11 @@ module _ {O : Type 0} (o : outlet.Ghosts O) where
     passes = rw (lines_join d e) (passes_more (sending_by o s) (sending_by o t) (sending_by o u) s.buffered t.buffered u.buffered (lines d) (lines e) first.passes second.passes);
     failed = second.failed ∙ first.failed;
     state = second.state ∙ state_join s t d e first.state;
+    space = second.space ∙ first.space;
   }
+
+  pub wants_more : (s t : Printing O) (d : List Entry) → TookLines o s d t → t.space < line_memory → s.space < line_memory
+  wants_more s t d took few = subst (λ (n : ℕ). n < line_memory) took.space few
 
   pub took_broke : (s t u : Printing O) (d e : List Entry) (x : Entry) → TookLines o s d t → BrokeLines o t e x u → BrokeLines o s (d ++ e) x u
   took_broke s t u d e x first second = record {

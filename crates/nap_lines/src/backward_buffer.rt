@@ -51,6 +51,7 @@ impl BackwardBuffer {
     /// Returns the bytes.
     pub(crate) fn as_slice(&self) -> &[u8]
         ensures bytes { result.now ≡ self.now }
+        ensures few { length result.now ≤ line_limit }
         ensures utf8 { IsUtf8 result.now }
     {
         &self.bytes[self.at..]
@@ -59,6 +60,7 @@ impl BackwardBuffer {
     /// Returns the number of bytes.
     pub(crate) fn len(&self) -> usize
         ensures count { result ≡ length self.now }
+        ensures few { result ≤ line_limit }
         ensures utf8 { IsUtf8 self.now }
     {
         LINE_SIZE - self.at

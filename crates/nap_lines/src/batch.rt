@@ -3,7 +3,7 @@ ghost use Rattle.std.specs.Prelude.{◌≡◌, ◌+◌, ◌≤◌, ◌++◌, dro
 ghost use Rattle.nap_list.specs.Batches.{batch_entries, text_entries_in};
 ghost use Rattle.nap_lines.specs.Listing.{lines};
 ghost use Rattle.nap_lines.specs.Batches.{point_front, point_end, line_front, char_front, move_front, text_byte_front, lines_with, pen_at};
-ghost use Rattle.nap_lines.specs.Writing.{line_limit};
+ghost use Rattle.nap_lines.specs.Writing.{NeedsLines, line_limit};
 
 use crate::backward_buffer::BackwardBuffer;
 use crate::letters::{write_few, write_many};
@@ -82,6 +82,7 @@ fn write_point_lines(buffer: &mut BackwardBuffer, text: &mut Vec<u8>, points: &[
     requires space { length buffer.old + 27 ≤ line_limit }
     ensures count { result ≤ length points.now }
     ensures text { text.new.items ≡ text.old.items ++ flat_map (λ at. point_front at ++ buffer.old) (take result points.now) }
+    ensures memory { NeedsLines (length points.now) text.old text.new result }
 {
     let end = buffer.len();
     let mut written = 0;
@@ -107,6 +108,7 @@ fn write_line_lines(
     requires space { length buffer.old + 48 ≤ line_limit }
     ensures count { result ≤ length points.now }
     ensures text { text.new.items ≡ text.old.items ++ lines_with buffer.old from (take result points.now) }
+    ensures memory { NeedsLines (length points.now) text.old text.new result }
 {
     let end = buffer.len();
     let mut kept = buffer.push_point_copied(from);
@@ -139,6 +141,7 @@ fn write_char_lines(
     requires space { length buffer.old + 21 ≤ line_limit }
     ensures count { result ≤ length codes.now }
     ensures text { text.new.items ≡ text.old.items ++ flat_map (λ code. text_byte_front set code ++ buffer.old) (take result codes.now) }
+    ensures memory { NeedsLines (length codes.now) text.old text.new result }
 {
     if codes.len() < MANY {
         return write_few(buffer, text, set, codes);
@@ -156,6 +159,7 @@ fn write_text_lines(
 ) -> usize
     ensures count { result ≤ length codes.now }
     ensures text { text.new.items ≡ text.old.items ++ lines (take result (text_entries_in set hand.now codes.now)) }
+    ensures memory { NeedsLines (length codes.now) text.old text.new result }
 {
     let Some((first, others)) = codes.split_first() else {
         return 0;
@@ -199,6 +203,7 @@ pub(crate) fn write_batch(
     requires { first + count ≤ length (batch_entries batch.now) }
     ensures count { result ≤ count }
     ensures text { text.new.items ≡ text.old.items ++ lines (take result (drop first (batch_entries batch.now))) }
+    ensures memory { NeedsLines count text.old text.new result }
 {
     match batch {
         Batch::Points { points, drawing } => {

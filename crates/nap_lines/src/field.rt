@@ -1,5 +1,5 @@
 //! The fields of a line, each prepended to what is there (PROFILE.md, Lines of list).
-ghost use Rattle.std.specs.Prelude.{◌≡◌, ◌+◌, ◌≤◌, [], ◌∷◌, ◌++◌, codes, decimal, length};
+ghost use Rattle.std.specs.Prelude.{◌≡◌, ◌+◌, ◌*◌, ◌≤◌, [], ◌∷◌, ◌++◌, codes, decimal, length};
 ghost use Rattle.nap_lines.specs.Lines.{point_text, points_text, move_text, grb_text, colour_text, pen_text, texture_text, mask_size_text, ink_text, size_text, flag_text, flags_text, look_text, hand_text, fill_text, set_text, step_text, area_text, mark_text, cursor_text, mask_text};
 ghost use Rattle.std.specs.Str.{IsUtf8};
 ghost use Rattle.nap_lines.specs.Batches.{hand_text_without_pen};
@@ -49,7 +49,8 @@ impl BackwardBuffer {
     pub(crate) fn push_points(&mut self, points: &[Point])
         requires few { length points.now ≤ 8 }
         requires space { length self.old + 133 ≤ line_limit }
-        ensures { self.new ≡ points_text points.now ++ self.old }
+        ensures text { self.new ≡ points_text points.now ++ self.old }
+        ensures size { length self.new ≤ 16 * length points.now + length self.old }
     {
         for i in 0..points.len() {
             self.push_point(points[points.len() - 1 - i]);

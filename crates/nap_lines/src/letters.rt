@@ -2,7 +2,7 @@
 ghost use Rattle.std.specs.Prelude.{◌≡◌, ◌+◌, ◌-◌, ◌≤◌, ◌++◌, OnOk, OnErr, drop, flat_map, length, take};
 ghost use Rattle.std.specs.Str.{IsUtf8};
 ghost use Rattle.nap_lines.specs.Batches.{char_front, text_byte_front};
-ghost use Rattle.nap_lines.specs.Writing.{line_limit};
+ghost use Rattle.nap_lines.specs.Writing.{NeedsLines, NeedsUpTo, line_limit};
 
 use crate::backward_buffer::BackwardBuffer;
 use crate::block::{BLOCK, fill_lines, recode_lines};
@@ -25,6 +25,7 @@ fn write_text_byte(
     ensures space { buffer.new ≡ char_front set 0 ++ drop (length buffer.old - end) buffer.old }
     ensures ok { OnOk result (text.new.items ≡ text.old.items ++ (text_byte_front set code ++ drop (length buffer.old - end) buffer.old)) }
     ensures err { OnErr result (text.new.items ≡ text.old.items) }
+    ensures memory { NeedsUpTo 256 text.old text.new result }
 {
     buffer.keep_last(end);
     buffer.push_text_byte_front(set, code);
@@ -45,6 +46,7 @@ pub(crate) fn write_few(
     requires space { length buffer.old + 21 ≤ line_limit }
     ensures count { result ≤ length codes.now }
     ensures text { text.new.items ≡ text.old.items ++ flat_map (λ code. text_byte_front set code ++ buffer.old) (take result codes.now) }
+    ensures memory { NeedsLines (length codes.now) text.old text.new result }
 {
     let end = buffer.len();
     // The digits of each code replace these.
@@ -78,6 +80,7 @@ pub(crate) fn write_many(
     requires space { length buffer.old + 21 ≤ line_limit }
     ensures count { result ≤ length codes.now }
     ensures text { text.new.items ≡ text.old.items ++ flat_map (λ code. text_byte_front set code ++ buffer.old) (take result codes.now) }
+    ensures memory { NeedsLines (length codes.now) text.old text.new result }
 {
     let end = buffer.len();
     // The digits of each code replace these.

@@ -9,6 +9,7 @@ mod letters;
 mod line;
 mod line_sink;
 mod printer;
+mod sending;
 mod shape;
 mod slices;
 

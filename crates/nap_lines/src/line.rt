@@ -1,9 +1,9 @@
 //! The line of an entry (PROFILE.md, Lines of list).
-ghost use Rattle.std.specs.Prelude.{◌≡◌, ◌+◌, ◌≤◌, [], ◌∷◌, ◌++◌, IfOk, OnOk, OnErr, codes, length, string_bytes};
+ghost use Rattle.std.specs.Prelude.{◌≡◌, ◌+◌, ◌*◌, ◌≤◌, [], ◌∷◌, ◌++◌, IfOk, OnOk, OnErr, codes, length, string_bytes};
 ghost use Rattle.std.specs.Str.{IsUtf8};
 ghost use Rattle.nap_lines.specs.Lines.{line, points_text, fill_text, ink_text};
 ghost use Rattle.nap_lines.specs.Parts.{first_part, last_part};
-ghost use Rattle.nap_lines.specs.Writing.{AppendsText, line_limit};
+ghost use Rattle.nap_lines.specs.Writing.{AppendsText, NeedsUpTo, line_limit, shape_size};
 
 use crate::backward_buffer::BackwardBuffer;
 use crate::field::{POINTS_AT_ONCE, fill_name, mark_name};
@@ -232,7 +232,8 @@ pub(crate) fn write_points(
     text: &mut Vec<u8>,
     points: &[Point],
 ) -> Result<(), AllocError>
-    ensures { AppendsText text.old.items (points_text points.now) text.new.items result }
+    ensures appends { AppendsText text.old.items (points_text points.now) text.new.items result }
+    ensures memory { NeedsUpTo (16 * length points.now) text.old text.new result }
 {
     let mut written = 0;
     while written < points.len() {
@@ -254,7 +255,8 @@ fn write_shape(
     points: &Points,
 ) -> Result<(), AllocError>
     requires { length name.now ≤ 5 }
-    ensures { AppendsText text.old.items (name.now ++ fill_text filled ++ points_text points.now) text.new.items result }
+    ensures appends { AppendsText text.old.items (name.now ++ fill_text filled ++ points_text points.now) text.new.items result }
+    ensures memory { NeedsUpTo (13 + 16 * length points.now) text.old text.new result }
 {
     buffer.clear();
     buffer.push(fill_name(filled));
@@ -270,7 +272,8 @@ fn write_first_part(
     text: &mut Vec<u8>,
     entry: &Entry,
 ) -> Result<(), AllocError>
-    ensures { AppendsText text.old.items (first_part entry.now) text.new.items result }
+    ensures appends { AppendsText text.old.items (first_part entry.now) text.new.items result }
+    ensures memory { NeedsUpTo (13 + 16 * shape_size entry.now) text.old text.new result }
 {
     match entry {
         Entry::Arc { filled, points, .. } => write_shape(buffer, text, "ARC-", *filled, points),
@@ -287,7 +290,8 @@ fn write_parts(
     end: &str,
 ) -> Result<(), AllocError>
     requires { length end.now ≤ 1 }
-    ensures { AppendsText text.old.items (line entry.now ++ end.now) text.new.items result }
+    ensures appends { AppendsText text.old.items (line entry.now ++ end.now) text.new.items result }
+    ensures memory { NeedsUpTo (269 + 16 * shape_size entry.now) text.old text.new result }
 {
     write_first_part(buffer, text, entry)?;
     buffer.clear();
@@ -308,6 +312,7 @@ pub(crate) fn write_line(
     ensures ok { OnOk result (text.new.items ≡ text.old.items ++ line entry.now ++ end.now) }
     ensures err { OnErr result (text.new.items ≡ text.old.items) }
     ensures utf8 { IsUtf8 text.old.items → OnOk result (IsUtf8 text.new.items) }
+    ensures memory { NeedsUpTo (269 + 16 * shape_size entry.now) text.old text.new result }
 {
     let before = text.len();
     let written = write_parts(buffer, text, entry, end);

@@ -1,22 +1,18 @@
 //! A sink that prints lines of its entries.
-ghost use Rattle.std.specs.Prelude.{◌≡◌, [], false, OnOk};
+ghost use Rattle.std.specs.Prelude.{◌≡◌, ◌<◌, [], false, vec_capacity};
 ghost use Rattle.nap_list.specs.Batches.{batch_entries};
 ghost use Rattle.nap_list.specs.State.{start};
-ghost use Rattle.nap_lines.specs.Printing.{BrokeLines, Closes, PrintsLines, SendsBuffered, TookLines, taken_count};
-ghost use Rattle.nap_lines.specs.PrintingLaws.{took_broke, took_more, took_none};
+ghost use Rattle.nap_lines.specs.Printing.{BrokeLines, Closes, PrintsLines, TookLines, line_memory, taken_count};
+ghost use Rattle.nap_lines.specs.PrintingLaws.{took_broke, took_more, took_none, wants_more};
 
 use crate::backward_buffer::BackwardBuffer;
 use crate::batch::write_batch;
 use crate::line::write_line;
+use crate::sending::{send_buffered, send_if_large};
 use crate::shape::write_shape_line;
-use nap_list::{
-    Batch, BatchFault, DeviceFault, Entry, GhostState, Outlet, Shape, Sink, SinkFault, send_all,
-};
+use nap_list::{Batch, BatchFault, Entry, GhostState, Outlet, Shape, Sink, SinkFault};
 use std::alloc::Global;
 use std::marker::Model;
-
-/// The least number of bytes of lines that are sent, as many as a pipe takes at once.
-const SEND_SIZE: usize = 65_536;
 
 /// The greatest number of entries of a batch whose lines are made at once.
 const BATCH_SIZE: usize = 128;
@@ -34,14 +30,19 @@ pub struct LinePrinter<O: Outlet + Drop> {
     state: GhostState,
     outlet: O,
     written: u64,
+    /// The capacity of the memory that it was made with.
+    space: usize,
 }
 
 impl<O: Outlet + Drop> Model for LinePrinter<O> {
+    ghost use Rattle.std.specs.Prelude.{◌≡◌, ◌<◌, ◌≤◌, false, vec_len, vec_capacity};
     ghost use Rattle.nap_lines.specs.Printing.{Printing};
 
     ghost Value = { Printing O };
 
-    ghost view = { λ s. record { outlet = s.outlet; written = s.written; buffered = s.buffered.items; state = s.state.state } };
+    ghost view = { λ s. record { outlet = s.outlet; written = s.written; buffered = s.buffered.items; state = s.state.state; space = s.space } };
+
+    ghost invariant = { λ s. record { space : s.space ≤ vec_capacity s.buffered; few : O.failed s.outlet ≡ false → vec_len s.buffered < 98304 } };
 }
 
 /// Returns how many of `count` entries were taken.
@@ -56,11 +57,12 @@ fn taken_count(printed: Result<(), BatchFault>, count: usize) -> usize
 }
 
 impl<O: Outlet + Drop> LinePrinter<O> {
-    /// Returns a sink that has taken no entry. It makes lines in this memory, and needs no more if that has
-    /// `LINE_MEMORY` bytes.
+    /// Returns a sink that has taken no entry. It makes lines in this memory, and wants no more if that has `LINE_MEMORY`
+    /// bytes.
     pub fn new(memory: Vec<u8>, outlet: O) -> LinePrinter<O>
-        ensures { result ≡ record { outlet = outlet; written = 0; buffered = []; state = start } }
+        ensures { result ≡ record { outlet = outlet; written = 0; buffered = []; state = start; space = vec_capacity memory } }
     {
+        let space = memory.capacity();
         let mut buffered = memory;
         buffered.clear();
         LinePrinter {
@@ -69,6 +71,7 @@ impl<O: Outlet + Drop> LinePrinter<O> {
             state: GhostState::start(),
             outlet,
             written: 0,
+            space,
         }
     }
 
@@ -80,36 +83,6 @@ impl<O: Outlet + Drop> LinePrinter<O> {
         self.outlet.failed()
     }
 
-    /// Sends the buffered lines.
-    #[inline(never)]
-    fn send_buffered(&mut self) -> Result<(), DeviceFault>
-        ensures sent { SendsBuffered O.Outlet self.old self.new result }
-        ensures none { OnOk result (self.new.buffered ≡ []) }
-    {
-        match send_all(
-            &mut self.outlet,
-            &mut self.written,
-            self.buffered.as_slice(),
-        ) {
-            Ok(()) => {
-                self.buffered.clear();
-                Ok(())
-            }
-            Err(_) => Err(DeviceFault),
-        }
-    }
-
-    /// Sends the buffered lines if they are enough for a write.
-    #[inline(always)]
-    fn send_if_large(&mut self) -> Result<(), DeviceFault>
-        ensures { SendsBuffered O.Outlet self.old self.new result }
-    {
-        if self.buffered.len() < SEND_SIZE {
-            return Ok(());
-        }
-        self.send_buffered()
-    }
-
     /// Prints the lines of a batch; the state is unchanged.
     #[inline(always)]
     fn print_batch(&mut self, batch: &Batch) -> Result<(), BatchFault>
@@ -118,7 +91,8 @@ impl<O: Outlet + Drop> LinePrinter<O> {
     {
         let mut taken = 0;
         while taken < batch.len() {
-            let Ok(()) = self.send_if_large() else {
+            let Ok(()) = send_if_large(&mut self.outlet, &mut self.written, &mut self.buffered)
+            else {
                 return Err(BatchFault {
                     taken,
                     fault: SinkFault::Write,
@@ -145,7 +119,7 @@ impl<O: Outlet + Drop> LinePrinter<O> {
             return;
         }
         // The outlet keeps the failure.
-        let _ = self.send_buffered();
+        let _ = send_buffered(&mut self.outlet, &mut self.written, &mut self.buffered);
     }
 
     /// Sends the buffered lines. Returns the outlet, unflushed, and the number of bytes that it took from this sink,
@@ -180,7 +154,7 @@ impl<O: Outlet + Drop> LinePrinter<O> {
 impl<O: Outlet + Drop> Sink for LinePrinter<O> {
     ghost state = { λ s. s.state };
 
-    ghost wants = { λ s d. Unit {0} };
+    ghost wants = { λ s d. s.space < line_memory };
 
     ghost failed = { λ s. O.failed s.outlet };
 
@@ -193,7 +167,7 @@ impl<O: Outlet + Drop> Sink for LinePrinter<O> {
             return Err(SinkFault::Write);
         }
         write_line(&mut self.buffer, &mut self.buffered, &entry, "\n")?;
-        let Ok(()) = self.send_if_large() else {
+        let Ok(()) = send_if_large(&mut self.outlet, &mut self.written, &mut self.buffered) else {
             return Err(SinkFault::Write);
         };
         self.state = self.state.after(&entry);
@@ -219,7 +193,7 @@ impl<O: Outlet + Drop> Sink for LinePrinter<O> {
             return Err(SinkFault::Write);
         }
         write_shape_line(&mut self.buffer, &mut self.buffered, shape)?;
-        let Ok(()) = self.send_if_large() else {
+        let Ok(()) = send_if_large(&mut self.outlet, &mut self.written, &mut self.buffered) else {
             return Err(SinkFault::Write);
         };
         self.state = self.state.after_shape(shape);
@@ -230,7 +204,7 @@ impl<O: Outlet + Drop> Sink for LinePrinter<O> {
 
     ghost took_more = { λ s t u d e a b. took_more _ s t u d e a b };
 
-    ghost wants_more = { λ s t d e f a b. tt {0} };
+    ghost wants_more = { λ s t d e f a b. wants_more _ s t d a b };
 
     ghost took_broke = { λ s t u d e x a b. took_broke _ s t u d e x a b };
 }

@@ -1,10 +1,10 @@
 //! The line of a shape with borrowed points (PROFILE.md, Lines of list).
-ghost use Rattle.std.specs.Prelude.{◌≡◌, ◌≤◌, [], ◌∷◌, ◌++◌, OnOk, OnErr, if◌then◌else◌, codes, length};
+ghost use Rattle.std.specs.Prelude.{◌≡◌, ◌≤◌, ◌+◌, ◌*◌, [], ◌∷◌, ◌++◌, OnOk, OnErr, if◌then◌else◌, codes, length};
 ghost use Rattle.nap_list.specs.State.{ink_of};
 ghost use Rattle.nap_list.specs.Shapes.{entry_of_shape, shape_points};
 ghost use Rattle.nap_lines.specs.Lines.{fill_text, ink_text, line, points_text};
 ghost use Rattle.nap_lines.specs.Shapes.{closing_points, shape_name};
-ghost use Rattle.nap_lines.specs.Writing.{AppendsText};
+ghost use Rattle.nap_lines.specs.Writing.{AppendsText, NeedsUpTo};
 
 use crate::backward_buffer::BackwardBuffer;
 use crate::field::fill_name;
@@ -39,7 +39,8 @@ fn write_name(
     text: &mut Vec<u8>,
     shape: &Shape,
 ) -> Result<(), AllocError>
-    ensures { AppendsText text.old.items (shape_name shape.now.kind ++ fill_text shape.now.filled) text.new.items result }
+    ensures appends { AppendsText text.old.items (shape_name shape.now.kind ++ fill_text shape.now.filled) text.new.items result }
+    ensures memory { NeedsUpTo 13 text.old text.new result }
 {
     buffer.clear();
     buffer.push(fill_name(shape.filled));
@@ -54,7 +55,8 @@ fn write_closing(
     text: &mut Vec<u8>,
     shape: &Shape,
 ) -> Result<(), AllocError>
-    ensures { AppendsText text.old.items (points_text (closing_points shape.now.kind shape.now.from shape.now.others.now)) text.new.items result }
+    ensures appends { AppendsText text.old.items (points_text (closing_points shape.now.kind shape.now.from shape.now.others.now)) text.new.items result }
+    ensures memory { NeedsUpTo 16 text.old text.new result }
 {
     if !returns_to_start(shape) {
         return Ok(());
@@ -69,7 +71,8 @@ fn write_other_points(
     text: &mut Vec<u8>,
     shape: &Shape,
 ) -> Result<(), AllocError>
-    ensures { AppendsText text.old.items (points_text shape.now.others.now ++ points_text (closing_points shape.now.kind shape.now.from shape.now.others.now)) text.new.items result }
+    ensures appends { AppendsText text.old.items (points_text shape.now.others.now ++ points_text (closing_points shape.now.kind shape.now.from shape.now.others.now)) text.new.items result }
+    ensures memory { NeedsUpTo (16 * length shape.now.others.now + 16) text.old text.new result }
 {
     write_points(buffer, text, shape.others)?;
     write_closing(buffer, text, shape)?;
@@ -82,7 +85,8 @@ fn write_shape_points(
     text: &mut Vec<u8>,
     shape: &Shape,
 ) -> Result<(), AllocError>
-    ensures { AppendsText text.old.items (points_text (shape_points shape.now)) text.new.items result }
+    ensures appends { AppendsText text.old.items (points_text (shape_points shape.now)) text.new.items result }
+    ensures memory { NeedsUpTo (16 * length shape.now.others.now + 32) text.old text.new result }
 {
     write_points(buffer, text, &[shape.from])?;
     write_other_points(buffer, text, shape)?;
@@ -95,7 +99,8 @@ fn write_ink(
     text: &mut Vec<u8>,
     shape: &Shape,
 ) -> Result<(), AllocError>
-    ensures { AppendsText text.old.items (codes " " ++ ink_text (ink_of shape.now.drawing.now) ++ 10 ∷ []) text.new.items result }
+    ensures appends { AppendsText text.old.items (codes " " ++ ink_text (ink_of shape.now.drawing.now) ++ 10 ∷ []) text.new.items result }
+    ensures memory { NeedsUpTo 256 text.old text.new result }
 {
     buffer.clear();
     buffer.push("\n");
@@ -110,7 +115,8 @@ fn write_points_and_ink(
     text: &mut Vec<u8>,
     shape: &Shape,
 ) -> Result<(), AllocError>
-    ensures { AppendsText text.old.items (points_text (shape_points shape.now) ++ (codes " " ++ ink_text (ink_of shape.now.drawing.now) ++ 10 ∷ [])) text.new.items result }
+    ensures appends { AppendsText text.old.items (points_text (shape_points shape.now) ++ (codes " " ++ ink_text (ink_of shape.now.drawing.now) ++ 10 ∷ [])) text.new.items result }
+    ensures memory { NeedsUpTo (16 * length shape.now.others.now + 288) text.old text.new result }
 {
     write_shape_points(buffer, text, shape)?;
     write_ink(buffer, text, shape)?;
@@ -123,7 +129,8 @@ fn write_shape_parts(
     text: &mut Vec<u8>,
     shape: &Shape,
 ) -> Result<(), AllocError>
-    ensures { AppendsText text.old.items (line (entry_of_shape shape.now) ++ 10 ∷ []) text.new.items result }
+    ensures appends { AppendsText text.old.items (line (entry_of_shape shape.now) ++ 10 ∷ []) text.new.items result }
+    ensures memory { NeedsUpTo (16 * length shape.now.others.now + 301) text.old text.new result }
 {
     write_name(buffer, text, shape)?;
     write_points_and_ink(buffer, text, shape)?;
@@ -138,6 +145,7 @@ pub(crate) fn write_shape_line(
 ) -> Result<(), AllocError>
     ensures ok { OnOk result (text.new.items ≡ text.old.items ++ (line (entry_of_shape shape.now) ++ 10 ∷ [])) }
     ensures err { OnErr result (text.new.items ≡ text.old.items) }
+    ensures memory { NeedsUpTo (16 * length shape.now.others.now + 301) text.old text.new result }
 {
     let before = text.len();
     let written = write_shape_parts(buffer, text, shape);

@@ -1,28 +1,11 @@
-use Rattle.std.proofs.Common.{◌≡◌, ℕ, List, Bool, true, false, Option, Some, None, refl, ap, sym, subst, cond}
-use Rattle.std.specs.Prelude.{unwrap_or, IsSome, IfSome, ◌==◌, slice_get, length, ◌-◌, ◌/◌, ◌%◌}
-use Rattle.nap_values.specs.Coordinates.{Coordinates, Displacement}
+use Rattle.nap_list.proofs.Common.{AgreeingFits, Agrees, AreCurrent, Attributes, AttributesFit, Base, BaseAgrees, Bool, Colour, ColourAgrees, ColourFits, Coordinates, CurrentAttributesChangeNothing, DefinitionsAgree, Displacement, Drawing, Entry, EqualCurrent, IfSome, IsCode, IsSome, LastChar, List, MaskFits, MayCome, ModeZeroIsBase, None, OpenDefinition, Option, Pen, PenFits, Some, StartAgrees, State, StatesAgree, Texture, TextureFits, WellMade, ap, attributes, base_after, colour_code, cond, definition_after, effect_on_drawing, false, is_known, known_after, last_after, length, refl, reset, restored_drawing, slice_get, start_texture, subst, sym, true, unwrap_or, with_attributes, with_pen, with_pen_at, ℕ, ◌%◌, ◌-◌, ◌/◌, ◌==◌, ◌≡◌}
 use Rattle.nap_list.specs.declared.attribute.Origin.TheVariants as origins
 use Rattle.nap_list.specs.declared.attribute.Preset.TheVariants as presets
-use Rattle.nap_list.specs.declared.attribute.Pen.{Pen}
+use Rattle.nap_list.specs.Types.{MapColour}
 use Rattle.nap_list.specs.declared.attribute.Pen.TheVariants as pens
-use Rattle.nap_list.specs.declared.attribute.Base.{Base}
 use Rattle.nap_list.specs.declared.attribute.Base.TheVariants as bases
-use Rattle.nap_list.specs.declared.attribute.Colour.{Colour}
 use Rattle.nap_list.specs.declared.attribute.Colour.TheVariants as colours
-use Rattle.nap_list.specs.declared.attribute.Texture.{Texture}
-use Rattle.nap_list.specs.declared.attribute.Attributes.{Attributes}
-use Rattle.nap_list.specs.declared.state.Drawing.{Drawing}
-use Rattle.nap_list.specs.declared.state.OpenDefinition.{OpenDefinition}
-use Rattle.nap_list.specs.declared.state.LastChar.{LastChar}
-use Rattle.nap_list.specs.declared.state.State.{State}
-use Rattle.nap_list.specs.declared.entry.Entry.{Entry}
 use Rattle.nap_list.specs.declared.entry.Entry.TheVariants as entries
-use Rattle.nap_list.specs.Entry.{attributes, IsCode, WellMade}
-use Rattle.nap_list.specs.State.{PenFits, ColourFits, MaskFits, TextureFits, AttributesFit, MayCome, base_after, with_attributes, with_pen, with_pen_at, reset, restored_drawing, effect_on_drawing, definition_after, last_after, known_after, start_texture}
-use Rattle.nap_list.specs.Known.{colour_code, is_known}
-use Rattle.nap_list.specs.declared.known.MapColour.{MapColour}
-use Rattle.nap_list.specs.Agreement.{BaseAgrees, ColourAgrees, ModeZeroIsBase, Agrees, DefinitionsAgree, StatesAgree, EqualCurrent, AgreeingFits, AreCurrent}
-use Rattle.nap_list.specs.Laws.{StartAgrees, CurrentAttributesChangeNothing}
 
 -- an attribute fits a state in which it is current
 

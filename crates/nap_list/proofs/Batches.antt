@@ -1,34 +1,10 @@
-use Rattle.std.proofs.Common.{ℕ, zero, suc, ◌≡◌, ◌+◌, ◌-◌, ◌<◌, ◌≤◌, List, [], ◌∷◌, ◌++◌, Option, Some, None, map, take, drop, length, get_or, refl, sym, ◌∙◌, ap, subst, length-drop, arith}
-use Rattle.std.specs.Prelude.{⊤}
-use Rattle.std.proofs.Math.Seq.{drop-nil}
-use Rattle.std.proofs.lemmas.List.{drop-drop}
-use Rattle.nap_values.specs.Coordinates.{Coordinates}
-use Rattle.nap_codes.specs.declared.code_set.CharSet.{CharSet}
-use Rattle.nap_codes.specs.declared.control.TextStep.{TextStep}
+use Rattle.nap_list.proofs.Common.{AreCurrent, Base, Batch, BatchIsCurrent, CharSet, Colour, Coordinates, Drawing, EachIsCurrent, Entry, Hand, IsCodeInRange, List, None, Option, Pen, Some, State, StepMade, TextEntriesAreWellMade, TextLeaves, TextStep, WellMade, [], after, ap, arith, attributes, base_after, batch_entries, code_ranges, drop, drop-drop, drop-nil, format_effector, format_effector_front, get_or, hand_of, last_after, last_char_of_text, last_point, length, length-drop, line_entry, lines_rest, map, point_entry, points_rest, polyline_entries, refl, start_drawing, start_sets, subst, suc, sym, take, text_entries_in, text_entry, text_entry_as, text_entry_on, walk, with_attributes, with_pen, with_pen_and_last, zero, ℕ, ⊤, ◌++◌, ◌+◌, ◌-◌, ◌<◌, ◌∙◌, ◌∷◌, ◌≡◌, ◌≤◌}
 use Rattle.nap_codes.specs.declared.control.TextStep.TheVariants as steps
 use Rattle.nap_codes.specs.declared.code.Code.TheVariants as codes
-use Rattle.nap_codes.specs.CodeSets.{start_sets}
-use Rattle.nap_codes.specs.Laws.{IsCodeInRange}
-use Rattle.nap_codes.specs.Tables.{format_effector}
-use Rattle.nap_codes.proofs.PublicLaws.{code_ranges, format_effector_front}
-use Rattle.nap_list.specs.declared.attribute.Base.{Base}
-use Rattle.nap_list.specs.declared.attribute.Colour.{Colour}
 use Rattle.nap_list.specs.declared.attribute.Colour.TheVariants as colours
-use Rattle.nap_list.specs.declared.attribute.Hand.{Hand}
-use Rattle.nap_list.specs.declared.attribute.Pen.{Pen}
 use Rattle.nap_list.specs.declared.attribute.Pen.TheVariants.{After}
-use Rattle.nap_list.specs.declared.batch.Batch.{Batch}
 use Rattle.nap_list.specs.declared.batch.Batch.TheVariants as batches
-use Rattle.nap_list.specs.declared.entry.Entry.{Entry}
 use Rattle.nap_list.specs.declared.entry.Entry.TheVariants as entries
-use Rattle.nap_list.specs.declared.state.Drawing.{Drawing}
-use Rattle.nap_list.specs.declared.state.State.{State}
-use Rattle.nap_list.specs.Agreement.{AreCurrent}
-use Rattle.nap_list.specs.Entry.{attributes, StepMade, WellMade}
-use Rattle.nap_list.specs.Laws.{BatchIsCurrent, TextLeaves, TextEntriesAreWellMade}
-use Rattle.nap_list.specs.State.{after, start_drawing, walk, with_attributes, last_after, hand_of, with_pen, base_after}
-use Rattle.nap_list.specs.Batches.{EachIsCurrent, with_pen_and_last, point_entry, line_entry, text_entry_on, polyline_entries, text_entries_in, text_entry, text_entry_as, last_char_of_text, batch_entries, last_point}
-use Rattle.nap_list.specs.BatchLaws.{points_rest, lines_rest}
 use Rattle.nap_list.proofs.Agreement.{current_changes_nothing}
 
 -- The entries of a batch: after the first, each holds the current attributes, and leaves another pen and another last

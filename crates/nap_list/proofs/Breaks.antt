@@ -1,12 +1,4 @@
-use Rattle.std.proofs.Common.{◌≡◌, ◌∙◌, ◌+◌, ◌<◌, arith, take, drop, get_or, length-take, IsErrOf, IsTrue, Ok, Err, ◌↔◌, ◌≤◌, true, false, is_some, ℕ, zero, suc, List, [], ◌∷◌, ◌++◌, length, Option, Some, None, refl, sym, ap, subst, inl, inr}
-use Rattle.std.proofs.lemmas.List.{take_all, take_more, take-append-drop}
-use Rattle.std.proofs.Math.Seq.{drop-cons}
-use Rattle.std.specs.Prelude.{IsSome}
-use Rattle.nap_list.specs.declared.entry.Entry.{Entry}
-use Rattle.nap_list.specs.declared.state.OpenDefinition.{OpenDefinition}
-use Rattle.nap_list.specs.declared.state.State.{State}
-use Rattle.nap_list.specs.State.{start, after, walk, AllFit, Fits, Legal, IsIllegalAt}
-use Rattle.nap_list.specs.Laws.{LegalIsNowhereIllegal}
+use Rattle.nap_list.proofs.Common.{AllFit, Entry, Err, Fits, IsErrOf, IsIllegalAt, IsSome, IsTrue, Legal, LegalIsNowhereIllegal, List, None, Ok, OpenDefinition, Option, Some, State, [], after, ap, arith, drop, drop-cons, false, get_or, inl, inr, is_some, length, length-take, refl, start, subst, suc, sym, take, take-append-drop, take_all, take_more, true, walk, zero, ℕ, ◌++◌, ◌+◌, ◌<◌, ◌↔◌, ◌∙◌, ◌∷◌, ◌≡◌, ◌≤◌}
 
 -- A list is illegal at one index at most, and a legal list at none: by the place along a walk, entry after entry.
 

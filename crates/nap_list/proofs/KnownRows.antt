@@ -1,8 +1,4 @@
-use Rattle.std.proofs.Common.{◌≡◌, ℕ, true, false, List, [], ◌∷◌, refl}
-use Rattle.std.specs.Prelude.{map}
-use Rattle.nap_values.specs.Colours.{Components}
-use Rattle.nap_list.specs.declared.known.MapColour.{MapColour}
-use Rattle.nap_list.specs.Known.{is_known, with_known_colour, known_after_reset}
+use Rattle.nap_list.proofs.Common.{Components, List, MapColour, [], false, is_known, known_after_reset, map, refl, true, with_known_colour, ℕ, ◌∷◌, ◌≡◌}
 
 -- Colours of the map, computed by the definitions.
 

@@ -1,3 +1,4 @@
+mod Common
 pub mod Agreement
 pub mod Breaks
 pub mod PublicLaws

@@ -1,5 +1,4 @@
-use Rattle.nap_list.specs.Agreement.{AgreeingFits}
-use Rattle.nap_list.specs.Laws.{WalksJoin, FitsJoin, StartAgrees, CurrentAttributesChangeNothing, LegalIsNowhereIllegal, BatchIsCurrent, TextLeaves, TextEntriesAreWellMade}
+use Rattle.nap_list.proofs.Common.{AgreeingFits, BatchIsCurrent, CurrentAttributesChangeNothing, FitsJoin, LegalIsNowhereIllegal, StartAgrees, TextEntriesAreWellMade, TextLeaves, WalksJoin}
 use Rattle.nap_list.specs.Walks as walks
 use Rattle.nap_list.proofs.Agreement as agreement
 use Rattle.nap_list.proofs.Breaks as breaks

@@ -1,13 +1,7 @@
 use Rattle.std.specs.Prelude.{◌≡◌, ⊤, Option, Some, None, IfSome}
-use Rattle.nap_list.specs.declared.attribute.Base.{Base}
+use Rattle.nap_list.specs.Types.{Attributes, Base, Colour, Drawing, Entry, OpenDefinition, State}
 use Rattle.nap_list.specs.declared.attribute.Base.TheVariants as bases
-use Rattle.nap_list.specs.declared.attribute.Colour.{Colour}
 use Rattle.nap_list.specs.declared.attribute.Colour.TheVariants as colours
-use Rattle.nap_list.specs.declared.attribute.Attributes.{Attributes}
-use Rattle.nap_list.specs.declared.state.Drawing.{Drawing}
-use Rattle.nap_list.specs.declared.state.OpenDefinition.{OpenDefinition}
-use Rattle.nap_list.specs.declared.state.State.{State}
-use Rattle.nap_list.specs.declared.entry.Entry.{Entry}
 use Rattle.nap_list.specs.Entry.{attributes, IsCode, WellMade}
 use Rattle.nap_list.specs.State.{PenFits, TextureFits, MayCome, Fits, base_after, after}
 

@@ -3,11 +3,9 @@ use Rattle.std.proofs.lemmas.List.{length-map}
 use Rattle.std.specs.List.{drop-map}
 use Rattle.nap_values.specs.Coordinates.{Coordinates}
 use Rattle.nap_codes.specs.declared.code_set.CharSet.{CharSet}
-use Rattle.nap_list.specs.declared.attribute.Hand.{Hand}
+use Rattle.nap_list.specs.Types.{Batch, Drawing, Hand}
 use Rattle.nap_list.specs.declared.attribute.Pen.TheVariants.{After}
-use Rattle.nap_list.specs.declared.batch.Batch.{Batch}
 use Rattle.nap_list.specs.declared.batch.Batch.TheVariants as batches
-use Rattle.nap_list.specs.declared.state.Drawing.{Drawing}
 use Rattle.nap_list.specs.State.{hand_of}
 use Rattle.nap_list.specs.Batches.{point_entry, line_entry, polyline_entries, text_entries_in, text_entry, batch_entries, last_point}
 

@@ -3,16 +3,10 @@ use Rattle.nap_values.specs.Coordinates.{Coordinates}
 use Rattle.nap_codes.specs.declared.code_set.CharSet.{CharSet}
 use Rattle.nap_codes.specs.declared.control.TextStep.{TextStep}
 use Rattle.nap_codes.specs.Tables.{format_effector}
-use Rattle.nap_list.specs.declared.attribute.Hand.{Hand}
-use Rattle.nap_list.specs.declared.attribute.Pen.{Pen}
+use Rattle.nap_list.specs.Types.{Batch, Drawing, Entry, Hand, LastChar, Pen, State}
 use Rattle.nap_list.specs.declared.attribute.Pen.TheVariants.{After}
-use Rattle.nap_list.specs.declared.batch.Batch.{Batch}
 use Rattle.nap_list.specs.declared.batch.Batch.TheVariants as batches
-use Rattle.nap_list.specs.declared.entry.Entry.{Entry}
 use Rattle.nap_list.specs.declared.entry.Entry.TheVariants as entries
-use Rattle.nap_list.specs.declared.state.Drawing.{Drawing}
-use Rattle.nap_list.specs.declared.state.LastChar.{LastChar}
-use Rattle.nap_list.specs.declared.state.State.{State}
 use Rattle.nap_list.specs.Agreement.{AreCurrent}
 use Rattle.nap_list.specs.Entry.{IsCode, attributes, point_attributes, ink_attributes, hand_attributes}
 use Rattle.nap_list.specs.State.{after, start, start_drawing, last_after, with_pen, ink_of, hand_of}

@@ -1,7 +1,6 @@
 use Rattle.std.proofs.Common.{ℕ, ◌≡◌, ◌+◌, ◌^◌, ◌≤◌, false, List, [], ◌++◌, length, refl, sym, ap, ◌∙◌, length-append, arith}
 use Rattle.nap_list.specs.declared.count_sink.CountSink.{CountSink}
-use Rattle.nap_list.specs.declared.entry.Entry.{Entry}
-use Rattle.nap_list.specs.declared.state.State.{State}
+use Rattle.nap_list.specs.Types.{Entry, State}
 use Rattle.nap_list.specs.Putting.{SinkModel, sink_model}
 use Rattle.nap_list.specs.State.{walk}
 use Rattle.nap_list.specs.Walks.{walks_join}

@@ -1,11 +1,6 @@
 use Rattle.std.specs.Prelude.{ℕ, ◌≡◌, ◌↔◌, List, [], ◌∷◌, ◌++◌}
 use Rattle.nap_codes.specs.declared.code_set.CharSet.{CharSet}
-use Rattle.nap_list.specs.declared.attribute.Hand.{Hand}
-use Rattle.nap_list.specs.declared.entry.Entry.{Entry}
-use Rattle.nap_list.specs.declared.state.State.{State}
-use Rattle.nap_list.specs.declared.attribute.Attributes.{Attributes}
-use Rattle.nap_list.specs.declared.state.Drawing.{Drawing}
-use Rattle.nap_list.specs.declared.batch.Batch.{Batch}
+use Rattle.nap_list.specs.Types.{Attributes, Batch, Drawing, Entry, Hand, State}
 use Rattle.nap_list.specs.Entry.{WellMade}
 use Rattle.nap_list.specs.Batches.{EachIsCurrent, IsTextByte, batch_entries, text_entries_in, text_entry}
 use Rattle.nap_list.specs.State.{start, with_attributes, after, walk, AllFit, Legal, IsIllegalAt}

@@ -10,6 +10,7 @@ pub mod Reading
 pub mod Sending
 pub mod Known
 pub mod State
+pub mod Types
 pub mod Counting
 pub mod Batches
 pub mod BatchLaws

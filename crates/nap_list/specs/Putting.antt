@@ -1,7 +1,5 @@
 use Rattle.std.specs.Prelude.{ℕ, ◌≡◌, ◌<◌, ◌≤◌, ◌⊎◌, ◌++◌, Bool, true, false, List, [], ◌∷◌, length, Result, Ok, Err, IsErrOf}
-use Rattle.nap_list.specs.declared.entry.Entry.{Entry}
-use Rattle.nap_list.specs.declared.state.State.{State}
-use Rattle.nap_list.specs.declared.sink.SinkFault.{SinkFault}
+use Rattle.nap_list.specs.Types.{Entry, SinkFault, State}
 use Rattle.nap_list.specs.declared.sink.SinkFault.TheVariants as faults
 use Rattle.nap_list.specs.declared.sink.BatchFault.{BatchFault}
 use Rattle.nap_list.specs.State.{walk}

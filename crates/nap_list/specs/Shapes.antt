@@ -1,12 +1,8 @@
 use Rattle.std.specs.Prelude.{◌-◌, length, slice_get, unwrap_or, Bool, List, [], ◌∷◌}
 use Rattle.nap_values.specs.Coordinates.{Coordinates}
-use Rattle.nap_list.specs.declared.attribute.Ink.{Ink}
-use Rattle.nap_list.specs.declared.entry.Entry.{Entry}
+use Rattle.nap_list.specs.Types.{Drawing, Entry, Ink, Shape, ShapeKind}
 use Rattle.nap_list.specs.declared.entry.Entry.TheVariants as entries
-use Rattle.nap_list.specs.declared.shape.Shape.{Shape}
-use Rattle.nap_list.specs.declared.shape.ShapeKind.{ShapeKind}
 use Rattle.nap_list.specs.declared.shape.ShapeKind.TheVariants as kinds
-use Rattle.nap_list.specs.declared.state.Drawing.{Drawing}
 use Rattle.nap_list.specs.State.{ink_of}
 
 -- Arcs and polygons, and the pen after them.

@@ -3,26 +3,13 @@ use Rattle.nap_values.specs.Coordinates.{Coordinates, Displacement}
 use Rattle.nap_codes.specs.declared.control.Size.TheVariants.{Normal}
 use Rattle.nap_list.specs.declared.attribute.Origin.TheVariants as origins
 use Rattle.nap_list.specs.declared.attribute.Preset.TheVariants as presets
-use Rattle.nap_list.specs.declared.attribute.Pen.{Pen}
+use Rattle.nap_list.specs.Types.{Attributes, Base, Colour, Drawing, Entry, Hand, Ink, LastChar, MapColour, OpenDefinition, Pen, State, TextLook, Texture}
 use Rattle.nap_list.specs.declared.attribute.Pen.TheVariants as pens
-use Rattle.nap_list.specs.declared.attribute.Base.{Base}
 use Rattle.nap_list.specs.declared.attribute.Base.TheVariants as bases
-use Rattle.nap_list.specs.declared.attribute.Colour.{Colour}
 use Rattle.nap_list.specs.declared.attribute.Colour.TheVariants as colours
 use Rattle.nap_list.specs.declared.attribute.CharSize.TheVariants as sizes
-use Rattle.nap_list.specs.declared.attribute.Texture.{Texture}
-use Rattle.nap_list.specs.declared.attribute.TextLook.{TextLook}
-use Rattle.nap_list.specs.declared.attribute.Attributes.{Attributes}
-use Rattle.nap_list.specs.declared.attribute.Ink.{Ink}
-use Rattle.nap_list.specs.declared.attribute.Hand.{Hand}
-use Rattle.nap_list.specs.declared.entry.Entry.{Entry}
 use Rattle.nap_list.specs.declared.entry.Entry.TheVariants as entries
-use Rattle.nap_list.specs.declared.state.Drawing.{Drawing}
 use Rattle.nap_list.specs.declared.state.Definition.TheVariants as definitions
-use Rattle.nap_list.specs.declared.state.OpenDefinition.{OpenDefinition}
-use Rattle.nap_list.specs.declared.state.LastChar.{LastChar}
-use Rattle.nap_list.specs.declared.state.State.{State}
-use Rattle.nap_list.specs.declared.known.MapColour.{MapColour}
 use Rattle.nap_list.specs.Entry.{attributes, WellMade}
 use Rattle.nap_list.specs.Known.{colour_code, is_known, with_known_colour, known_after_reset}
 

@@ -1,6 +1,5 @@
 use Rattle.std.proofs.Common.{◌≡◌, List, [], ◌∷◌, ◌++◌, refl}
-use Rattle.nap_list.specs.declared.entry.Entry.{Entry}
-use Rattle.nap_list.specs.declared.state.State.{State}
+use Rattle.nap_list.specs.Types.{Entry, State}
 use Rattle.nap_list.specs.State.{after, walk, AllFit, Fits}
 use Rattle.nap_list.specs.Laws.{WalksJoin, FitsJoin}
 

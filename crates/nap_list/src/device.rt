@@ -4,14 +4,10 @@ use thiserror::Error;
 mod inlet;
 mod outlet;
 mod sending;
-mod source;
-mod target;
 
-pub use inlet::{Inlet, READ_SIZE, READS, STREAM_READ_SIZE};
-pub use outlet::Outlet;
+pub use inlet::{Inlet, READ_SIZE, READS, STREAM_READ_SIZE, Source};
+pub use outlet::{Outlet, Target};
 pub use sending::send_all;
-pub use source::Source;
-pub use target::Target;
 
 /// A device failed. The reason isn't passed on.
 #[derive(Clone, Copy, PartialEq, Eq, Debug, Drop, Error)]

@@ -233,13 +233,7 @@ impl Entry {
             Entry::Field { pen, .. } => pen.attributes(),
             Entry::Reset { pen, .. } => pen.attributes(),
             Entry::Clear { pen } => pen.attributes(),
-            Entry::Map { .. }
-            | Entry::Wait(_)
-            | Entry::Bell
-            | Entry::Cursor(_)
-            | Entry::GlyphStart(_)
-            | Entry::MaskStart(_)
-            | Entry::DefEnd => NO_ATTRIBUTES,
+            _ => NO_ATTRIBUTES,
         }
     }
 

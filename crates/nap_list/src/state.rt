@@ -302,13 +302,7 @@ impl Drawing {
             Entry::Field { pen, .. } | Entry::Reset { pen, .. } | Entry::Clear { pen } => {
                 self.pen = *pen;
             }
-            Entry::Map { .. }
-            | Entry::Wait(_)
-            | Entry::Bell
-            | Entry::Cursor(_)
-            | Entry::GlyphStart(_)
-            | Entry::MaskStart(_)
-            | Entry::DefEnd => {}
+            _ => {}
         }
     }
 

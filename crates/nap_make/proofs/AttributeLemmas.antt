@@ -1,26 +1,13 @@
-use Rattle.std.proofs.Common.{ℕ, ◌<◌, ◌≢◌, List, ◌∷◌, ◌++◌, ap, arith, codes, append_assoc}
-use Rattle.std.specs.Prelude.{All, Some, None}
-use Rattle.std.specs.Fmt.{decimal}
-use Rattle.std.proofs.lemmas.List.Elements.{All-append, All-cons}
-use Rattle.nap_values.specs.Colours.{HasSixteenBitParts}
-use Rattle.nap_values.specs.Coordinates.{IsInRange}
-use Rattle.nap_values.specs.Laws.{IsWord}
+use Rattle.nap_make.proofs.Common.{All, All-append, All-cons, BothFit, ColourInRange, HasSixteenBitParts, IsInRange, IsWord, MaskInRange, None, PenInRange, Some, TextInRange, Texture, TextureInRange, append_assoc, arith, codes, colour_field, colour_text, decimal, grb_text, look_field, look_text, mask_size_text, move_text, pair_text, pel_field, pen_field, pen_text, texture_field, texture_text, ℕ, ◌++◌, ◌<◌, ◌∷◌, ◌≢◌}
 use Rattle.nap_list.specs.declared.attribute.Colour.TheVariants as colours
-use Rattle.nap_list.specs.declared.attribute.Hand.{Hand}
-use Rattle.nap_list.specs.declared.attribute.Ink.{Ink}
 use Rattle.nap_list.specs.declared.attribute.Origin.TheVariants as origins
 use Rattle.nap_list.specs.declared.attribute.Pen.TheVariants as pens
 use Rattle.nap_list.specs.declared.attribute.Preset.TheVariants as presets
-use Rattle.nap_list.specs.declared.attribute.Texture.{Texture}
-use Rattle.nap_list.specs.Range.{ColourInRange, HandInRange, InkInRange, PenInRange, TextInRange, TextureInRange}
-use Rattle.nap_lines.specs.Lines.{colour_text, grb_text, hand_text, ink_text, look_text, mask_size_text, move_text, pen_text, texture_text}
-use Rattle.nap_make.specs.Fields.{MaskInRange, colour_field, look_field, pel_field, pen_field, texture_field}
-use Rattle.nap_make.specs.Reading.{BothFit, pair_text}
 use Rattle.nap_make.proofs.ColourLemmas.{from_right}
 use Rattle.nap_make.proofs.LayoutLemmas.{Alike, Layout}
 use Rattle.nap_make.proofs.LookLemmas.{look_visible}
 use Rattle.nap_make.proofs.PlaceLemmas.{move_visible, point_visible}
-use Rattle.nap_make.proofs.SpellLemmas.{IsVisible, Spells, above, both_spell, decimal_spells, key_spells, spaceless}
+use Rattle.nap_make.proofs.SpellLemmas.{IsVisible, Spells, above, both_spell, decimal_spells, key_spells}
 
 -- the digits of a number are visible
 pub number_visible : (n : ℕ) → n < 16777216 → All IsVisible (decimal n)

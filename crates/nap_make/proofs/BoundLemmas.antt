@@ -1,16 +1,6 @@
-use Rattle.std.proofs.Common.{ℕ, pos, negsuc, ◌+◌, ◌*◌, ◌<◌, ◌≤◌, ◌≡◌, inl, inr, List, [], ◌∷◌, ◌++◌, length, ap, arith, codes, length-append}
-use Rattle.std.specs.Prelude.{All, Option, Some, None}
-use Rattle.std.specs.Fmt.{decimal, signed_decimal}
-use Rattle.std.proofs.lemmas.Fmt.{length-decimal-le, length_signed_le}
-use Rattle.std.proofs.lemmas.List.Elements.{All-head, All-tail}
-use Rattle.nap_values.specs.Colours.{HasSixteenBitParts}
-use Rattle.nap_values.specs.Coordinates.{Coordinates, IsInSquare, IsInRange}
-use Rattle.nap_values.specs.Laws.{IsWord}
-use Rattle.nap_codes.specs.declared.code_set.CharSet.{CharSet}
+use Rattle.nap_make.proofs.Common.{All, All-head, All-tail, AnyValue, BothFit, CharSet, ColourInRange, Coordinates, CursorKind, Entry, Fields, HasSixteenBitParts, IsAddress, IsInRange, IsInSquare, IsPlainStep, IsProper, IsSigned, IsWord, Kind, List, Mask, MaskInRange, None, Option, PenInRange, SizeInRange, Some, Sort, TextInRange, TextureInRange, Value, [], ap, arith, codes, colour_field, colour_text, cursor_text, decimal, field_text, fields_line, fields_of, fields_text, grb_text, inl, inr, kind_row, length, length-append, length-decimal-le, length_signed_le, line, line_name, look_field, look_text, mask_size_text, mask_text, modes_text, move_text, negsuc, pair_text, pel_field, pen_field, pen_text, point_text, points_before, pos, set_text, signed_decimal, size_text, step_text, texture_field, texture_text, with_word, ℕ, ◌*◌, ◌++◌, ◌+◌, ◌<◌, ◌∷◌, ◌≡◌, ◌≤◌}
 use Rattle.nap_codes.specs.declared.code_set.CharSet.TheVariants as char_sets
-use Rattle.nap_codes.specs.declared.control.CursorKind.{CursorKind}
 use Rattle.nap_codes.specs.declared.control.CursorKind.TheVariants as cursors
-use Rattle.nap_codes.specs.declared.control.Mask.{Mask}
 use Rattle.nap_codes.specs.declared.control.Mask.TheVariants as masks
 use Rattle.nap_codes.specs.declared.control.Size.TheVariants as named_sizes
 use Rattle.nap_codes.specs.declared.control.TextStep.TheVariants as steps
@@ -19,22 +9,9 @@ use Rattle.nap_list.specs.declared.attribute.Colour.TheVariants as colours
 use Rattle.nap_list.specs.declared.attribute.Origin.TheVariants as origins
 use Rattle.nap_list.specs.declared.attribute.Pen.TheVariants as pens
 use Rattle.nap_list.specs.declared.attribute.Preset.TheVariants as presets
-use Rattle.nap_list.specs.declared.entry.Entry.{Entry}
-use Rattle.nap_list.specs.Range.{ColourInRange, IsAddress, PenInRange, SizeInRange, TextInRange, TextureInRange}
-use Rattle.nap_lines.specs.Lines.{colour_text, cursor_text, grb_text, line, look_text, mask_size_text, mask_text, move_text, pen_text, point_text, set_text, size_text, step_text, texture_text}
-use Rattle.nap_make.specs.declared.field.Sort.{Sort}
 use Rattle.nap_make.specs.declared.field.Sort.TheVariants as sorts
-use Rattle.nap_make.specs.declared.field.Value.{Value}
 use Rattle.nap_make.specs.declared.field.Value.TheVariants as values
-use Rattle.nap_make.specs.declared.kind.Kind.{Kind}
 use Rattle.nap_make.specs.declared.kind.Kind.TheVariants as kinds
-use Rattle.nap_make.specs.Entries.{IsProper}
-use Rattle.nap_make.specs.Fields.{IsPlainStep, MaskInRange, colour_field, look_field, modes_text, pel_field, pen_field, texture_field}
-use Rattle.nap_make.specs.Kinds.{line_name, kind_row, with_word}
-use Rattle.nap_make.specs.Numbers.{IsSigned}
-use Rattle.nap_make.specs.Reading.{AnyValue, BothFit, pair_text}
-use Rattle.nap_make.specs.Rows.{Fields, fields_line, fields_of, fields_text, points_before}
-use Rattle.nap_make.specs.Sorts.{field_text}
 use Rattle.nap_make.proofs.AttributeLemmas.{texture_pair, texture_parts}
 use Rattle.nap_make.proofs.ColourLemmas.{grb_triple, part_pair, part_triple}
 use Rattle.nap_make.proofs.EntryLemmas.{FieldsFit, LineIs, PointsFit, fields_fit, line_is}
@@ -117,11 +94,8 @@ pen_bound pens.After fits = omega arith
 
 size_bound : AtMost 17 SizeInRange size_text
 size_bound (sizes.Named named_sizes.Small) fits = omega arith
-size_bound (sizes.Named named_sizes.Medium) fits = omega arith
-size_bound (sizes.Named named_sizes.Normal) fits = omega arith
-size_bound (sizes.Named named_sizes.Tall) fits = omega arith
-size_bound (sizes.Named named_sizes.Double) fits = omega arith
 size_bound (sizes.Given size) fits = move_bound size fits
+size_bound _ fits = omega arith
 
 modes_bound : AtMost 4 AnyValue modes_text
 modes_bound m any = let size : length (modes_text m) ≡ 4 = ap (λ (s : List ℕ). length s) (modes_bytes m) in omega (arith, size)
@@ -146,29 +120,20 @@ look_field_bound = key_bound 28 TextInRange look_text (codes "text=") look_bound
 
 set_bound : (set : CharSet) → length (set_text set) ≤ 13
 set_bound char_sets.Primary = omega arith
-set_bound char_sets.Supplementary = omega arith
-set_bound char_sets.Mosaic = omega arith
-set_bound char_sets.Drcs = omega arith
+set_bound _ = omega arith
 
 step_bound : AtMost 3 IsPlainStep step_text
 step_bound (steps.Aps row column) fits = absurd fits
 step_bound steps.Apb fits = omega arith
-step_bound steps.Apf fits = omega arith
-step_bound steps.Apd fits = omega arith
-step_bound steps.Apu fits = omega arith
-step_bound steps.Apr fits = omega arith
-step_bound steps.Aph fits = omega arith
+step_bound _ fits = omega arith
 
 cursor_bound : (state : CursorKind) → length (cursor_text state) ≤ 6
 cursor_bound cursors.Flash = omega arith
-cursor_bound cursors.Steady = omega arith
-cursor_bound cursors.Off = omega arith
+cursor_bound _ = omega arith
 
 letter_bound : (mask : Mask) → length (mask_text mask) ≤ 1
 letter_bound masks.A = omega arith
-letter_bound masks.B = omega arith
-letter_bound masks.C = omega arith
-letter_bound masks.D = omega arith
+letter_bound _ = omega arith
 
 -- Fields, rows and lines.
 
@@ -217,14 +182,6 @@ row_bound (s ∷ row) = bound_of s + row_bound row
 around : (xs ys : List ℕ) (b : ℕ) → length (xs ++ b ∷ ys) ≡ length xs + 1 + length ys
 around xs ys b = let size : length (xs ++ b ∷ ys) ≡ length xs + length (b ∷ ys) = length-append xs (b ∷ ys) in omega (arith, size)
 
-fields_bound : (row : List Sort) (vs : List Value) → AreOf row vs → length (fields_text vs) ≤ row_bound row
-fields_bound [] [] are = omega arith
-fields_bound (s ∷ row) (v ∷ []) are = omega (arith, field_bound s v are.0)
-fields_bound (s ∷ row) (v ∷ w ∷ vs) are = omega (arith, around (field_text v) (fields_text (w ∷ vs)) 32, field_bound s v are.0, fields_bound row (w ∷ vs) are.1)
-fields_bound [] (v ∷ vs) are = absurd are
-fields_bound (s ∷ row) [] are = absurd are
-
--- and with the space behind the last field
 fields_below : (row : List Sort) (vs : List Value) → AreOf row vs → 0 < length vs → length (fields_text vs) < row_bound row
 fields_below (s ∷ row) (v ∷ []) are some = omega (arith, field_bound s v are.0)
 fields_below (s ∷ row) (v ∷ w ∷ vs) are some = omega (arith, around (field_text v) (fields_text (w ∷ vs)) 32, field_bound s v are.0, fields_below row (w ∷ vs) are.1 (omega arith))
@@ -250,12 +207,14 @@ plain_bound : (k : Kind) → row_bound (kind_row k) ≤ 115
 plain_bound kinds.Point = omega arith
 plain_bound _ = omega arith
 
-shape_bound : (points : List Coordinates) (vs : List Value) → All IsInSquare points → length points ≤ 2001 → AreOf (sorts.Pel ∷ sorts.Colour ∷ sorts.Texture ∷ []) vs → length (points_before points (fields_text vs)) ≤ 32098
-shape_bound points vs inside few are = omega (arith, points_bound points (fields_text vs) inside, fields_below (sorts.Pel ∷ sorts.Colour ∷ sorts.Texture ∷ []) vs are (some vs are), few)
-  where
-    some : (vs : List Value) → AreOf (sorts.Pel ∷ sorts.Colour ∷ sorts.Texture ∷ []) vs → 0 < length vs
-    some [] are = absurd are
-    some (v ∷ vs) are = omega arith
+-- each kind has fields
+some_fields : (k : Kind) (vs : List Value) → AreOf (kind_row k) vs → 0 < length vs
+some_fields k (v ∷ vs) are = omega arith
+some_fields kinds.Point [] are = absurd are
+some_fields _ [] are = absurd are
+
+shape_bound : (points : List Coordinates) (vs : List Value) → All IsInSquare points → length points ≤ 2001 → AreOf (kind_row kinds.ArcFilled) vs → length (points_before points (fields_text vs)) ≤ 32098
+shape_bound points vs inside few are = omega (arith, points_bound points (fields_text vs) inside, fields_below (kind_row kinds.ArcFilled) vs are (some_fields kinds.ArcFilled vs are), few)
 
 rest_bound : (k : Kind) (points : List Coordinates) (vs : List Value) → PointsFit k points → AreOf (kind_row k) vs → length (with_word k (points_before points (fields_text vs))) ≤ 32098
 rest_bound kinds.ArcOutlined points vs fit are = shape_bound points vs fit.0 fit.2 are
@@ -264,7 +223,7 @@ rest_bound kinds.PolyOutlined points vs fit are = shape_bound points vs fit.0 fi
 rest_bound kinds.PolyFilled points vs fit are = shape_bound points vs fit.0 fit.2 are
 rest_bound k points vs fit are =
     let size : length (points_before points (fields_text vs)) ≡ length (fields_text vs) = ap (λ (ps : List Coordinates). length (points_before ps (fields_text vs))) fit in
-    omega (arith, size, word_bound_of k (points_before points (fields_text vs)), fields_bound (kind_row k) vs are, plain_bound k)
+    omega (arith, size, word_bound_of k (points_before points (fields_text vs)), fields_below (kind_row k) vs are (some_fields k vs are), plain_bound k)
 
 -- no line of a well-made entry in range is longer than that of the longest polygon
 pub line_bounded : (e : Entry) → IsProper e → length (line e) ≤ 32112

@@ -1,12 +1,4 @@
-use Rattle.std.proofs.Common.{ℕ, ◌+◌, ◌*◌, ◌/◌, ◌%◌, ◌<◌, ◌≤◌, ◌≡◌, ◌≢◌, List, [], ◌∷◌, length, get_or, refl, ap, ap₂, sym, ◌∙◌, arith}
-use Rattle.std.specs.Char.{digit_char, digit_value}
-use Rattle.std.proofs.lemmas.Str.{digit_value-digit_char}
-use Rattle.std.proofs.lemmas.Bool.Decides.{nat_tests}
-use Rattle.nap_list.specs.Entry.{IsCode}
-use Rattle.nap_list.specs.Range.{IsByte}
-use Rattle.nap_lines.specs.Lines.{code_text}
-use Rattle.nap_make.specs.Numbers.{IsNibble}
-use Rattle.nap_make.specs.Reading.{IsWritten, WritesNone}
+use Rattle.nap_make.proofs.Common.{IsByte, IsCode, IsNibble, IsWritten, List, WritesNone, [], ap, ap₂, arith, code_text, digit_char, digit_value, digit_value-digit_char, get_or, length, nat_tests, refl, sym, ℕ, ◌%◌, ◌*◌, ◌+◌, ◌/◌, ◌<◌, ◌∙◌, ◌∷◌, ◌≡◌, ◌≢◌, ◌≤◌}
 use Rattle.nap_make.proofs.SpellLemmas.{IsVisible, Spells, above}
 
 -- Codes by two hexadecimal digits.

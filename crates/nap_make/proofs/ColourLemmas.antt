@@ -1,16 +1,6 @@
-use Rattle.std.proofs.Common.{ℕ, ◌<◌, ◌≡◌, ◌≢◌, List, ◌++◌, refl, ap, sym, subst, ◌∙◌, arith, codes, append_assoc}
-use Rattle.std.specs.Prelude.{All}
-use Rattle.std.specs.Fmt.{decimal}
-use Rattle.nap_values.specs.Colours.{Components, HasSixteenBitParts}
-use Rattle.nap_list.specs.declared.attribute.Colour.{Colour}
+use Rattle.nap_make.proofs.Common.{All, BothFit, Colour, ColourKind, Components, HasSixteenBitParts, IsAddress, IsNumbered, List, SplitsAtByte, WritesNone, ap, append_assoc, arith, codes, colour_text, decimal, grb_text, kind_name, pair_text, refl, subst, sym, ℕ, ◌++◌, ◌<◌, ◌∙◌, ◌≡◌, ◌≢◌}
 use Rattle.nap_list.specs.declared.attribute.Colour.TheVariants as colours
-use Rattle.nap_list.specs.Range.{IsAddress}
-use Rattle.nap_lines.specs.Lines.{grb_text, colour_text}
-use Rattle.nap_make.specs.Cutting.{SplitsAtByte}
-use Rattle.nap_make.specs.declared.colour.ColourKind.{ColourKind}
 use Rattle.nap_make.specs.declared.colour.ColourKind.TheVariants as kinds
-use Rattle.nap_make.specs.Fields.{IsNumbered, kind_name}
-use Rattle.nap_make.specs.Reading.{WritesNone, BothFit, pair_text}
 use Rattle.nap_make.proofs.CutLemmas.{cut_text}
 use Rattle.nap_make.proofs.LayoutLemmas.{Alike, Layout}
 use Rattle.nap_make.proofs.SpellLemmas.{above, apart_below, decimal_spells}

@@ -1,8 +1,4 @@
-use Rattle.std.proofs.Common.{ℕ, ◌+◌, ◌-◌, ◌<◌, ◌≤◌, ◌≡◌, ◌≢◌, ◌⊎◌, inl, inr, List, [], ◌∷◌, ◌++◌, length, get_or, true, false, pos, refl, ap, sym, subst, ◌∙◌, arith, append_assoc, append-nil, length-append, codes}
-use Rattle.std.specs.Prelude.{All, None}
-use Rattle.std.proofs.lemmas.List.{append_cancel_left}
-use Rattle.std.proofs.lemmas.List.Elements.{All-append, All-cons, All-nil, All-head}
-use Rattle.nap_values.specs.Coordinates.{Coordinates, IsInSquare}
+use Rattle.nap_make.proofs.Common.{All, All-append, All-cons, All-nil, BeginsLine, BeginsNoPoint, Coordinates, EndsPoints, EndsWithSpace, Entry, Fields, FitsSort, HasPoints, InSort, IsChosen, IsColumnAtName, IsFirstWrong, IsInSquare, IsNameAlone, IsPlace, IsProper, Kind, List, None, Sort, SplitsAtByte, TellsColumn, Value, WritesNone, [], ap, append-nil, append_assoc, arith, codes, false, field_text, fields_before, fields_text, get_or, inl, inr, kind_row, least_points, length, length-append, line, line_from, line_name, point_text, points_before, points_limit, pos, refl, subst, sym, with_word, ℕ, ◌++◌, ◌+◌, ◌-◌, ◌∙◌, ◌∷◌, ◌≡◌, ◌≢◌, ◌≤◌, ◌⊎◌}
 use Rattle.nap_codes.specs.declared.code_set.CharSet.TheVariants as char_sets
 use Rattle.nap_codes.specs.declared.control.CursorKind.TheVariants as cursors
 use Rattle.nap_codes.specs.declared.control.Mask.TheVariants as masks
@@ -12,22 +8,10 @@ use Rattle.nap_list.specs.declared.attribute.CharSize.TheVariants as sizes
 use Rattle.nap_list.specs.declared.attribute.Colour.TheVariants as colours
 use Rattle.nap_list.specs.declared.attribute.Origin.TheVariants as origins
 use Rattle.nap_list.specs.declared.attribute.Pen.TheVariants as pens
-use Rattle.nap_list.specs.declared.entry.Entry.{Entry}
 use Rattle.nap_list.specs.declared.entry.Entry.TheVariants as entry
-use Rattle.nap_list.specs.Limits.{points_limit}
-use Rattle.nap_lines.specs.Lines.{line, point_text}
-use Rattle.nap_make.specs.Cutting.{SplitsAtByte}
-use Rattle.nap_make.specs.declared.field.Sort.{Sort}
 use Rattle.nap_make.specs.declared.field.Sort.TheVariants as sorts
-use Rattle.nap_make.specs.declared.field.Value.{Value}
 use Rattle.nap_make.specs.declared.field.Value.TheVariants as values
-use Rattle.nap_make.specs.declared.kind.Kind.{Kind}
 use Rattle.nap_make.specs.declared.kind.Kind.TheVariants as kinds
-use Rattle.nap_make.specs.Entries.{BeginsLine, BeginsWithSpace, EndsWithSpace, IsNameAlone, IsColumnAtName, IsEntryLine, IsPlace, IsProper, TellsColumn}
-use Rattle.nap_make.specs.Kinds.{HasPoints, IsChosen, IsKindOf, line_name, least_points, line_from, kind_row, with_word}
-use Rattle.nap_make.specs.Reading.{IsWritten, WritesNone}
-use Rattle.nap_make.specs.Rows.{BeginsNoPoint, EndsPoints, Fields, FitsSort, HasFields, IsFirstWrong, fields_before, fields_text, points_before}
-use Rattle.nap_make.specs.Sorts.{InSort, field_text}
 use Rattle.nap_make.proofs.CutLemmas.{cut_text, no_cut, one_cut, uncut}
 use Rattle.nap_make.proofs.EntryLemmas.{HasEntry, LineIs, line_is, plain_entry_with, shape_entry_with}
 use Rattle.nap_make.proofs.KindLemmas.{chosen_stays, line_append, name_apart}

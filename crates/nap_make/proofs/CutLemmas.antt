@@ -1,7 +1,4 @@
-use Rattle.std.proofs.Common.{ℕ, ◌≡◌, ◌≢◌, List, [], ◌∷◌, ◌++◌, refl, ap, sym, subst, ◌∙◌}
-use Rattle.std.specs.Prelude.{All}
-use Rattle.std.proofs.lemmas.List.Elements.{All-cons, All-head, All-nil, All-tail}
-use Rattle.nap_make.specs.Cutting.{SplitsAtByte}
+use Rattle.nap_make.proofs.Common.{All, All-append, All-cons, All-head, All-nil, All-tail, List, SplitsAtByte, [], ap, get_or, length, refl, subst, sym, take, take_all, take_more, ℕ, ◌++◌, ◌+◌, ◌<◌, ◌∙◌, ◌∷◌, ◌≡◌, ◌≢◌, ◌≤◌}
 
 -- A list is split at the first byte of a value in one way.
 
@@ -32,3 +29,12 @@ uncut b (x ∷ xs) none =
     let head : x ≢ b = λ is. none [] xs (record { joins = ap (λ (y : ℕ). y ∷ xs) is; first = All-nil (λ z. z ≢ b) }) in
     All-cons (λ z. z ≢ b) x xs head
     (uncut b xs (λ f k cuts. none (x ∷ f) k (record { joins = ap (λ (ys : List ℕ). x ∷ ys) cuts.joins; first = All-cons (λ z. z ≢ b) x f head cuts.first })))
+
+-- the first bytes and one more don't contain the byte
+pub one_more : (b : ℕ) (xs : List ℕ) (i : ℕ) → i < length xs → All (λ x. x ≢ b) (take i xs) → get_or xs i 0 ≢ b → All (λ x. x ≢ b) (take (i + 1) xs)
+one_more b xs i within none other =
+    subst (λ (ys : List ℕ). All (λ x. x ≢ b) ys) (sym (take_more xs i 0 within)) (All-append (λ x. x ≢ b) (take i xs) (get_or xs i 0 ∷ []) none (All-cons (λ x. x ≢ b) (get_or xs i 0) [] other (All-nil (λ x. x ≢ b))))
+
+-- no byte does
+pub no_split : (b : ℕ) (xs f k : List ℕ) (i : ℕ) → length xs ≤ i → All (λ x. x ≢ b) (take i xs) → xs ≡ f ++ b ∷ k → ⊥
+no_split b xs f k i past none is = no_cut b xs f k (subst (λ (ys : List ℕ). All (λ x. x ≢ b) ys) (take_all i xs past) none) is

@@ -1,18 +1,8 @@
 -- Lines in memory, or of an input, make a page in memory, or none.
 
-use Rattle.std.proofs.Common.{ℕ, ◌≡◌, ◌⊎◌, inl, inr, List, Result, Ok, Err, refl, subst}
-use Rattle.nap_list.specs.declared.entry.Entry.{Entry}
-use Rattle.nap_list.specs.declared.sink.Sink.{Ghosts}
-use Rattle.nap_list.specs.Reading.{Reading, NoneFailed, IsReadWhole}
-use Rattle.nap_canon.specs.Text.{text}
-use Rattle.nap_make.specs.declared.lines.fault.MakeFault.{MakeFault}
+use Rattle.nap_make.proofs.Common.{DeniesInput, DeniesLines, Entry, Err, Finishes, Ghosts, IsReadWhole, List, ListFault, MakeFault, Makes, MakesList, MakesNone, NoneFailed, Ok, PutsLines, Reading, RefusesLines, Result, ShowsNone, fault_of_input, fault_of_text, inl, inr, refl, subst, text, ℕ, ◌≡◌, ◌⊎◌}
 use Rattle.nap_make.specs.declared.lines.fault.MakeFault.TheVariants as faults
-use Rattle.nap_make.specs.declared.lines.fault.ListFault.{ListFault}
 use Rattle.nap_make.specs.declared.lines.fault.ListFault.TheVariants as list_faults
-use Rattle.nap_make.specs.Lists.{MakesNone, ShowsNone}
-use Rattle.nap_make.specs.ListMaking.{Finishes, Makes, MakesList, PutsLines}
-use Rattle.nap_make.specs.Pages.{RefusesLines}
-use Rattle.nap_make.specs.Texts.{DeniesInput, DeniesLines, fault_of_input, fault_of_text}
 use Rattle.nap_make.proofs.PageLemmas.{shown_here}
 
 denies_lines : {S : Type 0} (g : Ghosts S) (s : S) (p : List ℕ) (t : S) (f : MakeFault) → PutsLines g s p t (Err f) → DeniesLines p (fault_of_text f)

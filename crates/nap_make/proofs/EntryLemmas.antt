@@ -1,30 +1,9 @@
-use Rattle.std.proofs.Common.{ℕ, ◌<◌, ◌≤◌, ◌≡◌, ◌≢◌, Bool, true, false, ◌&&◌, inl, inr, List, [], ◌∷◌, ◌++◌, get_or, length, refl, ap, sym, subst, ◌∙◌, arith, codes, append_assoc}
-use Rattle.std.specs.Prelude.{All, Option, Some, None, MatchOption}
-use Rattle.std.specs.Fmt.{decimal}
-use Rattle.std.proofs.lemmas.Bool.{and_from}
-use Rattle.nap_values.specs.Coordinates.{Coordinates, IsInSquare}
-use Rattle.nap_codes.specs.declared.code_set.CharSet.TheVariants as char_sets
-use Rattle.nap_codes.specs.declared.control.TextStep.{TextStep}
+use Rattle.nap_make.proofs.Common.{All, Coordinates, Entry, Fields, FitsSort, Hand, HandInRange, HasFields, HasPoints, Ink, IsInSquare, IsNameAlone, IsPlainStep, IsProper, Kind, List, None, Option, Some, TextStep, Value, [], ap, append_assoc, arith, code_text, codes, colour_field, colour_text, decimal, false, fields_line, fields_of, grb_text, hand_text, ink_text, inl, inr, kind_row, length, line, look_field, look_text, move_text, pel_field, pen_field, pen_text, point_text, points_before, points_limit, points_text, refl, set_text, step_text, subst, sym, texture_field, texture_text, true, ℕ, ◌++◌, ◌∙◌, ◌∷◌, ◌≡◌, ◌≤◌, ◌⊎◌}
 use Rattle.nap_codes.specs.declared.control.TextStep.TheVariants as steps
 use Rattle.nap_list.specs.declared.attribute.Area.TheVariants as areas
-use Rattle.nap_list.specs.declared.attribute.Hand.{Hand}
-use Rattle.nap_list.specs.declared.attribute.Ink.{Ink}
-use Rattle.nap_list.specs.declared.entry.Entry.{Entry}
 use Rattle.nap_list.specs.declared.entry.Entry.TheVariants as entry
-use Rattle.nap_list.specs.Limits.{points_limit}
-use Rattle.nap_list.specs.Range.{HandInRange}
-use Rattle.nap_lines.specs.Lines.{area_text, code_text, colour_text, grb_text, hand_text, ink_text, line, look_text, move_text, pen_text, point_text, points_text, set_text, step_text, texture_text}
-use Rattle.nap_make.specs.declared.field.Sort.{Sort}
-use Rattle.nap_make.specs.declared.field.Sort.TheVariants as sorts
-use Rattle.nap_make.specs.declared.field.Value.{Value}
 use Rattle.nap_make.specs.declared.field.Value.TheVariants as values
-use Rattle.nap_make.specs.declared.kind.Kind.{Kind}
 use Rattle.nap_make.specs.declared.kind.Kind.TheVariants as kinds
-use Rattle.nap_make.specs.Entries.{IsNameAlone, IsProper}
-use Rattle.nap_make.specs.Fields.{IsPlainStep, colour_field, look_field, pel_field, pen_field, texture_field}
-use Rattle.nap_make.specs.Kinds.{HasPoints, IsChosen, least_points, line_from, kind_row}
-use Rattle.nap_make.specs.Rows.{Fields, FitsSort, HasFields, fields_line, fields_of, fields_text, points_before}
-use Rattle.nap_make.specs.Sorts.{InSort, field_text}
 use Rattle.nap_make.proofs.ColourLemmas.{from_right}
 
 -- The fields of an entry's line.
@@ -146,71 +125,19 @@ pub record HasEntry (k : Kind) (points : List Coordinates) (vs : List Value) : T
   pub fields : HasFields k points vs entry
   pub proper : IsProper entry
 
--- the sort of a value
-abbrev is_of : Sort → Value → Bool
-is_of sorts.Addr (values.Addr v) = true
-is_of sorts.Code (values.Code v) = true
-is_of sorts.Colour (values.Colour v) = true
-is_of sorts.Cursor (values.Cursor v) = true
-is_of sorts.Look (values.Look v) = true
-is_of sorts.Mask (values.Mask v) = true
-is_of sorts.Parts (values.Parts v) = true
-is_of sorts.Pel (values.Pel v) = true
-is_of sorts.Pen (values.Pen v) = true
-is_of sorts.Point (values.Point v) = true
-is_of sorts.Set (values.Set v) = true
-is_of sorts.Step (values.Step v) = true
-is_of sorts.Texture (values.Texture v) = true
-is_of sorts.Word (values.Word v) = true
-is_of sorts.Times (values.Times a b c) = true
-is_of _ _ = false
-
-sort_is : (s : Sort) (v : Value) → InSort s v → is_of s v ≡ true
-sort_is sorts.Addr (values.Addr v) fits = refl
-sort_is sorts.Code (values.Code v) fits = refl
-sort_is sorts.Colour (values.Colour v) fits = refl
-sort_is sorts.Cursor (values.Cursor v) fits = refl
-sort_is sorts.Look (values.Look v) fits = refl
-sort_is sorts.Mask (values.Mask v) fits = refl
-sort_is sorts.Parts (values.Parts v) fits = refl
-sort_is sorts.Pel (values.Pel v) fits = refl
-sort_is sorts.Pen (values.Pen v) fits = refl
-sort_is sorts.Point (values.Point v) fits = refl
-sort_is sorts.Set (values.Set v) fits = refl
-sort_is sorts.Step (values.Step v) fits = refl
-sort_is sorts.Texture (values.Texture v) fits = refl
-sort_is sorts.Word (values.Word v) fits = refl
-sort_is sorts.Times (values.Times a b c) fits = refl
-sort_is _ _ fits = absurd fits
-
-abbrev are_of : List Sort → List Value → Bool
-are_of [] [] = true
-are_of (s ∷ row) (v ∷ vs) = is_of s v && are_of row vs
-are_of _ _ = false
-
-sorts_are : (row : List Sort) (vs : List Value) → FitsSort row vs → are_of row vs ≡ true
-sorts_are [] [] fits = refl
-sorts_are (s ∷ row) (v ∷ vs) fits = and_from (is_of s v) (are_of row vs) (sort_is s v fits.0) (sorts_are row vs fits.1)
-sorts_are [] (v ∷ vs) fits = absurd fits
-sorts_are (s ∷ row) [] fits = absurd fits
-
-plain_with : (k : Kind) (vs : List Value) → (HasPoints k → ⊥) → FitsSort (kind_row k) vs → are_of (kind_row k) vs ≡ true → HasEntry k [] vs
-plain_with kinds.ArcOutlined vs none fits are = absurd (none tt)
-plain_with kinds.ArcFilled vs none fits are = absurd (none tt)
-plain_with kinds.PolyOutlined vs none fits are = absurd (none tt)
-plain_with kinds.PolyFilled vs none fits are = absurd (none tt)
-plain_with kinds.Point (values.Point at ∷ values.Pel pel ∷ values.Colour colour ∷ []) none fits are = record { entry = entry.Point at pel colour; fields = refl; proper = record { in_range = (fits.0, fits.1.0, fits.1.1.0); well_made = tt } }
-plain_with kinds.Line (values.Point from ∷ values.Point to ∷ values.Pel pel ∷ values.Colour colour ∷ values.Texture texture ∷ []) none fits are =
+pub plain_entry_with : (k : Kind) (vs : List Value) → (HasPoints k → ⊥) → FitsSort (kind_row k) vs → HasEntry k [] vs
+plain_entry_with kinds.Point (values.Point at ∷ values.Pel pel ∷ values.Colour colour ∷ []) none fits = record { entry = entry.Point at pel colour; fields = refl; proper = record { in_range = (fits.0, fits.1.0, fits.1.1.0); well_made = tt } }
+plain_entry_with kinds.Line (values.Point from ∷ values.Point to ∷ values.Pel pel ∷ values.Colour colour ∷ values.Texture texture ∷ []) none fits =
     record { entry = entry.Line from to (record { pel = pel; colour = colour; texture = texture }); fields = refl; proper = record { in_range = (fits.0, fits.1.0, record { pel = fits.1.1.0; colour = fits.1.1.1.0; texture = fits.1.1.1.1.0 }); well_made = tt } }
-plain_with kinds.RectFilled (values.Point from ∷ values.Point to ∷ values.Pel pel ∷ values.Colour colour ∷ values.Texture texture ∷ []) none fits are =
+plain_entry_with kinds.RectFilled (values.Point from ∷ values.Point to ∷ values.Pel pel ∷ values.Colour colour ∷ values.Texture texture ∷ []) none fits =
     record { entry = entry.Rect true from to (record { pel = pel; colour = colour; texture = texture }); fields = refl; proper = record { in_range = (fits.0, fits.1.0, record { pel = fits.1.1.0; colour = fits.1.1.1.0; texture = fits.1.1.1.1.0 }); well_made = tt } }
-plain_with kinds.RectOutlined (values.Point from ∷ values.Point to ∷ values.Pel pel ∷ values.Colour colour ∷ values.Texture texture ∷ []) none fits are =
+plain_entry_with kinds.RectOutlined (values.Point from ∷ values.Point to ∷ values.Pel pel ∷ values.Colour colour ∷ values.Texture texture ∷ []) none fits =
     record { entry = entry.Rect false from to (record { pel = pel; colour = colour; texture = texture }); fields = refl; proper = record { in_range = (fits.0, fits.1.0, record { pel = fits.1.1.0; colour = fits.1.1.1.0; texture = fits.1.1.1.1.0 }); well_made = tt } }
-plain_with kinds.Char (values.Set set ∷ values.Code code ∷ values.Pen pen ∷ values.Colour colour ∷ values.Look look ∷ []) none fits are =
+plain_entry_with kinds.Char (values.Set set ∷ values.Code code ∷ values.Pen pen ∷ values.Colour colour ∷ values.Look look ∷ []) none fits =
     record { entry = entry.Char set code (record { pen = pen; colour = colour; text = look }); fields = refl; proper = record { in_range = (omega (arith, fits.1.0), record { pen = fits.1.1.0; colour = fits.1.1.1.0; text = fits.1.1.1.1.0 }); well_made = fits.1.0 } }
-plain_with kinds.Position (values.Code row ∷ values.Code column ∷ values.Pen pen ∷ values.Colour colour ∷ values.Look look ∷ []) none fits are =
+plain_entry_with kinds.Position (values.Code row ∷ values.Code column ∷ values.Pen pen ∷ values.Colour colour ∷ values.Look look ∷ []) none fits =
     record { entry = entry.TextMove (steps.Aps row column) (record { pen = pen; colour = colour; text = look }); fields = refl; proper = record { in_range = ((omega (arith, fits.0), omega (arith, fits.1.0)), record { pen = fits.1.1.0; colour = fits.1.1.1.0; text = fits.1.1.1.1.0 }); well_made = (fits.0, fits.1.0) } }
-plain_with kinds.Move (values.Step step ∷ values.Pen pen ∷ values.Colour colour ∷ values.Look look ∷ []) none fits are = by step fits.0
+plain_entry_with kinds.Move (values.Step step ∷ values.Pen pen ∷ values.Colour colour ∷ values.Look look ∷ []) none fits = by step fits.0
   where
     hand_fits : HandInRange (record { pen = pen; colour = colour; text = look })
     hand_fits = record { pen = fits.1.0; colour = fits.1.1.0; text = fits.1.1.1.0 }
@@ -218,44 +145,34 @@ plain_with kinds.Move (values.Step step ∷ values.Pen pen ∷ values.Colour col
     by : (step : TextStep) → IsPlainStep step → HasEntry kinds.Move [] (values.Step step ∷ values.Pen pen ∷ values.Colour colour ∷ values.Look look ∷ [])
     by (steps.Aps row column) plain = absurd plain
     by step plain = record { entry = entry.TextMove step (record { pen = pen; colour = colour; text = look }); fields = refl; proper = record { in_range = (tt, hand_fits); well_made = tt } }
-plain_with kinds.ToEol (values.Pen pen ∷ values.Colour colour ∷ values.Look look ∷ []) none fits are =
+plain_entry_with kinds.ToEol (values.Pen pen ∷ values.Colour colour ∷ values.Look look ∷ []) none fits =
     record { entry = entry.ToEol (record { pen = pen; colour = colour; text = look }); fields = refl; proper = record { in_range = record { pen = fits.0; colour = fits.1.0; text = fits.1.1.0 }; well_made = tt } }
-plain_with kinds.Map (values.Addr addr ∷ values.Parts grb ∷ []) none fits are = record { entry = entry.Map addr grb; fields = refl; proper = record { in_range = (fits.0, fits.1.0); well_made = tt } }
-plain_with kinds.Blink (values.Addr addr ∷ values.Times on off delay ∷ values.Colour colour ∷ []) none fits are =
+plain_entry_with kinds.Map (values.Addr addr ∷ values.Parts grb ∷ []) none fits = record { entry = entry.Map addr grb; fields = refl; proper = record { in_range = (fits.0, fits.1.0); well_made = tt } }
+plain_entry_with kinds.Blink (values.Addr addr ∷ values.Times on off delay ∷ values.Colour colour ∷ []) none fits =
     record { entry = entry.Blink addr on off delay colour; fields = refl; proper = record { in_range = (fits.0, fits.1.0.0, fits.1.0.1, fits.1.0.2, fits.1.1.0); well_made = tt } }
-plain_with kinds.BlinkEnd (values.Colour colour ∷ []) none fits are = record { entry = entry.BlinkEnd colour; fields = refl; proper = record { in_range = fits.0; well_made = tt } }
-plain_with kinds.BlinkStart (values.Colour colour ∷ []) none fits are = record { entry = entry.BlinkMark true colour; fields = refl; proper = record { in_range = fits.0; well_made = tt } }
-plain_with kinds.BlinkStop (values.Colour colour ∷ []) none fits are = record { entry = entry.BlinkMark false colour; fields = refl; proper = record { in_range = fits.0; well_made = tt } }
-plain_with kinds.Wait (values.Word tenths ∷ []) none fits are = record { entry = entry.Wait tenths; fields = refl; proper = record { in_range = fits.0; well_made = tt } }
-plain_with kinds.Cursor (values.Cursor state ∷ []) none fits are = record { entry = entry.Cursor state; fields = refl; proper = record { in_range = tt; well_made = tt } }
-plain_with kinds.Field (values.Point from ∷ values.Point to ∷ values.Pen pen ∷ []) none fits are = record { entry = entry.Field (areas.Part from to) pen; fields = refl; proper = record { in_range = ((fits.0, fits.1.0), fits.1.1.0); well_made = tt } }
-plain_with kinds.Whole (values.Pen pen ∷ []) none fits are = record { entry = entry.Field areas.Whole pen; fields = refl; proper = record { in_range = (tt, fits.0); well_made = tt } }
-plain_with kinds.Reset (values.Word first ∷ values.Word second ∷ values.Pen pen ∷ []) none fits are = record { entry = entry.Reset first second pen; fields = refl; proper = record { in_range = (fits.0, fits.1.0, fits.1.1.0); well_made = tt } }
-plain_with kinds.Clear (values.Pen pen ∷ []) none fits are = record { entry = entry.Clear pen; fields = refl; proper = record { in_range = fits.0; well_made = tt } }
-plain_with kinds.Glyph (values.Code code ∷ []) none fits are = record { entry = entry.GlyphStart code; fields = refl; proper = record { in_range = omega (arith, fits.0); well_made = fits.0 } }
-plain_with kinds.Mask (values.Mask mask ∷ []) none fits are = record { entry = entry.MaskStart mask; fields = refl; proper = record { in_range = tt; well_made = tt } }
-plain_with _ _ none fits are = absurd (let no : ⊥ = cc in no)
-
-shape_with : (k : Kind) (points : List Coordinates) (vs : List Value) → HasPoints k → PointsFit k points → FitsSort (kind_row k) vs → are_of (kind_row k) vs ≡ true → HasEntry k points vs
-shape_with kinds.ArcFilled points (values.Pel pel ∷ values.Colour colour ∷ values.Texture texture ∷ []) has some fits are =
-    record { entry = entry.Arc true points (record { pel = pel; colour = colour; texture = texture }); fields = refl; proper = record { in_range = (some.0, record { pel = fits.0; colour = fits.1.0; texture = fits.1.1.0 }); well_made = (some.1, some.2) } }
-shape_with kinds.ArcOutlined points (values.Pel pel ∷ values.Colour colour ∷ values.Texture texture ∷ []) has some fits are =
-    record { entry = entry.Arc false points (record { pel = pel; colour = colour; texture = texture }); fields = refl; proper = record { in_range = (some.0, record { pel = fits.0; colour = fits.1.0; texture = fits.1.1.0 }); well_made = (some.1, some.2) } }
-shape_with kinds.PolyFilled points (values.Pel pel ∷ values.Colour colour ∷ values.Texture texture ∷ []) has some fits are =
-    record { entry = entry.Poly true points (record { pel = pel; colour = colour; texture = texture }); fields = refl; proper = record { in_range = (some.0, record { pel = fits.0; colour = fits.1.0; texture = fits.1.1.0 }); well_made = (some.1, some.2) } }
-shape_with kinds.PolyOutlined points (values.Pel pel ∷ values.Colour colour ∷ values.Texture texture ∷ []) has some fits are =
-    record { entry = entry.Poly false points (record { pel = pel; colour = colour; texture = texture }); fields = refl; proper = record { in_range = (some.0, record { pel = fits.0; colour = fits.1.0; texture = fits.1.1.0 }); well_made = (some.1, some.2) } }
-shape_with kinds.ArcFilled points vs has some fits are = absurd (let no : ⊥ = cc in no)
-shape_with kinds.ArcOutlined points vs has some fits are = absurd (let no : ⊥ = cc in no)
-shape_with kinds.PolyFilled points vs has some fits are = absurd (let no : ⊥ = cc in no)
-shape_with kinds.PolyOutlined points vs has some fits are = absurd (let no : ⊥ = cc in no)
-shape_with _ points vs has some fits are = absurd has
-
-pub plain_entry_with : (k : Kind) (vs : List Value) → (HasPoints k → ⊥) → FitsSort (kind_row k) vs → HasEntry k [] vs
-plain_entry_with k vs none fits = plain_with k vs none fits (sorts_are (kind_row k) vs fits)
+plain_entry_with kinds.BlinkEnd (values.Colour colour ∷ []) none fits = record { entry = entry.BlinkEnd colour; fields = refl; proper = record { in_range = fits.0; well_made = tt } }
+plain_entry_with kinds.BlinkStart (values.Colour colour ∷ []) none fits = record { entry = entry.BlinkMark true colour; fields = refl; proper = record { in_range = fits.0; well_made = tt } }
+plain_entry_with kinds.BlinkStop (values.Colour colour ∷ []) none fits = record { entry = entry.BlinkMark false colour; fields = refl; proper = record { in_range = fits.0; well_made = tt } }
+plain_entry_with kinds.Wait (values.Word tenths ∷ []) none fits = record { entry = entry.Wait tenths; fields = refl; proper = record { in_range = fits.0; well_made = tt } }
+plain_entry_with kinds.Cursor (values.Cursor state ∷ []) none fits = record { entry = entry.Cursor state; fields = refl; proper = record { in_range = tt; well_made = tt } }
+plain_entry_with kinds.Field (values.Point from ∷ values.Point to ∷ values.Pen pen ∷ []) none fits = record { entry = entry.Field (areas.Part from to) pen; fields = refl; proper = record { in_range = ((fits.0, fits.1.0), fits.1.1.0); well_made = tt } }
+plain_entry_with kinds.Whole (values.Pen pen ∷ []) none fits = record { entry = entry.Field areas.Whole pen; fields = refl; proper = record { in_range = (tt, fits.0); well_made = tt } }
+plain_entry_with kinds.Reset (values.Word first ∷ values.Word second ∷ values.Pen pen ∷ []) none fits = record { entry = entry.Reset first second pen; fields = refl; proper = record { in_range = (fits.0, fits.1.0, fits.1.1.0); well_made = tt } }
+plain_entry_with kinds.Clear (values.Pen pen ∷ []) none fits = record { entry = entry.Clear pen; fields = refl; proper = record { in_range = fits.0; well_made = tt } }
+plain_entry_with kinds.Glyph (values.Code code ∷ []) none fits = record { entry = entry.GlyphStart code; fields = refl; proper = record { in_range = omega (arith, fits.0); well_made = fits.0 } }
+plain_entry_with kinds.Mask (values.Mask mask ∷ []) none fits = record { entry = entry.MaskStart mask; fields = refl; proper = record { in_range = tt; well_made = tt } }
+plain_entry_with _ _ none fits = absurd (let no : ⊥ = search in no)
 
 pub shape_entry_with : (k : Kind) (points : List Coordinates) (vs : List Value) → HasPoints k → PointsFit k points → FitsSort (kind_row k) vs → HasEntry k points vs
-shape_entry_with k points vs has some fits = shape_with k points vs has some fits (sorts_are (kind_row k) vs fits)
+shape_entry_with kinds.ArcFilled points (values.Pel pel ∷ values.Colour colour ∷ values.Texture texture ∷ []) has some fits =
+    record { entry = entry.Arc true points (record { pel = pel; colour = colour; texture = texture }); fields = refl; proper = record { in_range = (some.0, record { pel = fits.0; colour = fits.1.0; texture = fits.1.1.0 }); well_made = (some.1, some.2) } }
+shape_entry_with kinds.ArcOutlined points (values.Pel pel ∷ values.Colour colour ∷ values.Texture texture ∷ []) has some fits =
+    record { entry = entry.Arc false points (record { pel = pel; colour = colour; texture = texture }); fields = refl; proper = record { in_range = (some.0, record { pel = fits.0; colour = fits.1.0; texture = fits.1.1.0 }); well_made = (some.1, some.2) } }
+shape_entry_with kinds.PolyFilled points (values.Pel pel ∷ values.Colour colour ∷ values.Texture texture ∷ []) has some fits =
+    record { entry = entry.Poly true points (record { pel = pel; colour = colour; texture = texture }); fields = refl; proper = record { in_range = (some.0, record { pel = fits.0; colour = fits.1.0; texture = fits.1.1.0 }); well_made = (some.1, some.2) } }
+shape_entry_with kinds.PolyOutlined points (values.Pel pel ∷ values.Colour colour ∷ values.Texture texture ∷ []) has some fits =
+    record { entry = entry.Poly false points (record { pel = pel; colour = colour; texture = texture }); fields = refl; proper = record { in_range = (some.0, record { pel = fits.0; colour = fits.1.0; texture = fits.1.1.0 }); well_made = (some.1, some.2) } }
+shape_entry_with _ _ _ has some fits = absurd (let no : ⊥ = search in no)
 
 -- a format effector of one byte
 pub step_fields : (step : TextStep) (hand : Hand) → IsPlainStep step → HasFields kinds.Move [] (values.Step step ∷ values.Pen hand.pen ∷ values.Colour hand.colour ∷ values.Look hand.text ∷ []) (entry.TextMove step hand)
@@ -293,7 +210,7 @@ made kinds.Mask points (values.Mask mask ∷ []) = entry.MaskStart mask
 made _ _ _ = entry.Bell
 
 abbrev MadeOf : Entry → Option Fields → Type 0
-MadeOf e None = Unit {0}
+MadeOf e None = (e ≡ entry.Bell) ⊎ (e ≡ entry.DefEnd)
 MadeOf e (Some f) = made f.kind f.points f.values ≡ e
 
 made_again : (e : Entry) → MadeOf e (fields_of e)
@@ -307,11 +224,14 @@ made_again (entry.TextMove (steps.Aps row column) hand) = refl
 made_again (entry.TextMove step hand) = refl
 made_again (entry.BlinkMark true colour) = refl
 made_again (entry.BlinkMark false colour) = refl
-made_again entry.Bell = tt
+made_again entry.Bell = inl refl
 made_again (entry.Field areas.Whole pen) = refl
 made_again (entry.Field (areas.Part from to) pen) = refl
-made_again entry.DefEnd = tt
+made_again entry.DefEnd = inr refl
 made_again e = refl
 
 pub same_entry : (e g : Entry) (k : Kind) (points : List Coordinates) (vs : List Value) → HasFields k points vs e → HasFields k points vs g → e ≡ g
 same_entry e g k points vs one two = sym (subst (MadeOf e) one (made_again e)) ∙ subst (MadeOf g) two (made_again g)
+
+pub alone_is : (e : Entry) → fields_of e ≡ None → (e ≡ entry.Bell) ⊎ (e ≡ entry.DefEnd)
+alone_is e is = subst (MadeOf e) is (made_again e)

@@ -1,25 +1,10 @@
 -- Lines after those of the entries taken.
 
-use Rattle.std.proofs.Common.{ℕ, ◌≡◌, ◌≢◌, ◌<◌, ◌≤◌, ◌∙◌, List, [], ◌∷◌, ◌++◌, ◌==◌, All, Bool, true, false, IfErr, OnOk, IsSome, None, Result, Ok, Err, length, refl, ap, sym, subst, append-nil, append_assoc, length-append, eqb-true, take, drop, take-append-drop, arith}
-use Rattle.std.proofs.lemmas.Bool.{eqb-false}
-use Rattle.std.proofs.lemmas.List.Elements.{All-append, All-cons, All-nil, All-take, All-weaker}
-use Rattle.nap_list.specs.declared.entry.Entry.{Entry}
-use Rattle.nap_list.specs.declared.sink.Sink.{Ghosts}
-use Rattle.nap_list.specs.declared.state.State.{State}
-use Rattle.nap_list.specs.Range.{InRange}
-use Rattle.nap_lines.specs.Lines.{line}
-use Rattle.nap_lines.specs.Listing.{lines}
-use Rattle.nap_make.specs.Cutting.{SplitsAtByte}
-use Rattle.nap_make.specs.Entries.{IsEntryLine, IsProper, TellsColumn}
-use Rattle.nap_make.specs.Laws.{longest_line}
-use Rattle.nap_make.specs.declared.lines.fault.MakeFault.{MakeFault}
+use Rattle.nap_make.proofs.Common.{All, All-append, All-cons, All-nil, All-take, All-weaker, BeginsNoLine, Bool, Entry, Err, Ghosts, IfErr, InRange, IsProper, IsSome, IsWritten, LineMaker, LineReader, LinesSoFar, List, MakeFault, None, Ok, OnOk, Result, SplitsAtByte, State, TakesLines, TellsColumn, WritesNone, [], ap, append-nil, append_assoc, arith, drop, eqb-false, eqb-true, false, length, length-append, line, lines, lines_join, longest_line, refl, subst, sym, take, take-append-drop, true, ℕ, ◌++◌, ◌+◌, ◌<◌, ◌==◌, ◌∙◌, ◌∷◌, ◌≡◌, ◌≢◌, ◌≤◌}
 use Rattle.nap_make.specs.declared.lines.fault.MakeFault.TheVariants as faults
-use Rattle.nap_make.specs.declared.lines.reader.LineReader.{LineReader}
-use Rattle.nap_make.specs.declared.lines.maker.LineMaker.{LineMaker}
-use Rattle.nap_make.specs.Lists.{BeginsNoLine, LinesSoFar}
-use Rattle.nap_make.specs.ListMaking.{IsUnendedLine as CutsOff, EndsLine, FeedsLines, Finishes, MakerHasPut, IsReady, KeepsPart, HasReadLines, StopsLines, TakesLine}
-use Rattle.nap_make.proofs.NextEntryLemmas.{lines_more, so_far_more}
-use Rattle.nap_make.proofs.NoLineLemmas.{column_ended, column_long, long_begins_none, no_long_line, part_begins_none, whole_begins_none}
+use Rattle.nap_make.specs.ListMaking.{IsUnendedLine as CutsOff, FeedsLines, Finishes, MakerHasPut, IsReady, KeepsPart, HasReadLines, PutsEntry, SinkTook, StopsLines}
+use Rattle.nap_make.proofs.NextEntryLemmas.{so_far_more}
+use Rattle.nap_make.proofs.NoLineLemmas.{column_ended, column_long, long_begins_none, part_begins_none, whole_begins_none}
 
 -- bytes that aren't split contain no LF
 pub uncut : (xs : List ℕ) → ((prefix back : List ℕ) → SplitsAtByte 10 xs prefix back → ⊥) → All (λ b. b ≢ 10) xs
@@ -34,55 +19,52 @@ uncut (x ∷ xs) none = by (x == 10) refl (λ other.
     by true is rest = let here : x ≡ 10 = eqb-true x 10 is in absurd (none [] xs (record { joins = ap (λ (b : ℕ). b ∷ xs) here; first = All-nil (λ b. b ≢ 10) }))
     by false is rest = let other : x ≢ 10 = eqb-false x 10 is in All-cons (λ b. b ≢ 10) x xs other (rest other)
 
--- a line that is too long is no entry's
-pub never_ok : (Q : Type 0) (bytes : List ℕ) (r : Result (Unit {0}) MakeFault) → OnOk r (IsEntryLine bytes) → longest_line < length bytes → OnOk r Q
-never_ok Q bytes (Ok done) own long = absurd (no_long_line bytes own.0 own.1 long)
-never_ok Q bytes (Err f) own long = tt
+-- a line with LF was refused, all of which is this
+abbrev pub RefusesLine : {S : Type 0} → Ghosts S → S → List Entry → List ℕ → LineMaker S → MakeFault → Type 0
+RefusesLine g s es bytes m (faults.Line number column) = (number ≡ length es + 1) × ((more : List ℕ) → BeginsNoLine (bytes ++ 10 ∷ more) × TellsColumn (bytes ++ 10 ∷ more) column) × SinkTook g s es m.sink
+RefusesLine g s es bytes m faults.Memory = SinkTook g s es m.sink
+RefusesLine g s es bytes m fault = (e : Entry) × IsWritten IsProper line bytes e × PutsEntry g s es e m (Err fault)
 
 module _ {S : Type 0} (g : Ghosts S) where
   -- a line that is too long
-  pub keeps_long : (old m : LineMaker S) (bytes prefix more : List ℕ) (r : Result (Unit {0}) MakeFault) → bytes ≡ prefix ++ more → All (λ x. x ≢ 10) prefix → longest_line < length prefix →
-      ((s : S) (es : List Entry) → MakerHasPut g s es old → TakesLine g s es prefix m r) → IfErr r (λ f. (s : S) (es : List Entry) → MakerHasPut g s es old → KeepsPart g s es bytes m f)
-  keeps_long old m bytes prefix more (Ok done) parts none long takes = tt
-  keeps_long old m bytes prefix more (Err (faults.Line number column)) parts none long takes = λ s es holds.
-      let h = takes s es holds in (
-        h.0,
-        (let size = ap (λ (xs : List ℕ). length xs) parts in omega (arith, size, long, length-append prefix more)),
-        λ rest.
-            let same = sym (append_assoc prefix more rest) ∙ ap (λ (xs : List ℕ). xs ++ rest) (sym parts) in
-            (subst BeginsNoLine same (long_begins_none prefix (more ++ rest) none long), subst (λ (xs : List ℕ). TellsColumn xs column) same (column_long prefix (more ++ rest) column long h.2)),
-        h.3,
-      )
-  keeps_long old m bytes prefix more (Err faults.Memory) parts none long takes = takes
-  keeps_long old m bytes prefix more (Err (faults.Misfit number)) parts none long takes = λ s es holds. let h = takes s es holds in absurd (no_long_line prefix h.0 h.1 long)
-  keeps_long old m bytes prefix more (Err (faults.Open number opening)) parts none long takes = λ s es holds. let h = takes s es holds in absurd (no_long_line prefix h.0 h.1 long)
-  keeps_long old m bytes prefix more (Err faults.Write) parts none long takes = λ s es holds. let h = takes s es holds in absurd (no_long_line prefix h.0 h.1 long)
+  keeps_long : (s : S) (es : List Entry) (m : LineMaker S) (bytes prefix more : List ℕ) (f : MakeFault) → bytes ≡ prefix ++ more → All (λ x. x ≢ 10) prefix → longest_line < length prefix →
+      MakerHasPut g s es m → CutsOff es prefix f → KeepsPart g s es bytes m f
+  keeps_long s es m bytes prefix more (faults.Line number column) parts none long holds h = (
+    h.0,
+    (let size = ap (λ (xs : List ℕ). length xs) parts in omega (arith, size, long, length-append prefix more)),
+    λ rest.
+        let same = sym (append_assoc prefix more rest) ∙ ap (λ (xs : List ℕ). xs ++ rest) (sym parts) in
+        (subst BeginsNoLine same (long_begins_none prefix (more ++ rest) none long), subst (λ (xs : List ℕ). TellsColumn xs column) same (column_long prefix (more ++ rest) column long h.1)),
+    holds.kept,
+  )
+  keeps_long s es m bytes prefix more faults.Memory parts none long holds h = holds.kept
+  keeps_long s es m bytes prefix more (faults.Misfit number) parts none long holds h = absurd h
+  keeps_long s es m bytes prefix more (faults.Open number opening) parts none long holds h = absurd h
+  keeps_long s es m bytes prefix more faults.Write parts none long holds h = absurd h
 
   -- at most one byte more than a line may have is kept
-  pub keeps_prefix : (old m : LineMaker S) (part bytes prefix : List ℕ) (kept : ℕ) (r : Result (Unit {0}) MakeFault) → prefix ≡ part ++ take kept bytes → All (λ x. x ≢ 10) part → All (λ x. x ≢ 10) bytes →
-      longest_line < length prefix → ((s : S) (es : List Entry) → MakerHasPut g s es old → TakesLine g s es prefix m r) →
-      IfErr r (λ f. (s : S) (es : List Entry) → MakerHasPut g s es old → KeepsPart g s es (part ++ bytes) m f)
-  keeps_prefix old m part bytes prefix kept r is none also long takes =
-      keeps_long old m (part ++ bytes) prefix (drop kept bytes) r
+  pub keeps_prefix : (s : S) (es : List Entry) (m : LineMaker S) (part bytes prefix : List ℕ) (kept : ℕ) (f : MakeFault) → prefix ≡ part ++ take kept bytes → All (λ x. x ≢ 10) part → All (λ x. x ≢ 10) bytes →
+      longest_line < length prefix → MakerHasPut g s es m → CutsOff es prefix f → KeepsPart g s es (part ++ bytes) m f
+  keeps_prefix s es m part bytes prefix kept f is none also long holds h =
+      keeps_long s es m (part ++ bytes) prefix (drop kept bytes) f
       (sym (ap (λ (xs : List ℕ). xs ++ drop kept bytes) is ∙ append_assoc part (take kept bytes) (drop kept bytes) ∙ ap (λ (xs : List ℕ). part ++ xs) (take-append-drop kept bytes)))
-      (subst (λ (xs : List ℕ). All (λ x. x ≢ 10) xs) (sym is) (All-append (λ x. x ≢ 10) part (take kept bytes) none (All-take (λ x. x ≢ 10) kept bytes also))) long takes
+      (subst (λ (xs : List ℕ). All (λ x. x ≢ 10) xs) (sym is) (All-append (λ x. x ≢ 10) part (take kept bytes) none (All-take (λ x. x ≢ 10) kept bytes also))) long holds h
 
   -- a line that was refused before its end
-  pub ends_kept : (s : S) (es : List Entry) (bytes : List ℕ) (m : LineMaker S) (f : MakeFault) → KeepsPart g s es bytes m f → EndsLine g s es bytes m (Err f)
-  ends_kept s es bytes m (faults.Line number column) h = (h.0, λ more. h.2 (10 ∷ more), h.3)
-  ends_kept s es bytes m faults.Memory h = h
-  ends_kept s es bytes m (faults.Misfit number) h = absurd h
-  ends_kept s es bytes m (faults.Open number opening) h = absurd h
-  ends_kept s es bytes m faults.Write h = absurd h
+  pub part_refused : (s : S) (es : List Entry) (bytes : List ℕ) (m : LineMaker S) (f : MakeFault) → KeepsPart g s es bytes m f → RefusesLine g s es bytes m f
+  part_refused s es bytes m (faults.Line number column) h = (h.0, λ more. h.2 (10 ∷ more), h.3)
+  part_refused s es bytes m faults.Memory h = h
+  part_refused s es bytes m (faults.Misfit number) h = absurd h
+  part_refused s es bytes m (faults.Open number opening) h = absurd h
+  part_refused s es bytes m faults.Write h = absurd h
 
-  -- a complete line was taken, or the fault says why not
-  pub ends_taken : (s : S) (es : List Entry) (bytes : List ℕ) (m : LineMaker S) (r : Result (Unit {0}) MakeFault) → All (λ x. x ≢ 10) bytes → TakesLine g s es bytes m r → EndsLine g s es bytes m r
-  ends_taken s es bytes m (Ok done) none h = h
-  ends_taken s es bytes m (Err (faults.Line number column)) none h = (h.0, λ more. (whole_begins_none bytes more none h.1, column_ended bytes more column none h.1 h.2), h.3)
-  ends_taken s es bytes m (Err faults.Memory) none h = h
-  ends_taken s es bytes m (Err (faults.Misfit number)) none h = h
-  ends_taken s es bytes m (Err (faults.Open number opening)) none h = h
-  ends_taken s es bytes m (Err faults.Write) none h = h
+  -- the entry of a line wasn't put
+  pub entry_refused : (s : S) (es : List Entry) (bytes : List ℕ) (e : Entry) (m : LineMaker S) (f : MakeFault) → IsWritten IsProper line bytes e → PutsEntry g s es e m (Err f) → RefusesLine g s es bytes m f
+  entry_refused s es bytes e m (faults.Line number column) written h = absurd h
+  entry_refused s es bytes e m faults.Memory written h = h
+  entry_refused s es bytes e m (faults.Misfit number) written h = (e, written, h)
+  entry_refused s es bytes e m (faults.Open number opening) written h = absurd h
+  entry_refused s es bytes e m faults.Write written h = (e, written, h)
 
   -- the bytes after the last LF of a piece are kept
   pub ready_last : (old new : LineReader S) (rest : List ℕ) (r : Result (Unit {0}) MakeFault) → IsReady g old → All (λ b. b ≢ 10) rest → OnOk r (new.part.items ≡ old.part.items ++ rest) →
@@ -107,8 +89,8 @@ module _ {S : Type 0} (g : Ghosts S) where
     line_with_more bytes rest more = append_assoc bytes (10 ∷ rest) more
 
     -- a refused line with LF makes no list
-    pub ends_stops : (q bytes rest : List ℕ) (m : LineMaker S) (f : MakeFault) → q ≡ lines es ++ (bytes ++ 10 ∷ rest) → EndsLine g s es bytes m (Err f) → StopsLines g s q m.sink f
-    ends_stops q bytes rest m (faults.Line number column) parts h = record {
+    pub refused_stops : (q bytes rest : List ℕ) (m : LineMaker S) (f : MakeFault) → q ≡ lines es ++ (bytes ++ 10 ∷ rest) → RefusesLine g s es bytes m f → StopsLines g s q m.sink f
+    refused_stops q bytes rest m (faults.Line number column) parts h = record {
       entries = es;
       first = (bytes ++ 10 ∷ rest, so_far q (bytes ++ 10 ∷ rest) parts);
       why = (
@@ -123,7 +105,7 @@ module _ {S : Type 0} (g : Ghosts S) where
         h.2,
       );
     }
-    ends_stops q bytes rest m (faults.Misfit number) parts h = record {
+    refused_stops q bytes rest m (faults.Misfit number) parts h = record {
       entries = es;
       first = (bytes ++ 10 ∷ rest, so_far q (bytes ++ 10 ∷ rest) parts);
       why = (
@@ -139,9 +121,9 @@ module _ {S : Type 0} (g : Ghosts S) where
         h.2.2,
       );
     }
-    ends_stops q bytes rest m (faults.Open number opening) parts h = absurd h.2
-    ends_stops q bytes rest m faults.Memory parts h = record { entries = es; first = (bytes ++ 10 ∷ rest, so_far q (bytes ++ 10 ∷ rest) parts); why = (λ more. ((bytes ++ 10 ∷ rest) ++ more, so_far (q ++ more) ((bytes ++ 10 ∷ rest) ++ more) (with_more q (bytes ++ 10 ∷ rest) more parts)), h) }
-    ends_stops q bytes rest m faults.Write parts h = record {
+    refused_stops q bytes rest m (faults.Open number opening) parts h = absurd h.2
+    refused_stops q bytes rest m faults.Memory parts h = record { entries = es; first = (bytes ++ 10 ∷ rest, so_far q (bytes ++ 10 ∷ rest) parts); why = (λ more. ((bytes ++ 10 ∷ rest) ++ more, so_far (q ++ more) ((bytes ++ 10 ∷ rest) ++ more) (with_more q (bytes ++ 10 ∷ rest) more parts)), h) }
+    refused_stops q bytes rest m faults.Write parts h = record {
       entries = es;
       first = (bytes ++ 10 ∷ rest, so_far q (bytes ++ 10 ∷ rest) parts);
       why = (
@@ -155,6 +137,13 @@ module _ {S : Type 0} (g : Ghosts S) where
         h.2.1,
       );
     }
+
+    -- a line that no entry has makes no list
+    pub line_stops : (bytes rest : List ℕ) (m : LineMaker S) (number column : ℕ) → All (λ x. x ≢ 10) bytes → number ≡ length es + 1 → WritesNone IsProper line bytes × TellsColumn bytes column → SinkTook g s es m.sink →
+        StopsLines g s (lines es ++ (bytes ++ 10 ∷ rest)) m.sink (faults.Line number column)
+    line_stops bytes rest m number column none place h kept =
+        refused_stops (lines es ++ (bytes ++ 10 ∷ rest)) bytes rest m (faults.Line number column) refl
+        (place, λ more. (whole_begins_none bytes more none h.0, column_ended bytes more column none h.0 h.1), kept)
 
     -- a refused part of a line makes no list
     pub keep_stops : (q bytes : List ℕ) (m : LineMaker S) (f : MakeFault) → q ≡ lines es ++ bytes → KeepsPart g s es bytes m f → StopsLines g s q m.sink f
@@ -226,41 +215,46 @@ module _ {S : Type 0} (g : Ghosts S) where
       holds.count,
     )
 
-  -- the bytes read, and the rest of a piece
-  part_with_more : (p done rest : List ℕ) (es : List Entry) (part : List ℕ) → p ++ done ≡ lines es ++ part → p ++ (done ++ rest) ≡ lines es ++ (part ++ rest)
-  part_with_more p done rest es part is = sym (append_assoc p done rest) ∙ ap (λ (xs : List ℕ). xs ++ rest) is ∙ append_assoc (lines es) part rest
+  -- after the end of a line
+  pub ended_ready : (r : LineReader S) → r.part.items ≡ [] → g.state r.maker.sink ≡ r.maker.state → IsReady g r
+  ended_ready r empty agrees = record {
+    agrees = agrees;
+    whole = subst (λ (xs : List ℕ). All (λ b. b ≢ 10) xs) (sym empty) (All-nil (λ b. b ≢ 10));
+    short = (let size = ap (λ (xs : List ℕ). length xs) empty in omega (arith, size));
+  }
+
+  -- The bytes p were read up to a rest: the lines of these entries, and what is kept of one more.
+  pub record HasReadTo (s : S) (p : List ℕ) (r : LineReader S) (rest : List ℕ) : Type 0 where
+    pub entries : List Entry
+    pub holds : MakerHasPut g s entries r.maker
+    pub parts : p ≡ lines entries ++ (r.part.items ++ rest)
+
+  pub read_before : (s : S) (p piece : List ℕ) (r : LineReader S) → HasReadLines g s p r → HasReadTo s (p ++ piece) r piece
+  read_before s p piece r h = record { entries = h.entries; holds = h.holds; parts = ap (λ (xs : List ℕ). xs ++ piece) h.parts ∙ append_assoc (lines h.entries) r.part.items piece }
 
   -- the bytes after the last LF of a piece were read, or make no list
-  pub fed_last : (s : S) (p done rest : List ℕ) (old new : LineReader S) (r : Result (Unit {0}) MakeFault) → HasReadLines g s (p ++ done) old → OnOk r (new.part.items ≡ old.part.items ++ rest) →
-      OnOk r (new.maker ≡ old.maker) → IfErr r (λ f. (s : S) (es : List Entry) → MakerHasPut g s es old.maker → KeepsPart g s es (old.part.items ++ rest) new.maker f) → FeedsLines g s (p ++ (done ++ rest)) new r
-  fed_last s p done rest old new (Ok ok) has_read part maker keeps = record {
-    entries = has_read.entries;
-    holds = subst (λ (m : LineMaker S). MakerHasPut g s has_read.entries m) (sym maker) has_read.holds;
-    parts = part_with_more p done rest has_read.entries old.part.items has_read.parts ∙ ap (λ (xs : List ℕ). lines has_read.entries ++ xs) (sym part);
+  pub read_last : (s : S) (p rest : List ℕ) (old new : LineReader S) (r : Result (Unit {0}) MakeFault) → HasReadTo s p old rest → OnOk r (new.part.items ≡ old.part.items ++ rest) →
+      OnOk r (new.maker ≡ old.maker) → IfErr r (λ f. (s : S) (es : List Entry) → MakerHasPut g s es old.maker → KeepsPart g s es (old.part.items ++ rest) new.maker f) → FeedsLines g s p new r
+  read_last s p rest old new (Ok ok) h part maker keeps = record {
+    entries = h.entries;
+    holds = subst (λ (m : LineMaker S). MakerHasPut g s h.entries m) (sym maker) h.holds;
+    parts = h.parts ∙ ap (λ (xs : List ℕ). lines h.entries ++ xs) (sym part);
   }
-  fed_last s p done rest old new (Err f) has_read part maker keeps =
-      keep_stops s has_read.entries old.maker has_read.holds (p ++ (done ++ rest)) (old.part.items ++ rest) new.maker f (part_with_more p done rest has_read.entries old.part.items has_read.parts)
-      (keeps s has_read.entries has_read.holds)
+  read_last s p rest old new (Err f) h part maker keeps = keep_stops s h.entries old.maker h.holds p (old.part.items ++ rest) new.maker f h.parts (keeps s h.entries h.holds)
 
-  -- the bytes read, a line with LF, and more bytes
-  line_then_more : (p done prefix more : List ℕ) (es : List Entry) (part : List ℕ) → p ++ done ≡ lines es ++ part → p ++ (done ++ (prefix ++ 10 ∷ more)) ≡ lines es ++ ((part ++ prefix) ++ 10 ∷ more)
-  line_then_more p done prefix more es part is = part_with_more p done (prefix ++ 10 ∷ more) es part is ∙ ap (λ (xs : List ℕ). lines es ++ xs) (sym (append_assoc part prefix (10 ∷ more)))
+  -- the next lines of a piece
+  pub next_parts : (s : S) (p prefix more : List ℕ) (r : LineReader S) (h : HasReadTo s p r (prefix ++ 10 ∷ more)) → p ≡ lines h.entries ++ ((r.part.items ++ prefix) ++ 10 ∷ more)
+  next_parts s p prefix more r h = h.parts ∙ ap (λ (xs : List ℕ). lines h.entries ++ xs) (sym (append_assoc r.part.items prefix (10 ∷ more)))
 
-  -- a line with LF makes no list
-  pub line_stops : (s : S) (p done prefix more : List ℕ) (old : LineReader S) (m : LineMaker S) (f : MakeFault) (has_read : HasReadLines g s (p ++ done) old) →
-      EndsLine g s has_read.entries (old.part.items ++ prefix) m (Err f) → StopsLines g s (p ++ (done ++ (prefix ++ 10 ∷ more))) m.sink f
-  line_stops s p done prefix more old m f has_read ends =
-      ends_stops s has_read.entries old.maker has_read.holds (p ++ (done ++ (prefix ++ 10 ∷ more))) (old.part.items ++ prefix) more m f (line_then_more p done prefix more has_read.entries old.part.items has_read.parts) ends
-
-  -- a line with LF was taken
-  pub line_taken : (s : S) (p done prefix : List ℕ) (old new : LineReader S) (has_read : HasReadLines g s (p ++ done) old) → EndsLine g s has_read.entries (old.part.items ++ prefix) new.maker (Ok tt) →
-      new.part.items ≡ [] → HasReadLines g s (p ++ (done ++ (prefix ++ 10 ∷ []))) new
-  line_taken s p done prefix old new has_read ends empty = record {
-    entries = has_read.entries ++ ends.0 ∷ [];
-    holds = ends.2;
+  pub read_more : (s : S) (p prefix more rest : List ℕ) (old new : LineReader S) (h : HasReadTo s p old (prefix ++ 10 ∷ more)) → TakesLines g s h.entries ((old.part.items ++ prefix) ++ 10 ∷ more) new.maker rest →
+      new.part.items ≡ [] → HasReadTo s p new rest
+  read_more s p prefix more rest old new h takes empty = record {
+    entries = h.entries ++ takes.more;
+    holds = takes.holds;
     parts =
-        line_then_more p done prefix [] has_read.entries old.part.items has_read.parts
-        ∙ ap (λ (xs : List ℕ). lines has_read.entries ++ (xs ++ 10 ∷ [])) ends.1.written
-        ∙ sym (lines_more has_read.entries ends.0 [])
-        ∙ ap (λ (xs : List ℕ). lines (has_read.entries ++ ends.0 ∷ []) ++ xs) (sym empty);
+        next_parts s p prefix more old h
+        ∙ ap (λ (xs : List ℕ). lines h.entries ++ xs) takes.parts
+        ∙ sym (append_assoc (lines h.entries) (lines takes.more) rest)
+        ∙ ap (λ (xs : List ℕ). xs ++ rest) (sym (lines_join h.entries takes.more))
+        ∙ ap (λ (xs : List ℕ). lines (h.entries ++ takes.more) ++ (xs ++ rest)) (sym empty);
   }

@@ -1,11 +1,5 @@
-use Rattle.std.proofs.Common.{ℕ, ◌<◌, ◌≤◌, ◌≡◌, ◌≢◌, cond, List, [], ◌∷◌, ◌++◌, get_or, refl, ap, sym, subst, ◌∙◌, arith, codes, append_assoc}
-use Rattle.std.specs.Prelude.{All}
-use Rattle.std.specs.Str.{bytes_eq}
-use Rattle.std.proofs.lemmas.List.{append_cancel_left}
-use Rattle.nap_make.specs.Cutting.{SplitsAtByte}
-use Rattle.nap_make.specs.declared.kind.Kind.{Kind}
+use Rattle.nap_make.proofs.Common.{All, IsChosen, Kind, List, [], ap, append_assoc, append_cancel_left, arith, bytes_eq, codes, cond, line_from, line_name, refl, subst, sym, with_word, ℕ, ◌++◌, ◌<◌, ◌∙◌, ◌∷◌, ◌≡◌, ◌≢◌}
 use Rattle.nap_make.specs.declared.kind.Kind.TheVariants as kinds
-use Rattle.nap_make.specs.Kinds.{IsChosen, line_name, line_from, with_word}
 use Rattle.nap_make.proofs.CutLemmas.{one_cut}
 use Rattle.nap_make.proofs.RowLemmas.{stays}
 use Rattle.nap_make.proofs.SpellLemmas.{EachAbove, above, apart_below}
@@ -41,57 +35,11 @@ plain k = k
 
 again : (k : Kind) → kind_at (line_name k) ≡ plain k
 again kinds.Point = refl
-again kinds.Line = refl
-again kinds.ArcOutlined = refl
-again kinds.ArcFilled = refl
-again kinds.RectOutlined = refl
-again kinds.RectFilled = refl
-again kinds.PolyOutlined = refl
-again kinds.PolyFilled = refl
-again kinds.Char = refl
-again kinds.Move = refl
-again kinds.Position = refl
-again kinds.ToEol = refl
-again kinds.Map = refl
-again kinds.Blink = refl
-again kinds.BlinkEnd = refl
-again kinds.BlinkStart = refl
-again kinds.BlinkStop = refl
-again kinds.Wait = refl
-again kinds.Cursor = refl
-again kinds.Field = refl
-again kinds.Whole = refl
-again kinds.Reset = refl
-again kinds.Clear = refl
-again kinds.Glyph = refl
-again kinds.Mask = refl
+again _ = refl
 
 visible : (k : Kind) → EachAbove 32 (line_name k)
 visible kinds.Point = omega arith
-visible kinds.Line = omega arith
-visible kinds.ArcOutlined = omega arith
-visible kinds.ArcFilled = omega arith
-visible kinds.RectOutlined = omega arith
-visible kinds.RectFilled = omega arith
-visible kinds.PolyOutlined = omega arith
-visible kinds.PolyFilled = omega arith
-visible kinds.Char = omega arith
-visible kinds.Move = omega arith
-visible kinds.Position = omega arith
-visible kinds.ToEol = omega arith
-visible kinds.Map = omega arith
-visible kinds.Blink = omega arith
-visible kinds.BlinkEnd = omega arith
-visible kinds.BlinkStart = omega arith
-visible kinds.BlinkStop = omega arith
-visible kinds.Wait = omega arith
-visible kinds.Cursor = omega arith
-visible kinds.Field = omega arith
-visible kinds.Whole = omega arith
-visible kinds.Reset = omega arith
-visible kinds.Clear = omega arith
-visible kinds.Glyph = omega arith
-visible kinds.Mask = omega arith
+visible _ = omega arith
 
 pub name_visible : (k : Kind) → All (λ x. 32 < x) (line_name k)
 name_visible k = above 32 (line_name k) (visible k)

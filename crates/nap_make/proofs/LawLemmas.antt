@@ -1,28 +1,12 @@
-use Rattle.std.proofs.Common.{ℕ, ◌<◌, ◌≡◌, ◌≢◌, ◌⊎◌, inl, inr, true, false, List, [], ◌∷◌, ◌++◌, get_or, refl, ap, ap₂, sym, subst, ◌∙◌, arith, codes, append_assoc}
-use Rattle.std.specs.Prelude.{All, Option, Some, None}
-use Rattle.std.proofs.lemmas.List.Elements.{All-append, All-cons, All-head, All-nil, All-tail, All-weaker}
-use Rattle.nap_values.specs.Coordinates.{Coordinates, IsInSquare}
-use Rattle.nap_codes.specs.declared.control.TextStep.{TextStep}
+use Rattle.nap_make.proofs.Common.{All, All-append, All-cons, All-head, All-nil, All-tail, All-weaker, AllInRange, BeginsNoPoint, Coordinates, Entry, Fields, HasFields, HasPoints, InRange, IsInSquare, IsNameAlone, IsPlainStep, Kind, List, None, Option, Some, Sort, TextStep, Value, [], ap, append_assoc, ap₂, arith, codes, false, field_text, fields_line, fields_of, fields_text, get_or, inl, inr, kind_row, line, line_name, lines, point_text, points_before, refl, step_text, subst, sym, true, with_word, ℕ, ◌++◌, ◌<◌, ◌∙◌, ◌∷◌, ◌≡◌, ◌≢◌, ◌⊎◌}
 use Rattle.nap_codes.specs.declared.control.TextStep.TheVariants as steps
 use Rattle.nap_list.specs.declared.attribute.Area.TheVariants as areas
-use Rattle.nap_list.specs.declared.entry.Entry.{Entry}
 use Rattle.nap_list.specs.declared.entry.Entry.TheVariants as entry
-use Rattle.nap_list.specs.Range.{AllInRange, InRange}
-use Rattle.nap_lines.specs.Lines.{line, point_text, step_text}
-use Rattle.nap_lines.specs.Listing.{lines}
-use Rattle.nap_make.specs.declared.field.Sort.{Sort}
 use Rattle.nap_make.specs.declared.field.Sort.TheVariants as sorts
-use Rattle.nap_make.specs.declared.field.Value.{Value}
 use Rattle.nap_make.specs.declared.field.Value.TheVariants as values
-use Rattle.nap_make.specs.declared.kind.Kind.{Kind}
 use Rattle.nap_make.specs.declared.kind.Kind.TheVariants as kinds
-use Rattle.nap_make.specs.Entries.{IsNameAlone}
-use Rattle.nap_make.specs.Fields.{IsPlainStep}
-use Rattle.nap_make.specs.Kinds.{HasPoints, IsChosen, line_name, line_from, kind_row, with_word}
-use Rattle.nap_make.specs.Rows.{BeginsNoPoint, Fields, HasFields, fields_line, fields_of, fields_text, points_before}
-use Rattle.nap_make.specs.Sorts.{field_text}
 use Rattle.nap_make.proofs.CutLemmas.{no_cut, one_cut}
-use Rattle.nap_make.proofs.EntryLemmas.{LineIs, line_is, same_entry}
+use Rattle.nap_make.proofs.EntryLemmas.{LineIs, alone_is, line_is, same_entry}
 use Rattle.nap_make.proofs.KindLemmas.{name_visible, one_kind}
 use Rattle.nap_make.proofs.LayoutLemmas.{Tells}
 use Rattle.nap_make.proofs.LineLemmas.{FieldsChosen, alone_whole, fields_chosen}
@@ -108,22 +92,7 @@ field_tells sorts.Texture (values.Texture a) (values.Texture b) v_fits w_fits is
 field_tells sorts.Times (values.Times a b c) (values.Times d e f) v_fits w_fits is =
     ap (λ (t : ℕ × (ℕ × ℕ)). values.Times t.0 t.1.0 t.1.1) (times_tell (a, (b, c)) (d, (e, f)) (v_fits.0, (v_fits.1, v_fits.2)) (w_fits.0, (w_fits.1, w_fits.2)) is)
 field_tells sorts.Word (values.Word a) (values.Word b) v_fits w_fits is = ap values.Word (word_tells a b v_fits w_fits is)
-field_tells sorts.Addr (values.Addr a) w v_fits w_fits is = absurd w_fits
-field_tells sorts.Code (values.Code a) w v_fits w_fits is = absurd w_fits
-field_tells sorts.Colour (values.Colour a) w v_fits w_fits is = absurd w_fits
-field_tells sorts.Cursor (values.Cursor a) w v_fits w_fits is = absurd w_fits
-field_tells sorts.Look (values.Look a) w v_fits w_fits is = absurd w_fits
-field_tells sorts.Mask (values.Mask a) w v_fits w_fits is = absurd w_fits
-field_tells sorts.Parts (values.Parts a) w v_fits w_fits is = absurd w_fits
-field_tells sorts.Pel (values.Pel a) w v_fits w_fits is = absurd w_fits
-field_tells sorts.Pen (values.Pen a) w v_fits w_fits is = absurd w_fits
-field_tells sorts.Point (values.Point a) w v_fits w_fits is = absurd w_fits
-field_tells sorts.Set (values.Set a) w v_fits w_fits is = absurd w_fits
-field_tells sorts.Step (values.Step a) w v_fits w_fits is = absurd w_fits
-field_tells sorts.Texture (values.Texture a) w v_fits w_fits is = absurd w_fits
-field_tells sorts.Word (values.Word a) w v_fits w_fits is = absurd w_fits
-field_tells sorts.Times (values.Times a b c) w v_fits w_fits is = absurd w_fits
-field_tells s v w v_fits w_fits is = absurd v_fits
+field_tells s v w v_fits w_fits is = absurd (let no : ⊥ = search in no)
 
 fields_tell : (row : List Sort) (vs us : List Value) → AreOf row vs → AreOf row us → fields_text vs ≡ fields_text us → vs ≡ us
 fields_tell [] [] [] one two is = refl
@@ -131,14 +100,7 @@ fields_tell (s ∷ []) (v ∷ []) (u ∷ []) one two is = ap (λ (x : Value). x 
 fields_tell (s ∷ t ∷ row) (v ∷ w ∷ vs) (u ∷ x ∷ us) one two is =
     let same = one_cut 32 (field_text v) (fields_text (w ∷ vs)) (field_text u) (fields_text (x ∷ us)) (type_apart s v one.0) (type_apart s u two.0) is in
     ap₂ (λ (y : Value) (ys : List Value). y ∷ ys) (field_tells s v u one.0 two.0 same.0) (fields_tell (t ∷ row) (w ∷ vs) (x ∷ us) one.1 two.1 same.1)
-fields_tell [] (v ∷ vs) us one two is = absurd one
-fields_tell [] [] (u ∷ us) one two is = absurd two
-fields_tell (s ∷ row) [] us one two is = absurd one
-fields_tell (s ∷ row) (v ∷ vs) [] one two is = absurd two
-fields_tell (s ∷ []) (v ∷ w ∷ vs) us one two is = absurd one.1
-fields_tell (s ∷ []) (v ∷ []) (u ∷ x ∷ us) one two is = absurd two.1
-fields_tell (s ∷ t ∷ row) (v ∷ []) us one two is = absurd one.1
-fields_tell (s ∷ t ∷ row) (v ∷ w ∷ vs) (u ∷ []) one two is = absurd two.1
+fields_tell _ _ _ one two is = absurd (let no : ⊥ = search in no)
 
 -- Lines with equal points and fields.
 
@@ -171,23 +133,6 @@ fields_same k ps qs vs us one two vs_are us_are is = by (points_or_none k)
     by (inr none) =
         let texts = ap (λ (xs : List Coordinates). points_before xs (fields_text vs)) (sym (none ps one)) ∙ is ∙ ap (λ (xs : List Coordinates). points_before xs (fields_text us)) (none qs two) in
         (none ps one ∙ sym (none qs two), fields_tell (kind_row k) vs us vs_are us_are texts)
-
-alone_is : (e : Entry) → fields_of e ≡ None → (e ≡ entry.Bell) ⊎ (e ≡ entry.DefEnd)
-alone_is entry.Bell is = inl refl
-alone_is entry.DefEnd is = inr refl
-alone_is (entry.Arc true points ink) is = absurd (let no : ⊥ = cc in no)
-alone_is (entry.Arc false points ink) is = absurd (let no : ⊥ = cc in no)
-alone_is (entry.Rect true from to ink) is = absurd (let no : ⊥ = cc in no)
-alone_is (entry.Rect false from to ink) is = absurd (let no : ⊥ = cc in no)
-alone_is (entry.Poly true points ink) is = absurd (let no : ⊥ = cc in no)
-alone_is (entry.Poly false points ink) is = absurd (let no : ⊥ = cc in no)
-alone_is (entry.TextMove (steps.Aps row column) hand) is = absurd (let no : ⊥ = cc in no)
-alone_is (entry.TextMove step hand) is = absurd (let no : ⊥ = cc in no)
-alone_is (entry.BlinkMark true colour) is = absurd (let no : ⊥ = cc in no)
-alone_is (entry.BlinkMark false colour) is = absurd (let no : ⊥ = cc in no)
-alone_is (entry.Field areas.Whole pen) is = absurd (let no : ⊥ = cc in no)
-alone_is (entry.Field (areas.Part from to) pen) is = absurd (let no : ⊥ = cc in no)
-alone_is e is = absurd (let no : ⊥ = cc in no)
 
 alone_tells : (e g : Entry) → (e ≡ entry.Bell) ⊎ (e ≡ entry.DefEnd) → (g ≡ entry.Bell) ⊎ (g ≡ entry.DefEnd) → line e ≡ line g → e ≡ g
 alone_tells e g (inl one) (inl two) is = one ∙ sym two

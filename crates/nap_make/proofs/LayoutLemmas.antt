@@ -1,8 +1,4 @@
-use Rattle.std.proofs.Common.{ℕ, ◌≡◌, ◌≢◌, List, ◌∷◌, ◌++◌, ap, ap₂, sym, subst, ◌∙◌}
-use Rattle.std.specs.Prelude.{Option, Some, None, All, IsSome, IfSome, ◌↔◌}
-use Rattle.std.proofs.lemmas.List.{append_cancel_left}
-use Rattle.nap_make.specs.Cutting.{SplitsAtByte}
-use Rattle.nap_make.specs.Reading.{WritesNone, IsWritten, IsParsed, BothFit, pair_text}
+use Rattle.nap_make.proofs.Common.{All, BothFit, IfSome, IsParsed, IsSome, IsWritten, List, None, Option, Some, SplitsAtByte, WritesNone, ap, append_cancel_left, ap₂, pair_text, subst, sym, ℕ, ◌++◌, ◌↔◌, ◌∙◌, ◌∷◌, ◌≡◌, ◌≢◌}
 use Rattle.nap_make.proofs.CutLemmas.{one_cut, cut_text}
 
 -- A text of two parts, separated by a byte that the first doesn't contain.

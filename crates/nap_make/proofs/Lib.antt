@@ -1,3 +1,4 @@
+mod Common
 pub mod AttributeLemmas
 pub mod BoundLemmas
 pub mod CodeLemmas
@@ -18,13 +19,14 @@ pub mod RowLemmas
 pub mod ShapeLemmas
 pub mod SignedLemmas
 pub mod SortLemmas
-pub mod SpellLayouts
 pub mod SpellLemmas
 pub mod TellLemmas
 pub mod NextEntryLemmas
 pub mod NoLineLemmas
 pub mod FeedLemmas
 pub mod MakerLemmas
+pub mod RunLemmas
+pub mod CharLemmas
 pub mod MakeLemmas
 pub mod PageLemmas
 pub mod TextLemmas

@@ -1,21 +1,8 @@
-use Rattle.std.proofs.Common.{ℕ, ◌<◌, ◌≤◌, ◌≡◌, ◌≢◌, ◌⊎◌, inl, inr, true, false, List, [], ◌∷◌, ◌++◌, get_or, refl, ap, sym, subst, ◌∙◌, arith, codes}
-use Rattle.std.specs.Prelude.{All, Option, Some, None}
-use Rattle.std.proofs.lemmas.List.Elements.{All-head}
-use Rattle.nap_values.specs.Coordinates.{Coordinates, IsInSquare}
-use Rattle.nap_codes.specs.declared.control.TextStep.{TextStep}
+use Rattle.nap_make.proofs.Common.{All, All-head, Coordinates, Entry, Fields, FitsSort, HasFields, HasPoints, InRange, IsChosen, IsFirstWrong, IsInSquare, IsNameAlone, IsProper, IsWritten, Kind, List, None, Option, Some, Value, WritesNone, [], ap, arith, codes, false, fields_line, fields_of, fields_text, get_or, inl, inr, kind_row, line, line_from, line_name, point_text, points_before, refl, subst, sym, true, with_word, ℕ, ◌++◌, ◌<◌, ◌∙◌, ◌∷◌, ◌≡◌, ◌≢◌, ◌≤◌, ◌⊎◌}
 use Rattle.nap_codes.specs.declared.control.TextStep.TheVariants as steps
 use Rattle.nap_list.specs.declared.attribute.Area.TheVariants as areas
-use Rattle.nap_list.specs.declared.entry.Entry.{Entry}
 use Rattle.nap_list.specs.declared.entry.Entry.TheVariants as entry
-use Rattle.nap_list.specs.Range.{InRange}
-use Rattle.nap_lines.specs.Lines.{line, point_text, step_text}
-use Rattle.nap_make.specs.declared.field.Value.{Value}
-use Rattle.nap_make.specs.declared.kind.Kind.{Kind}
 use Rattle.nap_make.specs.declared.kind.Kind.TheVariants as kinds
-use Rattle.nap_make.specs.Entries.{IsNameAlone, IsProper}
-use Rattle.nap_make.specs.Kinds.{HasPoints, IsChosen, line_name, line_from, kind_row, with_word}
-use Rattle.nap_make.specs.Reading.{IsWritten, WritesNone}
-use Rattle.nap_make.specs.Rows.{Fields, FitsSort, HasFields, IsFirstWrong, fields_line, fields_of, fields_text, points_before}
 use Rattle.nap_make.proofs.CutLemmas.{no_cut}
 use Rattle.nap_make.proofs.EntryLemmas.{AreFields, FieldsFit, LineIs, PointsFit, fields_fit, line_is}
 use Rattle.nap_make.proofs.KindLemmas.{one_kind}

@@ -1,16 +1,6 @@
-use Rattle.std.proofs.Common.{ℕ, ◌<◌, ◌≡◌, ◌≢◌, Bool, true, false, cond, List, [], ◌∷◌, ◌++◌, length, get_or, refl, ap, sym, ◌∙◌, arith, codes, append_assoc}
-use Rattle.std.specs.Prelude.{All}
-use Rattle.std.specs.Fmt.{decimal}
-use Rattle.std.proofs.lemmas.List.Elements.{All-append, All-weaker}
-use Rattle.nap_values.specs.Laws.{IsWord}
+use Rattle.nap_make.proofs.Common.{All, All-append, All-weaker, AnyValue, Bool, BothFit, IsWord, IsWritten, List, SizeInRange, TextInRange, TextLook, TextModes, WritesNone, [], ap, append_assoc, arith, codes, cond, decimal, false, flag_text, get_or, length, look_text, modes_text, pair_text, refl, size_text, sym, true, ℕ, ◌++◌, ◌<◌, ◌∙◌, ◌∷◌, ◌≡◌, ◌≢◌}
 use Rattle.nap_codes.specs.declared.control.Size.TheVariants as named_sizes
 use Rattle.nap_list.specs.declared.attribute.CharSize.TheVariants as sizes
-use Rattle.nap_list.specs.declared.attribute.TextLook.{TextLook}
-use Rattle.nap_list.specs.Range.{SizeInRange, TextInRange}
-use Rattle.nap_lines.specs.Lines.{flag_text, look_text, size_text}
-use Rattle.nap_make.specs.declared.look.TextModes.{TextModes}
-use Rattle.nap_make.specs.Fields.{modes_text}
-use Rattle.nap_make.specs.Reading.{WritesNone, IsWritten, AnyValue, BothFit, pair_text}
 use Rattle.nap_make.proofs.ColourLemmas.{from_right}
 use Rattle.nap_make.proofs.LayoutLemmas.{Alike, Layout}
 use Rattle.nap_make.proofs.PlaceLemmas.{move_spells}

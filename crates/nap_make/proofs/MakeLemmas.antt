@@ -1,16 +1,8 @@
 -- What was read of an input or of memory makes a list, or none.
 
-use Rattle.std.proofs.Common.{◌≢◌, ℕ, List, [], inr, Result, Ok, Err, refl, subst, append-nil}
-use Rattle.nap_list.specs.declared.entry.Entry.{Entry}
-use Rattle.nap_list.specs.declared.sink.Sink.{Ghosts}
-use Rattle.nap_list.specs.Reading.{Reading}
-use Rattle.nap_make.specs.declared.lines.fault.MakeFault.{MakeFault}
+use Rattle.nap_make.proofs.Common.{ComeFirst, Entry, Err, FeedsFrom, Finishes, Ghosts, LineReader, List, ListFault, MakeFault, Makes, MakesNoList, MakesNone, Ok, PutsLines, Reading, Result, ShowsNone, SinkTook, StopsLines, [], append-nil, inr, refl, subst, ℕ, ◌≢◌}
 use Rattle.nap_make.specs.declared.lines.fault.MakeFault.TheVariants as faults
-use Rattle.nap_make.specs.declared.lines.reader.LineReader.{LineReader}
-use Rattle.nap_make.specs.declared.lines.fault.ListFault.{ListFault}
 use Rattle.nap_make.specs.declared.lines.fault.ListFault.TheVariants as list_faults
-use Rattle.nap_make.specs.Lists.{ComeFirst, MakesNone, ShowsNone}
-use Rattle.nap_make.specs.ListMaking.{FeedsFrom, Finishes, SinkTook, Makes, MakesNoList, PutsLines, StopsLines}
 
 pub makes_none : {S : Type 0} (g : Ghosts S) (s : S) (p : List ℕ) (seen : Reading) (r : LineReader S) (f : ListFault) → FeedsFrom g s p seen r (Err f) → Makes g s p seen r.maker.sink (Err f)
 makes_none g s p seen r (list_faults.Lines fault) h = inr h

@@ -1,15 +1,6 @@
 -- A maker that puts one more entry.
 
-use Rattle.std.proofs.Common.{ℕ, ◌≡◌, ◌+◌, ◌∙◌, Bool, true, false, List, [], ◌∷◌, ◌++◌, IsSome, length, refl, ap, sym, subst}
-use Rattle.std.proofs.lemmas.Bool.{false≢true}
-use Rattle.std.proofs.lemmas.List.Elements.{All-nil, All-push}
-use Rattle.nap_list.specs.declared.entry.Entry.{Entry}
-use Rattle.nap_list.specs.declared.sink.Sink.{Ghosts}
-use Rattle.nap_list.specs.declared.state.State.{State}
-use Rattle.nap_list.specs.State.{start, after, walk, AllFit, Fits}
-use Rattle.nap_make.specs.Entries.{IsProper}
-use Rattle.nap_make.specs.declared.lines.maker.LineMaker.{LineMaker}
-use Rattle.nap_make.specs.ListMaking.{MakerHasPut}
+use Rattle.nap_make.proofs.Common.{All-nil, All-push, AllFit, Bool, Entry, Fits, Ghosts, IsProper, IsSome, LineMaker, List, MakerHasPut, State, [], after, ap, false, false≢true, length, refl, start, subst, sym, true, walk, ℕ, ◌++◌, ◌+◌, ◌∙◌, ◌∷◌, ◌≡◌}
 use Rattle.nap_make.proofs.NextEntryLemmas.{fit_more, length_more, opened_more, walk_more}
 
 not_true : (b : Bool) → (b ≡ true → ⊥) → b ≡ false

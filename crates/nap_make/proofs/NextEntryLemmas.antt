@@ -1,18 +1,7 @@
 -- One more entry, after those of earlier lines.
 
-use Rattle.std.proofs.Common.{ℕ, ◌≡◌, ◌≢◌, ◌+◌, ◌∙◌, List, [], ◌∷◌, ◌++◌, Option, Some, None, IsSome, is_some, true, length, refl, ap, sym, subst, append-nil, append_assoc, length-append}
-use Rattle.std.proofs.lemmas.List.Elements.{All-nil, All-push}
-use Rattle.std.proofs.lemmas.Bool.{false≢true}
-use Rattle.nap_list.specs.declared.entry.Entry.{Entry}
+use Rattle.nap_make.proofs.Common.{All-nil, All-push, AllFit, Entry, Fits, IsProper, IsSome, LinesSoFar, List, None, OpenDefinition, OpenedAt, Option, Some, State, [], after, ap, append-nil, append_assoc, false≢true, fits_join, is_some, length, length-append, line, lines, refl, start, subst, sym, true, walk, walks_join, ℕ, ◌++◌, ◌+◌, ◌∙◌, ◌∷◌, ◌≡◌, ◌≢◌}
 use Rattle.nap_list.specs.declared.entry.Entry.TheVariants as entries
-use Rattle.nap_list.specs.declared.state.OpenDefinition.{OpenDefinition}
-use Rattle.nap_list.specs.declared.state.State.{State}
-use Rattle.nap_list.specs.State.{start, after, walk, AllFit, Fits}
-use Rattle.nap_list.proofs.PublicLaws.{fits_join, walks_join}
-use Rattle.nap_lines.specs.Lines.{line}
-use Rattle.nap_lines.specs.Listing.{lines}
-use Rattle.nap_make.specs.Entries.{IsProper}
-use Rattle.nap_make.specs.Lists.{LinesSoFar, OpenedAt}
 
 -- a walk over one more entry
 pub walk_more : (es : List Entry) (e : Entry) → walk start (es ++ e ∷ []) ≡ after (walk start es) e

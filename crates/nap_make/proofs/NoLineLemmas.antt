@@ -1,16 +1,7 @@
 -- Bytes that no line begins with.
 
-use Rattle.std.proofs.Common.{ℕ, ◌≡◌, ◌≢◌, ◌+◌, ◌<◌, ◌≤◌, ◌∙◌, Bool, true, false, nat_lt, inl, inr, List, [], ◌∷◌, ◌++◌, All, length, drop, get_or, refl, ap, sym, subst, append_assoc, append-nil, length-append, arith}
-use Rattle.std.proofs.lemmas.Bool.{ltb-true}
-use Rattle.std.proofs.lemmas.Bool.Decides.{nat_tests}
-use Rattle.std.proofs.lemmas.List.Elements.{All-cons, All-head, All-nil, All-tail}
-use Rattle.nap_list.specs.declared.entry.Entry.{Entry}
-use Rattle.nap_lines.specs.Lines.{line}
-use Rattle.nap_make.specs.Entries.{BeginsLine, BeginsWithSpace, IsEntryLine, IsPlace, IsProper, TellsColumn}
-use Rattle.nap_make.specs.Laws.{longest_line}
-use Rattle.nap_make.specs.Reading.{IsWritten, WritesNone}
+use Rattle.nap_make.proofs.Common.{All, All-cons, All-head, All-nil, All-tail, BeginsLine, BeginsNoLine, BeginsWithSpace, Bool, Entry, IsEntryLine, IsPlace, IsProper, IsWritten, List, TellsColumn, WritesNone, [], ap, append-nil, append_assoc, arith, drop, false, get_or, inl, inr, length, length-append, line, longest_line, ltb-true, nat_lt, nat_tests, refl, subst, sym, true, ℕ, ◌++◌, ◌+◌, ◌<◌, ◌∙◌, ◌∷◌, ◌≡◌, ◌≢◌, ◌≤◌}
 use Rattle.nap_make.proofs.PublicLaws.{lines_are_bounded, lines_have_no_ends}
-use Rattle.nap_make.specs.Lists.{BeginsNoLine}
 
 -- bytes without LF are followed by the first LF
 

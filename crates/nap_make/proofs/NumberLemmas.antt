@@ -1,13 +1,4 @@
-use Rattle.std.proofs.Common.{ℕ, ◌^◌, ◌<◌, ◌≤◌, ◌≡◌, ◌≢◌, List, [], ◌∷◌, length, get_or, take, zero, suc, ap, sym, subst, ◌∙◌, arith}
-use Rattle.std.specs.Char.{digit_value}
-use Rattle.std.specs.Fmt.{decimal}
-use Rattle.std.specs.Str.Parse.{AllDigits, digits_value}
-use Rattle.std.proofs.Math.Nat.{pow-le-pow_right}
-use Rattle.std.proofs.lemmas.Fmt.{decimal_digit, decimal_injective, decimal_is_IsNumeral, decimal-digits_value, first_decimal, length-decimal-le}
-use Rattle.std.proofs.lemmas.Int.Digits.{digits_value-lt}
-use Rattle.std.proofs.lemmas.List.{length-take-le}
-use Rattle.std.proofs.lemmas.Str.Parse.{numerals_by_value, tells_digits}
-use Rattle.nap_make.specs.Numbers.{IsNumeralOf, IsShort}
+use Rattle.nap_make.proofs.Common.{AllDigits, IsNumeralOf, IsShort, List, [], ap, arith, decimal, decimal-digits_value, decimal_digit, decimal_injective, decimal_is_IsNumeral, digit_value, digits_value, digits_value-lt, first_decimal, get_or, length, length-decimal-le, length-take-le, numerals_by_value, pow-le-pow_right, subst, suc, sym, take, tells_digits, zero, ℕ, ◌<◌, ◌^◌, ◌∙◌, ◌∷◌, ◌≡◌, ◌≢◌, ◌≤◌}
 
 pub fits64 : (n : ℕ) → IsShort n → n < 2 ^ 64
 fits64 n short = omega (arith, short)

@@ -1,32 +1,12 @@
 -- The bytes that an output took of the page which lines make.
 
-use Rattle.std.proofs.Common.{ℕ, ◌≡◌, ◌≢◌, ◌⊎◌, ◌∙◌, inl, inr, Bool, true, false, List, [], ◌∷◌, ◌++◌, Result, Ok, Err, take, drop, refl, ap, sym, subst, append-nil, append_assoc, arith}
-use Rattle.std.proofs.lemmas.List.{take-append-drop}
-use Rattle.std.proofs.lemmas.List.Elements.{All-nil}
-use Rattle.std.specs.Io.KnownBytes.{Appends, Keeps}
-use Rattle.std.proofs.KnownBytes.{Appends-kept}
+use Rattle.nap_make.proofs.Common.{All-nil, AllFit, Appends, Appends-kept, Bool, Broke, Canonical, ComeFirst, ConcludesPage, EachGave, Entry, Err, Ghosts, Grows, IsCutOff, IsPrefixOf, IsProper, IsReadWhole, Keeps, LinesSoFar, List, ListFault, MakeFault, Makes, MakesList, MakesNoList, MakesNone, MakesPage, MakesPart, Ok, PageFault, Reading, ReadsNoMore, RefusesLines, RefusesLinesBy, Result, Sends, ShowsNone, SinkTook, StartsText, StopsLinesBy, Took, Writes, [], ap, append-nil, append_assoc, arith, count_of, drop, false, header, inl, inr, page_answer, pieces, pieces_bytes, refl, sending, sending_of, sink_writes_text, start, subst, sym, take, take-append-drop, text, text_end_after_header, true, ℕ, ◌++◌, ◌∙◌, ◌∷◌, ◌≡◌, ◌≢◌, ◌⊎◌}
 use Rattle.nap_list.specs.declared.device.outlet.Outlet as outlet
-use Rattle.nap_list.specs.declared.entry.Entry.{Entry}
-use Rattle.nap_list.specs.declared.sink.Sink.{Ghosts}
-use Rattle.nap_list.specs.Reading.{Reading, IsCutOff, IsReadWhole}
-use Rattle.nap_list.specs.State.{start, AllFit}
-use Rattle.nap_list.specs.Sending.{sending, Writes, Grows, Sends}
 use Rattle.nap_canon.specs.declared.form.Form.TheVariants.{Two}
-use Rattle.nap_canon.specs.Converting.{IsPrefixOf, count_of}
-use Rattle.nap_canon.specs.Sinking.{StartsText, Broke, Canonical, Took, sending_of}
-use Rattle.nap_canon.specs.Text.{text_end_after_header, header, pieces, text, pieces_bytes}
-use Rattle.nap_canon.proofs.PublicLaws.{sink_writes_text}
-use Rattle.nap_make.specs.Entries.{IsProper}
-use Rattle.nap_make.specs.declared.lines.fault.MakeFault.{MakeFault}
 use Rattle.nap_make.specs.declared.lines.fault.MakeFault.TheVariants as make_faults
-use Rattle.nap_make.specs.declared.lines.fault.ListFault.{ListFault}
 use Rattle.nap_make.specs.declared.lines.fault.ListFault.TheVariants as list_faults
-use Rattle.nap_make.specs.Lists.{ComeFirst, LinesSoFar, MakesNone, ShowsNone}
-use Rattle.nap_make.specs.ListMaking.{SinkTook, Makes, MakesList, MakesNoList, StopsLinesBy}
-use Rattle.nap_make.specs.declared.page.PageFault.{PageFault}
 use Rattle.nap_make.specs.declared.page.PageFault.TheVariants as faults
 use Rattle.nap_make.proofs.TextLemmas.{broken_sink_writes_prefix}
-use Rattle.nap_make.specs.Pages.{ConcludesPage, EachGave, MakesPage, RefusesLinesBy, RefusesLines, ReadsNoMore, MakesPart, page_answer}
 
 -- no lines yet
 no_lines : LinesSoFar [] [] []

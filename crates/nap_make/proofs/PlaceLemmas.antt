@@ -1,13 +1,4 @@
-use Rattle.std.proofs.Common.{ℕ, ℤ, ◌<◌, ◌≡◌, ◌≢◌, List, refl, sym, subst, arith, codes, append_assoc}
-use Rattle.std.specs.Prelude.{Option, IsSome, IfSome, ◌↔◌}
-use Rattle.std.specs.Fmt.{decimal, signed_decimal}
-use Rattle.std.proofs.lemmas.Fmt.{decimal_injective}
-use Rattle.nap_values.specs.Coordinates.{Coordinates, Displacement, IsInSquare, IsInRange}
-use Rattle.nap_values.specs.Laws.{IsWord}
-use Rattle.nap_list.specs.Range.{IsAddress}
-use Rattle.nap_lines.specs.Lines.{point_text, move_text}
-use Rattle.nap_make.specs.Numbers.{IsSigned}
-use Rattle.nap_make.specs.Reading.{IsWritten, IsParsed, BothFit, pair_text}
+use Rattle.nap_make.proofs.Common.{BothFit, Coordinates, Displacement, IfSome, IsAddress, IsInRange, IsInSquare, IsParsed, IsSigned, IsSome, IsWord, IsWritten, List, Option, append_assoc, arith, codes, decimal, decimal_injective, move_text, pair_text, point_text, refl, signed_decimal, subst, sym, ℕ, ℤ, ◌<◌, ◌↔◌, ◌≡◌, ◌≢◌}
 use Rattle.nap_make.proofs.LayoutLemmas.{Alike, Layout, Tells, alike_tell, both_tell, reads_tried}
 use Rattle.nap_make.proofs.SignedLemmas.{signed_tells}
 use Rattle.nap_make.proofs.SpellLemmas.{IsVisible, OfDigits, Spells, both_spell, decimal_spells, signed_spells}

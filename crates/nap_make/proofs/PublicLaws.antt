@@ -1,17 +1,6 @@
 -- The proofs of the laws.
 
-use Rattle.std.proofs.Common.{ℕ, ◌≡◌, List, refl, ap, sym, subst, ◌∙◌}
-use Rattle.nap_list.specs.declared.entry.Entry.{Entry}
-use Rattle.nap_lines.specs.Listing.{lines}
-use Rattle.nap_reader.proofs.PublicLaws.{accepted_is_legal, read_values_are_in_range}
-use Rattle.nap_canon.proofs.PublicLaws.{canonical_streams_agree, text_is_read}
-use Rattle.nap_canon.specs.Laws.{IsReadAs}
-use Rattle.nap_canon.specs.Streams.{IsAccepted, list_of}
-use Rattle.nap_canon.specs.Text.{text}
-use Rattle.nap_make.specs.Laws.{LineTellsEntry, LinesAreBounded, LinesHaveNoEnds, LinesTellLists}
-use Rattle.nap_make.specs.Lists.{AreLines}
-use Rattle.nap_make.specs.Making.{IsMadeOf}
-use Rattle.nap_make.specs.PageLaws.{ListsAgain, ListsTellStreams, MadePagesAgree}
+use Rattle.nap_make.proofs.Common.{AreLines, Entry, IsAccepted, IsMadeOf, IsReadAs, LineTellsEntry, LinesAreBounded, LinesHaveNoEnds, LinesTellLists, List, ListsAgain, ListsTellStreams, MadePagesAgree, accepted_is_legal, ap, canonical_streams_agree, lines, list_of, read_values_are_in_range, refl, subst, sym, text, text_is_read, ℕ, ◌∙◌, ◌≡◌}
 use Rattle.nap_make.proofs.BoundLemmas as bounds
 use Rattle.nap_make.proofs.LawLemmas as law_lemmas
 

@@ -1,16 +1,4 @@
-use Rattle.std.proofs.Common.{ℕ, ◌+◌, ◌-◌, ◌<◌, ◌≤◌, ◌≡◌, inl, inr, List, [], ◌++◌, length, refl, ap, sym, subst, ◌∙◌, arith, length-append}
-use Rattle.std.specs.Prelude.{Result, Ok, Err, MatchResult}
-use Rattle.nap_values.specs.Coordinates.{Coordinates}
-use Rattle.nap_list.specs.declared.entry.Entry.{Entry}
-use Rattle.nap_lines.specs.Lines.{line}
-use Rattle.nap_make.specs.declared.fault.LineFault.{LineFault}
-use Rattle.nap_make.specs.declared.field.Sort.{Sort}
-use Rattle.nap_make.specs.declared.field.Value.{Value}
-use Rattle.nap_make.specs.declared.kind.Kind.{Kind}
-use Rattle.nap_make.specs.Entries.{IsProper, TellsColumn, TellsLine}
-use Rattle.nap_make.specs.Kinds.{HasPoints, IsChosen, least_points, line_from, kind_row}
-use Rattle.nap_make.specs.Reading.{WritesNone}
-use Rattle.nap_make.specs.Rows.{EndsPoints, FitsSort, HasFields, IsFirstWrong, fields_before, fields_text, points_before}
+use Rattle.nap_make.proofs.Common.{Coordinates, EndsPoints, Entry, Err, FitsSort, HasFields, HasPoints, IsChosen, IsFirstWrong, IsProper, Kind, LineFault, List, MatchResult, Ok, Result, Sort, TellsColumn, TellsLine, Value, WritesNone, [], ap, arith, fields_before, fields_text, inl, inr, kind_row, least_points, length, length-append, line, line_from, points_before, refl, subst, sym, ℕ, ◌++◌, ◌+◌, ◌-◌, ◌<◌, ◌∙◌, ◌≡◌, ◌≤◌}
 use Rattle.nap_make.proofs.ColumnLemmas.{from_start, tells_plain, tells_shape}
 use Rattle.nap_make.proofs.EntryLemmas.{HasEntry, plain_entry_with, same_entry, shape_entry_with}
 use Rattle.nap_make.proofs.LineLemmas.{fields_written}

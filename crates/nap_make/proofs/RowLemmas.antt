@@ -1,14 +1,4 @@
-use Rattle.std.proofs.Common.{ℕ, ◌+◌, ◌<◌, ◌≡◌, ◌≢◌, List, [], ◌∷◌, ◌++◌, length, take, drop, get_or, suc, refl, ap, sym, subst, ◌∙◌, arith, append_assoc, length-append}
-use Rattle.std.specs.Prelude.{All}
-use Rattle.std.proofs.lemmas.List.{take_more, take-append-drop}
-use Rattle.std.proofs.lemmas.List.Elements.{All-head, All-tail}
-use Rattle.std.proofs.Math.Seq.{drop-cons}
-use Rattle.nap_make.specs.Cutting.{SplitsAtByte}
-use Rattle.nap_make.specs.declared.field.Sort.{Sort}
-use Rattle.nap_make.specs.declared.field.Value.{Value}
-use Rattle.nap_make.specs.Reading.{WritesNone}
-use Rattle.nap_make.specs.Rows.{FitsSort, IsFirstWrong, IsWrong, fields_before, fields_text}
-use Rattle.nap_make.specs.Sorts.{InSort, field_text}
+use Rattle.nap_make.proofs.Common.{All, All-head, All-tail, FitsSort, InSort, IsFirstWrong, IsWrong, List, Sort, SplitsAtByte, Value, WritesNone, [], ap, append_assoc, arith, drop, drop-cons, field_text, fields_before, fields_text, get_or, length, length-append, refl, subst, suc, sym, take, take-append-drop, take_more, ℕ, ◌++◌, ◌+◌, ◌<◌, ◌∙◌, ◌∷◌, ◌≡◌, ◌≢◌}
 use Rattle.nap_make.proofs.CutLemmas.{cut_text, no_cut, one_cut}
 use Rattle.nap_make.proofs.SortLemmas.{field_apart}
 
@@ -32,12 +22,6 @@ fits_append [] more [] us fits also = also
 fits_append (s ∷ row) more (v ∷ vs) us fits also = (fits.0, fits_append row more vs us fits.1 also)
 fits_append [] more (v ∷ vs) us fits also = absurd fits
 fits_append (s ∷ row) more [] us fits also = absurd fits
-
-pub fits_length : (row : List Sort) (vs : List Value) → FitsSort row vs → length vs ≡ length row
-fits_length [] [] fits = refl
-fits_length (s ∷ row) (v ∷ vs) fits = ap suc (fits_length row vs fits.1)
-fits_length [] (v ∷ vs) fits = absurd fits
-fits_length (s ∷ row) [] fits = absurd fits
 
 -- The walk.
 
@@ -91,9 +75,6 @@ no_word front i d last bytes vs rest word more within has cuts none =
 -- all fields before the last were read
 pub all_read : (front : List Sort) (i : ℕ) (bytes : List ℕ) (vs : List Value) (rest : List ℕ) → HasRead front i bytes vs rest → take i front ≡ front → FitsSort front vs × (bytes ≡ fields_before vs rest)
 all_read front i bytes vs rest has whole = (subst (λ (row : List Sort). FitsSort row vs) whole has.right, has.parts)
-
-pub last_wrong : (front : List Sort) (last : Sort) (bytes : List ℕ) (vs : List Value) (rest : List ℕ) → FitsSort front vs × (bytes ≡ fields_before vs rest) → WritesNone (InSort last) field_text rest → IsFirstWrong (front ++ last ∷ []) bytes rest
-last_wrong front last bytes vs rest read none = record { before = front; sort = last; others = []; row_is = refl; values = vs; right = read.0; parts = read.1; wrong = none }
 
 pub last_read : (front : List Sort) (last : Sort) (bytes : List ℕ) (vs us : List Value) (v : Value) (rest : List ℕ) → FitsSort front vs × (bytes ≡ fields_before vs rest) → InSort last v → rest ≡ field_text v → us ≡ vs ++ v ∷ [] →
     FitsSort (front ++ last ∷ []) us × (bytes ≡ fields_text us)

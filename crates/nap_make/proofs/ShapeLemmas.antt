@@ -1,25 +1,12 @@
-use Rattle.std.proofs.Common.{ℕ, ◌+◌, ◌<◌, ◌≤◌, ◌≡◌, ◌≢◌, ◌⊎◌, inl, inr, List, [], ◌∷◌, ◌++◌, length, refl, ap, sym, subst, ◌∙◌, arith, append_assoc, length-append, codes}
-use Rattle.std.specs.Prelude.{All}
-use Rattle.std.proofs.lemmas.List.Elements.{All-append, All-cons, All-head, All-nil, All-tail}
-use Rattle.nap_values.specs.Coordinates.{Coordinates, IsInSquare}
-use Rattle.nap_list.specs.Limits.{points_limit}
-use Rattle.nap_lines.specs.Lines.{line, point_text}
-use Rattle.nap_make.specs.Cutting.{SplitsAtByte}
-use Rattle.nap_make.specs.declared.field.Sort.{Sort}
+use Rattle.nap_make.proofs.Common.{All, All-append, All-cons, All-head, All-nil, All-tail, BeginsNoPoint, Coordinates, EndsPoints, FitsSort, HasPoints, IsChosen, IsFirstWrong, IsInSquare, IsProper, Kind, List, SplitsAtByte, Value, WritesNone, [], ap, append_assoc, arith, fields_text, inl, inr, kind_row, least_points, length, length-append, line, line_from, point_text, points_before, points_limit, refl, sym, ℕ, ◌++◌, ◌+◌, ◌<◌, ◌∙◌, ◌∷◌, ◌≡◌, ◌≢◌, ◌≤◌, ◌⊎◌}
 use Rattle.nap_make.specs.declared.field.Sort.TheVariants as sorts
-use Rattle.nap_make.specs.declared.field.Value.{Value}
 use Rattle.nap_make.specs.declared.field.Value.TheVariants as values
-use Rattle.nap_make.specs.declared.kind.Kind.{Kind}
 use Rattle.nap_make.specs.declared.kind.Kind.TheVariants as kinds
-use Rattle.nap_make.specs.Entries.{IsProper}
-use Rattle.nap_make.specs.Kinds.{HasPoints, IsChosen, least_points, line_from, kind_row}
-use Rattle.nap_make.specs.Reading.{WritesNone}
-use Rattle.nap_make.specs.Rows.{BeginsNoPoint, EndsPoints, FitsSort, IsFirstWrong, fields_text, points_before}
 use Rattle.nap_make.proofs.CutLemmas.{cut_text, one_cut}
 use Rattle.nap_make.proofs.EntryLemmas.{PointsFit}
 use Rattle.nap_make.proofs.LineLemmas.{of_kind, other_start, point_without}
 use Rattle.nap_make.proofs.PlaceLemmas.{point_visible}
-use Rattle.nap_make.proofs.RowLemmas.{none_in_row, stays}
+use Rattle.nap_make.proofs.RowLemmas.{none_in_row}
 use Rattle.nap_make.proofs.SortLemmas.{AreOf, fits_are}
 use Rattle.nap_make.proofs.SpellLemmas.{spaceless}
 
@@ -54,12 +41,6 @@ point_read bytes points rest p more has below next = record {
   inside = All-append IsInSquare points (p ∷ []) has.inside (All-cons IsInSquare p [] next.0 (All-nil IsInSquare));
   few = let size : length (points ++ p ∷ []) ≡ length points + 1 = length-append points (p ∷ []) in omega (arith, size, below);
 }
-
-pub points_end : (bytes : List ℕ) (points : List Coordinates) (rest : List ℕ) → HasPointsSo bytes points rest → BeginsNoPoint rest → EndsPoints bytes points rest
-points_end bytes points rest has none = record { parts = has.parts; inside = has.inside; few = has.few; ends = inr none }
-
-pub points_full : (bytes : List ℕ) (points : List Coordinates) (rest : List ℕ) → HasPointsSo bytes points rest → points_limit ≤ length points → EndsPoints bytes points rest
-points_full bytes points rest has full = record { parts = has.parts; inside = has.inside; few = has.few; ends = inl (omega (arith, has.few, full)) }
 
 pub no_space_behind : (bytes : List ℕ) → ((x y : List ℕ) → SplitsAtByte 32 bytes x y → ⊥) → BeginsNoPoint bytes
 no_space_behind bytes none p more fits is = none (point_text p) more (record { joins = is; first = point_apart p fits })

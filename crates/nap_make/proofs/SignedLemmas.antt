@@ -1,15 +1,6 @@
-use Rattle.std.proofs.Common.{ℕ, ℤ, pos, negsuc, suc, ◌-◌, length, get_or, take, drop, rules, ◌^◌, ◌<◌, ◌≡◌, ◌≢◌, List, [], ◌∷◌, refl, ap, sym, subst, ◌∙◌, arith}
-use Rattle.std.specs.Prelude.{Option, Some, None, MatchOption}
-use Rattle.std.specs.Fmt.{decimal, signed_decimal}
-use Rattle.std.specs.Int.Signed.{mag}
-use Rattle.std.specs.Str.Parse.{AllDigits}
-use Rattle.std.proofs.lemmas.Fmt.{decimal_is_IsNumeral, decimal_nonempty, signed_decimal_injective}
-use Rattle.std.proofs.lemmas.List.{take_all}
-use Rattle.std.proofs.lemmas.Str.Parse.{digit_from_value}
+use Rattle.nap_make.proofs.Common.{AllDigits, IsParsed, IsSigned, List, MatchOption, None, Option, Some, WritesNone, [], ap, arith, decimal, decimal_is_IsNumeral, decimal_nonempty, digit_from_value, drop, get_or, length, mag, negsuc, pos, refl, rules, signed_decimal, signed_decimal_injective, subst, suc, sym, take, take_all, ℕ, ℤ, ◌-◌, ◌<◌, ◌^◌, ◌∙◌, ◌∷◌, ◌≡◌, ◌≢◌}
 use mir.Val.{SFits}
 use mir.Syntax.{w32}
-use Rattle.nap_make.specs.Numbers.{IsSigned}
-use Rattle.nap_make.specs.Reading.{WritesNone, IsParsed}
 use Rattle.nap_make.proofs.SpellLemmas.{low_pos, low_neg}
 
 -- no digits begin with a minus

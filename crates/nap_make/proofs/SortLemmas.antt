@@ -1,27 +1,10 @@
-use Rattle.std.proofs.Common.{ℕ, ◌<◌, ◌≡◌, ◌≢◌, List, [], ◌∷◌, ◌++◌, get_or, refl, ap, sym, ◌∙◌, arith, codes}
-use Rattle.std.specs.Prelude.{All}
-use Rattle.std.specs.Fmt.{decimal}
-use Rattle.nap_values.specs.Colours.{HasSixteenBitParts}
-use Rattle.nap_values.specs.Coordinates.{IsInSquare, IsInRange}
-use Rattle.nap_values.specs.Laws.{IsWord}
-use Rattle.nap_codes.specs.declared.code_set.CharSet.{CharSet}
+use Rattle.nap_make.proofs.Common.{All, BothFit, CharSet, ColourInRange, CursorKind, FitsSort, HasSixteenBitParts, InSort, IsAddress, IsByte, IsInRange, IsInSquare, IsPlainStep, IsWord, List, Mask, PenInRange, Sort, TextInRange, TextureInRange, Value, WritesNone, [], arith, codes, cursor_text, decimal, field_text, mask_text, pair_text, set_text, step_text, ℕ, ◌∷◌, ◌≢◌}
 use Rattle.nap_codes.specs.declared.code_set.CharSet.TheVariants as char_sets
-use Rattle.nap_codes.specs.declared.control.CursorKind.{CursorKind}
 use Rattle.nap_codes.specs.declared.control.CursorKind.TheVariants as cursors
-use Rattle.nap_codes.specs.declared.control.Mask.{Mask}
 use Rattle.nap_codes.specs.declared.control.Mask.TheVariants as masks
-use Rattle.nap_codes.specs.declared.control.TextStep.{TextStep}
 use Rattle.nap_codes.specs.declared.control.TextStep.TheVariants as steps
-use Rattle.nap_list.specs.Range.{ColourInRange, IsAddress, IsByte, PenInRange, TextInRange, TextureInRange}
-use Rattle.nap_lines.specs.Lines.{cursor_text, mask_text, set_text, step_text}
-use Rattle.nap_make.specs.declared.field.Sort.{Sort}
 use Rattle.nap_make.specs.declared.field.Sort.TheVariants as sorts
-use Rattle.nap_make.specs.declared.field.Value.{Value}
 use Rattle.nap_make.specs.declared.field.Value.TheVariants as values
-use Rattle.nap_make.specs.Fields.{IsPlainStep}
-use Rattle.nap_make.specs.Reading.{BothFit, WritesNone, pair_text}
-use Rattle.nap_make.specs.Rows.{FitsSort}
-use Rattle.nap_make.specs.Sorts.{InSort, field_text}
 use Rattle.nap_make.proofs.AttributeLemmas.{colour_field_visible, grb_visible, look_field_visible, number_visible, pel_field_visible, pen_field_visible, texture_field_visible}
 use Rattle.nap_make.proofs.CodeLemmas.{code_visible}
 use Rattle.nap_make.proofs.PlaceLemmas.{point_visible}

@@ -1,13 +1,4 @@
-use Rattle.std.proofs.Common.{ℕ, pos, negsuc, suc, ◌^◌, ◌<◌, ◌≤◌, ◌≢◌, List, [], ◌∷◌, ◌++◌, arith}
-use Rattle.std.specs.Prelude.{All}
-use Rattle.std.specs.Fmt.{decimal, signed_decimal}
-use Rattle.std.specs.Str.Parse.{AllDigits}
-use Rattle.std.proofs.lemmas.Fmt.{decimal_is_IsNumeral}
-use Rattle.std.proofs.lemmas.Int.{ints}
-use Rattle.std.proofs.lemmas.List.Elements.{All-append, All-cons, All-nil, All-weaker}
-use Rattle.std.proofs.lemmas.Str.Parse.{digit_from_value}
-use Rattle.nap_make.specs.Numbers.{IsSigned}
-use Rattle.nap_make.specs.Reading.{BothFit, pair_text}
+use Rattle.nap_make.proofs.Common.{All, All-append, All-cons, All-nil, All-weaker, AllDigits, BothFit, IsSigned, List, [], arith, decimal, decimal_is_IsNumeral, digit_from_value, ints, negsuc, pair_text, pos, signed_decimal, suc, ℕ, ◌++◌, ◌<◌, ◌^◌, ◌∷◌, ◌≢◌, ◌≤◌}
 
 -- The bytes of a text.
 

@@ -1,35 +1,13 @@
-use Rattle.std.proofs.Common.{ℕ, ◌<◌, ◌/◌, ◌%◌, ◌≡◌, ◌≢◌, Bool, true, false, cond, List, [], ◌∷◌, ◌++◌, get_or, refl, ap, sym, subst, ◌∙◌, arith, codes, append_assoc}
-use Rattle.std.specs.Prelude.{All, Option, Some, None}
-use Rattle.std.specs.Fmt.{decimal}
-use Rattle.std.proofs.lemmas.Fmt.{decimal_injective}
-use Rattle.std.proofs.lemmas.List.{append_cancel_left}
-use Rattle.std.proofs.lemmas.List.Elements.{All-head}
-use Rattle.nap_values.specs.Colours.{HasSixteenBitParts}
-use Rattle.nap_values.specs.Coordinates.{Coordinates, Displacement, IsInSquare, IsInRange}
-use Rattle.nap_values.specs.Laws.{IsWord}
-use Rattle.nap_codes.specs.declared.code_set.CharSet.{CharSet}
+use Rattle.nap_make.proofs.Common.{All, All-head, AnyValue, Bool, BothFit, CharSet, CharSize, Colour, ColourInRange, Coordinates, CursorKind, Displacement, HasSixteenBitParts, IsAddress, IsByte, IsInRange, IsInSquare, IsWord, List, Mask, MaskInRange, None, Option, PenInRange, Size, SizeInRange, Some, TextInRange, TextModes, TextureInRange, [], ap, append_assoc, append_cancel_left, arith, code_text, codes, colour_field, colour_text, cond, cursor_text, decimal, decimal_injective, false, get_or, grb_text, look_field, look_text, mask_size_text, mask_text, modes_text, move_text, pair_text, pel_field, pen_field, pen_text, point_text, refl, set_text, size_text, subst, sym, texture_field, texture_text, true, ℕ, ◌%◌, ◌++◌, ◌/◌, ◌<◌, ◌∙◌, ◌∷◌, ◌≡◌, ◌≢◌}
 use Rattle.nap_codes.specs.declared.code_set.CharSet.TheVariants as char_sets
-use Rattle.nap_codes.specs.declared.control.CursorKind.{CursorKind}
 use Rattle.nap_codes.specs.declared.control.CursorKind.TheVariants as cursors
-use Rattle.nap_codes.specs.declared.control.Mask.{Mask}
 use Rattle.nap_codes.specs.declared.control.Mask.TheVariants as masks
-use Rattle.nap_codes.specs.declared.control.Size.{Size}
 use Rattle.nap_codes.specs.declared.control.Size.TheVariants as named_sizes
-use Rattle.nap_list.specs.declared.attribute.CharSize.{CharSize}
 use Rattle.nap_list.specs.declared.attribute.CharSize.TheVariants as sizes
-use Rattle.nap_list.specs.declared.attribute.Colour.{Colour}
 use Rattle.nap_list.specs.declared.attribute.Colour.TheVariants as colours
 use Rattle.nap_list.specs.declared.attribute.Origin.TheVariants as origins
-use Rattle.nap_list.specs.declared.attribute.Pen.{Pen}
 use Rattle.nap_list.specs.declared.attribute.Pen.TheVariants as pens
 use Rattle.nap_list.specs.declared.attribute.Preset.TheVariants as presets
-use Rattle.nap_list.specs.declared.attribute.TextLook.{TextLook}
-use Rattle.nap_list.specs.declared.attribute.Texture.{Texture}
-use Rattle.nap_list.specs.Range.{ColourInRange, HandInRange, InkInRange, IsAddress, IsByte, PenInRange, SizeInRange, TextInRange, TextureInRange}
-use Rattle.nap_lines.specs.Lines.{code_text, colour_text, cursor_text, grb_text, hand_text, ink_text, look_text, mask_size_text, mask_text, move_text, pen_text, point_text, set_text, size_text, texture_text}
-use Rattle.nap_make.specs.declared.look.TextModes.{TextModes}
-use Rattle.nap_make.specs.Fields.{MaskInRange, colour_field, look_field, modes_text, pel_field, pen_field, texture_field}
-use Rattle.nap_make.specs.Reading.{AnyValue, BothFit, pair_text}
 use Rattle.nap_make.proofs.AttributeLemmas.{texture_pair, texture_parts}
 use Rattle.nap_make.proofs.CodeLemmas.{digit_tells}
 use Rattle.nap_make.proofs.ColourLemmas.{grb_triple, part_pair, part_triple}

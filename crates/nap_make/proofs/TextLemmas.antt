@@ -1,24 +1,8 @@
 -- The bytes of a canonical sink that failed during an entry, and how often its output was flushed.
 
-use Rattle.std.proofs.Common.{ℕ, ◌≡◌, ◌||◌, ◌∙◌, Bool, true, false, List, [], ◌∷◌, ◌++◌, Option, Some, take, drop, refl, ap, sym, subst, append-nil, append_assoc, take-append-drop}
-use Rattle.std.proofs.lemmas.Bool.{false≢true}
-use Rattle.std.specs.Io.KnownBytes.{Appends}
+use Rattle.nap_make.proofs.Common.{Appends, Bool, Broke, Canonical, Entry, FlushedOnce, Form, Grows, IsPrefixOf, List, Option, Piece, Some, StartsText, State, TextEnd, Took, Writes, [], ap, append-nil, append_assoc, drop, entry_bytes, entry_bytes_after, entry_pieces, false, false≢true, flush_count, grows_more, header, pieces, pieces-append, pieces_bytes, pieces_bytes-append, refl, sending, sending_of, sink_writes_text, start, subst, sym, take, take-append-drop, text, text_end_after, text_end_after_header, took_none, true, walk, ℕ, ◌++◌, ◌||◌, ◌∙◌, ◌∷◌, ◌≡◌}
 use Rattle.nap_list.specs.declared.device.outlet.Outlet as outlet
-use Rattle.nap_list.specs.declared.entry.Entry.{Entry}
-use Rattle.nap_list.specs.declared.state.State.{State}
-use Rattle.nap_list.specs.Flushing.{FlushedOnce, flush_count}
-use Rattle.nap_list.specs.State.{start, walk}
-use Rattle.nap_list.specs.Sending.{sending, Writes, Grows, grows_more}
-use Rattle.nap_canon.specs.declared.form.Form.{Form}
 use Rattle.nap_canon.specs.declared.form.Form.TheVariants.{Two}
-use Rattle.nap_canon.specs.declared.text_end.TextEnd.{TextEnd}
-use Rattle.nap_canon.specs.Converting.{IsPrefixOf}
-use Rattle.nap_canon.specs.Sinking.{StartsText, Broke, Canonical, Took, entry_bytes_after, entry_bytes, sending_of}
-use Rattle.nap_canon.specs.SinkLaws.{took_none}
-use Rattle.nap_canon.specs.Spelling.{Piece}
-use Rattle.nap_canon.specs.Text.{text_end_after_header, entry_pieces, header, pieces, text_end_after, text, pieces_bytes}
-use Rattle.nap_canon.specs.TextParts.{pieces-append, pieces_bytes-append}
-use Rattle.nap_canon.proofs.PublicLaws.{sink_writes_text}
 
 module _ {O : Type 0} (o : outlet.Ghosts O) (w : O) (s : Canonical O) (begins : StartsText o w s) (works : o.failed s.outlet ≡ false) where
   -- the header was written

@@ -1,4 +1,4 @@
-use Rattle.std.specs.Prelude.{ℕ, ◌≡◌, ◌≢◌, ◌⊎◌, ◌+◌, List, [], ◌∷◌, ◌++◌, Option, Result, Ok, Err, codes, length}
+use Rattle.std.specs.Prelude.{ℕ, ◌≡◌, ◌⊎◌, ◌+◌, List, [], ◌∷◌, ◌++◌, Result, Ok, Err, codes, length}
 use Rattle.nap_list.specs.declared.entry.Entry.{Entry}
 use Rattle.nap_list.specs.Entry.{WellMade}
 use Rattle.nap_list.specs.Range.{InRange}
@@ -7,16 +7,12 @@ use Rattle.nap_make.specs.declared.fault.LineFault.{LineFault}
 use Rattle.nap_make.specs.declared.fault.LineFault.TheVariants as faults
 use Rattle.nap_make.specs.declared.kind.Kind.{Kind}
 use Rattle.nap_make.specs.Kinds.{HasPoints, line_from}
-use Rattle.nap_make.specs.Reading.{WritesNone, IsWritten, IsParsed}
+use Rattle.nap_make.specs.Reading.{WritesNone, IsWritten}
 
 -- a well-made entry in range
 pub record IsProper (e : Entry) : Type 0 where
   pub in_range : InRange e
   pub well_made : WellMade e
-
--- the entry whose line these bytes are was returned, or none if no entry has it
-abbrev pub ReadsLine : List ℕ → Option Entry → Type 0
-ReadsLine bytes result = IsParsed IsProper line bytes result
 
 -- a well-made entry in range has this line
 abbrev pub IsEntryLine : List ℕ → Type 0

@@ -11,6 +11,7 @@ pub mod Sorts
 -- The list that lines give.
 pub mod Lists
 pub mod ListMaking
+pub mod Runs
 -- The page that lines make.
 pub mod Making
 pub mod Pages

@@ -3,11 +3,9 @@ use Rattle.nap_list.specs.declared.entry.Entry.{Entry}
 use Rattle.nap_list.specs.declared.sink.Sink.{Ghosts}
 use Rattle.nap_list.specs.Reading.{Reading, NoneFailed, IsCutOff, IsReadWhole}
 use Rattle.nap_list.specs.State.{start, walk, AllFit, Fits}
-use Rattle.nap_lines.specs.Lines.{line}
 use Rattle.nap_lines.specs.Listing.{lines}
-use Rattle.nap_make.specs.Entries.{IsEntryLine, IsProper, TellsColumn}
+use Rattle.nap_make.specs.Entries.{IsProper, TellsColumn}
 use Rattle.nap_make.specs.Laws.{longest_line}
-use Rattle.nap_make.specs.Reading.{IsWritten, WritesNone}
 use Rattle.nap_make.specs.declared.lines.fault.MakeFault.{MakeFault}
 use Rattle.nap_make.specs.declared.lines.fault.MakeFault.TheVariants as faults
 use Rattle.nap_make.specs.declared.lines.reader.LineReader.{LineReader}
@@ -52,13 +50,7 @@ PutsEntry g s es e m (Err faults.Memory) = SinkTook g s es m.sink
 PutsEntry g s es e m (Err faults.Write) = Fits (walk start es) e × SinkBroke g s es e m.sink
 PutsEntry g s es e m (Err _) = ⊥
 
--- one more line was taken, or the fault says why not
-abbrev pub TakesLine : {S : Type 0} → Ghosts S → S → List Entry → List ℕ → LineMaker S → Result (Unit {0}) MakeFault → Type 0
-TakesLine g s es bytes m (Err (faults.Line number column)) = (number ≡ length es + 1) × WritesNone IsProper line bytes × TellsColumn bytes column × SinkTook g s es m.sink
-TakesLine g s es bytes m (Err faults.Memory) = SinkTook g s es m.sink
-TakesLine g s es bytes m result = (e : Entry) × IsWritten IsProper line bytes e × PutsEntry g s es e m result
-
--- the fault of a last line without LF
+-- the fault of a last line without LF, or of one that is too long
 abbrev pub IsUnendedLine : List Entry → List ℕ → MakeFault → Type 0
 IsUnendedLine es bytes (faults.Line number column) = (number ≡ length es + 1) × TellsColumn bytes column
 IsUnendedLine es bytes faults.Memory = Unit {0}
@@ -90,12 +82,6 @@ abbrev pub KeepsPart : {S : Type 0} → Ghosts S → S → List Entry → List �
 KeepsPart g s es bytes m (faults.Line number column) = (number ≡ length es + 1) × (0 < length bytes) × ((more : List ℕ) → BeginsNoLine (bytes ++ more) × TellsColumn (bytes ++ more) column) × SinkTook g s es m.sink
 KeepsPart g s es bytes m faults.Memory = SinkTook g s es m.sink
 KeepsPart g s es bytes m _ = ⊥
-
--- a line was read, with LF
-abbrev pub EndsLine : {S : Type 0} → Ghosts S → S → List Entry → List ℕ → LineMaker S → Result (Unit {0}) MakeFault → Type 0
-EndsLine g s es bytes m (Err (faults.Line number column)) = (number ≡ length es + 1) × ((more : List ℕ) → BeginsNoLine (bytes ++ 10 ∷ more) × TellsColumn (bytes ++ 10 ∷ more) column) × SinkTook g s es m.sink
-EndsLine g s es bytes m (Err faults.Memory) = SinkTook g s es m.sink
-EndsLine g s es bytes m result = (e : Entry) × IsWritten IsProper line bytes e × PutsEntry g s es e m result
 
 -- more bytes were read, or they aren't the lines of a list
 abbrev pub FeedsLines : {S : Type 0} → Ghosts S → S → List ℕ → LineReader S → Result (Unit {0}) MakeFault → Type 0

@@ -13,7 +13,7 @@ use Rattle.nap_make.specs.declared.field.Value.{Value}
 use Rattle.nap_make.specs.declared.field.Value.TheVariants as values
 use Rattle.nap_make.specs.declared.kind.Kind.{Kind}
 use Rattle.nap_make.specs.declared.kind.Kind.TheVariants as kinds
-use Rattle.nap_make.specs.Kinds.{HasPoints, least_points, line_from, kind_row}
+use Rattle.nap_make.specs.Kinds.{line_from}
 use Rattle.nap_make.specs.Reading.{WritesNone}
 use Rattle.nap_make.specs.Sorts.{InSort, field_text}
 

@@ -10,7 +10,7 @@ use Rattle.nap_make.specs.declared.field.Sort.TheVariants as sorts
 use Rattle.nap_make.specs.declared.field.Value.{Value}
 use Rattle.nap_make.specs.declared.field.Value.TheVariants as values
 use Rattle.nap_make.specs.Fields.{IsPlainStep, colour_field, look_field, pel_field, pen_field, texture_field}
-use Rattle.nap_make.specs.Reading.{BothFit, IsWritten, WritesNone, pair_text}
+use Rattle.nap_make.specs.Reading.{IsWritten, WritesNone}
 
 -- The text of a field, which its value alone tells.
 abbrev pub field_text : Value → List ℕ

@@ -13,6 +13,7 @@ use std::alloc::Global;
 mod fault;
 mod maker;
 mod reader;
+mod run;
 
 pub use fault::{ListFault, MakeFault};
 

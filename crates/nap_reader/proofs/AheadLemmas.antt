@@ -1,11 +1,8 @@
-use Rattle.std.proofs.lemmas.List.Elements.{All-take}
-use Rattle.std.proofs.lemmas.List.Sums.{prefix_len-le-length}
+use Rattle.nap_reader.proofs.Common.{All-take, AllCharacters, Bool, CharSet, Continues, DrawFault, Entry, Err, Ghosts, IsOperandByte, IsText, IsTextByte, Leads, LexerState, List, LongRun, Machine, NoCharacters, None, Ok, Opcode, OpenRun, Option, Outcome, Placed, ReadingState, Result, RuleResult, Some, State, [], after, after_drawing, ap, append-nil, arith, begun, between, carried_words, cond, drawn_front, drawn_text, drop, drop_of_length-le, false, get_or, get_or-take, is_operand_byte, length, length-append, length-take, length-take-le, nat_lt, nat_tests, outcome_by_front, outcome_from, placed_at, placed_from, prefix_len, prefix_len-le-length, prefix_len_passes, refl, refusal, rule, run_length, run_limit, suc, sym, take, take-take, take_all, true, zero, ℕ, ◌++◌, ◌+◌, ◌-◌, ◌<◌, ◌∙◌, ◌∷◌, ◌≡◌, ◌≤◌}
 use Rattle.nap_codes.specs.declared.code.Code.TheVariants as code
 use Rattle.nap_codes.specs.Front as codes
 use Rattle.nap_reader.specs.Course as course
-use Rattle.nap_reader.specs.Steps.{IsText}
 use Rattle.nap_reader.specs.Stream as model
-use Rattle.nap_reader.proofs.Common.{AllCharacters, Bool, CharSet, Continues, DrawFault, Entry, Err, Ghosts, IsOperandByte, IsTextByte, Leads, LexerState, List, LongRun, Machine, NoCharacters, None, Ok, Opcode, OpenRun, Option, Outcome, Placed, ReadingState, Result, RuleResult, Some, State, [], after, after_drawing, ap, append-nil, arith, begun, between, cond, drawn_front, drop, drop_of_length-le, false, get_or, get_or-take, is_operand_byte, length, length-append, length-take, length-take-le, nat_lt, nat_tests, outcome_by_front, outcome_from, placed_at, placed_from, prefix_len, prefix_len_passes, refl, refusal, rule, run_length, run_limit, suc, sym, take, take-take, take_all, drawn_text, true, carried_words, zero, ℕ, ◌++◌, ◌+◌, ◌-◌, ◌<◌, ◌∙◌, ◌∷◌, ◌≡◌, ◌≤◌}
 use Rattle.nap_reader.proofs.Base.{as_list, bytes_of-placed, front_code, front_run, is_between, leads_entries, leads_more, list_more, outcome_from-front, pays, rest_of_nothing}
 use Rattle.nap_reader.proofs.ReadingLemmas.{is_half, is_open_run}
 use Rattle.nap_reader.proofs.PublicLaws.{all_operands}

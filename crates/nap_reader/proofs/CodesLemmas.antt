@@ -1,10 +1,11 @@
-use Rattle.nap_reader.proofs.Common.{All, All-head, AreCharacters, ArePending, Bool, Call, Calls, CallsBy, CharSet, Code, CodeFault, CodeSets, Codes, Continues, Define, DrawFault, Entry, FaultMatchesDevice, FaultMatchesSink, Ghosts, HaltsAfter, IsLive, IsOpcodeByte, IsText, IsTextByte, Kind, LeadsOn, LexerState, List, None, Nothing, Ok, Opcode, OpenBody, OpenRun, Option, Outcome, Passes, Placed, ReadingState, Request, RuleResult, RunAt, SinkFault, Some, Stop, Stops, StopsByte, Stray, Takes, Work, [], after_drawing, ap, append_assoc, arith, bytes_of, code_fault, code_front, code_rule, draw_fault, drawn_front, drop, earlier_unfinished, false, fault_of, stream_front, get_or, kind_of, length, length-append, length-map, nil_from_length, one_byte_opcode, refl, refusal, rule_result, sink_model_of, slice_get, state_after_request, subst, suc, sym, take, drawn_text, with_machine, zero, ℕ, ◌++◌, ◌-◌, ◌<◌, ◌∙◌, ◌∷◌, ◌≡◌, ◌≤◌}
-use Rattle.nap_reader.proofs.Base.{Fails, IsAt, TookMore, acts_itself, as_it_was, binds_code, body_begins, by_itself, byte_refused, bytes_of-append, code_breaks, code_continues, code_ends, code_fault_own, code_over, first_byte, front_kind_made, is_between, leads_nowhere, leads_on, leads_past, leads_to_fault, leads_to_refusal, list_more, opcode_alone, opcode_of_kind, opens_drawn, pays, place_at-append, run_opens, split_bytes, stops_now, stops_own}
+use Rattle.nap_reader.proofs.Common.{All, All-head, AreCharacters, ArePending, Bool, Call, Calls, CharSet, Code, CodeFault, CodeSets, Codes, Continues, Define, DrawFault, Entry, FaultMatchesDevice, FaultMatchesSink, Ghosts, HaltsAfter, IsLive, IsOpcodeByte, IsText, IsTextByte, Kind, LeadsOn, LexerState, List, Memory, NeverWants, None, Nothing, Ok, Opcode, OpenBody, OpenRun, Option, Outcome, Passes, Placed, ReadingState, Request, RuleResult, RunAt, Sink, SinkFault, Some, Stop, Stops, StopsByte, Stray, Takes, Work, [], after_drawing, ap, append_assoc, arith, bytes_of, code_fault, code_front, code_rule, draw_fault, drawn_front, drawn_text, drop, earlier_unfinished, false, fault_of, get_or, kind_of, length, length-append, length-map, nil_from_length, one_byte_opcode, refl, refusal, rule_result, sink_model_of, slice_get, state_after_request, stream_front, subst, suc, sym, take, with_machine, zero, ℕ, ◌++◌, ◌-◌, ◌<◌, ◌∙◌, ◌∷◌, ◌≡◌, ◌≢◌, ◌≤◌}
+use Rattle.nap_reader.proofs.Base.{Fails, IsAt, TookMore, WantsMore, acts_itself, as_it_was, binds_code, body_begins, by_itself, byte_refused, bytes_of-append, code_breaks, code_continues, code_ends, code_fault_own, code_over, fails_spare, first_byte, front_kind_made, is_between, leads_nowhere, leads_on, leads_past, leads_to_fault, leads_to_refusal, list_more, opcode_alone, opcode_of_kind, opens_drawn, pays, place_at-append, run_opens, split_bytes, stops_now, stops_own}
 use Rattle.nap_codes.specs.declared.code.Code.TheVariants as code
 use Rattle.nap_codes.specs.Front as codes
 use Rattle.nap_reader.specs.declared.kind.Kind.TheVariants as kinds
+use Rattle.nap_list.specs.declared.sink.SinkFault.TheVariants as sink_faults
 use Rattle.nap_reader.specs.Stream as model
-use Rattle.nap_reader.proofs.TakingLemmas.{Drew, LeftBy, left_is, one_takes, stop_takes}
+use Rattle.nap_reader.proofs.TakingLemmas.{Drew, LeftBy, kept_as, left_is, one_takes, own_spares, stop_takes, works_on, works_still}
 use Rattle.nap_reader.proofs.TextLemmas.{halts_at, text_past, text_stops}
 use Rattle.nap_reader.specs.declared.machine.Machine.{Machine}
 use Rattle.nap_reader.specs.declared.machine.codes.CodeOutcome.TheVariants as outcomes
@@ -126,13 +127,13 @@ half_leads x next sink retained between closed unfinished = leads_by next sink r
 pub half_takes : {S : Type 0} {g : Ghosts S} {old new : Machine S g} {x : Placed} {zs : List Placed} {ended : Bool} → codes.front old.lexer.sets (old.lexer.half ++ x.byte ∷ []) ≡ codes.unfinished →
     LeftBy old new old.work (record { sets = old.lexer.sets; half = old.lexer.half ++ x.byte ∷ [] }) → new.sink ≡ old.sink → IsLive new → Takes old new (x ∷ zs) ended 1 Nothing
 half_takes {x = x} {zs = zs} unfinished left same live =
-    one_takes (grind arith) (λ h following between. half_leads x (bytes_of (zs ++ following)) same (left_is left h) between left.before unfinished)
+    one_takes (works_still left.kept same live) (λ h following between. half_leads x (bytes_of (zs ++ following)) same (left_is left h) between left.before unfinished)
 
 -- A machine refuses a byte.
 pub fault_takes : {S : Type 0} {g : Ghosts S} {old new : Machine S g} {x : Placed} {zs : List Placed} {ended : Bool} (fault : CodeFault) → codes.front old.lexer.sets (old.lexer.half ++ x.byte ∷ []) ≡ codes.refused fault (length old.lexer.half) →
     old.open_run ≡ None → new.refusal ≡ Some (refusal (code_fault fault) x.place) → new.sink ≡ old.sink → Takes old new (x ∷ zs) ended 0 Stop
 fault_takes {g = g} {old = old} {x = x} {zs = zs} fault refused closed is same =
-    stop_takes is same (omega arith) (grind arith)
+    stop_takes is same (omega arith) (grind arith) (λ spared. own_spares (code_fault_own fault))
     (λ h following between over. stops_now refl
     (stops_own g old.sink (with_machine h old) x old.sink (refusal (code_fault fault) x.place) (code_fault_own fault) (λ s o pending c. byte_refused between closed c fault _ refused refl)))
 
@@ -151,32 +152,32 @@ module _ {S : Type 0} {g : Ghosts S} {old : Machine S g} {x : Placed} {c : Code}
   -- A machine consumes a code that adds nothing.
   pub nothing_takes : {new : Machine S g} {zs : List Placed} {ended : Bool} → kind_of c ≡ kinds.AddsNothing → LeftBy old new old.work (rested after) → new.sink ≡ old.sink → IsLive new → Takes old new (x ∷ zs) ended 1 Nothing
   nothing_takes {zs = zs} kind left same live =
-      one_takes (grind arith) (λ h following between.
+      one_takes (works_still left.kept same live) (λ h following between.
       leads_by (bytes_of (zs ++ following)) same (left_is left h) (omega arith) refl (λ n all before. before)
       (λ s o pending c'. leads_past c' [] (drawn_at (with_machine h old) after old.work) pending (over g old.sink between k c' old.work) (ends g old.sink between k kind c')))
 
   -- A machine consumes a call of a macro.
   pub macro_takes : {new : Machine S g} {zs : List Placed} {ended : Bool} {name : ℕ} → kind_of c ≡ kinds.Calls name → LeftBy old new old.work (rested after) → new.sink ≡ old.sink → IsLive new → Takes old new (x ∷ zs) ended 1 (Call name)
   macro_takes {zs = zs} kind left same live =
-      one_takes (grind arith)
+      one_takes (works_still left.kept same live)
       (λ h following between. (0, refl, code_calls g old.sink between k (zs ++ following) refl (leads_nowhere (bytes_of (x ∷ (zs ++ following))) refl refl) kind same (left_is left h)))
 
   -- A machine consumes a code that draws.
-  pub ruled_takes : {new : Machine S g} {zs : List Placed} {ended : Bool} {request : Request} {entries : List Entry} → IsRuled c request → Drew g (code_rule old.work c) old.sink (drawn_by entries new.work) new.sink → LeftBy old new new.work (rested after) → IsLive new → TookMore g → Takes old new (x ∷ zs) ended 1 request
-  ruled_takes {zs = zs} (acts acting kind) drew left live more =
-      one_takes (record { live = live; clear = drew.clear }) (λ h following between. ruled_leads g old.sink between k (acts acting kind) (left_is left h) drew more (bytes_of (zs ++ following)))
-  ruled_takes {zs = zs} (binds name show kind) drew left live more =
-      one_takes (record { live = live; clear = drew.clear }) (λ h following between. (rw kind at (front_kind_made old.lexer.sets (old.lexer.half ++ x.byte ∷ []) c _ after k.whole), ruled_leads g old.sink between k (binds name show kind) (left_is left h) drew more (bytes_of (zs ++ following))))
+  pub ruled_takes : {new : Machine S g} {zs : List Placed} {ended : Bool} {request : Request} {entries : List Entry} → IsRuled c request → Drew g (code_rule old.work c) old.sink (drawn_by entries new.work) new.sink → LeftBy old new new.work (rested after) → IsLive new → TookMore g → WantsMore g → Takes old new (x ∷ zs) ended 1 request
+  ruled_takes {zs = zs} (acts acting kind) drew left live more wants =
+      one_takes (works_on _ left.kept wants drew.took drew.clear live) (λ h following between. ruled_leads g old.sink between k (acts acting kind) (left_is left h) drew more (bytes_of (zs ++ following)))
+  ruled_takes {zs = zs} (binds name show kind) drew left live more wants =
+      one_takes (works_on _ left.kept wants drew.took drew.clear live) (λ h following between. (rw kind at (front_kind_made old.lexer.sets (old.lexer.half ++ x.byte ∷ []) c _ after k.whole), ruled_leads g old.sink between k (binds name show kind) (left_is left h) drew more (bytes_of (zs ++ following))))
 
   -- A machine refuses a code by its rule, or breaks at it.
   pub ruled_stops : {new : Machine S g} {zs : List Placed} {ended : Bool} {request : Request} {u : S} {fault : DrawFault} → IsRuled c request → Fails g (code_rule old.work c) old.sink u fault → FaultMatchesSink g old.sink u (draw_fault fault) → new.refusal ≡ Some (refusal (draw_fault fault) x.place) → new.sink ≡ u →
       Takes old new (x ∷ zs) ended 0 Stop
-  ruled_stops ruled fails reported is same = stop_takes is same (omega arith) reported (λ h following between over. stops_now refl (ruled_breaks g old.sink between k ruled fails))
+  ruled_stops {fault = fault} ruled fails reported is same = stop_takes is same (omega arith) reported (λ spared. fails_spare fault fails spared.1) (λ h following between over. stops_now refl (ruled_breaks g old.sink between k ruled fails))
 
   -- A code is an operand outside a run.
   pub strays_takes : {new : Machine S g} {zs : List Placed} {ended : Bool} → kind_of c ≡ kinds.Strays → new.refusal ≡ Some (refusal Stray x.place) → new.sink ≡ old.sink → Takes old new (x ∷ zs) ended 0 Stop
   strays_takes {zs = zs} kind is same =
-      stop_takes is same (omega arith) (grind arith)
+      stop_takes is same (omega arith) (grind arith) (λ spared. own_spares refl)
       (λ h following between over. stops_now refl
       (stops_own g old.sink (with_machine h old) x old.sink (refusal Stray x.place) refl (λ s o pending c'. leads_to_refusal c' _ (ends g old.sink between k kind c'))))
 
@@ -204,8 +205,8 @@ module _ {S : Type 0} {g : Ghosts S} {old : Machine S g} {c : Code} {after : Cod
   alone_nothing left same kind live = record { within = (omega arith, some_first bytes b first); closed = left.closed ∙ sym k.closed; by = λ x ys is. let here : b ≡ x.byte = cc in nothing_takes (rw here at k) kind left same live }
 
   -- A code of one byte acts.
-  pub alone_acts : {new : Machine S g} {ended : Bool} → LeftBy old new new.work (rested after) → kind_of c ≡ kinds.Acts c → {entries : List Entry} → Drew g (code_rule old.work c) old.sink (drawn_by entries new.work) new.sink → IsLive new → TookMore g → Codes old new bytes ended (outcomes.Acted 1 false)
-  alone_acts left kind drew live more = record { within = (omega arith, some_first bytes b first); closed = left.closed ∙ sym k.closed; by = λ x ys is. let here : b ≡ x.byte = cc in ruled_takes (rw here at k) (acts c kind) drew left live more }
+  pub alone_acts : {new : Machine S g} {ended : Bool} → LeftBy old new new.work (rested after) → kind_of c ≡ kinds.Acts c → {entries : List Entry} → Drew g (code_rule old.work c) old.sink (drawn_by entries new.work) new.sink → IsLive new → TookMore g → WantsMore g → Codes old new bytes ended (outcomes.Acted 1 false)
+  alone_acts left kind drew live more wants = record { within = (omega arith, some_first bytes b first); closed = left.closed ∙ sym k.closed; by = λ x ys is. let here : b ≡ x.byte = cc in ruled_takes (rw here at k) (acts c kind) drew left live more wants }
 
   -- A code of one byte is refused, or breaks.
   pub alone_stops : {new : Machine S g} {ended : Bool} {fault : DrawFault} → new.open_run ≡ old.open_run → kind_of c ≡ kinds.Acts c → Fails g (code_rule old.work c) old.sink new.sink fault → FaultMatchesSink g old.sink new.sink (draw_fault fault) → Codes old new bytes ended (outcomes.Stopped 0 (draw_fault fault) 0)
@@ -218,6 +219,11 @@ module _ {S : Type 0} {g : Ghosts S} {old : Machine S g} {c : Code} {after : Cod
 -- a sink's fault says whether the sink has failed
 tells_sink : {S : Type 0} {g : Ghosts S} {s t : S} {n : ℕ} (fault : SinkFault) → FaultMatchesDevice (sink_model_of g) s t n fault → FaultMatchesSink g s t (draw_fault (fault_of fault))
 tells_sink fault tells = grind arith
+
+-- memory isn't lacking for a sink that never wants any
+halts_spare : {S : Type 0} (g : Ghosts S) (s t : S) (list : List Entry) (n : ℕ) (fault : SinkFault) → HaltsAfter (sink_model_of g) list s t n fault → NeverWants g s → draw_fault (fault_of fault) ≢ Memory
+halts_spare g s t list n sink_faults.Memory halts never is = never _ halts.wants
+halts_spare g s t list n sink_faults.Write halts never is = let bad : Sink ≡ Memory = is in cc
 
 -- The first bytes are characters, and the format effectors among them.
 pub record IsTextOf {S : Type 0} {g : Ghosts S} (old : Machine S g) (set : CharSet) (bytes chars : List ℕ) : Type 0 where
@@ -243,13 +249,13 @@ module _ {S : Type 0} {g : Ghosts S} {old : Machine S g} {set : CharSet} {bytes 
 
   -- The characters are consumed.
   pub text_taken : {new : Machine S g} {ended : Bool} → LeftBy old new (rule_result old.work (drawn_text old.work.state set chars)).work old.lexer → g.took old.sink (drawn_text old.work.state set chars) new.sink → (g.failed old.sink ≡ false → g.failed new.sink ≡ false) → IsLive new →
-      TookMore g → Codes old new bytes ended (outcomes.Acted (length chars) false)
-  text_taken left took clear live more = record {
+      TookMore g → WantsMore g → Codes old new bytes ended (outcomes.Acted (length chars) false)
+  text_taken left took clear live more wants = record {
     within = (k.some, few);
     closed = left.closed ∙ sym left.before;
     by = λ x ys is. record {
       within = few_placed (x ∷ ys) is;
-      leaves = record { live = live; clear = clear };
+      leaves = works_on _ left.kept wants took clear live;
       by = λ h following between over.
           let all : List Placed = x ∷ (ys ++ following) in
           let same = (split_bytes all chars _ (split (x ∷ ys) following is)).0 in
@@ -269,26 +275,8 @@ module _ {S : Type 0} {g : Ghosts S} {old : Machine S g} {set : CharSet} {bytes 
         closed = closed;
         by = λ x ys is kept refuses.
             let few_there : index < length (x ∷ ys) = omega (arith, less, few_placed (x ∷ ys) is) in
-            stop_takes refuses.is refuses.sink (omega (arith, few_there)) (tells_sink fault tells)
+            stop_takes refuses.is refuses.sink (omega (arith, few_there)) (tells_sink fault tells) (λ spared. halts_spare g old.sink new.sink _ index fault halts spared.1)
             (λ h following between over.
             subst (λ (n : ℕ). Stops g old.sink (with_machine h old) (x ∷ (ys ++ following)) index new.sink (refusal (draw_fault (fault_of fault)) n)) (place_at-append (x ∷ ys) following index few_there)
             (text_stops (x ∷ (ys ++ following)) _ (is_text h between) (split (x ∷ ys) following is) halt));
       }
-
--- Calls of macros whose name is among the bytes.
-
-module _ {S : Type 0} {g : Ghosts S} (old : Machine S g) (closed : old.open_run ≡ None) (x : Placed) where
-  call_by : (h : ReadingState) → h.open_body ≡ None → (following ys : List Placed) (count : ℕ) → CallsBy old.lexer (x.byte ∷ bytes_of ys) count →
-      Calls g old.sink (with_machine h old) old.sink (with_machine h old) (x ∷ (ys ++ following)) (count - 1) (get_or (x.byte ∷ bytes_of ys) (count - 1) 0)
-  call_by h between following ys zero k = absurd (omega (arith, k.counted.0))
-  call_by h between following ys (suc zero) k =
-      code_calls g old.sink {h = with_machine h old} {x = x} {c = code.Call x.byte} {after = old.lexer.sets} between (record { closed = closed; whole = rw k.rested k.whole }) (ys ++ following) refl (leads_nowhere _ refl refl) refl refl (rw k.rested)
-  call_by h between following [] (suc (suc n)) k = absurd (omega (arith, k.counted.2))
-  call_by h between following (y ∷ zs) (suc (suc zero)) k =
-      let waits = earlier_unfinished old.lexer.sets (x.byte ∷ y.byte ∷ []) (code.Call y.byte) 2 old.lexer.sets 1 k.whole (omega arith) in
-      code_calls g old.sink {h = record (with_machine h old) { half = x.byte ∷ [] }} {x = y} {c = code.Call y.byte} {after = old.lexer.sets} between (record { closed = closed; whole = k.whole }) (zs ++ following) refl
-      (half_leads x _ refl (rw k.rested) between closed (rw k.rested waits)) refl refl (rw k.rested)
-  call_by h between following (y ∷ zs) (suc (suc (suc n))) k = absurd (omega (arith, k.counted.1))
-
-  pub call_takes : (ys : List Placed) {count : ℕ} → CallsBy old.lexer (x.byte ∷ bytes_of ys) count → IsLive old → (ended : Bool) → Takes old old (x ∷ ys) ended count (Call (get_or (x.byte ∷ bytes_of ys) (count - 1) 0))
-  call_takes ys {count} k live ended = search (arith, length-map, call_by) steps 100000

@@ -1,12 +1,7 @@
-use Rattle.std.proofs.Common.{rules}
-use Rattle.nap_reader.proofs.Common.{BreaksAmong, Cause, Consumes, Consumes-trans, EndsBy, Entry, Err, Fault, FeedFault, Feeds, Ghosts, HasRead, IsDrained, List, None, Ok, Outcome, Reader, Refusal, RefusedBy, Result, Some, StopsAt, StopsBy, StopsInLast, [], ap, append-nil, append_assoc, arith, begun, budget_of, cause_of, device, drop, false, get_or, inl, inr, left_of, length, length-append, means, memory, or-false, reading, reads_limit, refl, refusal_of, sink_of, stream, subst, sym, take, true, ℕ, ◌++◌, ◌+◌, ◌-◌, ◌<◌, ◌||◌, ◌∙◌, ◌∷◌, ◌≡◌, ◌≢◌, ◌≤◌}
-use Rattle.nap_reader.specs.Shared.{BreaksInRun}
-use Rattle.nap_reader.specs.Collecting.{IsCollected}
-use Rattle.nap_reader.specs.Twice.{BreaksOff, EndsEarly}
+use Rattle.nap_reader.proofs.Common.{BreaksAmong, BreaksInRun, BreaksOff, Cause, Consumes, Consumes-trans, EndsBy, EndsEarly, Entry, Err, Fault, FeedFault, Feeds, Ghosts, HasRead, IsCollected, IsDrained, List, None, Ok, Outcome, ReadFault, Reader, Refusal, RefusedBy, Result, Some, StopsAt, StopsBy, StopsInLast, [], ap, append-nil, append_assoc, arith, begun, budget_of, cause_of, device, drop, false, get_or, inl, inr, left_of, length, length-append, means, memory, or-false, reading, reads_limit, refl, refusal_of, rules, sink_of, stream, subst, sym, take, true, ℕ, ◌++◌, ◌+◌, ◌-◌, ◌<◌, ◌||◌, ◌∙◌, ◌∷◌, ◌≡◌, ◌≢◌, ◌≤◌}
 use Rattle.nap_list.specs.declared.device.inlet.Inlet as inlet
 use Rattle.nap_reader.specs.declared.feeding.FeedFault.TheVariants as feed_fault
 use Rattle.nap_reader.specs.declared.fault.Fault.TheVariants as fault
-use Rattle.nap_reader.specs.declared.collect.ReadFault.{ReadFault}
 use Rattle.nap_reader.proofs.Base.{breaks_longer, breaks_more, leads_unrefused, taken_all}
 use Rattle.nap_reader.proofs.LegalLemmas.{broken_among}
 use Rattle.nap_reader.proofs.PublicLaws.{begun_comes_first, end_breaks_among, more_bytes_keep_refusal}
@@ -20,6 +15,9 @@ still_refused budget p more r is = search (arith, more_bytes_keep_refusal)
 -- a fault that is neither the stream's own nor lack of memory is a failed device
 device_fault : (f : Fault) → cause_of f ≡ device → f ≡ fault.Sink
 device_fault f is = grind arith
+
+pub memory_fault : (f : Fault) → cause_of f ≡ memory → f ≡ fault.Memory
+memory_fault f is = grind arith
 
 module _ {S : Type 0} (g : Ghosts S) (s : S) (budget : ℕ) (t : S) (r : Refusal) (fails : r.fault ≡ fault.Sink → g.failed t ≡ true) where
   -- reading broke with the bytes of a page, or at their end
@@ -57,6 +55,12 @@ module _ {S : Type 0} (g : Ghosts S) (s : S) (budget : ℕ) (t : S) (r : Refusal
 -- what a caller sees who doesn't see the sink
 pub refused_early : {S : Type 0} (g : Ghosts S) (s : S) (budget : ℕ) (p : List ℕ) (t : S) (r : Refusal) → EndsEarly g s budget p t r (cause_of r.fault) → RefusedBy g s budget p r (cause_of r.fault)
 refused_early g s budget p t r early = search (rules, arith) depth 9
+
+-- the reading of an accepted page broke
+pub broke_off : {S : Type 0} {g : Ghosts S} {s t : S} {budget : ℕ} {p : List ℕ} {r : Refusal} (cause : Cause) → (means budget p).refusal ≡ None → EndsEarly g s budget p t r cause → BreaksOff g s budget p t r
+broke_off {r = r} stream accepted early = let bad : None ≡ Some r = sym accepted ∙ early in cc
+broke_off memory accepted broke = broke
+broke_off device accepted broke = broke
 
 -- The only piece of a stream was refused, or broke.
 pub piece_ends : {S : Type 0} {g : Ghosts S} {old new : Reader S g} {piece : List ℕ} {r : Refusal} {s : S} {budget : ℕ} → budget_of old ≡ budget → (r.fault ≡ fault.Sink → g.failed (sink_of new) ≡ true) → HasRead old s [] →

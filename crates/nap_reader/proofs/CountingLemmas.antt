@@ -1,6 +1,4 @@
-use Rattle.nap_reader.proofs.Common.{Cause, CountedSink, Entry, Err, FaultMatchesDevice, Ghosts, GrowsBy, HaltsAfter, List, Ok, Option, Put, PutSome, Refusal, RefusedBy, Result, SinkFault, TookPrefix, [], ap, arith, counting, device, inl, inr, length, length-append, means, memory, refl, sink_model_of, stream, ℕ, ◌∙◌, ◌∷◌, ◌≡◌}
-use Rattle.std.proofs.Math.Nat.{add-zero}
-use Rattle.nap_list.specs.declared.sink.BatchFault.{BatchFault}
+use Rattle.nap_reader.proofs.Common.{BatchFault, Cause, CountedSink, Entry, Err, FaultMatchesDevice, Ghosts, GrowsBy, HaltsAfter, List, Ok, Option, Put, PutSome, Refusal, RefusedBy, Result, SinkFault, TookPrefix, [], add-zero, ap, arith, counting, device, inl, inr, length, length-append, means, memory, refl, sink_model_of, stream, ℕ, ◌∙◌, ◌∷◌, ◌≡◌}
 use Rattle.nap_list.specs.declared.sink.SinkFault.TheVariants as faults
 
 -- A sink that counts the entries of another sink.

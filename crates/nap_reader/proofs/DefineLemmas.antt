@@ -1,9 +1,9 @@
-use Rattle.nap_reader.proofs.Common.{AfterEscape, All, All-map, ArePending, Bool, Breaks, BreaksHere, CanAdvance, CanPass, CannotShow, Continues, Entry, Fault, Ghosts, Goes, Input, IsLive, IsNextText, IsNextByte, IsSome, LacksOwn, LeadsOn, LeadsThrough, List, Memory, Moves, None, OpenBody, Option, Outcome, Passes, Placed, ReadingState, Reads, Refusal, RunAt, Some, Step, Steps, Stops, StopsByte, Store, StoreState, StoresBody, Works, [], after_body, after_charge, all_at, ap, append-nil, arith, at_byte, body_front, bytes_of, cause_of, drop, drop-append-le, ends_body, false, stream_front, get_or, get_or-take, inl, inr, is_of_body, kept_list, length, length-append, length-drop, length-map, length-take-le, lt-ltb, memory, nat_tests, ne_eqb, next_bytes, pending_escape, place_at, placed_at, placed_by_step, prefix_len, prefix_len-drop_yes, prefix_len-le-length, prefix_len_passes, reading_state_by, refl, refusal, shown_front, store_bound, store_grown, store_limit, store_shown, stream, subst, sym, take, take-append-le, take-map, true, ℕ, ◌*◌, ◌++◌, ◌+◌, ◌-◌, ◌<◌, ◌∙◌, ◌∷◌, ◌≡◌, ◌≢◌, ◌≤◌, ◌⊎◌}
+use Rattle.nap_reader.proofs.Common.{AfterEscape, All, All-map, ArePending, Bool, Breaks, BreaksHere, CanAdvance, CanPass, CannotShow, Continues, Entry, Fault, Ghosts, Goes, Input, IsLive, IsNextByte, IsNextText, IsSome, LacksFrom, LacksOwn, LeadsOn, LeadsThrough, List, Memory, Moves, None, OpenBody, Option, Outcome, Passes, Placed, Reaches, Reader, ReadingState, Reads, ReadsTo, Refusal, RunAt, Some, Step, Steps, Stops, StopsByte, Store, StoreState, StoresBody, Works, [], after_body, after_charge, all_at, ap, append-nil, arith, at_byte, body_front, bytes_of, cause_of, drop, drop-append-le, ends_body, false, get_or, get_or-take, inl, inr, is_of_body, kept_list, length, length-append, length-drop, length-map, length-take-le, lt-ltb, memory, nat_tests, ne_eqb, next_bytes, past, pending_escape, place_at, placed_at, placed_by_step, position_of, prefix_len, prefix_len-drop_yes, prefix_len-le-length, prefix_len_passes, reading_state_by, refl, refusal, shown_front, store_bound, store_grown, store_limit, store_shown, stream, stream_front, subst, sym, take, take-append-le, take-map, true, ℕ, ◌*◌, ◌++◌, ◌+◌, ◌-◌, ◌<◌, ◌∙◌, ◌∷◌, ◌≡◌, ◌≢◌, ◌≤◌, ◌⊎◌}
 use Rattle.nap_reader.proofs.Base.{AreAdded, IsPlain, as_it_was, body_bound, body_grows, body_over, body_refused, body_shows, breaks_here, by_itself, byte-placed_by_step, bytes_of-placed_by_step, can_few, can_less, can_next, cannot_stops, conveys_nothing, escape_steps, lacks, leads_shown, length-all_at, length-placed_by_step, no_some, pending_body, plain_added, plain_full, space_for, state_with_body, stops_own}
 use Rattle.nap_reader.specs.declared.machine.Machine.{Machine}
 use Rattle.nap_reader.specs.Bodies as bodies
 use Rattle.nap_reader.specs.Stream as model
-use Rattle.nap_reader.proofs.FurtherLemmas.{counts_moved, goes_by, next_moved, reads_at, state_moved, stores_moves}
+use Rattle.nap_reader.proofs.FurtherLemmas.{counts_moved, goes_by, next_moved, overcharged, own_is, reads_at, state_moved, stores_moves}
 use Rattle.nap_reader.proofs.TakingLemmas.{state_is}
 use Rattle.nap_reader.proofs.PieceLemmas.{reaches_called}
 
@@ -94,7 +94,7 @@ module _ {S : Type 0} {g : Ghosts S} (m : Machine S g) {input : Input} {piece : 
   pub body_goes : {b : OpenBody} {xs added : List Placed} {escape : Option ℕ} {after : Input} {n : ℕ} → input.body ≡ Some b → AreAdded (store_limit - input.store.stored - length input.store.body) b.escape xs added escape → CanPass input piece n → take n (next_bytes input piece) ≡ xs →
       Moves input after n [] (store_grown input.store (bytes_of added)) (Some (record { name = b.name; show = b.show; escape = escape })) → IsLive m → 0 < length xs → Goes piece n m input m after
   body_goes opened adds can is moved live some =
-      goes_by moved can.reads (can_few can) (record { live = live; clear = λ clear. clear })
+      goes_by moved can.reads (can_few can) (record { live = live; clear = λ clear. clear; spares = λ spared. spared })
       (rw (is, state_moved moved m {left = input.budget - input.charged} (omega (arith, moved.budget, moved.charged))) (record { conveys = body_leads opened adds some; acted = as_it_was refl refl }))
 
   -- the next bytes are a slice, and the body has no space for the byte with this index
@@ -186,27 +186,31 @@ module _ {S : Type 0} {g : Ghosts S} (m : Machine S g) {input : Input} {piece : 
     shows : (s : S) (o : Outcome) (pending : List Placed) (k : Continues g s o m.sink h (ender ∷ pending)) → stream_front h.machine (k.rest ++ ender ∷ pending) ≡ shown_front (after_body h.machine b.name h.body) place bytes pending
     shows s o pending k = body_shows k ending.ends (rw shown at ending.opened)
 
+    abbrev presented : ReadingState
+    presented = record h { machine = after_charge (after_body h.machine b.name h.body) (length bytes); open_run = None; run = []; open_body = None; body = [] }
+
+    -- The end of the body leads to its bytes.
+    shown_reaches : {old : Reader S g} → ReadsTo old piece m input → length bytes ≤ input.budget - input.charged → {u : S} → u ≡ m.sink → (h' : ReadingState) → h' ≡ presented → Reaches old piece (past (position_of input) 1 (all_at place bytes)) u h'
+    shown_reaches by few sink h' retained =
+        let m1 : model.Machine = after_charge (after_body h.machine b.name h.body) (length bytes) in
+        let passes : Passes g m.sink h (ender ∷ []) m.sink h' (all_at place bytes) =
+        λ s o pending k.
+        leads_shown k (after_body h.machine b.name h.body) place bytes pending (shows s o pending k) few h' (ap (λ (h : ReadingState). h.machine) retained) (subst (ArePending []) (sym retained) (body_over ending.opened k m1 refl)) in
+        rw sink (reaches_called by.reaches (all_at place bytes) next.is passes (omega (arith, few, ap (λ (h : ReadingState). h.machine.left) retained, length-all_at place bytes))
+        (All-map (λ (y : Placed). y.place ≡ place) (λ (b : ℕ). placed_at b place) bytes (λ i d less. refl)) (ap (λ (h : ReadingState). h.open_run) retained))
+
     -- The body is presented, and no run is open.
     pub shown_goes : {m' : Machine S g} {after : Input} → Moves input after 1 (all_at place bytes) (store_shown input.store b.name byte) None → Works m m' → (m'.work ≡ m.work) × (m'.sink ≡ m.sink) × (m'.open_run ≡ None) → m'.lexer ≡ m.lexer → Goes piece 0 m input m' after
     shown_goes {m'} {after} moved works (work, sink, closed_run) lexer =
         let some : 1 ≤ length (next_bytes input piece) = omega (arith, ap (λ (xs : List Placed). length xs) next.is) in
         let counts = counts_moved moved next.reads some in
         let few : length bytes ≤ input.budget - input.charged = omega (arith, after.within, moved.budget, moved.charged, length-all_at place bytes) in
-        let m1 : model.Machine = after_charge (after_body h.machine b.name h.body) (length bytes) in
-        let retained : reading_state_by m' after ≡ record h { machine = m1; open_run = None; run = []; open_body = None; body = [] } =
+        let retained : reading_state_by m' after ≡ presented =
         state_moved moved m' (omega (arith, moved.budget, moved.charged, length-all_at place bytes))
-        ∙ state_is (record h { machine = m1; open_body = None; body = [] }) m' m.work m.lexer None work lexer closed_run in
-        let passes : Passes g m.sink h (ender ∷ []) m'.sink (reading_state_by m' after) (all_at place bytes) =
-        λ s o pending k.
-        subst (λ (t : S). Continues g s o t (reading_state_by m' after) (all_at place bytes ++ pending)) (sym sink)
-        (leads_shown k (after_body h.machine b.name h.body) place bytes pending (shows s o pending k) few (reading_state_by m' after) (ap (λ (h : ReadingState). h.machine) retained)
-        (subst (ArePending []) (sym retained) (body_over ending.opened k m1 refl))) in
+        ∙ state_is (record h { machine = after_charge (after_body h.machine b.name h.body) (length bytes); open_body = None; body = [] }) m' m.work m.lexer None work lexer closed_run in
         record {
-          counts = record { reads = counts.reads; budget = counts.budget; fed = counts.fed; turns = omega (arith, counts.turns) };
-          on = λ old by.
-              reads_at by moved some works
-              (reaches_called by.reaches (all_at place bytes) next.is passes (omega (arith, few, ap (λ (h : ReadingState). h.machine.left) retained, length-all_at place bytes))
-              (All-map (λ (y : Placed). y.place ≡ place) (λ (b : ℕ). placed_at b place) bytes (λ i d less. refl)) (ap (λ (h : ReadingState). h.open_run) retained));
+          counts = record { reads = counts.reads; budget = counts.budget; promise = counts.promise; fed = counts.fed; turns = omega (arith, counts.turns) };
+          on = λ old by. reads_at by moved some works (shown_reaches by few sink (reading_state_by m' after) retained);
         }
 
     -- The body can't be presented.
@@ -216,3 +220,11 @@ module _ {S : Type 0} {g : Ghosts S} (m : Machine S g) {input : Input} {piece : 
         cannot_stops m' bytes (record h { machine = after_charge m' (length bytes); open_run = None; run = []; open_body = None; body = [] }) (omega (arith, adv.budget, adv.charged)) refl
         (λ none. absurd (no_some (sym ending.opened ∙ none))) refl
         (λ rest pending pends. let k = by_itself rest h (ender ∷ pending) pends in (body_shows k ending.ends (rw shown at ending.opened), body_over ending.opened k (after_charge m' (length bytes)) refl)) cannot.reason
+
+    pub shown_lacks : {mid after : Input} {fault : Fault} → Moves input mid 1 [] input.store input.body → CannotShow mid after bytes fault → LacksFrom piece m input fault
+    shown_lacks {mid} adv cannot short old by held =
+        let few : length bytes ≤ mid.budget - mid.charged = elim cannot.reason [
+          | inl budget ↦ absurd (own_is budget.0 short)
+          | inr none ↦ none.2
+        ] in
+        overcharged by (shown_reaches by (omega (arith, few, adv.budget, adv.charged)) refl presented refl) (omega (arith, few, input.within, adv.budget, adv.charged)) (rw adv.promise at (cannot.lacks short)) mid.few held

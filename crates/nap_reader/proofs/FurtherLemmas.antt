@@ -1,16 +1,16 @@
-use Rattle.nap_reader.proofs.Common.{All-map, ArePending, Bool, Budget, Calls, CanAdvance, CanPass, CannotShow, Continues, Err, Fault, FaultMatchesSink, Frame, Ghosts, Goes, HasRead, HasReadOn, Input, IsLive, IsNextText, IsNextByte, IsSome, Latches, LeadsOn, List, Memory, Moves, None, Ok, OnOk, OpenBody, Option, Passes, Placed, Position, Progresses, Reaches, Reader, ReadingState, Reads, ReadsFurther, ReadsTo, Refusal, Request, Result, Sink, Some, Stop, Stops, StopsByte, StopsFrom, StoreState, StoresBody, Takes, TakesBy, TakesSlice, Works, [], after_charge, all_at, ap, append-nil, append_assoc, ap₂, arith, begun, body_of, budget_of, bytes_of, drop, drop-drop, false, false≢true, stream_front, inl, inr, is_some, length, length-append, length-drop, machine_of, mode_of, next_bytes, nil_from_length, past, place_at, placed_at, placed_by_step, position_of, reading_state, reading_state_by, refl, refusal, shown_front, sink_of, state_after_request, store_grown, subst, sym, take, take_all, true, unread, unread_of, ℕ, ◌*◌, ◌++◌, ◌+◌, ◌-◌, ◌<◌, ◌^◌, ◌∙◌, ◌∷◌, ◌≡◌, ◌≢◌, ◌≤◌, ◌⊎◌}
+use Rattle.nap_reader.proofs.Common.{All-map, ArePending, Bool, Budget, Calls, CanAdvance, CanPass, CannotShow, Continues, Err, Exceeds, Fault, FaultMatchesSink, Frame, Ghosts, Goes, HasMemory, HasRead, HasReadOn, Input, IsLive, IsNextByte, IsNextText, IsSome, LacksFrom, Latches, LeadsOn, List, Memory, Moves, None, Ok, OnOk, OpenBody, Option, Overcharges, Passes, Placed, Position, Progresses, Promise, Reaches, Reader, ReadingState, Reads, ReadsFurther, ReadsTo, Refusal, Request, Result, Sink, Some, Stop, Stops, StopsByte, StopsFrom, StoreState, StoresBody, Takes, TakesBy, TakesSlice, Works, [], after_charge, all_at, ap, append-nil, append_assoc, ap₂, arith, begun, body_of, budget_of, bytes_of, drop, drop-drop, false, false≢true, inl, inr, is_some, length, length-append, length-drop, machine_of, mode_of, next_bytes, nil_from_length, past, place_at, placed_at, placed_by_step, position_of, reading_state, reading_state_by, refl, refusal, shown_front, sink_of, state_after_request, store_grown, store_limit, stream_front, subst, sym, take, take_all, true, unread, unread_of, ℕ, ◌*◌, ◌++◌, ◌+◌, ◌-◌, ◌<◌, ◌^◌, ◌∙◌, ◌∷◌, ◌≡◌, ◌≢◌, ◌≤◌, ◌⊎◌}
 use Rattle.nap_reader.proofs.Base.{Lawful, as_it_was, can_few, can_less, can_next, cannot_stops, drop_next, frames-unread, has_read_by, holds_nothing, is_between, is_half, lacks, leads_shown, length-all_at, length-next, length-placed_by_step, place_at-append, place_at-placed_by_step, stops_now, unread-store_grown}
 use Rattle.nap_reader.specs.declared.machine.Machine.{Machine}
-use Rattle.nap_reader.proofs.PieceLemmas.{reaches_called, reaches_on}
+use Rattle.nap_reader.proofs.PieceLemmas.{reaches_called, reaches_left, reaches_on}
 use Rattle.nap_reader.proofs.StopLemmas.{stops_reached}
-use Rattle.nap_reader.proofs.TakingLemmas.{own_tells, place_at-drop, stops_after}
+use Rattle.nap_reader.proofs.TakingLemmas.{own_tells, place_at-drop, stops_after, works_then}
 
 -- How a reader advances in a piece, and where it stops.
 
 -- What was read of the input.
 
 counts_then : {old mid new : Input} {piece : List ℕ} {n m : ℕ} (k : ℕ) → k ≤ n + m → HasReadOn old mid piece n → HasReadOn mid new piece m → HasReadOn old new piece k
-counts_then k few first then = record { reads = then.reads; budget = then.budget ∙ first.budget; fed = omega (arith, first.fed, then.fed); turns = omega (arith, few, first.turns, then.turns) }
+counts_then k few first then = record { reads = then.reads; budget = then.budget ∙ first.budget; promise = then.promise ∙ first.promise; fed = omega (arith, first.fed, then.fed); turns = omega (arith, few, first.turns, then.turns) }
 
 -- the number of bytes that may still be read
 abbrev pub to_come : Input → List ℕ → ℕ
@@ -50,6 +50,7 @@ moves_then {old} {n = n} {m = m} {came = came} k all first then same_store same_
   turns = omega (arith, all, first.turns, then.turns);
   budget = then.budget ∙ first.budget;
   charged = omega (arith, first.charged, then.charged);
+  promise = then.promise ∙ first.promise;
   store_is = then.store_is ∙ same_store;
   body = then.body ∙ same_body;
 }
@@ -63,6 +64,7 @@ stores_moves sets kept = record {
   turns = omega (arith, sets.turns);
   budget = sets.budget;
   charged = omega (arith, sets.charged);
+  promise = sets.promise;
   store_is = sets.store_is;
   body = sets.body;
 }
@@ -81,7 +83,7 @@ pub grown_moves : {old new : Input} (more : List ℕ) {opened : Option OpenBody}
 grown_moves {old} more sets = stores_moves sets (unread-store_grown old.store.bytes more old.frames.stack.items old.framed)
 
 pub same_input : {old new : Input} → new ≡ old → Moves old new 0 [] old.store old.body
-same_input {old} same = subst (λ (new : Input). Moves old new 0 [] old.store old.body) (sym same) (stores_moves (record { frames = refl; at = refl; fed = refl; turns = refl; budget = refl; charged = refl; store_is = refl; body = refl }) refl)
+same_input {old} same = subst (λ (new : Input). Moves old new 0 [] old.store old.body) (sym same) (stores_moves (record { frames = refl; at = refl; fed = refl; turns = refl; budget = refl; charged = refl; promise = refl; store_is = refl; body = refl }) refl)
 
 module _ {old new : Input} {n : ℕ} {came : List Placed} {store : StoreState} {opened : Option OpenBody} (moved : Moves old new n came store opened) where
   pub counts_moved : {piece : List ℕ} → Reads old piece → n ≤ length (next_bytes old piece) → HasReadOn old new piece n
@@ -91,6 +93,7 @@ module _ {old new : Input} {n : ℕ} {came : List Placed} {store : StoreState} {
       record {
         reads = record { within = within; small = reads.small; few = omega (arith, small, within, moved.at, moved.fed) };
         budget = moved.budget;
+        promise = moved.promise;
         fed = omega (arith, moved.at, moved.fed);
         turns = omega (arith, moved.turns);
       }
@@ -120,7 +123,7 @@ pub reads_at : {S : Type 0} {g : Ghosts S} {old : Reader S g} {m m' : Machine S 
     Reaches old piece (past (position_of input) n came) m'.sink (reading_state_by m' input') → ReadsTo old piece m' input'
 reads_at by moved few works reaches = record {
   counts = counts_then 0 (omega arith) by.counts (counts_moved moved by.counts.reads few);
-  works = record { live = works.live; clear = λ working. works.clear (by.works.clear working) };
+  works = works_then by.works works;
   reaches = rw (moved.rest, moved.at, moved.fed) reaches;
 }
 
@@ -131,10 +134,10 @@ goes_by {n = n} moved reads few works leads = record { counts = counts_moved mov
 
 -- If nothing is read, nothing changes.
 pub goes_nowhere : {S : Type 0} {g : Ghosts S} {m : Machine S g} {input : Input} {piece : List ℕ} → Reads input piece → Goes piece 0 m input m input
-goes_nowhere reads = record { counts = record { reads = reads; budget = refl; fed = refl; turns = omega arith }; on = λ old by. by }
+goes_nowhere reads = record { counts = record { reads = reads; budget = refl; promise = refl; fed = refl; turns = omega arith }; on = λ old by. by }
 
 pub goes_less : {S : Type 0} {g : Ghosts S} {m m' : Machine S g} {input input' : Input} {piece : List ℕ} {n : ℕ} (k : ℕ) → k ≤ n → Goes piece n m input m' input' → Goes piece k m input m' input'
-goes_less k few goes = let c = goes.counts in record { counts = record { reads = c.reads; budget = c.budget; fed = c.fed; turns = omega (arith, few, c.turns) }; on = goes.on }
+goes_less k few goes = let c = goes.counts in record { counts = record { reads = c.reads; budget = c.budget; promise = c.promise; fed = c.fed; turns = omega (arith, few, c.turns) }; on = goes.on }
 
 -- one advance after another is an advance
 pub goes_then : {S : Type 0} {g : Ghosts S} {m m' m'' : Machine S g} {input input' input'' : Input} {piece : List ℕ} {n k : ℕ} → Goes piece n m input m' input' → Goes piece k m' input' m'' input'' → Goes piece n m input m'' input''
@@ -144,16 +147,36 @@ goes_then {n = n} first later = record { counts = counts_then n (omega arith) fi
 pub stops_then : {S : Type 0} {g : Ghosts S} {m m' m'' : Machine S g} {input input' input'' : Input} {piece : List ℕ} → ReadsFurther piece m input m' input' → StopsFrom piece m' input' m'' input'' → StopsFrom piece m input m'' input''
 stops_then goes stops = (stops.0, stops.1, λ old by. stops.2 old (goes old by))
 
+-- What a reader lacks memory for.
+
+pub other_lacks : {S : Type 0} {g : Ghosts S} {m : Machine S g} {input : Input} {piece : List ℕ} {fault : Fault} → fault ≢ Memory → LacksFrom piece m input fault
+other_lacks other short = absurd (other short)
+
+-- the promise is exceeded once this much is charged
+pub overcharged : {S : Type 0} {g : Ghosts S} {old : Reader S g} {piece : List ℕ} {m : Machine S g} {input : Input} {p : Position} {t : S} {h : ReadingState} {stored charged : ℕ} → ReadsTo old piece m input → Reaches old piece p t h →
+    h.machine.left + charged ≤ input.budget → Exceeds input.store.promise stored charged → stored ≤ store_limit → HasMemory old → Overcharges old piece
+overcharged {old = old} by there left exceeds few memory s q had_read = elim exceeds [
+  | inl less ↦ absurd (omega (arith, less, few, memory.1, ap (λ (promise : Promise). promise.stored) by.counts.promise))
+  | inr less ↦ omega (arith, less, left, reaches_left there s q had_read, by.counts.budget, ap (λ (promise : Promise). promise.charged) by.counts.promise)
+]
+
+-- memory is lacking for bytes of a body, up to which nothing was charged
+pub keep_lacks : {S : Type 0} {g : Ghosts S} {m : Machine S g} {input : Input} {piece : List ℕ} {fault : Fault} (mid : Input) (stored : ℕ) → mid.store.promise ≡ input.store.promise → mid.charged ≡ input.charged →
+    Exceeds mid.store.promise stored mid.charged → stored ≤ store_limit → LacksFrom piece m input fault
+keep_lacks {input = input} mid stored same charged exceeds few short old by memory =
+    overcharged by by.reaches (omega (arith, input.within)) (rw (same, charged) at exceeds) few memory
+
 -- The stream is refused at the byte with this index, or reading breaks there.
-pub stops_from : {S : Type 0} {g : Ghosts S} {m m' : Machine S g} {input after : Input} {piece : List ℕ} {index : ℕ} {r : Refusal} {store : StoreState} {opened : Option OpenBody} → Lawful g → m'.refusal ≡ Some r → FaultMatchesSink g m.sink m'.sink r.fault →
+pub stops_from : {S : Type 0} {g : Ghosts S} {m m' : Machine S g} {input after : Input} {piece : List ℕ} {index : ℕ} {r : Refusal} {store : StoreState} {opened : Option OpenBody} → Lawful g → m'.refusal ≡ Some r → FaultMatchesSink g m.sink m'.sink r.fault → LacksFrom piece m input r.fault →
     Moves input after (index + 1) [] store opened → Stops g m.sink (reading_state_by m input) (next_bytes input piece) index m'.sink r → StopsFrom piece m input m' after
-stops_from {g = g} {m' = m'} {after = after} {r = r} laws is tells moved stops = (
+stops_from {g = g} {m' = m'} {after = after} {r = r} laws is tells lacks moved stops = (
   r,
   is,
   λ old by. record {
     budget = moved.budget ∙ by.counts.budget;
     turns = omega (arith, by.counts.turns, moved.turns);
     tells = (tells.0, λ working fails. tells.1 (by.works.clear working) fails);
+    lacks = λ short memory. lacks short old by memory;
     stops = λ rested agrees.
         stops_reached by.reaches laws (record { machine = m'; input = after; rested = rested; agrees = agrees }) (omega (arith, moved.budget, moved.charged)) stops (omega (arith, moved.fed, by.counts.fed));
   },
@@ -161,10 +184,13 @@ stops_from {g = g} {m' = m'} {after = after} {r = r} laws is tells moved stops =
 
 -- The next byte is refused, or memory is lacking for it.
 pub byte_stops : {S : Type 0} {g : Ghosts S} {m m' : Machine S g} {input after : Input} {piece : List ℕ} {byte place : ℕ} {r : Refusal} {store : StoreState} {opened : Option OpenBody} → Lawful g → IsNextByte input piece byte place →
-    m'.refusal ≡ Some r → m'.sink ≡ m.sink → r.fault ≢ Sink → Moves input after 1 [] store opened → StopsByte g m.sink [] (reading_state_by m input) (placed_at byte place) m.sink r → StopsFrom piece m input m' after
-byte_stops {S} {g} {m} {m'} {input} {piece = piece} {byte = byte} {place = place} {r = r} laws next is sink other moved stops =
-    stops_from {index = 0} laws is (subst (λ (t : S). FaultMatchesSink g m.sink t r.fault) (sym sink) (own_tells g m.sink other)) moved
+    m'.refusal ≡ Some r → m'.sink ≡ m.sink → r.fault ≢ Sink → LacksFrom piece m input r.fault → Moves input after 1 [] store opened → StopsByte g m.sink [] (reading_state_by m input) (placed_at byte place) m.sink r → StopsFrom piece m input m' after
+byte_stops {S} {g} {m} {m'} {input} {piece = piece} {byte = byte} {place = place} {r = r} laws next is sink other lacks moved stops =
+    stops_from {index = 0} laws is (subst (λ (t : S). FaultMatchesSink g m.sink t r.fault) (sym sink) (own_tells g m.sink other)) lacks moved
     (stops_now next.is (subst (λ (t : S). StopsByte g m.sink [] (reading_state_by m input) (placed_at byte place) t r) (sym sink) stops))
+
+pub own_is : {fault : Fault} → fault ≡ Budget → fault ≢ Memory
+own_is is short = let bad : Budget ≡ Memory = sym is ∙ short in cc
 
 -- the fault of a body that can't be presented isn't the sink's
 pub own_fault : {mid after : Input} {bytes : List ℕ} {fault : Fault} → CannotShow mid after bytes fault → fault ≢ Sink
@@ -193,8 +219,8 @@ pub begins_piece : {S : Type 0} {g : Ghosts S} {piece : List ℕ} (old : Reader 
 begins_piece {g = g} old live none small few =
     let empty : unread_of old.input ≡ [] = ap (unread old.input.store.bytes) none in
     record {
-      counts = record { reads = record { within = omega arith; small = small; few = omega (arith, few) }; budget = refl; fed = refl; turns = omega arith };
-      works = record { live = live; clear = λ working. working };
+      counts = record { reads = record { within = omega arith; small = small; few = omega (arith, few) }; budget = refl; promise = refl; fed = refl; turns = omega arith };
+      works = record { live = live; clear = λ working. working; spares = λ spared. spared };
       reaches = record {
         sink = sink_of old;
         holding = reading_state old;
@@ -254,7 +280,8 @@ module _ {S : Type 0} {g : Ghosts S} {from now : Machine S g} {input : Input} {p
       Stops g from.sink (reading_state_by from input) (next_bytes input piece) count now.sink r → StopsFrom piece from input now after
   turn_stops {r = r} laws moved latches is stops =
       let same : latches.why ≡ r = let both : Some latches.why ≡ Some r = sym latches.is ∙ is in cc in
-      stops_from laws is (subst (λ (r : Refusal). FaultMatchesSink g from.sink now.sink r.fault) same latches.tells) moved stops
+      stops_from laws is (subst (λ (r : Refusal). FaultMatchesSink g from.sink now.sink r.fault) same latches.tells)
+      (λ short old by memory. absurd (latches.spares (by.works.spares memory.0) (ap (λ (r : Refusal). r.fault) same ∙ short))) moved stops
 
   -- the byte at the stop can be passed
   pub stop_passes : {mid : Input} {u : S} {r : Refusal} {store : StoreState} {opened : Option OpenBody} → Moves input mid count [] store opened → Stops g from.sink (reading_state_by from input) (next_bytes input piece) count u r → CanAdvance mid 1
@@ -301,25 +328,31 @@ module _ {S : Type 0} {g : Ghosts S} {from now : Machine S g} {input : Input} {p
       (stream_front calls.holding.machine (rest ++ x ∷ pending) ≡ shown_front (reading_state_by now input).machine x.place bytes pending) × ArePending [] (record (reading_state_by now input) { machine = record (reading_state_by now input).machine { left = n } })
   calls_it n rest pending pends = (calls.front_is rest pending pends, still_pending (reading_state_by now input) n turn.between calls.rested (calls.still rest pends))
 
+  -- The call leads to its body.
+  call_reaches : {old : Reader S g} → ReadsTo old piece from input → length bytes ≤ (reading_state_by now input).machine.left → (h' : ReadingState) →
+      h' ≡ record (reading_state_by now input) { machine = after_charge (reading_state_by now input).machine (length bytes) } → Reaches old piece (past (past (position_of input) index []) 1 (all_at x.place bytes)) now.sink h'
+  call_reaches by few h' retained =
+      let m = (reading_state_by now input).machine in
+      let came = all_at x.place bytes in
+      let passes : Passes g now.sink calls.holding (x ∷ []) now.sink h' came =
+      λ s o pending c.
+      let (shows_it, pends) = calls_it (m.left - length bytes) c.rest pending c.retained in
+      leads_shown c m x.place bytes pending shows_it few h' (ap (λ (h : ReadingState). h.machine) retained) (subst (ArePending []) (sym retained) pends) in
+      let there = reaches_on by.reaches index (omega (arith, long)) calls.leads in
+      reaches_called there came (sym (drop_next (unread_of input) input.fed input.at index piece) ∙ calls.is) passes (omega (arith, calls.left, few, ap (λ (h : ReadingState). h.machine.left) retained, length-all_at x.place bytes))
+      (All-map (λ (y : Placed). y.place ≡ x.place) (λ (b : ℕ). placed_at b x.place) bytes (λ i d less. refl)) (ap (λ (h : ReadingState). h.open_run) retained ∙ calls.rested)
+
   -- The body of the call comes next.
   pub call_goes : {after : Input} → Works from now → Moves input after count (all_at place bytes) input.store input.body → Goes piece count from input now after
   call_goes {after} works moved = record {
     counts = turn_counts turn moved;
     on = λ old by.
         let m = (reading_state_by now input).machine in
-        let came = all_at x.place bytes in
         let few : length bytes ≤ m.left = omega (arith, after.within, moved.budget, moved.charged, length-all_at place bytes) in
         let retained : reading_state_by now after ≡ record (reading_state_by now input) { machine = after_charge m (length bytes) } = state_moved moved now (omega (arith, moved.budget, moved.charged, length-all_at place bytes)) in
-        let passes : Passes g now.sink calls.holding (x ∷ []) now.sink (reading_state_by now after) came =
-        λ s o pending c.
-        let (shows_it, pends) = calls_it (m.left - length bytes) c.rest pending c.retained in
-        leads_shown c m x.place bytes pending shows_it few (reading_state_by now after) (ap (λ (h : ReadingState). h.machine) retained) (subst (ArePending []) (sym retained) pends) in
-        let there = reaches_on by.reaches index (omega (arith, long)) calls.leads in
-        let here =
-        reaches_called there came (sym (drop_next (unread_of input) input.fed input.at index piece) ∙ calls.is) passes (omega (arith, calls.left, few, ap (λ (h : ReadingState). h.machine.left) retained, length-all_at x.place bytes))
-        (All-map (λ (y : Placed). y.place ≡ x.place) (λ (b : ℕ). placed_at b x.place) bytes (λ i d less. refl)) (ap (λ (h : ReadingState). h.open_run) retained ∙ calls.rested) in
+        let here = call_reaches by few (reading_state_by now after) retained in
         reads_at by moved (turn_few turn) works
-        (subst (λ (p : Position). Reaches old piece p now.sink (reading_state_by now after)) (past_twice (position_of input) index came ∙ ap₂ (λ (n m : ℕ). past (position_of input) n (all_at m bytes)) (sym counted) (sym place_is)) here);
+        (subst (λ (p : Position). Reaches old piece p now.sink (reading_state_by now after)) (past_twice (position_of input) index (all_at x.place bytes) ∙ ap₂ (λ (n m : ℕ). past (position_of input) n (all_at m bytes)) (sym counted) (sym place_is)) here);
   }
 
   -- The body of the call can't be charged, or memory is lacking for it.
@@ -333,7 +366,15 @@ module _ {S : Type 0} {g : Ghosts S} {from now : Machine S g} {input : Input} {p
       (cannot_stops m bytes (record (reading_state_by now input) { machine = after_charge m (length bytes) }) (omega (arith, adv.budget, adv.charged)) (sym calls.left) (λ _. calls.closed) refl (calls_it (m.left - length bytes)) reason) in
       let stopped : Stops g from.sink (reading_state_by from input) all index now.sink (refusal fault place) =
       subst (λ (n : ℕ). Stops g from.sink (reading_state_by from input) all n now.sink (refusal fault place)) (let e : index + 0 ≡ index = omega arith in e) (stops_after all index calls.leads 0 (stops_now calls.is stops)) in
-      stops_from laws is (λ device. absurd (own_fault cannot device), λ working fails. absurd (false≢true (sym (works.clear working) ∙ ap g.failed (sym sink) ∙ fails)))
+      let lacks : LacksFrom piece from input fault =
+      λ short old by memory.
+      let few : length bytes ≤ mid.budget - mid.charged = elim reason [
+        | inl budget ↦ absurd (own_is budget.0 short)
+        | inr none ↦ none.2
+      ] in
+      let many = ap (λ (store : StoreState). length (body_of store.names name)) adv.store_is in
+      overcharged by (call_reaches by (omega (arith, few, adv.budget, adv.charged)) _ refl) (omega (arith, few, many, input.within, adv.budget, adv.charged)) (rw adv.promise at (cannot.lacks short)) mid.few memory in
+      stops_from laws is (λ device. absurd (own_fault cannot device), λ working fails. absurd (false≢true (sym (works.clear working) ∙ ap g.failed (sym sink) ∙ fails))) lacks
       (moves_then (index + 1) (omega (arith, counted)) adv (stores_moves cannot.still refl) refl refl) (rw sink stopped)
 
 -- The loop.

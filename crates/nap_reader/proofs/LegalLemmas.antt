@@ -1,11 +1,6 @@
-use Rattle.nap_reader.proofs.Common.{AcceptedIsLegal, All-append, All-nil, AllFit, BegunComesFirst, BreaksAmong, BreaksAt, BreaksBetween, BreaksFrom, BreaksWith, CanLackAt, Cause, DrawFault, EndBreaksAmong, Entry, Err, FedBreaksAmong, Ghosts, IfSome, IsBroken, LacksWithin, Legal, List, None, Ok, Option, Outcome, ReadValuesAreInRange, Refusal, Result, RuleResult, Some, StopsBy, Unfinished, WantsMemory, WantsSome, Work, [], ap, append-nil, append_assoc, arith, begun, cause_of, code_fits, code_values_are_in_range, device, drawn_values_are_in_range, drop, ended_by, get_or, get_or-append_seam, inl, inr, length, length-append, means, memory, open_run, placed_from, refl, rule, rule_fits, start, start_machine, stream, sym, take, take-append_seam, walk, with_drawn, with_end, with_run, with_run_by, ℕ, ◌++◌, ◌+◌, ◌∙◌, ◌∷◌, ◌≡◌, ◌≢◌, ◌⊎◌}
+use Rattle.nap_reader.proofs.Common.{AcceptedIsLegal, AddsEntries, All-append, All-nil, AllFit, AllInRange, BegunComesFirst, BreaksAmong, BreaksAt, BreaksBetween, BreaksFrom, BreaksWith, CanLackAt, Cause, DefinitionsAgree, DrawFault, EndBreaksAmong, Entry, Err, FedBreaksAmong, Ghosts, IfSome, InRange, IsBroken, LacksWithin, Legal, List, None, Ok, OpenDefinition, Option, Outcome, PlacedWith, PlacedWithin, ReadValuesAreInRange, Refusal, Result, RuleResult, Some, StateInRange, StatesAgree, StopsBy, Unfinished, WantsMemory, WantsSome, Work, [], ap, append-nil, append_assoc, arith, begun, cause_of, code_fits, code_values_are_in_range, device, drawn_values_are_in_range, drop, ended_by, fits_join, get_or, get_or-append_seam, inl, inr, length, length-append, means, memory, open_run, placed_from, refl, rule, rule_fits, start, start_agrees, start_machine, stream, sym, take, take-append_seam, walk, walks_join, with_drawn, with_end, with_run, with_run_by, ℕ, ◌++◌, ◌+◌, ◌∙◌, ◌∷◌, ◌≡◌, ◌≢◌, ◌⊎◌}
 use Rattle.nap_reader.proofs.Base.{First, IsOfWords, Puts, breaks_longer, breaks_more, breaks_there, by_code, by_rule, closed_first, lacks_there, more_bytes_keep_entries, puts_nothing, run_first, same_first, taken_all, took_prefix}
 use Rattle.nap_reader.proofs.StreamLemmas.{outcome_holds}
-use Rattle.nap_reader.specs.Breaking.{AddsEntries, PlacedWith, PlacedWithin}
-use Rattle.nap_list.specs.declared.state.OpenDefinition.{OpenDefinition}
-use Rattle.nap_list.specs.Agreement.{DefinitionsAgree, StatesAgree}
-use Rattle.nap_list.specs.Range.{AllInRange, InRange, StateInRange}
-use Rattle.nap_list.proofs.PublicLaws.{fits_join, start_agrees, walks_join}
 
 -- The end of a stream keeps the entries before it. It is accepted only where nothing was refused before and no definition
 -- is open.

@@ -1,6 +1,4 @@
-use Rattle.nap_reader.proofs.Common.{All, All-append, All-cons, All-head, All-nil, All-pop, All-replicate, All-tail, Bool, CanAdvance, CanPass, Err, Frame, FramesIn, Innermost, Input, IsBefore, IsFrame, IsNextText, IsNextByte, IsOver, List, None, Ok, OnErr, OnOk, Placed, Position, Reads, Result, Some, Span, StoreState, [], add-zero, all_at, ap, append-nil, append_assoc, ap₂, arith, begun, bytes_from, bytes_of, drop, drop-append-le, drop-append_seam, drop-drop, drop-map, drop-take, drop_all, drop_more, drop_of_length-le, false, frame_bytes, get_or, length, length-append, length-drop, length-map, length-take, map, map-set, next_bytes, nil_from_length, place_at, placed_at, placed_by_step, placed_from, position_of, refl, replicate, set, slice_get, store_bound, store_grown, store_limit, store_shown, sublist, sublist_at, subst, suc, sym, take, take-append-le, take-append_seam, take-map, take-take, take_rest, true, unread, unread_of, zero, ℕ, ◌*◌, ◌++◌, ◌+◌, ◌-◌, ◌<◌, ◌∙◌, ◌∷◌, ◌≡◌, ◌≢◌, ◌≤◌}
-use Rattle.std.proofs.lemmas.List.{same_from_push}
-use Rattle.nap_reader.specs.Stored.{IsStore}
+use Rattle.nap_reader.proofs.Common.{All, All-append, All-cons, All-head, All-nil, All-pop, All-replicate, All-tail, Bool, CanAdvance, CanPass, Err, Exceeds, Frame, FramesIn, Innermost, Input, IsBefore, IsFrame, IsNextByte, IsNextText, IsOver, IsStore, List, None, Ok, OnErr, OnOk, Placed, Position, Promise, Reads, Result, Some, Span, StoreState, [], add-zero, all_at, ap, append-nil, append_assoc, ap₂, arith, begun, bytes_from, bytes_of, drop, drop-append-le, drop-append_seam, drop-drop, drop-map, drop-take, drop_all, drop_more, drop_of_length-le, false, frame_bytes, get_or, inl, inr, length, length-append, length-drop, length-map, length-take, ltb, ltb-false, ltb-true, map, map-set, next_bytes, nil_from_length, place_at, placed_at, placed_by_step, placed_from, position_of, promised, refl, replicate, same_from_push, set, slice_get, store_bound, store_grown, store_limit, store_shown, sublist, sublist_at, subst, suc, sym, take, take-append-le, take-append_seam, take-map, take-take, take_rest, true, unread, unread_of, zero, ℕ, ◌*◌, ◌++◌, ◌+◌, ◌-◌, ◌<◌, ◌∙◌, ◌∷◌, ◌≡◌, ◌≢◌, ◌≤◌}
 use Rattle.nap_reader.proofs.StreamLemmas.{bytes_of-all_at, bytes_of-append, bytes_of-placed, length-all_at}
 
 -- a part of a list is unchanged by more bytes at the end of the list
@@ -19,27 +17,28 @@ bodies-store_grown bytes more n (span ∷ spans) h all =
     ap (λ (body : List ℕ). body ∷ map (sublist_at (bytes ++ more)) spans) same ∙ ap (λ (bodies : List (List ℕ)). sublist_at bytes span ∷ bodies) rest
 
 -- the state of a store with these fields
-abbrev pub state_of : List ℕ → List Span → ℕ → ℕ → StoreState
-state_of bytes spans from stored = record { names = map (sublist_at bytes) spans; bytes = bytes; body = drop from bytes; stored = stored }
+abbrev pub state_of : List ℕ → List Span → ℕ → ℕ → Promise → StoreState
+state_of bytes spans from stored promise = record { names = map (sublist_at bytes) spans; bytes = bytes; body = drop from bytes; stored = stored; promise = promise }
 
 -- no name is bound
-pub none_bound : {bytes : List ℕ} {from stored : ℕ} → from ≤ length bytes → stored + (length bytes - from) ≤ store_limit → IsStore bytes (replicate 96 (record { start = 0; end = 0 })) from stored
-none_bound {from = from} begun few = record { bound = All-replicate (IsBefore from) 96 _ (omega arith, omega arith); all = refl; begun = begun; few = few }
+pub none_bound : {bytes : List ℕ} {from stored : ℕ} {promise : Promise} {space : ℕ} → from ≤ length bytes → stored + (length bytes - from) ≤ store_limit → promised promise ≤ space →
+    IsStore bytes (replicate 96 (record { start = 0; end = 0 })) from stored promise space
+none_bound {from = from} begun few kept = record { bound = All-replicate (IsBefore from) 96 _ (omega arith, omega arith); all = refl; begun = begun; few = few; kept = kept }
 
-pub grown_by : (more : List ℕ) {bytes new : List ℕ} {spans : List Span} {from stored : ℕ} {old : StoreState} → IsStore bytes spans from stored → state_of bytes spans from stored ≡ old → new ≡ bytes ++ more → state_of new spans from stored ≡ store_grown old more
+pub grown_by : (more : List ℕ) {bytes new : List ℕ} {spans : List Span} {from stored : ℕ} {promise : Promise} {space : ℕ} {old : StoreState} → IsStore bytes spans from stored promise space → state_of bytes spans from stored promise ≡ old → new ≡ bytes ++ more → state_of new spans from stored promise ≡ store_grown old more
 grown_by more {bytes} {spans = spans} {from} store view is =
     rw (is, ← view, bodies-store_grown bytes more from spans store.begun store.bound, drop-append-le from bytes more store.begun) refl
 
-pub bound : (bytes : List ℕ) (spans : List Span) (from stored name end : ℕ) → from ≤ length bytes → end ≡ length bytes →
-    state_of bytes (set spans (name - 32) (record { start = from; end = end })) end (stored + (end - from))
-    ≡ store_bound (state_of bytes spans from stored) name
-bound bytes spans from stored name end h all =
+pub bound : (bytes : List ℕ) (spans : List Span) (from stored : ℕ) (promise : Promise) (name end : ℕ) → from ≤ length bytes → end ≡ length bytes →
+    state_of bytes (set spans (name - 32) (record { start = from; end = end })) end (stored + (end - from)) promise
+    ≡ store_bound (state_of bytes spans from stored promise) name
+bound bytes spans from stored promise name end h all =
     rw (all, map-set (sublist_at bytes) spans (name - 32) (record { start = from; end = length bytes }), take_rest bytes from, drop_of_length-le bytes {i = length bytes} (omega arith), length-drop) refl
 
-pub bound_grown : (bytes : List ℕ) (spans : List Span) (from stored name ender end : ℕ) → All (IsBefore from) spans → from ≤ length bytes → end ≡ length bytes →
-    state_of (bytes ++ 0x1B ∷ ender ∷ []) (set spans (name - 32) (record { start = from; end = end })) (length (bytes ++ 0x1B ∷ ender ∷ [])) (stored + (end - from))
-    ≡ store_shown (state_of bytes spans from stored) name ender
-bound_grown bytes spans from stored name ender end all h same =
+pub bound_grown : (bytes : List ℕ) (spans : List Span) (from stored : ℕ) (promise : Promise) (name ender end : ℕ) → All (IsBefore from) spans → from ≤ length bytes → end ≡ length bytes →
+    state_of (bytes ++ 0x1B ∷ ender ∷ []) (set spans (name - 32) (record { start = from; end = end })) (length (bytes ++ 0x1B ∷ ender ∷ [])) (stored + (end - from)) promise
+    ≡ store_shown (state_of bytes spans from stored promise) name ender
+bound_grown bytes spans from stored promise name ender end all h same =
     let more : List ℕ = 0x1B ∷ ender ∷ [] in
     let store_grown = bodies-store_grown bytes more from spans h all in
     let body = sublist-store_grown bytes more from (length bytes) h (omega arith) ∙ take_rest bytes from in
@@ -51,6 +50,20 @@ bound_grown bytes spans from stored name ender end all h same =
       drop_of_length-le (bytes ++ more) {i = length (bytes ++ more)} (omega arith),
       length-drop,
     ) refl
+
+-- a store that is too small for a promise and these bytes
+pub exceeds_by : (promise : Promise) (stored charged : ℕ) → promised promise < stored + charged → Exceeds promise stored charged
+exceeds_by promise stored charged more = by (ltb promise.stored stored) refl
+  where
+    by : (less : Bool) → ltb promise.stored stored ≡ less → Exceeds promise stored charged
+    by true is = inl (ltb-true promise.stored stored is)
+    by false is = inr (omega (arith, ltb-false promise.stored stored is, more))
+
+-- the store had no memory for some bytes more
+pub exceeds_in : {E : Type 0} (input : Input) (n : ℕ) (r : Result (Unit {0}) E) → OnErr r (promised input.store.promise < length input.store.bytes + n) →
+    OnErr r (Exceeds input.store.promise (input.store.stored + length input.store.body + n) input.charged)
+exceeds_in input n (Ok done) full = full
+exceeds_in input n (Err e) full = exceeds_by input.store.promise (input.store.stored + length input.store.body + n) input.charged (omega (arith, full, input.paired))
 
 -- one more body is read
 pub unread-push : (bytes : List ℕ) (frames : List Frame) (frame : Frame) →
@@ -356,10 +369,10 @@ none_left input piece none all =
 
 -- The open body has grown, or memory was lacking and it is unchanged.
 pub grown : {E : Type 0} (input : Input) (new : StoreState) (more : List ℕ) (r : Result (Unit {0}) E) → OnOk r (new ≡ store_grown input.store more) → OnErr r (new ≡ input.store) → input.store.stored + length input.store.body + length more ≤ store_limit →
-    FramesIn (length new.bytes) input.frames.stack.items × (input.turns + length (unread new.bytes input.frames.stack.items) ≡ input.fed + input.charged) × (new.stored + length new.body ≤ store_limit) × (length new.bytes ≤ new.stored + length new.body + input.charged)
+    FramesIn (length new.bytes) input.frames.stack.items × (input.turns + length (unread new.bytes input.frames.stack.items) ≡ input.fed + input.charged) × (new.stored + length new.body ≤ store_limit) × (length new.bytes ≤ new.stored + length new.body + input.charged) × (new.promise.charged ≤ input.frames.stack.capacity)
 grown input new more (Ok done) is err few =
     let sizes = ap (λ (t : StoreState). t.stored + length t.body) is ∙ ap (λ (n : ℕ). input.store.stored + n) (length-append input.store.body more) in
     let bytes = ap (λ (t : StoreState). length t.bytes) is ∙ length-append input.store.bytes more in
     let same = ap (λ (t : StoreState). length (unread t.bytes input.frames.stack.items)) is ∙ ap length (unread-store_grown input.store.bytes more input.frames.stack.items input.framed) in
-    (frames-store input.store new more input.frames.stack.items (ap (λ (t : StoreState). t.bytes) is) input.framed, omega (arith, input.turned, same), omega (arith, few, sizes), omega (arith, input.paired, sizes, bytes))
-grown input new more (Err e) ok is few = rw is (input.framed, input.turned, input.few, input.paired)
+    (frames-store input.store new more input.frames.stack.items (ap (λ (t : StoreState). t.bytes) is) input.framed, omega (arith, input.turned, same), omega (arith, few, sizes), omega (arith, input.paired, sizes, bytes), omega (arith, input.deep, ap (λ (t : StoreState). t.promise.charged) is))
+grown input new more (Err e) ok is few = rw is (input.framed, input.turned, input.few, input.paired, input.deep)

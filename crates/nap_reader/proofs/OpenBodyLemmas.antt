@@ -1,5 +1,4 @@
-use Rattle.nap_reader.proofs.Common.{All, All-cons, All-head, All-nil, All-tail, AreOfBody, ArePending, ArePendingIn, BodyFront, Bool, Continues, EighthBit, Fault, Ghosts, IsOpenBody, IsRefused, List, Machine, Mode, None, OpenBody, Option, Outcome, Placed, ReadingState, Some, Store, [], act, after_body, ap, append-nil, append_assoc, ap₂, arith, between, body_front, body_front_after, body_front_by, bound_front, bytes_of, drop_at, ends_body, eqb, eqb-false, eqb-true, false, stream_front, in_body, le-leb, length, length-append, length-map, lt-leb, nat_tests, ne_eqb, outcome_from, pending_escape, place_at, prepend, refl, refusal, refuse, shown_front, store_limit, stores, subst, sym, take, take-append-add, take-map, take_at, true, ℕ, ◌++◌, ◌+◌, ◌-◌, ◌<◌, ◌∙◌, ◌∷◌, ◌≡◌, ◌≢◌, ◌≤◌}
-use Rattle.std.proofs.Math.Seq.{drop-append-add}
+use Rattle.nap_reader.proofs.Common.{All, All-cons, All-head, All-nil, All-tail, AreOfBody, ArePending, ArePendingIn, BodyFront, Bool, Continues, EighthBit, Fault, Ghosts, IsOpenBody, IsRefused, List, Machine, Mode, None, OpenBody, Option, Outcome, Placed, ReadingState, Some, Store, [], act, after_body, ap, append-nil, append_assoc, ap₂, arith, between, body_front, body_front_after, body_front_by, bound_front, bytes_of, drop-append-add, drop_at, ends_body, eqb, eqb-false, eqb-true, false, in_body, le-leb, length, length-append, length-map, lt-leb, nat_tests, ne_eqb, outcome_from, pending_escape, place_at, prepend, refl, refusal, refuse, shown_front, store_limit, stores, stream_front, subst, sym, take, take-append-add, take-map, take_at, true, ℕ, ◌++◌, ◌+◌, ◌-◌, ◌<◌, ◌∙◌, ◌∷◌, ◌≡◌, ◌≢◌, ◌≤◌}
 use Rattle.nap_reader.specs.Bodies as bodies
 use Rattle.nap_reader.proofs.ReadingLemmas.{by_front, front_at, holds_nothing, leads_to_refusal, place_at-following}
 use Rattle.nap_reader.proofs.StreamLemmas.{bytes_of-append}

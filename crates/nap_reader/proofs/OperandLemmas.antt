@@ -1,6 +1,4 @@
-use Rattle.nap_reader.proofs.Common.{All, All-head, All-tail, Bool, Fits, IsOver, IsTextByte, IsWholeRun, List, OpenRun, Option, Some, [], ap, append_assoc, ap₂, arith, cond, count_trailing_zeros, drop, drop-drop, eq-eqb, eqb, format_effector, get_or, get_or-drop, get_or-take, is_from, is_of_text, is_operand_byte, is_some, leb, length, length-drop, length-map, length-prefix_len, length-take-le, map, map-append, nat_tests, ne_eqb, not, operand_words, prefix_len, prefix_len-append, prefix_len-drop_yes, prefix_len-le-length, prefix_len_passes, prefix_len_stops, refl, replicate, run_by, sym, take, take-append-drop, true, w8, ℕ, ◌%◌, ◌*◌, ◌++◌, ◌+◌, ◌-◌, ◌<◌, ◌^◌, ◌∙◌, ◌∷◌, ◌≡◌, ◌≤◌}
-use Rattle.std.proofs.lemmas.Simd.{chunk-drop, leading_from_mask_l, length-chunk, mask_l-mod, trailing_mask_l}
-use Rattle.nap_reader.specs.Prefix.{is_other}
+use Rattle.nap_reader.proofs.Common.{All, All-head, All-tail, Bool, Fits, IsOver, IsTextByte, IsWholeRun, List, OpenRun, Option, Some, [], ap, append_assoc, ap₂, arith, chunk-drop, cond, count_trailing_zeros, drop, drop-drop, eq-eqb, eqb, format_effector, get_or, get_or-drop, get_or-take, is_from, is_of_text, is_operand_byte, is_other, is_some, leading_from_mask_l, leb, length, length-chunk, length-drop, length-map, length-prefix_len, length-take-le, map, map-append, mask_l-mod, nat_tests, ne_eqb, not, operand_words, prefix_len, prefix_len-append, prefix_len-drop_yes, prefix_len-le-length, prefix_len_passes, prefix_len_stops, refl, replicate, run_by, sym, take, take-append-drop, trailing_mask_l, true, w8, ℕ, ◌%◌, ◌*◌, ◌++◌, ◌+◌, ◌-◌, ◌<◌, ◌^◌, ◌∙◌, ◌∷◌, ◌≡◌, ◌≤◌}
 use lib.Lanes.{Each1, chunk, mask_l, top, zip2}
 
 -- Operand bytes of a prefix, and their words. Bytes of a range in a prefix, counted in blocks by the mask of the

@@ -1,4 +1,4 @@
-use Rattle.nap_reader.proofs.Common.{Breaks, BreaksFrom, Cause, DrawFault, Entry, Ghosts, GivesSome, Leads, List, None, Ok, Outcome, Passes, Placed, ReadingState, Result, RuleResult, TakesPart, TakesSome, TookPart, TookPrefix, WantsBy, [], ap, append-nil, append_assoc, arith, at_byte, cause_of, device, draw_fault, false, inl, inr, kept_list, length, length-append, memory, outcome_from, refl, refusal, stream, subst, sym, true, ◌++◌, ◌∙◌, ◌∷◌, ◌≡◌, ◌≢◌}
+use Rattle.nap_reader.proofs.Common.{Breaks, BreaksFrom, Cause, DrawFault, Entry, Ghosts, GivesSome, Leads, List, Memory, NeverWants, None, Ok, Outcome, Passes, Placed, ReadingState, Result, RuleResult, TakesPart, TakesSome, TookPart, TookPrefix, WantsBy, [], ap, append-nil, append_assoc, arith, at_byte, cause_of, device, draw_fault, false, inl, inr, kept_list, length, length-append, memory, outcome_from, refl, refusal, stream, subst, sym, true, ◌++◌, ◌∙◌, ◌∷◌, ◌≡◌, ◌≢◌}
 use Rattle.nap_draw.specs.declared.fault.DrawFault.TheVariants as draw_faults
 use Rattle.nap_draw.specs.Draws as draws
 use Rattle.nap_reader.proofs.ReadingLemmas.{Lawful, rule_part, was_failed}
@@ -70,6 +70,14 @@ pub record Fails {S : Type 0} (g : Ghosts S) (by : Result RuleResult DrawFault) 
   pub drew : draws.DrawsBy g.took g.broke g.failed by t u fault (draws.draw_cause fault)
   pub wants : fault ≡ draw_faults.Memory → WantsBy g by t u
   pub gives : fault ≡ draw_faults.Sink → GivesSome by
+
+-- memory isn't lacking for a sink that never wants any
+pub fails_spare : {S : Type 0} {g : Ghosts S} {by : Result RuleResult DrawFault} {t u : S} (fault : DrawFault) → Fails g by t u fault → NeverWants g t → draw_fault fault ≢ Memory
+fails_spare {g = g} {t = t} {u = u} draw_faults.Memory fails never is =
+    let (drawn, by_is, _) = fails.drew in
+    let wanted = subst (λ (by : Result RuleResult DrawFault). WantsBy g by t u) by_is (fails.wants refl) in
+    never drawn.entries wanted.wants
+fails_spare _ fails never is = cc
 
 -- A byte ends a code, whose rule acts, and not all of its entries could be put.
 pub code_breaks : {S : Type 0} {g : Ghosts S} {t u : S} {h : ReadingState} {x : Placed} {fault : DrawFault} {by : Result RuleResult DrawFault} (after : RuleResult → ReadingState) → h.open_run ≡ None →

@@ -136,6 +136,13 @@ module _ {S : Type 0} {g : Ghosts S} {old : Reader S g} {piece : List ℕ} {p : 
   pub acts_before : LeadsOn g by.sink by.holding t h [] (bytes_of (bytes_from p piece))
   acts_before = record { conveys = conveys_nothing g by.sink by.holding; acted = by.acted }
 
+  -- no more is left to charge at the end of the piece than there
+  pub reaches_left : (s : S) (q : List ℕ) → HasRead old s q → (begun (budget_of old) (q ++ piece)).machine.left ≤ h.machine.left
+  reaches_left s q had_read =
+      let all = append_assoc q (take p.at piece) (drop p.at piece) ∙ ap (λ (r : List ℕ). q ++ r) (take-append-drop p.at piece) in
+      let known = leads_left (leads_more (budget_of old) (q ++ take p.at piece) (drop p.at piece) (by.leads.known s q had_read)) in
+      omega (arith, subst (λ (r : List ℕ). (begun (budget_of old) r).machine.left ≤ by.holding.machine.left) all known, by.acted.left)
+
   -- the bytes up to one, and those from it on
   pub parts_at : (n : ℕ) → bytes_of (bytes_from p piece) ≡ bytes_of (take n (bytes_from p piece)) ++ bytes_of (drop n (bytes_from p piece))
   parts_at n = ap bytes_of (sym (take-append-drop n (bytes_from p piece))) ∙ bytes_of-append (take n (bytes_from p piece)) (drop n (bytes_from p piece))

@@ -1,4 +1,4 @@
-use Rattle.nap_reader.proofs.Common.{All, All-head, All-tail, Code, CodeActs, FrontAfterFront, IsAlone, IsOpenRun, IsOperandByte, IsRun, List, Machine, Opcode, Placed, RunActs, RunWaits, [], arith, bytes_of, code_front, code_rule, drawn_front, is_operand_byte, kind_of, length, length-append, length-map, nat_tests, refl, run_length, true, walk, carried_words, ℕ, ◌++◌, ◌+◌, ◌∙◌, ◌∷◌, ◌≡◌}
+use Rattle.nap_reader.proofs.Common.{All, All-head, All-tail, Code, CodeActs, FrontAfterFront, IsAlone, IsOpenRun, IsOperandByte, IsRun, List, Machine, Opcode, Placed, RunActs, RunWaits, [], arith, bytes_of, carried_words, code_front, code_rule, drawn_front, is_operand_byte, kind_of, length, length-append, length-map, nat_tests, refl, run_length, true, walk, ℕ, ◌++◌, ◌+◌, ◌∙◌, ◌∷◌, ◌≡◌}
 use Rattle.nap_reader.proofs.Base.{front_code, front_run, open_run_pauses, outcome_from-front}
 pub use Rattle.nap_reader.proofs.LegalLemmas.{begun_comes_first, end_breaks_among, fed_breaks_among, accepted_is_legal, read_values_are_in_range}
 pub use Rattle.nap_reader.proofs.LawLemmas.{more_bytes_keep_entries, more_bytes_keep_refusal, pieces_agree}

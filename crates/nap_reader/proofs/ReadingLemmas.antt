@@ -1,4 +1,4 @@
-use Rattle.nap_reader.proofs.Common.{ArePending, ArePendingBetweenCodes, ArePendingBy, ArePendingIn, Bool, Budget, Code, CodeFault, CodeSets, Continues, DrawFault, Entry, Err, StreamFront, Ghosts, IfErr, IsDrawn, IsOpenBody, IsOpenRun, IsRefused, Leads, List, LongRun, Machine, Mode, None, Ok, OnOk, Opcode, OpenBody, OpenRun, Option, Outcome, Owes, Placed, ReadingState, Refusal, Result, RuleResult, Some, TakesSome, [], act, after_charge, after_drawing, all_at, ap, append-nil, append_assoc, arith, begun, between, body_front, body_front_by, bytes_of, cause_of, code_fault, code_front, code_ranges, code_stays, cond-false, cond-true, continue, draw_fault, drawn_front, drop, drop-append_seam, drop_at, eq-eqb, false, stream_front, front_by, front_in, half_read, is_operand, kept_list, kind_of, le-ltb, length, length-append, length-map, length-prefix_len, lt-ltb, map-append, opened_front, opcodes_are_drawn, outcome_by_front, outcome_from, pause, paused, pending_escape, place_at, placed_from, prefix_len-append, prepend, refl, refusal, refuse, refused_stays, rule, run_length, run_limit, shown_front, start_machine, store_limit, stream, subst, suc, sym, take, take-append_seam, true, unfinished_by, unfinished_of, ℕ, ◌++◌, ◌+◌, ◌-◌, ◌<◌, ◌∙◌, ◌∷◌, ◌≡◌, ◌≢◌, ◌≤◌}
+use Rattle.nap_reader.proofs.Common.{ArePending, ArePendingBetweenCodes, ArePendingBy, ArePendingIn, Bool, Budget, Code, CodeFault, CodeSets, Continues, DrawFault, Entry, Err, Ghosts, IfErr, IsDrawn, IsOpenBody, IsOpenRun, IsRefused, Leads, List, LongRun, Machine, Mode, None, Ok, OnOk, Opcode, OpenBody, OpenRun, Option, Outcome, Owes, Placed, ReadingState, Refusal, Result, RuleResult, Some, StreamFront, TakesSome, [], act, after_charge, after_drawing, all_at, ap, append-nil, append_assoc, arith, begun, between, body_front, body_front_by, bytes_of, cause_of, closed_front, code_fault, code_front, code_ranges, code_stays, cond-false, cond-true, continue, draw_fault, drawn_front, drop, drop-append_seam, drop_at, eq-eqb, false, front_by, front_in, half_read, is_operand, kept_list, kind_of, le-ltb, length, length-append, length-map, length-prefix_len, lt-ltb, map-append, opcodes_are_drawn, opened_front, outcome_by_front, outcome_from, pause, paused, pending_escape, place_at, placed_from, prefix_len-append, prepend, refl, refusal, refuse, refused_stays, rule, run_length, run_limit, shown_front, start_machine, store_limit, stream, stream_front, subst, suc, sym, take, take-append_seam, true, unfinished_by, unfinished_of, ℕ, ◌++◌, ◌+◌, ◌-◌, ◌<◌, ◌∙◌, ◌∷◌, ◌≡◌, ◌≢◌, ◌≤◌}
 use Rattle.nap_codes.specs.declared.code.Code.TheVariants as code
 use Rattle.nap_codes.specs.Front as codes
 use Rattle.nap_reader.specs.Stream as model
@@ -7,7 +7,6 @@ use Rattle.nap_draw.specs.Draws as draws
 use Rattle.nap_reader.specs.Bodies as bodies
 use Rattle.nap_reader.specs.declared.kind.Kind.TheVariants as kinds
 use Rattle.nap_reader.proofs.SpelledLemmas.{nothing_yet}
-use Rattle.nap_reader.specs.Stream.{closed_front}
 
 -- a list, split after one of its bytes
 
@@ -89,6 +88,10 @@ half_read_pauses m rest half mode is e =
 abbrev pub TookMore : {S : Type 0} → Ghosts S → Type 0
 TookMore {S} g = (s t u : S) (d e : List Entry) → g.took s d t → g.took t e u → g.took s (d ++ e) u
 
+-- memory that is wanted after a list is wanted for both
+abbrev pub WantsMore : {S : Type 0} → Ghosts S → Type 0
+WantsMore {S} g = (s t : S) (d e f : List Entry) → g.took s d t → g.wants t e → g.wants s (d ++ (e ++ f))
+
 -- a list takes all
 pub list_more : TookMore kept_list
 list_more s t u d e first then = then ∙ ap (λ (es : List Entry). es ++ e) first ∙ append_assoc s d e
@@ -97,7 +100,7 @@ list_more s t u d e first then = then ∙ ap (λ (es : List Entry). es ++ e) fir
 pub record Lawful {S : Type 0} (g : Ghosts S) : Type 0 where
   pub more : TookMore g
   pub broken : (s t u : S) (d e : List Entry) (x : Entry) → g.took s d t → g.broke t e x u → g.broke s (d ++ e) x u
-  pub wants : (s t : S) (d e f : List Entry) → g.took s d t → g.wants t e → g.wants s (d ++ (e ++ f))
+  pub wants : WantsMore g
   pub none : (s : S) → g.took s [] s
 
 -- between two codes

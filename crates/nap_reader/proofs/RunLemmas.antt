@@ -1,8 +1,9 @@
-use Rattle.nap_reader.proofs.Common.{ActsRun, All, All-head, All-tail, Bool, Codes, Continues, DrawFault, DrawsBy, Executes, FailsRun, FaultMatchesSink, Ghosts, IsLive, IsOpcodeByte, IsOver, IsWholeRun, LeadsOn, LeadsThrough, List, LongRun, Memory, None, Nothing, Opcode, OpenRun, Outcome, Placed, ReadingState, Refusal, Refuses, RuleResult, Some, Stop, Stops, StopsRun, Takes, [], ap, append-nil, append_assoc, arith, bytes_of, clear_request_if, draw_fault, drop, drop-map, drop_more, get_or, inl, inr, is_operand_byte, length, length-append, length-drop, length-map, length-take-le, map, operand_words, place_at, prefix_len, prefix_len-le-length, prefix_len_passes, refl, refusal, rule, run_limit, state_after_request, subst, sym, take, take-append-drop, true, with_machine, ℕ, ◌%◌, ◌++◌, ◌+◌, ◌-◌, ◌<◌, ◌∙◌, ◌∷◌, ◌≡◌, ◌≤◌}
-use Rattle.nap_reader.proofs.Base.{TookMore, acts_ahead, as_it_was, bytes_of-append, conveys_nothing, first_of, lacks, more_words, operands_prefix, run_over, same_words, split_bytes, stops_now, stops_own, stops_run, word_joins, word_too_many}
+use Rattle.nap_reader.proofs.Common.{ActsRun, All, All-head, All-tail, Bool, Codes, Continues, DrawFault, DrawsBy, Executes, FailsRun, FaultMatchesSink, Ghosts, HasRunMemory, IsLive, IsOpcodeByte, IsOver, IsSpared, IsWholeRun, KeepsMemory, LeadsOn, LeadsThrough, List, LongRun, Memory, None, Nothing, Opcode, OpenRun, Outcome, Placed, ReadingState, Refusal, Refuses, RuleResult, Some, Stop, Stops, StopsRun, Takes, WantsFor, [], ap, append-nil, append_assoc, arith, bytes_of, clear_request_if, draw_fault, drop, drop-map, drop_more, get_or, inl, inr, is_operand_byte, length, length-append, length-drop, length-map, length-take-le, map, operand_words, place_at, prefix_len, prefix_len-le-length, prefix_len_passes, refl, refusal, rule, run_limit, state_after_request, subst, sym, take, take-append-drop, true, vec_capacity, with_machine, ℕ, ◌%◌, ◌++◌, ◌+◌, ◌-◌, ◌<◌, ◌∙◌, ◌∷◌, ◌≡◌, ◌≢◌, ◌≤◌, ◌⊎◌}
+use Rattle.nap_reader.proofs.Base.{TookMore, WantsMore, acts_ahead, as_it_was, bytes_of-append, conveys_nothing, first_of, lacks, more_words, operands_prefix, run_over, same_words, split_bytes, stops_now, stops_own, stops_run, word_joins, word_too_many}
 use Rattle.nap_reader.specs.declared.machine.Machine.{Machine}
-use Rattle.nap_reader.proofs.TakingLemmas.{Drew, LeftBy, asked_is, asks_takes, leads_after, stop_takes, stops_after}
+use Rattle.nap_reader.proofs.TakingLemmas.{Drew, LeftBy, asked_is, asks_takes, leads_after, own_spares, stop_takes, stops_after, works_on, works_still}
 use Rattle.nap_draw.specs.Draws as draws
+use Rattle.nap_draw.specs.declared.fault.DrawFault.TheVariants as draw_faults
 use Rattle.nap_reader.specs.declared.machine.codes.CodeOutcome.TheVariants as outcomes
 use Rattle.nap_reader.proofs.CodesLemmas.{StartsRun, open_at, run_opened}
 
@@ -128,18 +129,18 @@ pub run_too_long : {S : Type 0} {g : Ghosts S} {old new : Machine S g} {open_run
 run_too_long {g = g} {old = old} {open_run = open_run} {xs = xs} ended most is less full refused same =
     let bytes = bytes_of xs in
     let next = drop_more bytes most 0 (omega (arith, less, prefix_len-le-length is_operand_byte bytes)) in
-    stop_takes refused same (omega (arith, less, within xs)) (grind arith)
+    stop_takes refused same (omega (arith, less, within xs)) (grind arith) (λ spared. own_spares refl)
     (λ h following between over.
     operands_long g old.sink (has_space old open_run is h between xs following most (omega (arith, less)) (omega (arith, full))) _ _ (ap (λ (bs : List ℕ). bs ++ bytes_of following) next)
     (prefix_len_passes is_operand_byte bytes most 0 less) (omega (arith, full, counted old open_run is h)))
 
 -- Memory is lacking for the operand bytes.
 pub run_lacks : {S : Type 0} {g : Ghosts S} {old new : Machine S g} {open_run : OpenRun} {xs : List Placed} (ended : Bool) → old.open_run ≡ Some open_run → 0 < operands_in xs → length old.run.items + operands_in xs ≤ run_limit →
-    new.refusal ≡ Some (refusal Memory (place_at xs 0)) → new.sink ≡ old.sink → Takes old new xs ended 0 Stop
-run_lacks {xs = []} ended is some short refused same = absurd (omega (arith, some))
-run_lacks {g = g} {old = old} {open_run = open_run} {xs = x ∷ xs} ended is some short refused same =
+    new.refusal ≡ Some (refusal Memory (place_at xs 0)) → new.sink ≡ old.sink → (HasRunMemory old → ⊥) → Takes old new xs ended 0 Stop
+run_lacks {xs = []} ended is some short refused same full = absurd (omega (arith, some))
+run_lacks {g = g} {old = old} {open_run = open_run} {xs = x ∷ xs} ended is some short refused same full =
     let word = prefix_len_passes is_operand_byte (x.byte ∷ bytes_of xs) 0 0 some in
-    stop_takes refused same (omega arith) (grind arith)
+    stop_takes refused same (omega arith) (grind arith) (λ spared _. full spared.0)
     (λ h following between over.
     stops_now refl (lacks g old.sink (with_machine h old) x _ [] (inl word) (inr (refl, inl (open_run, between, is, word)))
     (λ known s o pending k. word_joins between is k word (omega (arith, some, short, counted old open_run is h)))))
@@ -151,6 +152,7 @@ pub record Joins {S : Type 0} {g : Ghosts S} (old mid : Machine S g) (open_run :
   pub short : length old.run.items + count ≤ run_limit
   pub items : mid.run.items ≡ old.run.items ++ take count (bytes_of xs)
   pub same : (mid.work ≡ old.work) × (mid.lexer ≡ old.lexer) × (mid.open_run ≡ old.open_run) × (mid.sink ≡ old.sink)
+  pub kept : KeepsMemory old mid
 
 -- They wait for further bytes.
 pub run_waits : {S : Type 0} {g : Ghosts S} {old mid : Machine S g} {open_run : OpenRun} {xs : List Placed} {ended : Bool} {count : ℕ} → Joins old mid open_run xs count → IsLive mid → Takes old mid xs ended count Nothing
@@ -159,7 +161,7 @@ run_waits {g = g} {old = old} {open_run = open_run} {xs = xs} {count = count} j 
     let few : count ≤ operands_in xs = omega (arith, j.counted) in
     record {
       within = omega (arith, few, within xs);
-      leaves = record { live = live; clear = λ clear. ap g.failed sink ∙ clear };
+      leaves = works_still j.kept sink live;
       by = λ h following between over.
           operands_wait g old.sink (has_space old open_run j.is h between xs following count few j.short) (bytes_of (drop count (xs ++ following))) sink
           (rw (work, lexer, run, j.items)
@@ -175,12 +177,20 @@ module _ {S : Type 0} {g : Ghosts S} {mid new : Machine S g} {xs : List Placed} 
 
   -- It is refused, or breaks.
   pub run_stops : {failed : Machine S g} {r : Refusal} → FailsRun mid failed r → Refuses failed new r → Takes mid new xs ended 0 Stop
-  run_stops (stopped, tells) refuses =
-      stop_takes refuses.is refuses.sink (omega arith) tells
+  run_stops (stopped, tells, spares) refuses =
+      stop_takes refuses.is refuses.sink (omega arith) tells spares
       (λ h following between known.
       let next = over following known in
       let (x, ys, left, byte, others) = first_of (xs ++ following) next.byte next.rest next.is in
       stops_now left (stops_run (ap is_operand_byte byte ∙ next.other) (stopped h between)))
+
+-- the opcode's rule doesn't lack memory
+pub run_spares : {S : Type 0} {g : Ghosts S} (old : Machine S g) (run : List ℕ) (fault : DrawFault) → (fault ≡ draw_faults.Memory → (vec_capacity old.scratch < length run) ⊎ WantsFor g old.sink) → length run ≤ run_limit → IsSpared old → draw_fault fault ≢ Memory
+run_spares old run draw_faults.Memory lacking short spared is = elim (lacking refl) [
+  | inl few ↦ absurd (omega (arith, few, short, spared.0.1))
+  | inr wanted ↦ spared.1 wanted.0 wanted.1
+]
+run_spares old run _ lacking short spared is = cc
 
 -- The effect of an opcode on a machine without an open run.
 
@@ -242,33 +252,33 @@ module _ {S : Type 0} {g : Ghosts S} {old : Machine S g} {op : Opcode} (x : Plac
 
 module _ {S : Type 0} {g : Ghosts S} {old : Machine S g} {op : Opcode} {bytes : List ℕ} {ended : Bool} {run : List ℕ} (r : RunsWhole old op bytes ended run) where
   -- The opcode acts on its run.
-  pub opcode_acts : {new : Machine S g} (drawn : RuleResult) → LeftBy old new drawn.work old.lexer → Drew g (rule old.work op (operand_words run)) old.sink drawn new.sink → IsLive new → TookMore g → Codes old new bytes ended (outcomes.Acted (length run + 1) drawn.clears)
-  opcode_acts {new} drawn left drew live more = record {
+  pub opcode_acts : {new : Machine S g} (drawn : RuleResult) → LeftBy old new drawn.work old.lexer → Drew g (rule old.work op (operand_words run)) old.sink drawn new.sink → IsLive new → TookMore g → WantsMore g → Codes old new bytes ended (outcomes.Acted (length run + 1) drawn.clears)
+  opcode_acts {new} drawn left drew live more wants = record {
     within = (omega arith, run_within r);
     closed = left.closed ∙ sym left.before;
     by = λ x ys is.
         let one : length run + 1 ≡ 1 + length run = omega arith in
-        asks_takes drawn.clears (record { live = live; clear = drew.clear }) (omega (arith, run_within r, ap length is, length-map ys (λ (x : Placed). x.byte)))
+        asks_takes drawn.clears (works_on _ left.kept wants drew.took drew.clear live) (omega (arith, run_within r, ap length is, length-map ys (λ (x : Placed). x.byte)))
         (λ h following between over. rw one (whole_leads x ys (rw is at r) h following between over new drawn left drew more));
   }
 
   -- The opcode is refused on its run, or breaks.
   pub opcode_stops : {new : Machine S g} (fault : DrawFault) → new.open_run ≡ old.open_run → DrawsBy g.took g.broke g.failed (rule old.work op (operand_words run)) old.sink new.sink fault (draws.draw_cause fault) →
-      FaultMatchesSink g old.sink new.sink (draw_fault fault) → Codes old new bytes ended (outcomes.Stopped (length run + 1) (draw_fault fault) 0)
-  opcode_stops {new} fault closed drew reported = record {
+      FaultMatchesSink g old.sink new.sink (draw_fault fault) → (IsSpared old → draw_fault fault ≢ Memory) → Codes old new bytes ended (outcomes.Stopped (length run + 1) (draw_fault fault) 0)
+  opcode_stops {new} fault closed drew reported spares = record {
     within = (run_within r, omega (arith, run_within r));
     closed = closed;
     by = λ x ys is kept refuses.
         let one : length run + 1 ≡ 1 + length run = omega arith in
-        stop_takes refuses.is refuses.sink (omega (arith, run_within r, ap length is, length-map ys (λ (x : Placed). x.byte))) reported
+        stop_takes refuses.is refuses.sink (omega (arith, run_within r, ap length is, length-map ys (λ (x : Placed). x.byte))) reported spares
         (λ h following between over. rw one (stops x ys (rw is at r) h following between over new.sink fault drew));
   }
 
 -- The opcode's run opens.
 pub run_starts : {S : Type 0} {g : Ghosts S} {old mid : Machine S g} {x : Placed} {op : Opcode} {xs : List Placed} {ended : Bool} → old.open_run ≡ None → IsOpcodeByte old.lexer.half old.lexer.sets x.byte op → mid.open_run ≡ Some (record { op = op; place = x.place }) → mid.run.items ≡ [] →
-    (mid.work ≡ old.work) × (mid.lexer ≡ old.lexer) × (mid.sink ≡ old.sink) → IsLive mid → Takes old mid (x ∷ xs) ended 1 Nothing
-run_starts {g = g} {xs = xs} closed is run items (work, lexer, sink) live = record {
+    (mid.work ≡ old.work) × (mid.lexer ≡ old.lexer) × (mid.sink ≡ old.sink) → KeepsMemory old mid → IsLive mid → Takes old mid (x ∷ xs) ended 1 Nothing
+run_starts {g = g} {xs = xs} closed is run items (work, lexer, sink) kept live = record {
   within = omega arith;
-  leaves = record { live = live; clear = λ clear. ap g.failed sink ∙ clear };
+  leaves = works_still kept sink live;
   by = λ h following between over. run_opened (record { between = between; closed = closed; is = is }) (bytes_of (xs ++ following)) sink (rw (work, lexer, run, is.rested, items));
 }

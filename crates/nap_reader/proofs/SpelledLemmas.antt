@@ -1,7 +1,5 @@
-use Rattle.nap_reader.proofs.Common.{AllCharacters, BodyFront, Bool, CallsBy, CharSet, Code, CodeSets, Fault, IsGraphic, IsMade, Kind, LexerState, List, Macros, Opcode, Some, Step, Steps, [], ap, arith, at_escape, body_front, code_is_spelled, code_ranges, cond, control0_rows, control1_rows, ended, eqb, eqb-true, false, get_or, kind_of, length, length-take-le, one_byte_longer, opcode_rows, refl, refused, row_of, set_at, stores, suc, take, true, unfinished, ℕ, ⊤, ◌++◌, ◌+◌, ◌-◌, ◌<◌, ◌∷◌, ◌≡◌, ◌≤◌}
-use Rattle.nap_codes.specs.Spelling.{Spells}
+use Rattle.nap_reader.proofs.Common.{AllCharacters, BodyFront, Bool, CharSet, Code, CodeSet, CodeSets, Fault, IsGraphic, IsMade, Kind, LexerState, List, Macros, Opcode, Some, Spells, Step, Steps, [], ap, arith, at_escape, body_front, code_is_spelled, code_ranges, cond, control0_rows, control1_rows, ended, eqb, eqb-true, false, get_or, kind_of, length, length-take-le, one_byte_longer, opcode_rows, refl, refused, row_of, set_at, stores, suc, take, true, unfinished, ℕ, ⊤, ◌++◌, ◌+◌, ◌-◌, ◌<◌, ◌∷◌, ◌≡◌, ◌≤◌}
 use Rattle.nap_codes.specs.declared.code.Code.TheVariants as code
-use Rattle.nap_codes.specs.declared.code_set.CodeSet.{CodeSet}
 use Rattle.nap_codes.specs.Front as codes
 use Rattle.nap_codes.specs.Spelling as spelling
 use Rattle.nap_reader.specs.declared.kind.Kind.TheVariants as kinds
@@ -45,26 +43,6 @@ pub definition_length : (sets : CodeSets) (bytes : List ℕ) (name : ℕ) (show 
 definition_length sets bytes name show n after e =
     let spelled = (code_is_spelled sets bytes (code.DefMacro name show) n after).0 e in
     omega (arith, definition_long sets (take n bytes) name show after spelled.1, length-take-le n bytes spelled.0)
-
--- Calls of macros: the name calls it if the macro set is in GL, and SS3 with the name calls it if that set is in G3.
-
-pub calls_by_name : (lexer : LexerState) (bytes : List ℕ) → lexer.half ≡ [] → 0 < length bytes → IsGraphic (get_or bytes 0 0) → set_at lexer.sets lexer.sets.gl ≡ Macros → CallsBy lexer bytes 1
-unfolding codes.non_pdi_code
-calls_by_name lexer [] rested some graphic macros = absurd (omega arith)
-calls_by_name lexer (b ∷ bytes) rested some graphic macros = record {
-  rested = rested;
-  counted = omega arith;
-  whole = (code_is_spelled lexer.sets (b ∷ []) (code.Call b) 1 lexer.sets).1 (omega arith, spelling.in_gl graphic (ap (λ (set : CodeSet). codes.non_pdi_code set b) macros));
-}
-
-pub calls_by_shift : (lexer : LexerState) (bytes : List ℕ) → lexer.half ≡ [] → get_or bytes 0 0 ≡ 0x1D → 1 < length bytes → IsGraphic (get_or bytes 1 0) → lexer.sets.g3 ≡ Macros → CallsBy lexer bytes 2
-unfolding codes.non_pdi_code
-calls_by_shift lexer (a ∷ b ∷ bytes) rested first more graphic macros = record {
-  rested = rested;
-  counted = omega arith;
-  whole = rw first ((code_is_spelled lexer.sets (0x1D ∷ b ∷ []) (code.Call b) 2 lexer.sets).1 (omega arith, spelling.single_shift3 graphic (ap (λ (set : CodeSet). codes.non_pdi_code set b) macros)));
-}
-calls_by_shift lexer _ rested first more graphic macros = absurd (omega arith)
 
 -- The effect of ESC on the lexer.
 

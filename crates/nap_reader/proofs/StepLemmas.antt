@@ -1,4 +1,4 @@
-use Rattle.nap_reader.proofs.Common.{Acted, ActsRun, All, All-tail, ArePending, Breaks, BreaksHere, Budget, CodeFault, Continues, Entry, Fault, Ghosts, IsOver, IsRefused, LacksOwn, LeadsOn, LeadsThrough, List, Machine, Memory, None, Outcome, Passes, Placed, ReadingState, Refusal, RunAt, Some, Stops, StopsByte, StopsRun, [], after_charge, after_run, all_at, ap, append-nil, append_assoc, arith, at_byte, bytes_of, cause_of, code_fault, false, stream_front, get_or_append_left, in_run, inl, inr, is_operand, kept_list, length, length-append, refl, refusal, shown_front, stream, subst, sym, true, ℕ, ◌++◌, ◌<◌, ◌∙◌, ◌∷◌, ◌≡◌, ◌≤◌, ◌⊎◌}
+use Rattle.nap_reader.proofs.Common.{Acted, ActsRun, All, All-tail, ArePending, Breaks, BreaksHere, Budget, CodeFault, Continues, Entry, Fault, Ghosts, IsOver, IsRefused, LacksOwn, LeadsOn, LeadsThrough, List, Machine, Memory, None, Outcome, Passes, Placed, ReadingState, Refusal, RunAt, Some, Stops, StopsByte, StopsRun, [], after_charge, after_run, all_at, ap, append-nil, append_assoc, arith, at_byte, bytes_of, cause_of, code_fault, false, get_or_append_left, in_run, inl, inr, is_operand, kept_list, length, length-append, refl, refusal, shown_front, stream, stream_front, subst, sym, true, ℕ, ◌++◌, ◌<◌, ◌∙◌, ◌∷◌, ◌≡◌, ◌≤◌, ◌⊎◌}
 use Rattle.nap_reader.proofs.ReadingLemmas.{TookMore, leads_budget, leads_shown, leads_to_fault, over, pays, run_past}
 
 pub no_some : {A : Type 0} {x : A} → Some x ≡ None → ⊥

@@ -1,10 +1,9 @@
-use Rattle.nap_reader.proofs.Common.{All, All-map, Bool, Code, CodeSets, DrawFault, Entry, StreamFront, IsMade, IsWord, Kind, List, LongRun, Machine, None, Ok, Opcode, Option, Outcome, Placed, Refusal, Result, RuleResult, Some, Unfinished, Work, [], act, after_body, all_at, ap, append-nil, append_assoc, arith, begun, between, body_front_by, body_of, bound_front, bytes_of, code_front, code_length, code_rule, code_stays, cond, continue, continue_by, drawn_front, drop, drop-append-le, drop_of_length-le, ends_of, eqb-false, eqb-true, false, stream_front, front_by, get_or, get_or-take, half_read, in_body, is_operand, kind_of, length, length-append, length-drop, length-map, length-prefix_len, lt-ltb, ltb, ltb-false, ltb-true, map-append, nat_tests, opened_front, open_run, outcome, outcome_by_front, outcome_from, outcome_within, pause, paused, place_at, placed_from, prefix_len-append, prefix_len-le-length, prefix_len_passes, prepend, refl, refusal, refuse, refused_index, refused_stays, rule, run_front, run_length, run_limit, shown_front, subst, suc, sym, take, take-append-le, true, carried_words, zero, ℕ, ⊤, ◌++◌, ◌+◌, ◌-◌, ◌<◌, ◌∙◌, ◌∷◌, ◌≡◌, ◌≤◌}
+use Rattle.nap_reader.proofs.Common.{All, All-map, Bool, Code, CodeSets, DrawFault, Entry, IsMade, IsWord, Kind, List, LongRun, Machine, None, Ok, Opcode, Option, Outcome, Placed, Refusal, Result, RuleResult, Some, StreamFront, Unfinished, Work, [], act, after_body, all_at, ap, append-nil, append_assoc, arith, begun, between, body_front_by, body_of, bound_front, bytes_of, carried_words, code_front, code_length, code_rule, code_stays, cond, continue, continue_by, drawn_front, drop, drop-append-le, drop_of_length-le, ends_of, eqb-false, eqb-true, false, front_by, get_or, get_or-take, half_read, in_body, is_operand, kind_of, length, length-append, length-drop, length-map, length-prefix_len, lt-ltb, ltb, ltb-false, ltb-true, map-append, nat_tests, open_run, opened_front, outcome, outcome_by_front, outcome_from, outcome_within, pause, paused, place_at, placed_from, prefix_len-append, prefix_len-le-length, prefix_len_passes, prepend, refl, refusal, refuse, refused_index, refused_stays, rule, run_front, run_length, run_limit, shown_front, steps_left, stream_front, subst, suc, sym, take, take-append-le, true, zero, ℕ, ⊤, ◌++◌, ◌+◌, ◌-◌, ◌<◌, ◌∙◌, ◌∷◌, ◌≡◌, ◌≤◌}
 use Rattle.nap_codes.specs.declared.code.Code.TheVariants as code
 use Rattle.nap_codes.specs.Front as codes
 use Rattle.nap_reader.specs.declared.kind.Kind.TheVariants as kinds
 use Rattle.nap_reader.specs.Bodies as bodies
 use Rattle.nap_reader.specs.Course as course
-use Rattle.nap_reader.specs.Stream.{steps_left}
 use Rattle.nap_reader.proofs.SpelledLemmas.{KindMade, Settled, body_front-Settled, definition_length, front_kind_made}
 
 pub prepend-append : {M E F U B : Type 0} (ds es : List E) (o : course.OutcomeOf M E F U B) → prepend (ds ++ es) o ≡ prepend ds (prepend es o)

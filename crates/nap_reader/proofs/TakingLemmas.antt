@@ -1,5 +1,5 @@
-use Rattle.nap_reader.proofs.Common.{Bool, Call, Calls, Define, DrawFault, Entry, Fault, FaultMatchesSink, Ghosts, IsLive, IsOver, LeadsOn, LeadsThrough, Leaves, LexerState, List, None, Nothing, Ok, OpenRun, Option, Placed, ReadingState, Refusal, Request, Result, RuleResult, Sink, Some, Stop, Stops, StopsByte, Takes, TakesBy, Work, Works, [], ap, arith, bytes_of, clear_request_if, drop, drop-append-le, drop-drop, drop_more, false, false≢true, get_or, if◌then◌else◌, length, length-drop, no_names, place_at, placed_by_step, refl, run_by, state_after_request, subst, suc, sym, take, take-add, take-append-drop, take_all, true, with_machine, zero, ℕ, ◌*◌, ◌++◌, ◌+◌, ◌-◌, ◌<◌, ◌∙◌, ◌∷◌, ◌≡◌, ◌≢◌, ◌≤◌, DoesNothing}
-use Rattle.nap_reader.proofs.Base.{bytes_of-append, bytes_of-placed_by_step, leads_nowhere, leads_then, stops_then}
+use Rattle.nap_reader.proofs.Common.{Bool, Call, Calls, Clear, Define, DoesNothing, DrawFault, Entry, Fault, FaultMatchesSink, Ghosts, IsLive, IsOver, IsSpared, KeepsMemory, LeadsOn, LeadsThrough, Leaves, LexerState, List, Memory, NeverWants, None, Nothing, Ok, OpenRun, Option, Placed, ReadingState, Refusal, Request, Result, RuleResult, Sink, Some, Stop, Stops, StopsByte, Takes, TakesBy, Work, Works, [], ap, arith, bytes_of, cause_of, clear_request_if, drop, drop-append-le, drop-drop, drop_more, false, false≢true, get_or, if◌then◌else◌, length, length-drop, memory, no_names, place_at, placed_by_step, refl, run_by, state_after_request, stream, subst, suc, sym, take, take-add, take-append-drop, take_all, true, with_machine, zero, ℕ, ◌*◌, ◌++◌, ◌+◌, ◌-◌, ◌<◌, ◌∙◌, ◌∷◌, ◌≡◌, ◌≢◌, ◌≤◌}
+use Rattle.nap_reader.proofs.Base.{WantsMore, bytes_of-append, bytes_of-placed_by_step, leads_nowhere, leads_then, stops_then}
 use Rattle.nap_reader.specs.declared.machine.Machine.{Machine}
 
 -- The reading state, by the machine.
@@ -26,6 +26,7 @@ pub record LeftBy {S : Type 0} {g : Ghosts S} (old new : Machine S g) (work : Wo
   pub closed : new.open_run ≡ None
   pub work_is : new.work ≡ work
   pub lexer_is : new.lexer ≡ lexer
+  pub kept : KeepsMemory old new
 
 -- the reading state then
 pub left_is : {S : Type 0} {g : Ghosts S} {old new : Machine S g} {work : Work} {lexer : LexerState} → LeftBy old new work lexer → (h : ReadingState) →
@@ -34,22 +35,57 @@ left_is left h = rw (left.work_is, left.lexer_is, left.closed, left.before)
 
 -- What a machine answers.
 
+-- memory isn't lacking where the stream itself is refused
+pub own_spares : {fault : Fault} → cause_of fault ≡ stream → fault ≢ Memory
+own_spares own is = let bad : memory ≡ stream = ap cause_of (sym is) ∙ own in cc
+
 -- a fault that isn't the sink's says that the sink works still
 pub own_tells : {S : Type 0} (g : Ghosts S) (t : S) {fault : Fault} → fault ≢ Sink → FaultMatchesSink g t t fault
 own_tells g t other = (λ device. absurd (other device), λ works fails. absurd (false≢true (sym works ∙ fails)))
 
+-- a sink that never wanted memory doesn't after it took entries
+never_after : {S : Type 0} (g : Ghosts S) (t u : S) (list : List Entry) → WantsMore g → g.took t list u → NeverWants g t → NeverWants g u
+never_after g t u list more took never wanted wants = never (list ++ (wanted ++ [])) (more t u list wanted [] took wants)
+
+spared_by : {S : Type 0} {g : Ghosts S} (old new : Machine S g) → KeepsMemory old new → (NeverWants g old.sink → NeverWants g new.sink) → IsSpared old → IsSpared new
+spared_by old new (run, scratch) never ((runs, points), sink) = ((omega (arith, run, runs), omega (arith, scratch, points)), never sink)
+
+-- the machine goes on, and its sink is unchanged
+-- memory of the same size was kept
+pub kept_as : {a b c d : ℕ} → b ≡ a → d ≡ c → (a ≤ b) × (c ≤ d)
+kept_as first second = (omega (arith, first), omega (arith, second))
+
+pub works_still : {S : Type 0} {g : Ghosts S} {old new : Machine S g} → KeepsMemory old new → new.sink ≡ old.sink → IsLive new → Works old new
+works_still {g = g} {old = old} {new = new} kept same live = record { live = live; clear = λ clear. ap g.failed same ∙ clear; spares = spared_by old new kept (subst (NeverWants g) (sym same)) }
+
+-- it goes on once its sink took entries
+pub works_on : {S : Type 0} {g : Ghosts S} {old new : Machine S g} (list : List Entry) → KeepsMemory old new → WantsMore g → g.took old.sink list new.sink → (g.failed old.sink ≡ false → g.failed new.sink ≡ false) → IsLive new → Works old new
+works_on {g = g} {old = old} {new = new} list kept more took clear live = record { live = live; clear = clear; spares = spared_by old new kept (never_after g old.sink new.sink list more took) }
+
 -- the machine stops
-pub stop_takes : {S : Type 0} {g : Ghosts S} {old new : Machine S g} {bytes : List Placed} {ended : Bool} {count : ℕ} {r : Refusal} {u : S} → new.refusal ≡ Some r → new.sink ≡ u → count ≤ length bytes → FaultMatchesSink g old.sink u r.fault →
+pub stop_takes : {S : Type 0} {g : Ghosts S} {old new : Machine S g} {bytes : List Placed} {ended : Bool} {count : ℕ} {r : Refusal} {u : S} → new.refusal ≡ Some r → new.sink ≡ u → count ≤ length bytes → FaultMatchesSink g old.sink u r.fault → (IsSpared old → r.fault ≢ Memory) →
     ((h : ReadingState) (following : List Placed) → h.open_body ≡ None → (ended ≡ true → IsOver (bytes_of following)) → Stops g old.sink (with_machine h old) (bytes ++ following) count u r) → Takes old new bytes ended count Stop
-stop_takes {r = r} is same few tells stops = record {
+stop_takes {r = r} is same few tells spares stops = record {
   within = few;
-  leaves = record { why = r; is = is; tells = rw same tells };
+  leaves = record { why = r; is = is; tells = rw same tells; spares = spares };
   by = λ h following between over. (r, is, rw same (stops h following between over));
 }
 
--- the machine continues from a state if its sink works whenever it did before
-pub leaves_from : {S : Type 0} {g : Ghosts S} (old mid new : Machine S g) (request : Request) → (g.failed old.sink ≡ false → g.failed mid.sink ≡ false) → Leaves mid new request → Leaves old new request
-leaves_from old mid new request still leaves = grind arith
+pub works_then : {S : Type 0} {g : Ghosts S} {old mid new : Machine S g} → Works old mid → Works mid new → Works old new
+works_then first later = record { live = later.live; clear = λ clear. later.clear (first.clear clear); spares = λ spared. later.spares (first.spares spared) }
+
+-- the machine continues from a state
+pub leaves_from : {S : Type 0} {g : Ghosts S} (old mid new : Machine S g) (request : Request) → Works old mid → Leaves mid new request → Leaves old new request
+leaves_from old mid new Stop works leaves = record {
+  why = leaves.why;
+  is = leaves.is;
+  tells = (leaves.tells.0, λ clear failed. leaves.tells.1 (works.clear clear) failed);
+  spares = λ spared. leaves.spares (works.spares spared);
+}
+leaves_from old mid new Nothing works leaves = works_then works leaves
+leaves_from old mid new Clear works leaves = works_then works leaves
+leaves_from old mid new (Call name) works leaves = works_then works leaves
+leaves_from old mid new (Define name show) works leaves = works_then works leaves
 
 -- the code may request that all names are unbound
 pub asks_takes : {S : Type 0} {g : Ghosts S} {old new : Machine S g} {xs : List Placed} {ended : Bool} {count : ℕ} (clears : Bool) → Works old new → count ≤ length xs →
@@ -127,7 +163,7 @@ module _ {S : Type 0} {g : Ghosts S} {t : S} {h : ReadingState} {u : S} {h' : Re
 pub takes_none : {S : Type 0} {g : Ghosts S} {old mid : Machine S g} {xs : List Placed} {ended : Bool} → LeftBy old mid old.work old.lexer → mid.sink ≡ old.sink → IsLive mid → Takes old mid xs ended 0 Nothing
 takes_none {g = g} {xs = xs} left same live = record {
   within = omega arith;
-  leaves = record { live = live; clear = λ clear. ap g.failed same ∙ clear };
+  leaves = works_still left.kept same live;
   by = λ h following between over. leads_nowhere (bytes_of (xs ++ following)) same (left_is left h);
 }
 
@@ -135,7 +171,7 @@ takes_none {g = g} {xs = xs} left same live = record {
 pub takes_then : {S : Type 0} {g : Ghosts S} {old mid new : Machine S g} {xs : List Placed} {ended : Bool} {count n all : ℕ} {request : Request} → Takes old mid xs ended count Nothing → Takes mid new (drop count xs) ended n request → all ≡ count + n → Takes old new xs ended all request
 takes_then {old = old} {mid = mid} {new = new} {xs = xs} {count = count} {n = n} {request = request} t takes is = rw is record {
   within = omega (arith, t.within, takes.within, length-drop count xs);
-  leaves = leaves_from old mid new request t.leaves.clear takes.leaves;
+  leaves = leaves_from old mid new request t.leaves takes.leaves;
   by = λ h following between over.
       takes_after (xs ++ following) count (t.by h following between over) new h request n
       (rw (drop-append-le count xs following t.within) (takes.by h following between over));
@@ -148,4 +184,4 @@ module _ {S : Type 0} {g : Ghosts S} {old mid : Machine S g} (idle : DoesNothing
 
   pub idle_takes : {new : Machine S g} {xs : List Placed} {ended : Bool} {n : ℕ} {request : Request} → old.open_run ≡ None → mid.open_run ≡ old.open_run → Takes mid new xs ended n request → Takes old new xs ended n request
   idle_takes closed same takes =
-      takes_then (takes_none (record { before = closed; closed = same ∙ closed; work_is = idle.work; lexer_is = idle.lexer }) idle.sink idle_lives) takes (omega arith)
+      takes_then (takes_none (record { before = closed; closed = same ∙ closed; work_is = idle.work; lexer_is = idle.lexer; kept = idle.kept }) idle.sink idle_lives) takes (omega arith)

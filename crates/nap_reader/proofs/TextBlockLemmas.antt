@@ -1,16 +1,4 @@
-use Rattle.nap_reader.proofs.Common.{ℕ, zero, suc, List, [], ◌∷◌, Bool, true, false, ◌≡◌, ◌≢◌, ◌⊎◌, inl, inr, ◌+◌, ◌-◌, ◌*◌, ◌%◌, ◌^◌, ◌<◌, ◌≤◌, ◌∙◌, refl, sym, ap, ap₂, arith, cond, drop, drop-drop, take, length, map, get_or, get_or-drop, get_or-take, length-drop, length-map, prefix_len, not, is_from, is_of_text, is_some, format_effector, nat_tests}
-use Rattle.std.specs.Prelude.{bit_and, ◌/◌}
-use Rattle.std.proofs.Common.{pow-suc}
-use Rattle.std.proofs.lemmas.Bool.{cases_lt}
-use Rattle.std.proofs.lemmas.Nat.{and_block, and_mask, div-add-mod', pow_pos, mod_below}
-use Rattle.std.proofs.lemmas.Nat.Bits.{bit_at-lt, bit_at-pow_same, bit_at-pow_other, bit_at-trailing_zeros, bit_at-zero, bit_at_cat_high, bit_at_above, bit_at_cat_low, same_from_bits_below}
-use Rattle.std.proofs.lemmas.Simd.{bit_mask_l, length-chunk, mask_l-lt}
-use Rattle.std.proofs.lemmas.List.{get_or-map}
-use Rattle.std.proofs.lemmas.List.Sums.{prefix_len_is}
-use Rattle.std.proofs.Math.Nat.{mod_self}
-use Rattle.std.specs.Int.{bit_at, trailing_zeros}
-use Rattle.std.specs.Int.Bits.{and_self}
-use Rattle.nap_reader.specs.Prefix.{EndsAt, GoesThrough, is_other}
+use Rattle.nap_reader.proofs.Common.{Bool, EndsAt, GoesThrough, List, [], and_block, and_mask, and_self, ap, ap₂, arith, bit_and, bit_at, bit_at-pow_other, bit_at-pow_same, bit_at-trailing_zeros, bit_at-zero, bit_at_above, bit_at_cat_high, bit_at_cat_low, bit_mask_l, cases_lt, cond, div-add-mod', drop, drop-drop, false, format_effector, get_or, get_or-drop, get_or-map, get_or-take, inl, inr, is_from, is_of_text, is_other, is_some, length, length-chunk, length-drop, length-map, map, mask_l-lt, mod_below, mod_self, pow-suc, pow_pos, prefix_len, prefix_len_is, refl, same_from_bits_below, suc, sym, trailing_zeros, true, zero, ℕ, ◌%◌, ◌*◌, ◌+◌, ◌-◌, ◌/◌, ◌<◌, ◌^◌, ◌∙◌, ◌∷◌, ◌≡◌, ◌≤◌, ◌⊎◌}
 use lib.Lanes.{chunk, mask_l}
 use mir.Syntax.{w64}
 

@@ -1,4 +1,4 @@
-use Rattle.nap_reader.proofs.Common.{All, All-cons, All-head, All-nil, All-tail, AllCharacters, CharSet, CodeSets, Entry, Ghosts, HaltsAfter, IsText, IsTextByte, Kind, List, Machine, None, Option, Outcome, Owes, Placed, ReadingState, SinkFault, Some, State, Stops, TakesSome, TextStep, [], after, ap, append-nil, append_assoc, ap₂, arith, at_byte, bytes_of, cause_of, code_as, code_front, draw_fault, drawn_front, drop, fault_of, format_effector, format_effector_front, get_or-append_seam, hand_of, inl, inr, kind_of, length, length-append, memory, place_at, refl, refusal, rule_result, sink_model_of, stream, subst, suc, sym, take, drawn_text, text_code, text_entry, typed_rule, walk, ℕ, ◌++◌, ◌+◌, ◌<◌, ◌∙◌, ◌∷◌, ◌≡◌, ◌≢◌}
+use Rattle.nap_reader.proofs.Common.{All, All-cons, All-head, All-nil, All-tail, AllCharacters, CharSet, CodeSets, Entry, Ghosts, HaltsAfter, IsText, IsTextByte, Kind, List, Machine, None, Option, Outcome, Owes, Placed, ReadingState, SinkFault, Some, State, Stops, TakesSome, TextStep, [], after, ap, append-nil, append_assoc, ap₂, arith, at_byte, bytes_of, cause_of, code_as, code_front, draw_fault, drawn_front, drawn_text, drop, fault_of, format_effector, format_effector_front, get_or-append_seam, hand_of, inl, inr, kind_of, length, length-append, memory, place_at, refl, refusal, rule_result, sink_model_of, stream, subst, suc, sym, take, text_code, text_entry, typed_rule, walk, ℕ, ◌++◌, ◌+◌, ◌<◌, ◌∙◌, ◌∷◌, ◌≡◌, ◌≢◌}
 use Rattle.nap_reader.proofs.Base.{all_prefix, first_of, front_code, holds_nothing, is_between, is_half, leads_past, list_more, pays, split_bytes}
 use Rattle.nap_codes.specs.Front as codes
 use Rattle.nap_list.specs.declared.sink.SinkFault.TheVariants as sink_faults

@@ -1,15 +1,13 @@
-use Rattle.nap_reader.proofs.Common.{Bool, Call, Code, CodeSets, Codes, Define, DrawFault, Entry, FaultMatchesSink, Ghosts, IsLive, LeadsOn, Leaves, LexerState, List, None, Nothing, Placed, ReadingState, Request, Some, Stop, Takes, TakesBy, [], add-zero, ap, append-nil, append_assoc, arith, bytes_of, code_rule, draw_fault, drop, drop-append-le, drop_more, earlier_unfinished, false, get_or, kind_of, length, length-append, length-drop, length-map, length-take-le, place_at, placed_at, placed_by_step, refl, refusal, subst, suc, sym, take, take-append-drop, take-append-le, take-append_seam, take-map, take_all, take_more, with_machine, ℕ, ◌*◌, ◌++◌, ◌+◌, ◌-◌, ◌<◌, ◌∙◌, ◌∷◌, ◌≡◌, ◌≤◌}
-use Rattle.nap_reader.proofs.Base.{Fails, bytes_of-append, TookMore, byte-placed_by_step, front_kind_made, leads_nowhere, leads_past, leads_then, place_at-placed_by_step, stops_now}
-use Rattle.nap_codes.proofs.PublicLaws.{code_length, code_taken}
+use Rattle.nap_reader.proofs.Common.{Bool, Call, Code, CodeSets, Codes, Define, DrawFault, Entry, FaultMatchesSink, Ghosts, IsLive, IsNext, LeadsOn, Leaves, LexerState, List, None, Nothing, Placed, ReadingState, Request, Some, Stop, Takes, TakesBy, [], add-zero, ap, append-nil, append_assoc, arith, bytes_of, code_length, code_rule, code_taken, draw_fault, drop, drop-append-le, drop_more, earlier_unfinished, false, get_or, kind_of, length, length-append, length-map, length-take-le, next_of, next_of_code, place_at, placed_at, refl, refusal, sets_after, subst, suc, sym, take, take-append-drop, take-append-le, take-append_seam, take-map, take_more, with_machine, ℕ, ◌++◌, ◌+◌, ◌-◌, ◌<◌, ◌∙◌, ◌∷◌, ◌≡◌, ◌≤◌}
+use Rattle.nap_reader.proofs.Base.{Fails, bytes_of-append, TookMore, WantsMore, fails_spare, front_kind_made, leads_nowhere, leads_past, leads_then, stops_now}
 use Rattle.nap_codes.specs.declared.code.Code.TheVariants as code
 use Rattle.nap_codes.specs.declared.next_code.NextCode.TheVariants as nexts
 use Rattle.nap_codes.specs.Front as codes
-use Rattle.nap_codes.specs.NextCodes.{IsNext, next_of, next_of_code, sets_after}
 use Rattle.nap_reader.specs.declared.kind.Kind.TheVariants as kinds
 use Rattle.nap_reader.specs.declared.machine.Machine.{Machine}
 use Rattle.nap_reader.specs.declared.machine.codes.CodeOutcome.TheVariants as outcomes
 use Rattle.nap_reader.proofs.CodesLemmas.{EndsCode, IsRuled, acts, binds, code_calls, drawn_at, drawn_by, ends, half_leads, leads_by, over, rested, ruled_breaks, ruled_leads}
-use Rattle.nap_reader.proofs.TakingLemmas.{Drew, LeftBy, left_is, next_in_slice, place_at-drop, takes_after}
+use Rattle.nap_reader.proofs.TakingLemmas.{Drew, LeftBy, left_is, place_at-drop, takes_after, works_on, works_still}
 
 -- Codes of several bytes that are all among the next bytes.
 
@@ -106,7 +104,7 @@ module _ {S : Type 0} {g : Ghosts S} {old : Machine S g} {xs : List Placed} {n :
   -- A machine consumes a code that adds nothing.
   pub whole_nothing : {new : Machine S g} {ended : Bool} {count : ℕ} → count ≡ n + 1 → kind_of c ≡ kinds.AddsNothing → LeftBy old new old.work (rested after) → new.sink ≡ old.sink → IsLive new → Takes old new xs ended count Nothing
   whole_nothing total kind left same live =
-      last_takes 1 (omega arith) total (grind arith)
+      last_takes 1 (omega arith) total (works_still left.kept same live)
       (λ h following between.
       leads_by (bytes_of (others ++ following)) same (left_is left h) (omega arith) refl (λ n all before. before)
       (λ s o pending c'. leads_past c' [] (drawn_at (held h) after old.work) pending (over g old.sink between ends_code c' old.work) (ends g old.sink between ends_code kind c')))
@@ -114,15 +112,15 @@ module _ {S : Type 0} {g : Ghosts S} {old : Machine S g} {xs : List Placed} {n :
   -- A machine consumes a call of a macro.
   pub whole_call : {new : Machine S g} {ended : Bool} {count name : ℕ} → count ≡ n + 1 → kind_of c ≡ kinds.Calls name → LeftBy old new old.work (rested after) → new.sink ≡ old.sink → IsLive new → Takes old new xs ended count (Call name)
   whole_call total kind left same live =
-      last_takes 1 (omega arith) total (grind arith)
+      last_takes 1 (omega arith) total (works_still left.kept same live)
       (λ h following between. (0, refl, code_calls g old.sink between ends_code (others ++ following) refl (leads_nowhere (bytes_of (last ∷ (others ++ following))) refl refl) kind same (left_is left h)))
 
   -- A machine consumes a code that draws.
-  pub whole_ruled : {new : Machine S g} {ended : Bool} {request : Request} {count : ℕ} {entries : List Entry} → count ≡ n + 1 → IsRuled c request → Drew g (code_rule old.work c) old.sink (drawn_by entries new.work) new.sink → LeftBy old new new.work (rested after) → IsLive new → TookMore g → Takes old new xs ended count request
-  whole_ruled total (acts acting kind) drew left live more =
-      last_takes 1 (omega arith) total (record { live = live; clear = drew.clear }) (λ h following between. ruled_leads g old.sink between ends_code (acts acting kind) (left_is left h) drew more (bytes_of (others ++ following)))
-  whole_ruled total (binds name show kind) drew left live more =
-      last_takes 1 (omega arith) total (record { live = live; clear = drew.clear })
+  pub whole_ruled : {new : Machine S g} {ended : Bool} {request : Request} {count : ℕ} {entries : List Entry} → count ≡ n + 1 → IsRuled c request → Drew g (code_rule old.work c) old.sink (drawn_by entries new.work) new.sink → LeftBy old new new.work (rested after) → IsLive new → TookMore g → WantsMore g → Takes old new xs ended count request
+  whole_ruled total (acts acting kind) drew left live more wants =
+      last_takes 1 (omega arith) total (works_on _ left.kept wants drew.took drew.clear live) (λ h following between. ruled_leads g old.sink between ends_code (acts acting kind) (left_is left h) drew more (bytes_of (others ++ following)))
+  whole_ruled total (binds name show kind) drew left live more wants =
+      last_takes 1 (omega arith) total (works_on _ left.kept wants drew.took drew.clear live)
       (λ h following between. (rw kind at (front_kind_made old.lexer.sets (early ++ last.byte ∷ []) c _ after ends_code.whole), ruled_leads g old.sink between ends_code (binds name show kind) (left_is left h) drew more (bytes_of (others ++ following))))
 
   -- A machine refuses a code by its rule, or breaks at it.
@@ -131,7 +129,7 @@ module _ {S : Type 0} {g : Ghosts S} {old : Machine S g} {xs : List Placed} {n :
   whole_stops {fault = fault} total ruled fails reported is same =
       let why = refusal (draw_fault fault) last.place in
       let stopped : _ ≡ Some why = is ∙ ap (λ (place : ℕ). Some (refusal (draw_fault fault) place)) (sym last_placed) in
-      last_takes 0 (omega arith) total (record { why = why; is = stopped; tells = rw same reported })
+      last_takes 0 (omega arith) total (record { why = why; is = stopped; tells = rw same reported; spares = λ spared. fails_spare fault fails spared.1 })
       (λ h following between. (why, stopped, rw same (stops_now refl (ruled_breaks g old.sink between ends_code ruled fails))))
 
 -- The code that was found.
@@ -229,20 +227,20 @@ module _ {S : Type 0} {g : Ghosts S} {old : Machine S g} {bytes : List ℕ} {cou
   }
 
   -- The code acts.
-  pub found_acts : {new : Machine S g} {ended : Bool} {entries : List Entry} → LeftBy old new new.work (rested (sets_past old.lexer.sets bytes)) → IsRuled c Nothing → Drew g (code_rule old.work c) old.sink (drawn_by entries new.work) new.sink → IsLive new → TookMore g → Codes old new bytes ended (outcomes.Acted count false)
-  found_acts left ruled drew live more = record {
+  pub found_acts : {new : Machine S g} {ended : Bool} {entries : List Entry} → LeftBy old new new.work (rested (sets_past old.lexer.sets bytes)) → IsRuled c Nothing → Drew g (code_rule old.work c) old.sink (drawn_by entries new.work) new.sink → IsLive new → TookMore g → WantsMore g → Codes old new bytes ended (outcomes.Acted count false)
+  found_acts left ruled drew live more wants = record {
     within = found_within old.lexer.sets bytes found;
     closed = left.closed ∙ sym closed;
-    by = λ x ys is. whole_ruled (begins_with (x ∷ ys) is) (omega (arith, (found_within old.lexer.sets bytes found).0)) ruled drew left live more;
+    by = λ x ys is. whole_ruled (begins_with (x ∷ ys) is) (omega (arith, (found_within old.lexer.sets bytes found).0)) ruled drew left live more wants;
   }
 
   -- The code acts, and begins a body.
-  pub found_defines : {new : Machine S g} {ended : Bool} {name : ℕ} {show : Bool} {entries : List Entry} → LeftBy old new new.work (rested (sets_past old.lexer.sets bytes)) → IsRuled c (Define name show) → Drew g (code_rule old.work c) old.sink (drawn_by entries new.work) new.sink → IsLive new → TookMore g →
+  pub found_defines : {new : Machine S g} {ended : Bool} {name : ℕ} {show : Bool} {entries : List Entry} → LeftBy old new new.work (rested (sets_past old.lexer.sets bytes)) → IsRuled c (Define name show) → Drew g (code_rule old.work c) old.sink (drawn_by entries new.work) new.sink → IsLive new → TookMore g → WantsMore g →
       Codes old new bytes ended (outcomes.Defines count name show)
-  found_defines left ruled drew live more = record {
+  found_defines left ruled drew live more wants = record {
     within = found_within old.lexer.sets bytes found;
     closed = left.closed ∙ sym closed;
-    by = λ x ys is. whole_ruled (begins_with (x ∷ ys) is) (omega (arith, (found_within old.lexer.sets bytes found).0)) ruled drew left live more;
+    by = λ x ys is. whole_ruled (begins_with (x ∷ ys) is) (omega (arith, (found_within old.lexer.sets bytes found).0)) ruled drew left live more wants;
   }
 
   -- The code is refused by its rule, or breaks.

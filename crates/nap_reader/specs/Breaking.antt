@@ -14,6 +14,10 @@ cause_of faults.Memory = memory
 cause_of faults.Sink = device
 cause_of _ = stream
 
+-- the sink never wants memory
+abbrev pub NeverWants : {S : Type 0} → Ghosts S → S → Type 0
+NeverWants g s = (list : List Entry) → g.wants s list → ⊥
+
 -- the place of the opcode whose run is open
 abbrev pub run_place : Option Unfinished → Option ℕ
 run_place (Some (open_run op place run)) = Some place

@@ -2,7 +2,7 @@ use Rattle.std.specs.Prelude.{ℕ, ◌≡◌, ◌⊎◌, ◌^◌, ◌≤◌, tru
 use Rattle.nap_reader.specs.Shared.{Cause, stream, memory, device, Ghosts, Refusal, cause_of, BreaksWithin, LacksWithin, TookPrefix, means}
 use Rattle.nap_list.specs.Reading.{Reading, NoneFailed, ReadFailed, IsCutOff, IsReadWhole}
 use Rattle.nap_reader.specs.Laws.{WantsSome}
-use Rattle.nap_reader.specs.declared.collect.ReadFault.{ReadFault}
+use Rattle.nap_reader.specs.declared.feeding.ReadFault.{ReadFault}
 
 -- Reading of a page into a sink, without keeping its bytes.
 

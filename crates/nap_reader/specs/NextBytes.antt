@@ -1,8 +1,9 @@
 use Rattle.std.specs.Prelude.{Bool, List, Option, Some, [], drop, length, true, ℕ, ◌++◌, ◌+◌, ◌-◌, ◌<◌, ◌^◌, ◌∷◌, ◌≡◌, ◌≤◌, ◌⊎◌}
 use Rattle.nap_reader.specs.declared.frames.Frame.{Frame}
-use Rattle.nap_reader.specs.Shared.{ends_body, Budget, Fault, Input, Memory, OpenBody, Placed, bytes_of, placed_at, placed_by_step, placed_from, unread_of}
+use Rattle.nap_reader.specs.Shared.{ends_body, Budget, Fault, Input, Memory, OpenBody, Placed, bytes_of, placed_at, placed_by_step, placed_from, store_limit, unread_of}
 use Rattle.nap_reader.specs.Steps.{IsOver}
-use Rattle.nap_reader.specs.Stored.{StoreState}
+use Rattle.nap_reader.specs.Stored.{Exceeds, StoreState}
+use Rattle.nap_reader.specs.declared.store.Promise.{Promise}
 
 -- The bytes that come next, and what an input makes of them. No caller sees these definitions.
 
@@ -59,6 +60,7 @@ pub record Moves (old new : Input) (count : ℕ) (came : List Placed) (store : S
   pub turns : new.turns ≡ old.turns + count
   pub budget : new.budget ≡ old.budget
   pub charged : new.charged ≡ old.charged + length came
+  pub promise : new.store.promise ≡ old.store.promise
   pub store_is : new.store ≡ store
   pub body : new.body ≡ opened
 
@@ -70,19 +72,22 @@ pub record StoresBody (old new : Input) (store : StoreState) (opened : Option Op
   pub turns : new.turns ≡ old.turns
   pub budget : new.budget ≡ old.budget
   pub charged : new.charged ≡ old.charged
+  pub promise : new.store.promise ≡ old.store.promise
   pub store_is : new.store ≡ store
   pub body : new.body ≡ opened
 
--- The bytes of a body can't be charged, or memory is lacking for them.
+-- The bytes of a body can't be charged; or memory is lacking for them, for which there was no promise.
 pub record CannotShow (old new : Input) (bytes : List ℕ) (fault : Fault) : Type 0 where
   pub reason : ((fault ≡ Budget) × (old.budget - old.charged < length bytes))
       ⊎ ((fault ≡ Memory) × (0 < length bytes) × (length bytes ≤ old.budget - old.charged))
+  pub lacks : fault ≡ Memory → Exceeds old.store.promise (old.store.stored + length old.store.body) (old.charged + length bytes)
   pub still : StoresBody old new old.store old.body
 
 -- An input has read on, by at least `count` bytes.
 pub record HasReadOn (old new : Input) (piece : List ℕ) (count : ℕ) : Type 0 where
   pub reads : Reads new piece
   pub budget : new.budget ≡ old.budget
+  pub promise : new.store.promise ≡ old.store.promise
   pub fed : new.fed + old.at ≡ old.fed + new.at
   pub turns : old.turns + count ≤ new.turns
 
@@ -98,3 +103,7 @@ pub record AfterEscape (input : Input) (b : OpenBody) (byte : ℕ) (ending : Boo
   pub retained : b.escape ≡ Some escape
   pub opened : input.body ≡ Some (record { name = b.name; show = b.show; escape = Some escape })
   pub ends : ends_body byte ≡ ending
+
+-- what an input that has read a page promises to another reading of the page
+abbrev pub promise_after : Input → Promise
+promise_after input = record { stored = store_limit; charged = input.charged }

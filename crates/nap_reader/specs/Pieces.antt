@@ -1,12 +1,12 @@
 use Rattle.std.specs.Prelude.{All, Bool, List, None, Some, [], length, slice_index, take, ℕ, ◌++◌, ◌+◌, ◌-◌, ◌<◌, ◌∷◌, ◌≡◌, ◌≤◌}
 use Rattle.std.specs.Option.{ForNone}
 use Rattle.nap_list.specs.Agreement.{StatesAgree}
-use Rattle.nap_reader.specs.Shared.{Continues, Ghosts, ReadingState, Input, Placed, Reader, Refusal, RunAt, begun, bytes_of, reading_state_by, place_at, placed_at, placed_by_step, Entry, Outcome, Owes}
+use Rattle.nap_reader.specs.Shared.{Continues, Fault, Ghosts, Memory, store_limit, ReadingState, Input, Placed, Reader, Refusal, RunAt, begun, bytes_of, reading_state_by, place_at, placed_at, placed_by_step, Entry, Outcome, Owes}
 use Rattle.nap_reader.specs.declared.machine.Machine.{Machine}
 use Rattle.nap_reader.specs.declared.machine.Request.{Request}
-use Rattle.nap_reader.specs.NextBytes.{HasReadOn, IsNextText, Position, Reads, bytes_from, position_of}
+use Rattle.nap_reader.specs.NextBytes.{HasReadOn, IsNextText, Position, Reads, bytes_from, position_of, promise_after}
 use Rattle.nap_reader.specs.ReaderAnswers.{HasRead, StopsAt, budget_of, fed_of, refusal_of, sink_of, turns_of}
-use Rattle.nap_reader.specs.Steps.{Acted, FaultMatchesSink, Takes, Works}
+use Rattle.nap_reader.specs.Steps.{Acted, FaultMatchesSink, HasRunMemory, IsSpared, Takes, Works}
 
 -- How a piece is read. No caller sees these definitions.
 
@@ -56,11 +56,25 @@ pub record Goes {S : Type 0} {g : Ghosts S} (piece : List ℕ) (count : ℕ) (ma
   pub counts : HasReadOn input input' piece count
   pub on : ReadsFurther piece machine input machine' input'
 
+-- A reader has memory for any run and for all bodies.
+abbrev pub HasMemory : {S : Type 0} {g : Ghosts S} → Reader S g → Type 0
+HasMemory reader = IsSpared reader.machine × (store_limit ≤ reader.input.store.promise.stored)
+
+-- More is charged up to the end of the piece than a reader was promised memory for.
+abbrev pub Overcharges : {S : Type 0} {g : Ghosts S} → Reader S g → List ℕ → Type 0
+Overcharges {S} reader piece = (s : S) (p : List ℕ) → HasRead reader s p →
+    reader.input.store.promise.charged + (begun (budget_of reader) (p ++ piece)).machine.left < budget_of reader
+
+-- Memory may be lacking for a piece that a reader had read up to some position, only if it charges more than was promised.
+abbrev pub LacksFrom : {S : Type 0} {g : Ghosts S} → List ℕ → Machine S g → Input → Fault → Type 0
+LacksFrom {S} {g} piece machine input fault = fault ≡ Memory → (old : Reader S g) → ReadsTo old piece machine input → HasMemory old → Overcharges old piece
+
 -- The stream was refused at a byte of the piece, or reading broke there.
 pub record RefusesPiece {S : Type 0} {g : Ghosts S} (old : Reader S g) (piece : List ℕ) (machine : Machine S g) (input : Input) (r : Refusal) : Type 0 where
   pub budget : input.budget ≡ budget_of old
   pub turns : turns_of old ≤ input.turns
   pub tells : FaultMatchesSink g (sink_of old) machine.sink r.fault
+  pub lacks : r.fault ≡ Memory → HasMemory old → Overcharges old piece
   pub stops : (rested : ForNone machine.refusal (input.frames.stack.items ≡ [])) (agrees : ForNone machine.refusal (StatesAgree machine.work.state (g.state machine.sink))) →
       (i : ℕ) × StopsAt old (record { machine = machine; input = input; rested = rested; agrees = agrees }) piece r i
 
@@ -80,3 +94,8 @@ pub record TakesSlice {S : Type 0} {g : Ghosts S} (old now : Machine S g) (input
   pub next : IsNextText input piece first step text ended
   pub takes : Takes old now (placed_by_step first step text) ended count request
   pub last : 0 < count → place ≡ place_at (placed_by_step first step text) (count - 1)
+
+-- A reader has memory for another reading of the stream that the first one has read.
+pub record HasMemoryOf {S T : Type 0} {g : Ghosts S} {h : Ghosts T} (first : Reader S g) (next : Reader T h) : Type 0 where
+  pub machine : HasRunMemory next.machine
+  pub promise : next.input.store.promise ≡ promise_after first.input

@@ -1,5 +1,5 @@
-use Rattle.std.specs.Prelude.{All, Bool, List, None, Ok, Option, Some, [], drop, false, get_or, if◌then◌else◌, length, slice_index, take, true, ℕ, ⊤, ◌*◌, ◌++◌, ◌+◌, ◌-◌, ◌<◌, ◌∷◌, ◌≡◌, ◌≢◌, ◌≤◌, ◌⊎◌}
-use Rattle.nap_reader.specs.Shared.{CharSet, CodeSets, Continues, DrawFault, RuleResult, DrawsBy, Entry, Fault, Ghosts, ReadingState, IsDrawn, IsGraphic, ArePending, IsOwn, IsRefused, IsTextByte, LexerState, Opcode, OpenBody, OpenRun, Outcome, Placed, Refusal, RunAt, Sink, after_drawing, body_of, bytes_of, cause_of, draw_fault, stream_front, in_body, is_operand, is_operand_byte, no_names, place_at, placed_at, placed_by_step, refusal, rule, run_by, shown_front, stream, Cause, Ends, Owes, begun, device, kept_list, memory, with_run}
+use Rattle.std.specs.Prelude.{All, Bool, List, None, Ok, Option, Some, [], drop, false, get_or, if◌then◌else◌, length, slice_index, take, true, vec_capacity, ℕ, ⊤, ◌*◌, ◌++◌, ◌+◌, ◌-◌, ◌<◌, ◌∷◌, ◌≡◌, ◌≢◌, ◌≤◌, ◌⊎◌}
+use Rattle.nap_reader.specs.Shared.{run_limit, CharSet, CodeSets, Continues, DrawFault, RuleResult, DrawsBy, Entry, Fault, Ghosts, ReadingState, IsDrawn, IsGraphic, ArePending, IsOwn, IsRefused, IsTextByte, LexerState, Memory, NeverWants, Opcode, OpenBody, OpenRun, Outcome, Placed, Refusal, RunAt, Sink, after_drawing, body_of, bytes_of, cause_of, draw_fault, stream_front, in_body, is_operand, is_operand_byte, no_names, place_at, placed_at, placed_by_step, refusal, rule, run_by, shown_front, stream, Cause, Ends, Owes, begun, device, kept_list, memory, with_run}
 use Rattle.nap_codes.specs.Front as codes
 use Rattle.nap_codes.specs.Lexer.{IsShift}
 use Rattle.nap_codes.specs.declared.code.Code.TheVariants as code
@@ -9,8 +9,8 @@ use Rattle.nap_draw.specs.Draws as draws
 use Rattle.nap_reader.specs.declared.machine.Machine.{Machine}
 use Rattle.nap_reader.specs.declared.machine.Request.{Request}
 use Rattle.nap_reader.specs.declared.machine.Request.TheVariants as requests
-use Rattle.nap_reader.specs.declared.machine.front.FrontCode.{FrontCode}
-use Rattle.nap_reader.specs.declared.machine.front.FrontCode.TheVariants as fronts
+use Rattle.nap_reader.specs.declared.machine.codes.FrontCode.{FrontCode}
+use Rattle.nap_reader.specs.declared.machine.codes.FrontCode.TheVariants as fronts
 use Rattle.nap_reader.specs.declared.machine.codes.CodeOutcome.{CodeOutcome}
 use Rattle.nap_reader.specs.declared.machine.codes.CodeOutcome.TheVariants as outcomes
 use Rattle.nap_reader.specs.Carried.{AllCharacters}
@@ -198,10 +198,23 @@ pub record IsLiveBy {S : Type 0} (g : Ghosts S) (refusal : Option Refusal) (stat
 abbrev pub IsLive : {S : Type 0} {g : Ghosts S} → Machine S g → Type 0
 IsLive {S} {g} machine = IsLiveBy g machine.refusal machine.work.state machine.sink
 
--- A machine that wasn't refused still isn't, and its sink works if it did before.
+-- A machine has memory for any run and for its points.
+abbrev pub HasRunMemory : {S : Type 0} {g : Ghosts S} → Machine S g → Type 0
+HasRunMemory machine = (run_limit ≤ vec_capacity machine.run) × (run_limit ≤ vec_capacity machine.scratch)
+
+-- A machine never lacks memory: it has some for any run, and its sink never wants any.
+abbrev pub IsSpared : {S : Type 0} {g : Ghosts S} → Machine S g → Type 0
+IsSpared {S} {g} machine = HasRunMemory machine × NeverWants g machine.sink
+
+-- No memory was given back.
+abbrev pub KeepsMemory : {S : Type 0} {g : Ghosts S} → Machine S g → Machine S g → Type 0
+KeepsMemory old new = (vec_capacity old.run ≤ vec_capacity new.run) × (vec_capacity old.scratch ≤ vec_capacity new.scratch)
+
+-- A machine that wasn't refused still isn't, its sink works if it did before, and it never lacks memory if it didn't.
 pub record Works {S : Type 0} {g : Ghosts S} (old new : Machine S g) : Type 0 where
   pub live : IsLive new
   pub clear : g.failed old.sink ≡ false → g.failed new.sink ≡ false
+  pub spares : IsSpared old → IsSpared new
 
 -- The refusal is kept, and all else is unchanged.
 pub record Refuses {S : Type 0} {g : Ghosts S} (old new : Machine S g) (r : Refusal) : Type 0 where
@@ -215,11 +228,12 @@ pub record Refuses {S : Type 0} {g : Ghosts S} (old new : Machine S g) (r : Refu
 abbrev pub FaultMatchesSink : {S : Type 0} → Ghosts S → S → S → Fault → Type 0
 FaultMatchesSink g t u fault = (fault ≡ Sink → g.failed u ≡ true) × (g.failed t ≡ false → g.failed u ≡ true → fault ≡ Sink)
 
--- The machine is refused, and tells whether its sink has failed.
+-- The machine is refused, and tells whether its sink has failed, and where it can't have lacked memory.
 pub record Latches {S : Type 0} {g : Ghosts S} (old new : Machine S g) : Type 0 where
   pub why : Refusal
   pub is : new.refusal ≡ Some why
   pub tells : FaultMatchesSink g old.sink new.sink why.fault
+  pub spares : IsSpared old → why.fault ≢ Memory
 
 abbrev pub Leaves : {S : Type 0} {g : Ghosts S} → Machine S g → Machine S g → Request → Type 0
 Leaves old new requests.Stop = Latches old new
@@ -266,16 +280,12 @@ IsFrontCode lexer byte (fronts.Opcode op) = IsOpcodeByte lexer.half lexer.sets b
 IsFrontCode lexer byte (fronts.Characters set) = AreCharacters lexer set
 IsFrontCode lexer byte fronts.Shift = IsShift lexer byte
 IsFrontCode lexer byte (fronts.Effector step) = (lexer.half ≡ []) × (codes.front lexer.sets (byte ∷ []) ≡ codes.complete (code.Step step) 1 lexer.sets)
+IsFrontCode lexer byte fronts.Call = (lexer.half ≡ []) × ((rest : List ℕ) → codes.front lexer.sets (byte ∷ rest) ≡ codes.complete (code.Call byte) 1 lexer.sets)
 IsFrontCode lexer byte fronts.Other = ⊤
-
--- The first `count` bytes are a call of a macro, with no incomplete code before them. The last one is its name.
-pub record CallsBy (lexer : LexerState) (bytes : List ℕ) (count : ℕ) : Type 0 where
-  pub rested : lexer.half ≡ []
-  pub counted : (0 < count) × (count ≤ 2) × (count ≤ length bytes)
-  pub whole : codes.front lexer.sets (take count bytes) ≡ codes.complete (code.Call (get_or bytes (count - 1) 0)) count lexer.sets
 
 -- Nothing was done.
 pub record DoesNothing {S : Type 0} {g : Ghosts S} (old new : Machine S g) : Type 0 where
+  pub kept : KeepsMemory old new
   pub work : new.work ≡ old.work
   pub lexer : new.lexer ≡ old.lexer
   pub sink : new.sink ≡ old.sink
@@ -312,7 +322,7 @@ Executes {S} {g} old new clears = Works old new × (new.open_run ≡ None)
     × ((h : ReadingState) → h.open_body ≡ None → ActsRun g old.sink (with_machine h old) new.sink (state_after_request (with_machine h new) (clear_request_if clears)))
 
 abbrev pub FailsRun : {S : Type 0} {g : Ghosts S} → Machine S g → Machine S g → Refusal → Type 0
-FailsRun {S} {g} old new r = ((h : ReadingState) → h.open_body ≡ None → StopsRun g old.sink (with_machine h old) new.sink r) × FaultMatchesSink g old.sink new.sink r.fault
+FailsRun {S} {g} old new r = ((h : ReadingState) → h.open_body ≡ None → StopsRun g old.sink (with_machine h old) new.sink r) × FaultMatchesSink g old.sink new.sink r.fault × (IsSpared old → r.fault ≢ Memory)
 
 -- The open run, if there is one, has acted at the end of a stream.
 abbrev pub EndsRun : {S : Type 0} {g : Ghosts S} → Machine S g → Machine S g → Type 0

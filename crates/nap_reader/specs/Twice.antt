@@ -1,10 +1,12 @@
-use Rattle.std.specs.Prelude.{ℕ, ◌≡◌, ◌⊎◌, true, List, [], Some, None, Result, Ok, Err}
+use Rattle.std.specs.Prelude.{ℕ, ◌≡◌, ◌≢◌, ◌⊎◌, true, List, [], Some, None, Result, Ok, Err}
 use Rattle.nap_draw.specs.Draws.{Cause, stream, memory, device}
 use Rattle.nap_list.specs.declared.sink.Sink.{Ghosts}
 use Rattle.nap_reader.specs.declared.fault.Refusal.{Refusal}
-use Rattle.nap_reader.specs.Breaking.{cause_of, BreaksWithin, TookPrefix}
+use Rattle.nap_reader.specs.Breaking.{cause_of, BreaksWithin, NeverWants, TookPrefix}
 use Rattle.nap_reader.specs.Collecting.{LacksMemoryFor, RefusedBy}
 use Rattle.nap_reader.specs.Stream.{means}
+use Rattle.nap_reader.specs.declared.twice.TwiceFault.{TwiceFault}
+use Rattle.nap_reader.specs.declared.twice.TwiceFault.TheVariants as twice_fault
 
 -- A page is read into a sink and, if it is accepted, again into another.
 
@@ -14,6 +16,11 @@ pub record BreaksOff {S : Type 0} (g : Ghosts S) (s : S) (budget : ℕ) (p : Lis
   pub wants : cause_of r.fault ≡ memory → LacksMemoryFor g s budget p r.place
   pub failed : cause_of r.fault ≡ device → g.failed t ≡ true
   pub part : TookPrefix g s [] (means budget p).entries t (cause_of r.fault)
+
+-- The reading broke at its sink alone: the reader itself lacked no memory, so none was lacking if the sink never wants any.
+pub record BreaksAtSink {S : Type 0} (g : Ghosts S) (s : S) (budget : ℕ) (p : List ℕ) (t : S) (r : Refusal) : Type 0 where
+  pub broke : BreaksOff g s budget p t r
+  pub lacks : NeverWants g s → cause_of r.fault ≢ memory
 
 -- a page is refused by itself, or its reading broke
 abbrev pub EndsEarly : {S : Type 0} → Ghosts S → S → ℕ → List ℕ → S → Refusal → Cause → Type 0
@@ -26,12 +33,13 @@ ReadsPage g s budget p t (Ok done) = ((means budget p).refusal ≡ None) × g.to
 ReadsPage g s budget p t (Err r) = EndsEarly g s budget p t r (cause_of r.fault)
 
 -- sinks that were s and u: both have all entries of the page; or it is refused, and nothing was put into the second; or it
--- is accepted, and the second reading broke
-abbrev pub ReadsTwice : {S T : Type 0} → Ghosts S → Ghosts T → S → T → ℕ → List ℕ → T → Result S Refusal → Type 0
+-- is accepted, and the second reading broke at its sink; or it is accepted, and there was no memory to begin the second reading
+abbrev pub ReadsTwice : {S T : Type 0} → Ghosts S → Ghosts T → S → T → ℕ → List ℕ → T → Result S TwiceFault → Type 0
 ReadsTwice g h s u budget p v (Ok t) = ((means budget p).refusal ≡ None) × g.took s (means budget p).entries t × h.took u (means budget p).entries v
-ReadsTwice g h s u budget p v (Err r) =
-    (RefusedBy g s budget p r (cause_of r.fault) × (v ≡ u)) ⊎ (((means budget p).refusal ≡ None) × BreaksOff h u budget p v r)
+ReadsTwice g h s u budget p v (Err (twice_fault.Refused r)) =
+    (RefusedBy g s budget p r (cause_of r.fault) × (v ≡ u)) ⊎ (((means budget p).refusal ≡ None) × BreaksAtSink h u budget p v r)
+ReadsTwice g h s u budget p v (Err twice_fault.Memory) = ((means budget p).refusal ≡ None) × (v ≡ u)
 
 -- a page was read into a sink that was s, and into one that was u
-pub record IsReadTwice {S T : Type 0} (g : Ghosts S) (h : Ghosts T) (s : S) (u : T) (budget : ℕ) (p : List ℕ) (v : T) (found : Result S Refusal) : Type 0 where
+pub record IsReadTwice {S T : Type 0} (g : Ghosts S) (h : Ghosts T) (s : S) (u : T) (budget : ℕ) (p : List ℕ) (v : T) (found : Result S TwiceFault) : Type 0 where
   pub reads : ReadsTwice g h s u budget p v found

@@ -5,8 +5,8 @@ ghost use Rattle.nap_reader.specs.Collecting.{IsCounted};
 ghost use Rattle.nap_reader.specs.Counting.{GrowsBy, TookCounted, took_more, took_none};
 
 use crate::budget::Budget;
-use crate::collect::read_stream;
 use crate::fault::Refusal;
+use crate::feeding::read_stream;
 use nap_list::{Batch, BatchFault, Entry, Shape, Sink, SinkFault};
 use std::alloc::Global;
 use std::marker::Model;

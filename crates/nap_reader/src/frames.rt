@@ -1,5 +1,5 @@
 //! The macro bodies that are being read.
-ghost use Rattle.std.specs.Prelude.{true, ℕ, List, ◌≡◌, ◌<◌, ◌≤◌, ◌+◌, ◌↔◌, [], ◌∷◌, ◌++◌, drop, length, IfSome, MatchOption, OnOk};
+ghost use Rattle.std.specs.Prelude.{true, ℕ, List, ◌≡◌, ◌<◌, ◌≤◌, ◌+◌, ◌↔◌, [], ◌∷◌, ◌++◌, drop, length, IfSome, MatchOption, OnOk, OnErr};
 ghost use Rattle.smallvec.specs.SmallVec.{HasRoomFor};
 ghost use Rattle.nap_reader.specs.Framed.{FramesIn, Innermost, unread};
 ghost use Rattle.nap_reader.specs.Stream.{bytes_of};
@@ -34,24 +34,28 @@ impl Frames {
 
     /// Leaves no body, and keeps the memory.
     pub(crate) fn empty(&mut self)
-        ensures { self.new.stack.items ≡ [] }
+        ensures items { self.new.stack.items ≡ [] }
+        ensures memory { self.new.stack.capacity ≡ self.old.stack.capacity }
     {
         self.stack.clear();
     }
 
-    /// Reserves memory for one more body.
-    pub(crate) fn reserve(&mut self) -> Result<(), AllocError>
+    /// Reserves memory for `count` more bodies.
+    pub(crate) fn reserve(&mut self, count: usize) -> Result<(), AllocError>
         ensures items { self.new.stack.items ≡ self.old.stack.items }
-        ensures ok { OnOk result (HasRoomFor self.new.stack 1) }
+        ensures ok { OnOk result (HasRoomFor self.new.stack count) }
+        ensures memory { self.old.stack.capacity ≤ self.new.stack.capacity }
+        ensures full { OnErr result (self.old.stack.capacity < length self.old.stack.items + count) }
     {
-        self.stack.reserve(1)
+        self.stack.reserve(count)
     }
 
     /// Adds a part of the store as the innermost body, with this place. Memory for it has to be reserved.
     pub(crate) fn push_reserved(&mut self, span: Span, place: u64)
         requires some { span.start < span.end }
         requires space { HasRoomFor self.old.stack 1 }
-        ensures { self.new.stack.items ≡ self.old.stack.items ++ record { next = span.start; end = span.end; place = place } ∷ [] }
+        ensures items { self.new.stack.items ≡ self.old.stack.items ++ record { next = span.start; end = span.end; place = place } ∷ [] }
+        ensures memory { self.new.stack.capacity ≡ self.old.stack.capacity }
     {
         self.stack.push_reserved(Frame {
             next: span.start,
@@ -108,6 +112,7 @@ impl Frames {
         ensures given { ((before : List Frame) (frame : Frame) → self.old.stack.items ≡ before ++ frame ∷ [] → frame.next + count ≤ frame.end) →
             unread bytes.now self.new.stack.items ≡ drop count (unread bytes.now self.old.stack.items) }
         ensures within { FramesIn (length bytes.now) self.new.stack.items }
+        ensures memory { self.new.stack.capacity ≡ self.old.stack.capacity }
     {
         if self.stack.len() == 0 {
             return;

@@ -1,17 +1,18 @@
 //! The input of a reader: the bytes of called bodies, and then those of the piece.
-ghost use Rattle.std.specs.Prelude.{◌≡◌, ◌+◌, ◌++◌, ◌≤◌, List, [], ◌∷◌, None, drop, length, IsTrue, MatchOption};
+ghost use Rattle.std.specs.Prelude.{◌≡◌, ◌+◌, ◌++◌, ◌≤◌, List, [], ◌∷◌, None, drop, length, IfOk, IsTrue, MatchOption};
 ghost use Rattle.nap_reader.specs.Bodies.{no_names, store_limit};
 ghost use Rattle.nap_reader.specs.Budgets.{most_budget};
 ghost use Rattle.nap_reader.specs.Carried.{HasName, HasName-prop};
 ghost use Rattle.nap_reader.specs.Framed.{FramesIn, unread};
+ghost use Rattle.nap_reader.specs.Stored.{no_promise};
 
 use crate::body::OpenBody;
 use crate::budget::Budget;
 use crate::frames::Frames;
-use crate::operands::is_operand;
+use crate::prefix::is_operand;
 use crate::slice::Slice;
-use crate::store::Store;
-use std::alloc::Global;
+use crate::store::{Promise, STORE_LIMIT, Store};
+use std::alloc::{AllocError, Global};
 
 mod calls;
 mod defining;
@@ -41,17 +42,18 @@ pub(crate) struct Input {
     ghost counted: { fed ≤ turns },
     ghost few: { store.stored + length store.body ≤ store_limit },
     ghost paired: { length store.bytes ≤ store.stored + length store.body + charged },
+    ghost deep: { store.promise.charged ≤ frames.stack.capacity },
 }
 
 impl Input {
-    ghost use Rattle.nap_reader.specs.NextBytes.{CanAdvance, IsNextText, Moves, Reads, StoresBody, next_bytes};
+    ghost use Rattle.nap_reader.specs.NextBytes.{CanAdvance, IsNextText, Moves, Reads, StoresBody, next_bytes, promise_after};
     ghost use Rattle.nap_reader.specs.declared.frames.Frame.{Frame};
     ghost use Rattle.nap_reader.specs.Steps.{IsOver};
     ghost use Rattle.nap_reader.specs.Stream.{bytes_of};
 
     /// Returns the input before any byte.
     pub(crate) fn new(alloc: Global, budget: Budget) -> Input
-        ensures store { result.store ≡ record { names = no_names; bytes = []; body = []; stored = 0 } }
+        ensures store { result.store ≡ record { names = no_names; bytes = []; body = []; stored = 0; promise = no_promise } }
         ensures none { (result.body ≡ None) × (result.frames.stack.items ≡ []) }
         ensures budget { result.budget ≡ budget }
         ensures counts { (result.fed ≡ 0) × (result.turns ≡ 0) × (result.charged ≡ 0) }
@@ -68,21 +70,28 @@ impl Input {
         }
     }
 
-    /// Returns the input before any byte, under this budget, in the memory of the old input.
-    pub(crate) fn again(self, budget: Budget) -> Input
-        ensures store { result.store ≡ record { names = no_names; bytes = []; body = []; stored = 0 } }
-        ensures none { (result.body ≡ None) × (result.frames.stack.items ≡ []) }
-        ensures budget { result.budget ≡ budget }
-        ensures counts { (result.fed ≡ 0) × (result.turns ≡ 0) × (result.charged ≡ 0) }
+    /// Returns the input before any byte, under this budget, with memory for all bodies, and for a reading that is charged
+    /// no more than this one. The old input's memory is used again.
+    pub(crate) fn again(self, budget: Budget) -> Result<Input, AllocError>
+        ensures store { IfOk result (λ input. input.store ≡ record { names = no_names; bytes = []; body = []; stored = 0; promise = promise_after self }) }
+        ensures none { IfOk result (λ input. (input.body ≡ None) × (input.frames.stack.items ≡ [])) }
+        ensures budget { IfOk result (λ input. input.budget ≡ budget) }
+        ensures counts { IfOk result (λ input. (input.fed ≡ 0) × (input.turns ≡ 0) × (input.charged ≡ 0)) }
     {
+        let promise = Promise {
+            stored: STORE_LIMIT,
+            charged: self.charged as usize,
+        };
         let Input {
             mut store,
             mut frames,
             ..
         } = self;
         store.empty();
+        store.reserve(promise)?;
         frames.empty();
-        Input {
+        frames.reserve(promise.charged)?;
+        Ok(Input {
             store,
             body: None,
             frames,
@@ -91,7 +100,7 @@ impl Input {
             fed: 0,
             turns: 0,
             charged: 0,
-        }
+        })
     }
 
     /// Begins a new piece.

@@ -3,7 +3,6 @@
 
 mod body;
 mod budget;
-mod collect;
 mod counting;
 mod fault;
 mod feeding;
@@ -12,7 +11,6 @@ mod input;
 mod kind;
 pub mod laws;
 mod machine;
-mod operands;
 mod prefix;
 mod reader;
 mod slice;
@@ -22,12 +20,11 @@ mod twice;
 mod whole;
 
 pub use budget::Budget;
-pub use collect::{ReadFault, read_input, read_stream};
 pub use counting::read_counted;
 pub use fault::{Fault, Refusal};
-pub use feeding::{FeedFault, feed_from};
+pub use feeding::{FeedFault, ReadFault, feed_from, read_input, read_stream};
 pub use nap_draw::RUN_LIMIT;
 pub use reader::{Ahead, Reader, Stopped};
 pub use store::STORE_LIMIT;
-pub use twice::read_twice;
+pub use twice::{TwiceFault, read_twice};
 pub use whole::read_all;

@@ -1,5 +1,5 @@
 //! The state that codes work on.
-ghost use Rattle.std.specs.Prelude.{◌≡◌, ◌≤◌, Bool, [], None, Some, length, vec_len, MatchResult, OnOk};
+ghost use Rattle.std.specs.Prelude.{◌≡◌, ◌≤◌, Bool, [], None, Some, length, vec_len, IfErr, IfOk, MatchResult, OnOk};
 ghost use Rattle.nap_codes.specs.CodeSets.{start_sets};
 ghost use Rattle.nap_draw.specs.Limits.{run_limit};
 ghost use Rattle.nap_draw.specs.Rule.{start_work};
@@ -8,24 +8,18 @@ ghost use Rattle.nap_reader.specs.Stream.{refusal};
 
 use crate::fault::{Fault, Refusal};
 use nap_codes::{Lexer, Opcode};
-use nap_draw::Work;
+use nap_draw::{RUN_LIMIT, Work};
 use nap_list::Sink;
 use nap_values::Point;
 use std::alloc::Global;
 
-mod answering;
 mod bodies;
-mod characters;
 mod codes;
-mod controls;
-mod escapes;
-mod front;
-mod opcodes;
 mod other;
 mod reading;
 mod runs;
 
-pub(crate) use answering::Refused;
+pub(crate) use reading::Refused;
 
 /// An opcode whose run isn't ended.
 #[derive(Clone, Copy, Drop)]
@@ -74,7 +68,7 @@ pub(crate) struct Machine<S: Sink> {
 }
 
 impl<S: Sink> Machine<S> {
-    ghost use Rattle.nap_reader.specs.Steps.{EndsRun, FailsRun, IsLive, Refuses, Works};
+    ghost use Rattle.nap_reader.specs.Steps.{EndsRun, FailsRun, HasRunMemory, IsLive, Refuses, Works};
 
     /// Returns the state before any code.
     pub(crate) fn new(alloc: Global, sink: S) -> Machine<S>
@@ -95,13 +89,16 @@ impl<S: Sink> Machine<S> {
         }
     }
 
-    /// Returns the machine before any code, in the memory of this one; and the sink of this one.
-    pub(crate) fn again<T: Sink>(self, sink: T) -> (S, Machine<T>)
-        ensures first { result.0 ≡ self.sink }
-        ensures work { result.1.work ≡ start_work }
-        ensures lexer { result.1.lexer ≡ record { sets = start_sets; half = [] } }
-        ensures none { (result.1.open_run ≡ None) × (result.1.refusal ≡ None) }
-        ensures sink { result.1.sink ≡ sink }
+    /// Returns the machine before any code, with memory for any run, and the sink of this one. This one's memory is used
+    /// again.
+    pub(crate) fn again<T: Sink>(self, sink: T) -> Result<(S, Machine<T>), (S, T)>
+        ensures failed { IfErr result (λ sinks. (sinks.0 ≡ self.sink) × (sinks.1 ≡ sink)) }
+        ensures first { IfOk result (λ pair. pair.0 ≡ self.sink) }
+        ensures work { IfOk result (λ pair. pair.1.work ≡ start_work) }
+        ensures lexer { IfOk result (λ pair. pair.1.lexer ≡ record { sets = start_sets; half = [] }) }
+        ensures none { IfOk result (λ pair. (pair.1.open_run ≡ None) × (pair.1.refusal ≡ None)) }
+        ensures sink { IfOk result (λ pair. pair.1.sink ≡ sink) }
+        ensures memory { IfOk result (λ pair. HasRunMemory pair.1) }
     {
         let Machine {
             alloc,
@@ -109,11 +106,15 @@ impl<S: Sink> Machine<S> {
             lexer: _,
             open_run: _,
             mut run,
-            scratch,
+            mut scratch,
             refusal: _,
             sink: first,
         } = self;
         run.clear();
+        scratch.clear();
+        if run.reserve(RUN_LIMIT).is_err() || scratch.reserve(RUN_LIMIT).is_err() {
+            return Err((first, sink));
+        }
         let machine = Machine {
             alloc,
             work: Work::start(),
@@ -124,7 +125,7 @@ impl<S: Sink> Machine<S> {
             refusal: None,
             sink,
         };
-        (first, machine)
+        Ok((first, machine))
     }
 
     /// Returns the sink.

@@ -32,6 +32,8 @@ impl<S: Sink> Reader<S> {
     ghost use Rattle.nap_draw.specs.Draws.{stream};
     ghost use Rattle.nap_reader.specs.Breaking.{BreaksInRun, cause_of};
     ghost use Rattle.nap_reader.specs.ReadingStates.{Ends, IsOwn, reading_state};
+    ghost use Rattle.nap_reader.specs.Pieces.{HasMemory, HasMemoryOf, Overcharges};
+    ghost use Rattle.nap_reader.specs.Steps.{IsSpared};
     ghost use Rattle.nap_reader.specs.ReaderAnswers.{Answers, IsBounded, IsTaken, HasRead, StopsAt, budget_of, charged_of, fed_of, left_of, refusal_of, sink_of, turns_of};
 
     /// Returns a reader at the start of a stream, which puts the entries into this sink. Takes no memory.
@@ -51,24 +53,31 @@ impl<S: Sink> Reader<S> {
         }
     }
 
-    /// Returns a reader at the start of a stream, as `new` returns it, in the memory of this one; and the sink of this
-    /// one.
-    pub(crate) fn again<T: Sink>(self, budget: Budget, sink: T) -> (S, Reader<T>)
+    /// Returns a reader at the start of a stream, as `new` returns it, and the sink of this one. It has memory for another
+    /// reading of the stream that this one has read; if there is none, both sinks come back.
+    pub(crate) fn again<T: Sink + Drop>(
+        self,
+        budget: Budget,
+        sink: T,
+    ) -> Result<(S, Reader<T>), (S, T)>
+    where
+        S: Drop,
         requires { T.state sink ≡ start }
-        ensures first { result.0 ≡ sink_of self }
-        ensures has_read { HasRead result.1 sink [] }
-        ensures sink { sink_of result.1 ≡ sink }
-        ensures budget { budget_of result.1 ≡ budget }
-        ensures unrefused { refusal_of result.1 ≡ None }
-        ensures fed { fed_of result.1 ≡ 0 }
+        ensures failed { IfErr result (λ sinks. (sinks.0 ≡ sink_of self) × (sinks.1 ≡ sink)) }
+        ensures first { IfOk result (λ pair. pair.0 ≡ sink_of self) }
+        ensures has_read { IfOk result (λ pair. HasRead pair.1 sink []) }
+        ensures sink { IfOk result (λ pair. sink_of pair.1 ≡ sink) }
+        ensures budget { IfOk result (λ pair. budget_of pair.1 ≡ budget) }
+        ensures unrefused { IfOk result (λ pair. refusal_of pair.1 ≡ None) }
+        ensures fed { IfOk result (λ pair. fed_of pair.1 ≡ 0) }
+        ensures memory { IfOk result (λ pair. HasMemoryOf self pair.1) }
     {
         let Reader { machine, input } = self;
-        let (first, machine) = machine.again(sink);
-        let reader = Reader {
-            machine,
-            input: input.again(budget),
-        };
-        (first, reader)
+        let (first, machine) = machine.again(sink)?;
+        match input.again(budget) {
+            Ok(input) => Ok((first, Reader { machine, input })),
+            Err(_) => Err((first, machine.into_sink())),
+        }
     }
 
     /// Reads the next piece of the stream. The error is the refusal of the stream so far, after which nothing more is
@@ -84,6 +93,9 @@ impl<S: Sink> Reader<S> {
         ensures failed { IfErr result (λ r. refusal_of self.old ≡ None → r.fault ≡ Fault.Sink → S.failed (sink_of self.new) ≡ true) }
         ensures kept { IfErr result (λ r. r.fault ≢ Fault.Sink → S.failed (sink_of self.old) ≡ false → S.failed (sink_of self.new) ≡ false) }
         ensures clear { OnOk result (S.failed (sink_of self.old) ≡ false → S.failed (sink_of self.new) ≡ false) }
+        // A reader that was promised memory lacks it only if more is charged.
+        ensures lacks { IfErr result (λ r. refusal_of self.old ≡ None → r.fault ≡ Fault.Memory → HasMemory self.old → Overcharges self.old piece.now) }
+        ensures spared { OnOk result (IsSpared self.old.machine → IsSpared self.new.machine) }
         // All of the piece was consumed, or the bytes up to the refused one.
         ensures fed { OnOk result (fed_of self.new ≡ fed_of self.old + length piece.now) }
         ensures stops { IfErr result (λ r. refusal_of self.old ≡ None → (i : ℕ) × StopsAt self.old self.new piece.now r i) }
@@ -124,6 +136,8 @@ impl<S: Sink> Reader<S> {
         ensures failed { IfErr result (λ r. self.old.machine.refusal ≡ None → r.fault ≡ Fault.Sink → S.failed self.new.machine.sink ≡ true) }
         ensures kept { IfErr result (λ r. S.failed self.old.machine.sink ≡ false → S.failed self.new.machine.sink ≡ true → r.fault ≡ Fault.Sink) }
         ensures clear { OnOk result (S.failed self.old.machine.sink ≡ false → S.failed self.new.machine.sink ≡ false) }
+        ensures lacks { IfErr result (λ r. self.old.machine.refusal ≡ None → IsSpared self.old.machine → r.fault ≢ Fault.Memory) }
+        ensures input { self.new.input ≡ self.old.input }
     {
         if let Some(latched) = self.machine.refusal {
             return Err(latched);
@@ -149,6 +163,7 @@ impl<S: Sink> Reader<S> {
         ensures refused { IfErr result (λ r. IsOwn r × ((s : S) (o : Outcome) → Ends S.Sink s o self.old.machine.sink self.old.machine.work self.old.machine.lexer.half →
             IsTaken S.Sink s (with_code o self.old.input.fed o.unfinished) self.new.machine.sink (Some r))) }
         ensures sink { self.new.machine.sink ≡ self.old.machine.sink }
+        ensures input { self.new.input ≡ self.old.input }
     {
         if !self.machine.lexer.at_rest() {
             return Err(Refusal {

@@ -1,7 +1,7 @@
 //! The store of macro bodies.
 ghost use Rattle.std.specs.Prelude.{◌≡◌, ◌+◌, ◌<◌, ◌≤◌, [], ◌∷◌, ◌++◌, length, OnOk, OnErr, IfOk};
 ghost use Rattle.nap_reader.specs.Bodies.{no_names, body_of, store_limit};
-ghost use Rattle.nap_reader.specs.Stored.{IsBefore, store_bound, store_grown, sublist_at, store_shown};
+ghost use Rattle.nap_reader.specs.Stored.{IsBefore, no_promise, promised, store_bound, store_grown, sublist_at, store_shown};
 ghost use Rattle.nap_codes.specs.Laws.{IsGraphic};
 
 use std::alloc::{AllocError, Global};
@@ -30,40 +30,71 @@ pub(crate) struct Store {
     spans: [Span; 96],
     from: usize,
     stored: usize,
+    promise: Promise,
 }
 
+/// How much a reading may store and be charged in the memory that there is.
+#[derive(Clone, Copy, Drop)]
+pub(crate) struct Promise {
+    /// The number of bytes of bodies.
+    pub(crate) stored: usize,
+    /// The number of bytes of bodies that are charged.
+    pub(crate) charged: usize,
+}
+
+/// The promise where there is no memory.
+pub(crate) const NO_PROMISE: Promise = Promise {
+    stored: 0,
+    charged: 0,
+};
+
 impl Model for Store {
-    ghost use Rattle.std.specs.Prelude.{map, drop};
+    ghost use Rattle.std.specs.Prelude.{map, drop, vec_capacity};
     ghost use Rattle.nap_reader.specs.Stored.{IsStore, StoreState, sublist_at};
 
     ghost Value = { StoreState };
 
-    ghost view = { λ s. record { names = map (sublist_at s.bytes.items) s.spans; bytes = s.bytes.items; body = drop s.from s.bytes.items; stored = s.stored } };
+    ghost view = { λ s. record { names = map (sublist_at s.bytes.items) s.spans; bytes = s.bytes.items; body = drop s.from s.bytes.items; stored = s.stored; promise = s.promise } };
 
-    ghost invariant = { λ s. IsStore s.bytes.items s.spans s.from s.stored };
+    ghost invariant = { λ s. IsStore s.bytes.items s.spans s.from s.stored s.promise (vec_capacity s.bytes) };
 }
 
 impl Store {
     /// Returns an empty store, which takes no memory.
     pub(crate) fn new(alloc: Global) -> Store
-        ensures { result ≡ record { names = no_names; bytes = []; body = []; stored = 0 } }
+        ensures { result ≡ record { names = no_names; bytes = []; body = []; stored = 0; promise = no_promise } }
     {
         Store {
             bytes: Vec::new(alloc),
             spans: [EMPTY; 96],
             from: 0,
             stored: 0,
+            promise: NO_PROMISE,
         }
     }
 
     /// Leaves no bodies, and keeps the memory.
     pub(crate) fn empty(&mut self)
-        ensures { self.new ≡ record { names = no_names; bytes = []; body = []; stored = 0 } }
+        ensures { self.new ≡ record { names = no_names; bytes = []; body = []; stored = 0; promise = self.old.promise } }
     {
         self.bytes.clear();
         self.spans = [EMPTY; 96];
         self.from = 0;
         self.stored = 0;
+    }
+
+    /// Reserves memory in an empty store for a reading that stores and is charged as much as this.
+    pub(crate) fn reserve(&mut self, promise: Promise) -> Result<(), AllocError>
+        requires { self.old.bytes ≡ [] }
+        ensures ok { OnOk result (self.new ≡ record self.old { promise = promise }) }
+        ensures err { OnErr result (self.new ≡ self.old) }
+    {
+        let Some(bytes) = promise.stored.checked_add(promise.charged) else {
+            return Err(AllocError);
+        };
+        self.bytes.reserve(bytes)?;
+        self.promise = promise;
+        Ok(())
     }
 
     /// Returns how many more bytes the bodies may have.
@@ -86,6 +117,7 @@ impl Store {
         requires { self.old.stored + length self.old.body < store_limit }
         ensures ok { OnOk result (self.new ≡ store_grown self.old (byte ∷ [])) }
         ensures err { OnErr result (self.new ≡ self.old) }
+        ensures full { OnErr result (promised self.old.promise < length self.old.bytes + 1) }
     {
         self.bytes.push(byte)?;
         Ok(())
@@ -113,6 +145,7 @@ impl Store {
         ensures next { IfOk result (λ span. sublist_at self.new.bytes span ≡ self.old.body ++ 0x1B ∷ ender ∷ []) }
         ensures within { IfOk result (λ span. (span.start < span.end) × (span.end ≤ length self.new.bytes)) }
         ensures err { OnErr result (self.new ≡ self.old) }
+        ensures full { OnErr result (promised self.old.promise < length self.old.bytes + 2) }
     {
         self.bytes.reserve(2)?;
         let start = self.from;

@@ -1,35 +1,52 @@
 //! Reading of a page into one sink, and, if it is accepted, into another.
-ghost use Rattle.std.specs.Prelude.{◌≡◌, [], None, false};
+ghost use Rattle.std.specs.Prelude.{◌≡◌, ◌+◌, [], None, false, IfErr, OnOk};
 ghost use Rattle.nap_list.specs.State.{start};
-ghost use Rattle.nap_reader.specs.ReaderAnswers.{HasRead, budget_of, fed_of, refusal_of, sink_of};
+ghost use Rattle.nap_reader.specs.Pieces.{HasMemory, Overcharges};
+ghost use Rattle.nap_reader.specs.ReaderAnswers.{HasRead, budget_of, charged_of, fed_of, refusal_of, sink_of};
+ghost use Rattle.nap_reader.specs.Stream.{begun};
 ghost use Rattle.nap_reader.specs.Twice.{IsReadTwice, ReadsPage};
 
 use crate::budget::Budget;
-use crate::fault::Refusal;
+use crate::fault::{Fault, Refusal};
 use crate::reader::Reader;
 use nap_list::Sink;
 use std::alloc::Global;
+use thiserror::Error;
 
 /// Reads a whole stream, with a reader that has read nothing.
 fn read_whole<S: Sink>(reader: &mut Reader<S>, stream: &[u8]) -> Result<(), Refusal>
     requires unread { fed_of reader.old ≡ 0 }
     requires unrefused { refusal_of reader.old ≡ None }
-    ensures { (s : S) → HasRead reader.old s [] → ReadsPage S.Sink s (budget_of reader.old) stream.now (sink_of reader.new) result }
+    ensures reads { (s : S) → HasRead reader.old s [] → ReadsPage S.Sink s (budget_of reader.old) stream.now (sink_of reader.new) result }
+    ensures charged { OnOk result ((s : S) → HasRead reader.old s [] → charged_of reader.new + (begun (budget_of reader.old) stream.now).machine.left ≡ budget_of reader.old) }
+    ensures lacks { IfErr result (λ r. r.fault ≡ Fault.Memory → HasMemory reader.old → Overcharges reader.old stream.now) }
 {
     reader.feed(stream)?;
     reader.end()?;
     Ok(())
 }
 
-/// Reads a stream into the first of these sinks and, if it is accepted, again into the second, in the memory that the
-/// reader has. Returns the second sink, and the first one if both took all entries.
+/// Why a page wasn't read twice.
+#[derive(Clone, Copy, PartialEq, Eq, Debug, Drop, Error)]
+pub enum TwiceFault {
+    /// The stream is refused, or a reading broke.
+    #[error("{0}")]
+    Refused(Refusal),
+    /// There was no memory for the second reading, which wasn't begun.
+    #[error("no memory")]
+    Memory,
+}
+
+/// Reads a stream into the first of these sinks and, if it is accepted, again into the second. The memory of the second
+/// reading is reserved before it begins, so that it can only break at its sink. Returns the second sink, and the first one
+/// if both took all entries.
 #[inline(always)]
 pub fn read_twice<S: Sink + Drop, T: Sink + Drop>(
     alloc: Global,
     budget: Budget,
     stream: &[u8],
     sinks: (S, T),
-) -> (T, Result<S, Refusal>)
+) -> (T, Result<S, TwiceFault>)
     requires start { S.state sinks.0 ≡ start }
     requires works { S.failed sinks.0 ≡ false }
     requires again { T.state sinks.1 ≡ start }
@@ -38,13 +55,16 @@ pub fn read_twice<S: Sink + Drop, T: Sink + Drop>(
     let (first, second) = sinks;
     let mut reader = Reader::new(alloc, budget, first);
     if let Err(refusal) = read_whole(&mut reader, stream) {
-        return (second, Err(refusal));
+        return (second, Err(TwiceFault::Refused(refusal)));
     }
-    let (first, mut reader) = reader.again(budget, second);
+    let (first, mut reader) = match reader.again(budget, second) {
+        Ok(made) => made,
+        Err((_, second)) => return (second, Err(TwiceFault::Memory)),
+    };
     let read = read_whole(&mut reader, stream);
     let second = reader.into_sink();
     match read {
         Ok(()) => (second, Ok(first)),
-        Err(refusal) => (second, Err(refusal)),
+        Err(refusal) => (second, Err(TwiceFault::Refused(refusal))),
     }
 }

@@ -1,13 +1,4 @@
-use Rattle.std.proofs.Common.{ℤ, ap₂, ◌≡◌, ℕ, suc, zero, ◌+◌, ◌*◌, ◌/◌, ◌%◌, ◌^◌, ◌<◌, List, [], ◌∷◌, length, get_or, replicate, All, refl, sym, ap, ◌∙◌, arith, pow-suc, div-one}
-use Rattle.std.specs.Int.{w64, bytes_high_first, byte_at, swap_bytes, from_le_bytes, to_le_bytes, to_be_bytes}
-use Rattle.std.proofs.lemmas.Nat.{div-mul-add, mod-mul-add, le_bytes_8}
-use Rattle.std.proofs.lemmas.List.{length-map}
-use Rattle.std.proofs.lemmas.List.Elements.{All-head, All-tail, All-map, All-weaker}
-use Rattle.nap_values.specs.Digits.{value_of, digits_of}
-use Rattle.nap_values.specs.Laws.{IsWord}
-use Rattle.nap_values.specs.TwosComplement.{signed_of, bits_of}
-use Rattle.nap_values.specs.PackedCoordinates.{words_in, HoldsWords, x_in, y_in}
-use Rattle.nap_values.specs.Spellings.{words_of_pairs, operand_bytes}
+use Rattle.nap_values.proofs.Common.{All, All-head, All-map, All-tail, All-weaker, HoldsWords, IsWord, List, [], ap, ap₂, arith, bits_of, byte_at, bytes_high_first, digits_of, div-mul-add, div-one, from_le_bytes, get_or, le_bytes_8, length, length-map, mod-mul-add, operand_bytes, pow-suc, refl, replicate, signed_of, suc, swap_bytes, sym, to_be_bytes, to_le_bytes, value_of, w64, words_in, words_of_pairs, x_in, y_in, zero, ℕ, ℤ, ◌%◌, ◌*◌, ◌+◌, ◌/◌, ◌<◌, ◌^◌, ◌∙◌, ◌∷◌, ◌≡◌}
 use Rattle.nap_values.proofs.DigitLemmas.{value_of-below, value_of-digits_of}
 use Rattle.nap_values.proofs.CoordinateLemmas.{bits_of-signed_of}
 use Rattle.nap_values.proofs.PackedLemmas.{length-words_in, packed_fits, pair_words-values, x_in-below, y_in-below}

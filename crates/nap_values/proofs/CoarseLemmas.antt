@@ -1,13 +1,6 @@
-use Rattle.std.proofs.Common.{◌≡◌, ℕ, suc, zero, ◌+◌, ◌*◌, ◌/◌, ◌%◌, ◌^◌, ◌<◌, List, [], ◌∷◌, map, replicate, length, take, get_or, All, refl, sym, ap, ap₂, ◌∙◌, arith, bit_and}
-use Rattle.std.specs.Int.Bits.{and_zero_r}
-use Rattle.std.proofs.lemmas.List.Elements.{All-nil, All-cons}
-use Rattle.std.proofs.lemmas.Nat.{and_block, div-add-mod', mod_below}
-use Rattle.nap_values.specs.Digits.{value_of, digits_of}
-use Rattle.std.specs.Int.{w32, from_be_bytes}
-use Rattle.nap_values.specs.Coarse.{coarse_part, coarse_words}
-use Rattle.nap_values.specs.Operands.{operand_words, x_digit, y_digit}
-use Rattle.nap_values.specs.PackedCoordinates.{x_in, packed_coordinates}
-use Rattle.nap_values.proofs.DigitLemmas.{value_of-digits_of, digits_of-value_of, digits_of-below, length-digits_of}
+use Rattle.nap_values.proofs.Common.{All, HoldsWords, List, [], and_block, and_mask, and_shr, and_zero_r, ap, ap₂, arith, bit_and, coarse_part, coarse_words, digits_of, div-add-mod', from_be_bytes, get_or, length, map, mod_below, operand_words, packed_coordinates, refl, sym, take, value_of, w32, with_high, words_in, x_digit, x_in, y_digit, y_in, ℕ, ◌%◌, ◌*◌, ◌+◌, ◌/◌, ◌<◌, ◌∙◌, ◌∷◌, ◌≡◌}
+use Rattle.nap_values.proofs.PackedLemmas.{length-words_in, value-words_in, packed_coordinates-parts}
+use Rattle.nap_values.proofs.DigitLemmas.{all_eight, eight_below, value_of-digits_of, digits_of-value_of, digits_of-below, length-digits_of}
 use Rattle.nap_values.proofs.MaskLemmas.{masked}
 use Rattle.nap_values.proofs.MovingPointLemmas.{x_alone}
 
@@ -52,11 +45,6 @@ half_of_digits a b c d a_fits b_fits c_fits d_fits =
     let kept_third : kept (n / 256 % 65536 % 256) ≡ c * 8 = omega (arith, part) in
     rw (kept_first, kept_second, kept_third) (omega arith)
 
--- eight digits
-eight_digits : (a b c d e f g h : ℕ) → a < 8 → b < 8 → c < 8 → d < 8 → e < 8 → f < 8 → g < 8 → h < 8 → All (λ d. d < 8) (a ∷ b ∷ c ∷ d ∷ e ∷ f ∷ g ∷ h ∷ [])
-eight_digits a b c d e f g h a_fits b_fits c_fits d_fits e_fits f_fits g_fits h_fits =
-    All-cons (λ d. d < 8) a (b ∷ c ∷ d ∷ e ∷ f ∷ g ∷ h ∷ []) a_fits (All-cons (λ d. d < 8) b (c ∷ d ∷ e ∷ f ∷ g ∷ h ∷ []) b_fits (All-cons (λ d. d < 8) c (d ∷ e ∷ f ∷ g ∷ h ∷ []) c_fits (All-cons (λ d. d < 8) d (e ∷ f ∷ g ∷ h ∷ []) d_fits (All-cons (λ d. d < 8) e (f ∷ g ∷ h ∷ []) e_fits (All-cons (λ d. d < 8) f (g ∷ h ∷ []) f_fits (All-cons (λ d. d < 8) g (h ∷ []) g_fits (All-cons (λ d. d < 8) h [] h_fits (All-nil (λ d. d < 8)))))))))
-
 -- the digits of the nine highest bits
 by_digits : (a b c d e f g h : ℕ) → All (λ d. d < 8) (a ∷ b ∷ c ∷ d ∷ e ∷ f ∷ g ∷ h ∷ []) →
     (bit_and (value_of 256 8 (a ∷ b ∷ c ∷ d ∷ e ∷ f ∷ g ∷ h ∷ []) * 8) 0x3838_3800_3838_3800 ≡ value_of 256 8 (a ∷ b ∷ c ∷ 0 ∷ e ∷ f ∷ g ∷ 0 ∷ []) * 8)
@@ -64,22 +52,14 @@ by_digits : (a b c d e f g h : ℕ) → All (λ d. d < 8) (a ∷ b ∷ c ∷ d �
     × All (λ d. d < 8) (a ∷ b ∷ c ∷ 0 ∷ e ∷ f ∷ g ∷ 0 ∷ [])
 unfolding value_of
 by_digits a b c d e f g h fit =
-    let a_fits : a < 8 = fit 0 0 (omega arith) in
-    let b_fits : b < 8 = fit 1 0 (omega arith) in
-    let c_fits : c < 8 = fit 2 0 (omega arith) in
-    let d_fits : d < 8 = fit 3 0 (omega arith) in
-    let e_fits : e < 8 = fit 4 0 (omega arith) in
-    let f_fits : f < 8 = fit 5 0 (omega arith) in
-    let g_fits : g < 8 = fit 6 0 (omega arith) in
-    let h_fits : h < 8 = fit 7 0 (omega arith) in
-    let none : 0 < 8 = omega arith in
+    let (a_fits, b_fits, c_fits, d_fits, e_fits, f_fits, g_fits, h_fits) = eight_below 8 a b c d e f g h fit in
     let n = value_of 256 8 (a ∷ b ∷ c ∷ d ∷ e ∷ f ∷ g ∷ h ∷ []) * 8 in
     let high : n / 4294967296 ≡ (a * 16777216 + b * 65536 + c * 256 + d) * 8 = omega arith in
     let low : n % 4294967296 ≡ (e * 16777216 + f * 65536 + g * 256 + h) * 8 = omega arith in (
       coarse_kept n ∙ ap₂ (λ x y. half x * 4294967296 + half y) high low
           ∙ ap₂ (λ x y. x * 4294967296 + y) (half_of_digits a b c d a_fits b_fits c_fits d_fits) (half_of_digits e f g h e_fits f_fits g_fits h_fits) ∙ omega arith,
       omega arith,
-      eight_digits a b c 0 e f g 0 a_fits b_fits c_fits none e_fits f_fits g_fits none,
+      all_eight (λ d. d < 8) a b c 0 e f g 0 a_fits b_fits c_fits (omega arith) e_fits f_fits g_fits (omega arith),
     )
 
 part_of_digits : (ds : List ℕ) → length ds ≡ 8 → All (λ d. d < 8) ds → bit_and (value_of 256 8 ds * 8) 0x3838_3800_3838_3800 ≡ packed_coordinates (coarse_part (value_of 8 8 ds)) 0
@@ -126,15 +106,7 @@ module _ (a b c d : ℕ) (a_fits : a < 256) (b_fits : b < 256) (c_fits : c < 256
 
   digits_fit : All (λ d. d < 8) digits
   unfolding digits
-  digits_fit =
-      let ya : a % 8 < 8 = omega arith in
-      let yb : b % 8 < 8 = omega arith in
-      let yc : c % 8 < 8 = omega arith in
-      let xa : a / 8 % 8 < 8 = omega arith in
-      let xb : b / 8 % 8 < 8 = omega arith in
-      let xc : c / 8 % 8 < 8 = omega arith in
-      let none : 0 < 8 = omega arith in
-      eight_digits (a % 8) (b % 8) (c % 8) 0 (a / 8 % 8) (b / 8 % 8) (c / 8 % 8) 0 ya yb yc none xa xb xc none
+  digits_fit = all_eight (λ d. d < 8) (a % 8) (b % 8) (c % 8) 0 (a / 8 % 8) (b / 8 % 8) (c / 8 % 8) 0 (omega arith) (omega arith) (omega arith) (omega arith) (omega arith) (omega arith) (omega arith) (omega arith)
 
   length-digits : length digits ≡ 8
   unfolding digits
@@ -168,3 +140,135 @@ block_kept (a ∷ b ∷ c ∷ d ∷ []) len fit = (
   coarse_fits a b c d (fit 0) (fit 1) (fit 2) (fit 3),
 )
 block_kept _ len fit = absurd (omega arith)
+
+-- The nine highest bits of the numbers that eight words hold.
+
+high_of_words : (ws : List ℕ) → length ws ≡ 8 → All (λ w. w < 64) ws →
+    (bit_and (value_of 256 8 ws / 4294967296 * 34359738369 % 18446744073709551616) 0x3838_3800_3838_3800
+    ≡ packed_coordinates (value_of 8 8 (map y_digit ws) / 32768 * 32768 + value_of 8 8 (map x_digit ws) / 32768 * 8) 0)
+unfolding value_of
+high_of_words (a ∷ b ∷ c ∷ d ∷ e ∷ f ∷ g ∷ h ∷ []) len fit =
+    let (a_fits, b_fits, c_fits, d_fits, e_fits, f_fits, g_fits, h_fits) = eight_below 64 a b c d e f g h fit in
+    let top : value_of 256 8 (a ∷ b ∷ c ∷ d ∷ e ∷ f ∷ g ∷ h ∷ []) / 4294967296 ≡ a * 16777216 + b * 65536 + c * 256 + d = omega arith in
+    let y : value_of 8 8 (map y_digit (a ∷ b ∷ c ∷ d ∷ e ∷ f ∷ g ∷ h ∷ [])) / 32768 ≡ a % 8 * 64 + b % 8 * 8 + c % 8 = omega arith in
+    let x : value_of 8 8 (map x_digit (a ∷ b ∷ c ∷ d ∷ e ∷ f ∷ g ∷ h ∷ [])) / 32768 ≡ a / 8 * 64 + b / 8 * 8 + c / 8 = omega arith in
+    let same : coarse_words (operand_words (a ∷ b ∷ c ∷ [])) ≡ (a % 8 * 64 + b % 8 * 8 + c % 8) * 32768 + (a / 8 * 64 + b / 8 * 8 + c / 8) * 8 = omega arith in
+    ap (λ n. bit_and (n * 34359738369 % 18446744073709551616) 0x3838_3800_3838_3800) top
+    ∙ bytes_kept a b c d (omega arith) (omega arith) (omega arith) (omega arith)
+    ∙ ap (λ n. packed_coordinates n 0) (same ∙ ap₂ (λ y x. y * 32768 + x * 8) (sym y) (sym x))
+high_of_words _ len fit = absurd (omega arith)
+
+pub high_kept : (n : ℕ) → HoldsWords n → bit_and (n / 4294967296 * 34359738369 % 18446744073709551616) 0x3838_3800_3838_3800 ≡ packed_coordinates (y_in n / 32768 * 32768 + x_in n / 32768 * 8) 0
+unfolding x_in y_in
+high_kept n words =
+    ap (λ m. bit_and (m / 4294967296 * 34359738369 % 18446744073709551616) 0x3838_3800_3838_3800) (sym (value-words_in n words))
+    ∙ high_of_words (words_in n) (length-words_in n words) words
+
+-- The words of two numbers whose nine highest bits are taken from others.
+
+low_kept : (n : ℕ) → bit_and n 0x38383800 ≡ half (n % 4294967296)
+low_kept n =
+    ap (λ m. bit_and m 0x38383800) (sym (div-add-mod' n 4294967296))
+    ∙ and_block 32 (n / 4294967296) 0 (n % 4294967296) 0x38383800 (mod_below n 4294967296 (omega arith)) (omega arith)
+    ∙ ap₂ (λ a b. a * 4294967296 + b) (and_zero_r (n / 4294967296)) (half_kept (n % 4294967296))
+    ∙ omega arith
+
+upper_kept : (n : ℕ) → bit_and n 0x3838_3800_0000_0000 ≡ half (n / 4294967296) * 4294967296
+upper_kept n =
+    ap (λ m. bit_and m 0x3838_3800_0000_0000) (sym (div-add-mod' n 4294967296))
+    ∙ and_block 32 (n / 4294967296) 0x38383800 (n % 4294967296) 0 (mod_below n 4294967296 (omega arith)) (omega arith)
+    ∙ ap₂ (λ a b. a * 4294967296 + b) (half_kept (n / 4294967296)) (and_zero_r (n % 4294967296))
+    ∙ omega arith
+
+-- the number whose words are put together
+abbrev joined : ℕ → ℕ → ℕ
+joined n m = ((bit_and n 0x38383800 * 4294967296 % 18446744073709551616 + bit_and (n / 8) 0x0707_0700_0000_0000) % 18446744073709551616 + bit_and m 0xFF_FFFF_FFFF) % 18446744073709551616
+
+module _ (a b c d e f g h : ℕ) (a_fits : a < 8) (b_fits : b < 8) (c_fits : c < 8) (d_fits : d < 8) (e_fits : e < 8) (f_fits : f < 8) (g_fits : g < 8) (h_fits : h < 8) where
+  abbrev number : ℕ
+  number = value_of 256 8 (a ∷ b ∷ c ∷ d ∷ e ∷ f ∷ g ∷ h ∷ []) * 8
+
+  joined_x : bit_and number 0x38383800 * 4294967296 % 18446744073709551616 ≡ (e * 65536 + f * 256 + g) * 8796093022208
+  unfolding value_of
+  joined_x =
+      let low : number % 4294967296 ≡ (e * 16777216 + f * 65536 + g * 256 + h) * 8 = omega arith in
+      let is : bit_and number 0x38383800 ≡ (e * 65536 + f * 256 + g) * 8 * 256 = low_kept number ∙ ap half low ∙ half_of_digits e f g h e_fits f_fits g_fits h_fits in
+      omega (arith, is)
+
+  joined_y : bit_and (number / 8) 0x0707_0700_0000_0000 ≡ (a * 65536 + b * 256 + c) * 1099511627776
+  unfolding value_of
+  joined_y =
+      let high : number / 4294967296 ≡ (a * 16777216 + b * 65536 + c * 256 + d) * 8 = omega arith in
+      let is : bit_and number 0x3838_3800_0000_0000 ≡ (a * 65536 + b * 256 + c) * 8 * 256 * 4294967296 =
+      upper_kept number ∙ ap (λ m. half m * 4294967296) high ∙ ap (λ m. m * 4294967296) (half_of_digits a b c d a_fits b_fits c_fits d_fits) in
+      let down : bit_and number 0x3838_3800_0000_0000 / 8 ≡ bit_and (number / 8) 0x0707_0700_0000_0000 = and_shr number 0x3838_3800_0000_0000 3 in
+      omega (arith, is, down)
+
+  module _ (q r s t u v w x : ℕ) (q_fits : q < 64) (r_fits : r < 64) (s_fits : s < 64) (t_fits : t < 64) (u_fits : u < 64) (v_fits : v < 64) (w_fits : w < 64) (x_fits : x < 64) where
+    abbrev others : List ℕ
+    others = q ∷ r ∷ s ∷ t ∷ u ∷ v ∷ w ∷ x ∷ []
+
+    abbrev xs : List ℕ
+    xs = e ∷ f ∷ g ∷ t / 8 ∷ u / 8 ∷ v / 8 ∷ w / 8 ∷ x / 8 ∷ []
+
+    abbrev ys : List ℕ
+    ys = a ∷ b ∷ c ∷ t % 8 ∷ u % 8 ∷ v % 8 ∷ w % 8 ∷ x % 8 ∷ []
+
+    joined_low : bit_and (value_of 256 8 others) 0xFF_FFFF_FFFF ≡ t * 4294967296 + u * 16777216 + v * 65536 + w * 256 + x
+    unfolding value_of
+    joined_low =
+        and_mask (value_of 256 8 others) 40 ∙ omega arith
+
+    xs_fit : All (λ d. d < 8) xs
+    xs_fit =
+        all_eight (λ d. d < 8) e f g (t / 8) (u / 8) (v / 8) (w / 8) (x / 8) e_fits f_fits g_fits (omega arith) (omega arith) (omega arith) (omega arith) (omega arith)
+
+    ys_fit : All (λ d. d < 8) ys
+    ys_fit =
+        all_eight (λ d. d < 8) a b c (t % 8) (u % 8) (v % 8) (w % 8) (x % 8) a_fits b_fits c_fits (omega arith) (omega arith) (omega arith) (omega arith) (omega arith)
+
+    packed_pair : packed_coordinates (value_of 8 8 xs) (value_of 8 8 ys) ≡ value_of 256 8 xs * 8 + value_of 256 8 ys
+    packed_pair =
+        packed_coordinates-parts (value_of 8 8 xs) (value_of 8 8 ys)
+        ∙ ap₂ (λ xs ys. value_of 256 8 xs * 8 + value_of 256 8 ys) (digits_of-value_of 8 8 xs (omega arith) xs_fit refl) (digits_of-value_of 8 8 ys (omega arith) ys_fit refl)
+
+    joined_is : joined number (value_of 256 8 others) ≡ value_of 256 8 xs * 8 + value_of 256 8 ys
+    unfolding value_of
+    joined_is =
+        omega (arith, joined_x, joined_y, joined_low)
+
+    high_x : with_high (value_of 8 8 (a ∷ b ∷ c ∷ d ∷ e ∷ f ∷ g ∷ h ∷ []) % 4096 / 8) (value_of 8 8 (map x_digit others)) ≡ value_of 8 8 xs
+    unfolding value_of
+    high_x =
+        omega arith
+
+    high_y : with_high (value_of 8 8 (a ∷ b ∷ c ∷ d ∷ e ∷ f ∷ g ∷ h ∷ []) / 32768) (value_of 8 8 (map y_digit others)) ≡ value_of 8 8 ys
+    unfolding value_of
+    high_y =
+        omega arith
+
+    joined_pair : joined number (value_of 256 8 others)
+        ≡ packed_coordinates (with_high (value_of 8 8 (a ∷ b ∷ c ∷ d ∷ e ∷ f ∷ g ∷ h ∷ []) % 4096 / 8) (value_of 8 8 (map x_digit others)))
+        (with_high (value_of 8 8 (a ∷ b ∷ c ∷ d ∷ e ∷ f ∷ g ∷ h ∷ []) / 32768) (value_of 8 8 (map y_digit others)))
+    joined_pair = joined_is ∙ sym packed_pair ∙ ap₂ packed_coordinates (sym high_x) (sym high_y)
+
+joined_lists : (ds ws : List ℕ) → length ds ≡ 8 → length ws ≡ 8 → All (λ d. d < 8) ds → All (λ w. w < 64) ws →
+    joined (value_of 256 8 ds * 8) (value_of 256 8 ws)
+    ≡ packed_coordinates (with_high (value_of 8 8 ds % 4096 / 8) (value_of 8 8 (map x_digit ws))) (with_high (value_of 8 8 ds / 32768) (value_of 8 8 (map y_digit ws)))
+joined_lists (a ∷ b ∷ c ∷ d ∷ e ∷ f ∷ g ∷ h ∷ []) (q ∷ r ∷ s ∷ t ∷ u ∷ v ∷ w ∷ x ∷ []) ds_len ws_len fit word_fit =
+    let (a_fits, b_fits, c_fits, d_fits, e_fits, f_fits, g_fits, h_fits) = eight_below 8 a b c d e f g h fit in
+    let (q_fits, r_fits, s_fits, t_fits, u_fits, v_fits, w_fits, x_fits) = eight_below 64 q r s t u v w x word_fit in
+    joined_pair a b c d e f g h a_fits b_fits c_fits d_fits e_fits f_fits g_fits h_fits q r s t u v w x q_fits r_fits s_fits t_fits u_fits v_fits w_fits x_fits
+joined_lists (a ∷ b ∷ c ∷ d ∷ e ∷ f ∷ g ∷ h ∷ []) _ ds_len ws_len fit word_fit = absurd (omega arith)
+joined_lists _ _ ds_len ws_len fit word_fit = absurd (omega arith)
+
+pub joined_kept : (n m : ℕ) → x_in n < 16777216 → packed_coordinates (x_in n) 0 ≡ n → HoldsWords m →
+    joined n m ≡ packed_coordinates (with_high (x_in n % 4096 / 8) (x_in m)) (with_high (x_in n / 32768) (y_in m))
+unfolding x_in y_in
+joined_kept n m fits alone words =
+    let number = x_in n in
+    let ds = digits_of 8 8 number in
+    let back = value_of-digits_of 8 8 number (omega arith) fits in
+    ap₂ joined (sym alone ∙ sym (x_alone number)) (sym (value-words_in m words))
+    ∙ joined_lists ds (words_in m) (length-digits_of 8 8 number) (length-words_in m words) (digits_of-below 8 8 number (omega arith) fits) words
+    ∙ ap (λ k. packed_coordinates (with_high (k % 4096 / 8) (x_in m)) (with_high (k / 32768) (y_in m))) back

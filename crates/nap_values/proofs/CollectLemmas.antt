@@ -1,6 +1,4 @@
-use Rattle.std.proofs.Common.{◌≡◌, ℕ, ◌+◌, ◌-◌, ◌*◌, ◌/◌, ◌%◌, ◌^◌, ◌<◌, [], ◌∷◌, ◌≤◌, replicate, All, refl, sym, ap, ◌∙◌, arith, bit_and}
-use Rattle.std.proofs.lemmas.List.Elements.{All-nil, All-cons, All-head}
-use Rattle.nap_values.specs.Digits.{value_of, digits_of}
+use Rattle.nap_values.proofs.Common.{All, All-cons, All-head, All-nil, [], ap, arith, bit_and, digits_of, refl, replicate, sym, value_of, ℕ, ◌%◌, ◌*◌, ◌+◌, ◌-◌, ◌/◌, ◌<◌, ◌^◌, ◌∙◌, ◌∷◌, ◌≡◌, ◌≤◌}
 use Rattle.nap_values.proofs.DigitLemmas.{value_of-digits_of, value_of-below}
 use Rattle.nap_values.proofs.MaskLemmas.{low_bits}
 

@@ -1,7 +1,4 @@
-use Rattle.std.proofs.Common.{Bool, true, false, cond, nat_lt, ◌&&◌, ◌≡◌, ℕ, ℤ, pos, negsuc, ◌<◌, Some, None, refl, ap, arith, ◌≤ℤ◌, ◌<ℤ◌}
-use Rattle.std.proofs.lemmas.Bool.Decides.{nat_tests}
-use Rattle.nap_values.specs.Coordinates.{Coordinates, IsInSquare, point_with}
-use Rattle.nap_values.specs.TwosComplement.{signed_of, bits_of}
+use Rattle.nap_values.proofs.Common.{Bool, Coordinates, IsInSquare, None, Some, ap, arith, bits_of, cond, false, nat_lt, nat_tests, negsuc, point_with, pos, refl, signed_of, true, ℕ, ℤ, ◌&&◌, ◌<ℤ◌, ◌<◌, ◌≡◌, ◌≤ℤ◌}
 
 -- Signed numbers of 24 bits, and which of them are coordinates of a point.
 

@@ -1,8 +1,4 @@
-use Rattle.std.proofs.Common.{◌≡◌, ℕ, suc, zero, ◌+◌, ◌*◌, ◌/◌, ◌%◌, ◌^◌, ◌<◌, ◌≤◌, List, [], ◌∷◌, ◌++◌, length, replicate, take, All, refl, ap, arith}
-use Rattle.std.proofs.Math.Nat.{pow-suc, pow-zero, pow-succ', one-le-pow}
-use Rattle.std.proofs.lemmas.Nat.{div-add-mod', mod_below, div_below, div-mul-add, mod-mul-add, mul-add-lt}
-use Rattle.std.proofs.lemmas.List.Elements.{All-nil, All-cons, All-head, All-tail}
-use Rattle.nap_values.specs.Digits.{value_of, digits_of}
+use Rattle.nap_values.proofs.Common.{All, All-cons, All-head, All-nil, All-tail, List, [], ap, arith, digits_of, div-add-mod', div-mul-add, div_below, length, mod-mul-add, mod_below, mul-add-lt, one-le-pow, pow-suc, pow-succ', pow-zero, refl, replicate, suc, take, value_of, zero, ℕ, ◌%◌, ◌*◌, ◌++◌, ◌+◌, ◌/◌, ◌<◌, ◌^◌, ◌∷◌, ◌≡◌, ◌≤◌}
 
 -- The digits of a number, and the value of digits.
 
@@ -76,3 +72,14 @@ value_of-take base zero count digits few = refl
 value_of-take base (suc places) zero digits few = absurd (omega arith)
 value_of-take base (suc places) (suc count) [] few = refl
 value_of-take base (suc places) (suc count) (digit ∷ digits) few = ap (λ v. digit * base ^ places + v) (value_of-take base places count digits (omega arith))
+
+-- a statement that is true of each of eight numbers
+pub all_eight : (P : ℕ → Type 0) (a b c d e f g h : ℕ) → P a → P b → P c → P d → P e → P f → P g → P h → All P (a ∷ b ∷ c ∷ d ∷ e ∷ f ∷ g ∷ h ∷ [])
+all_eight P a b c d e f g h pa pb pc pd pe pf pg ph =
+    All-cons P a (b ∷ c ∷ d ∷ e ∷ f ∷ g ∷ h ∷ []) pa (All-cons P b (c ∷ d ∷ e ∷ f ∷ g ∷ h ∷ []) pb
+    (All-cons P c (d ∷ e ∷ f ∷ g ∷ h ∷ []) pc (All-cons P d (e ∷ f ∷ g ∷ h ∷ []) pd
+    (All-cons P e (f ∷ g ∷ h ∷ []) pe (All-cons P f (g ∷ h ∷ []) pf (All-cons P g (h ∷ []) pg (All-cons P h [] ph (All-nil P))))))))
+
+pub eight_below : (n a b c d e f g h : ℕ) → All (λ d. d < n) (a ∷ b ∷ c ∷ d ∷ e ∷ f ∷ g ∷ h ∷ []) → (a < n) × (b < n) × (c < n) × (d < n) × (e < n) × (f < n) × (g < n) × (h < n)
+eight_below n a b c d e f g h fit =
+    (fit 0 0 (omega arith), fit 1 0 (omega arith), fit 2 0 (omega arith), fit 3 0 (omega arith), fit 4 0 (omega arith), fit 5 0 (omega arith), fit 6 0 (omega arith), fit 7 0 (omega arith))

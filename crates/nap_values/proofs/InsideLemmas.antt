@@ -1,10 +1,4 @@
-use Rattle.std.proofs.Common.{◌≡◌, ℕ, ◌+◌, ◌-◌, ◌%◌, ◌<◌, sym, ap, ◌∙◌, arith, Some, None, pos, ◌+ℤ◌, ◌-ℤ◌}
-use Rattle.std.proofs.lemmas.Bool.Decides.{nat_tests}
-use Rattle.std.proofs.lemmas.Int.{ints}
-use Rattle.nap_values.specs.Coordinates.{Coordinates, IsInSquare, point_with, point_at}
-use Rattle.nap_values.specs.TwosComplement.{signed_of, bits_of}
-use Rattle.nap_values.specs.Operands.{multi_of}
-use Rattle.nap_values.specs.PackedCoordinates.{words_in, HoldsWords, x_in, y_in}
+use Rattle.nap_values.proofs.Common.{Coordinates, HoldsWords, IsInSquare, None, Some, ap, arith, bits_of, ints, multi_of, nat_tests, point_at, point_with, pos, signed_of, sym, words_in, x_in, y_in, ℕ, ◌%◌, ◌+ℤ◌, ◌+◌, ◌-ℤ◌, ◌-◌, ◌<◌, ◌∙◌, ◌≡◌}
 use Rattle.nap_values.proofs.CoordinateLemmas.{bits_of-signed_of, point_with-back}
 use Rattle.nap_values.proofs.PackedLemmas.{x_in-below, y_in-below}
 

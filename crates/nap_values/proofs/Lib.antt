@@ -1,3 +1,4 @@
+mod Common
 pub mod LoopLemmas
 pub mod DigitLemmas
 pub mod SpellingLemmas
@@ -19,4 +20,4 @@ mod RunLemmas
 mod OperandWordLemmas
 mod PaddedLemmas
 mod CoarseLemmas
-mod CourseLemmas
+mod CoarseWalkLemmas

@@ -1,7 +1,4 @@
-use Rattle.std.proofs.Common.{◌≡◌, ℕ, suc, zero, ◌+◌, ◌-◌, ◌*◌, ◌/◌, ◌%◌, ◌^◌, ◌<◌, ◌≤◌, List, ◌∷◌, map, length, get_or, drop, refl, ap, sym, ◌∙◌, arith, add-one, drop-cons}
-use Rattle.std.proofs.Math.Nat.{pow-suc, mul-div_cancel, one-le-pow, mul-le-mul_right, mod-lt}
-use Rattle.std.proofs.Math.ListN.{drop_of_length-le}
-use Rattle.nap_values.specs.Digits.{value_of, digits_of}
+use Rattle.nap_values.proofs.Common.{List, add-one, ap, arith, digits_of, drop, drop-cons, drop_of_length-le, get_or, length, map, mod-lt, mul-div_cancel, mul-le-mul_right, one-le-pow, pow-suc, refl, suc, sym, value_of, zero, ℕ, ◌%◌, ◌*◌, ◌+◌, ◌-◌, ◌/◌, ◌<◌, ◌^◌, ◌∙◌, ◌∷◌, ◌≡◌, ◌≤◌}
 
 -- Loops over the digits of a number, from the first digit on.
 

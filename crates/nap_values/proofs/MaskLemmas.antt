@@ -1,10 +1,5 @@
-use Rattle.std.proofs.Common.{◌≡◌, ℕ, suc, zero, ◌+◌, ◌-◌, ◌*◌, ◌/◌, ◌%◌, ◌^◌, ◌<◌, ◌≤◌, List, [], ◌∷◌, map, replicate, take, length, All, refl, sym, ap, ap₂, ◌∙◌, arith, bit_and, div-one, pow-suc}
-use Rattle.std.proofs.Math.Nat.{pow-le-pow_right, pow-zero, mul-zero, mul-div_cancel}
-use Rattle.std.specs.Int.Bits.{and_zero_r}
-use Rattle.std.proofs.lemmas.Nat.{and_block, and_shr, pow-add, pow_pos, mod_below, div-add-mod'}
-use Rattle.std.proofs.lemmas.List.Elements.{All-nil, All-cons, All-head, All-tail, All-replicate}
+use Rattle.nap_values.proofs.Common.{All, All-head, All-replicate, All-tail, List, [], and_block, and_shr, and_zero_r, ap, ap₂, arith, bit_and, digits_of, div-add-mod', div-one, get_or, length, map, mod_below, mul-div_cancel, mul-zero, pow-add, pow-le-pow_right, pow-suc, pow-zero, pow_pos, refl, replicate, suc, sym, take, value_of, zero, ℕ, ◌%◌, ◌*◌, ◌+◌, ◌-◌, ◌/◌, ◌<◌, ◌^◌, ◌∙◌, ◌∷◌, ◌≡◌, ◌≤◌}
 use lib.Bits.{and_high}
-use Rattle.nap_values.specs.Digits.{value_of, digits_of}
 use Rattle.nap_values.proofs.DigitLemmas.{value_of-below, digits_of-value_of}
 
 -- The bits of each digit that a mask keeps.
@@ -58,8 +53,7 @@ value_of-scaled base (suc places) unit f g (d ∷ ds) all =
 
 -- a statement that is true of every number
 pub everywhere : (P : ℕ → Type 0) (xs : List ℕ) → ((x : ℕ) → P x) → All P xs
-everywhere P [] is = All-nil P
-everywhere P (x ∷ xs) is = All-cons P x xs (is x) (everywhere P xs is)
+everywhere P xs is = λ i d inside. is (get_or xs i d)
 
 -- two rules give the same digits
 pub map_same : (f g : ℕ → ℕ) (xs : List ℕ) → All (λ x. f x ≡ g x) xs → map f xs ≡ map g xs

@@ -1,9 +1,4 @@
-use Rattle.std.proofs.Common.{◌≡◌, ℕ, suc, zero, ◌+◌, ◌-◌, ◌*◌, ◌/◌, ◌%◌, ◌^◌, ◌<◌, ◌≤◌, List, [], ◌∷◌, map, length, replicate, All, refl, sym, ap, ap₂, ◌∙◌, arith, bit_and}
-use Rattle.std.proofs.lemmas.List.{length-map}
-use Rattle.std.proofs.lemmas.List.Elements.{All-head, All-tail, All-map}
-use Rattle.nap_values.specs.Digits.{value_of, digits_of}
-use Rattle.nap_values.specs.Operands.{x_digit, y_digit}
-use Rattle.nap_values.specs.PackedCoordinates.{words_in, HoldsWords, x_in, y_in, packed_coordinates}
+use Rattle.nap_values.proofs.Common.{All, All-head, All-map, All-tail, HoldsWords, List, [], ap, ap₂, arith, bit_and, digits_of, length, length-map, map, packed_coordinates, refl, replicate, suc, sym, value_of, words_in, x_digit, x_in, y_digit, y_in, zero, ℕ, ◌%◌, ◌*◌, ◌+◌, ◌-◌, ◌/◌, ◌<◌, ◌^◌, ◌∙◌, ◌∷◌, ◌≡◌, ◌≤◌}
 use Rattle.nap_values.proofs.SpellingLemmas.{x_digits-below, y_digits-below}
 use Rattle.nap_values.proofs.MaskLemmas.{masked, value_of-scaled, everywhere}
 use Rattle.nap_values.proofs.SumLemmas.{bytes_sum, digits_sum, sum-digits}

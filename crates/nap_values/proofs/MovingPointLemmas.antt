@@ -1,9 +1,4 @@
-use Rattle.std.proofs.Common.{◌≡◌, ℕ, ◌+◌, ◌*◌, ◌%◌, ◌<◌, Some, sym, ap, ap₂, subst, ◌∙◌, arith, bit_and}
-use Rattle.nap_values.specs.Digits.{value_of, digits_of}
-use Rattle.nap_values.specs.PackedCoordinates.{words_in, HoldsWords, x_in, y_in, packed_coordinates}
-use Rattle.nap_values.specs.Coordinates.{Coordinates, IsInSquare, point_at, point_with, displaced_point}
-use Rattle.nap_values.specs.Operands.{multi_of}
-use Rattle.nap_values.specs.TwosComplement.{signed_of}
+use Rattle.nap_values.proofs.Common.{Coordinates, HoldsWords, IsInSquare, Some, ap, ap₂, arith, bit_and, digits_of, displaced_point, multi_of, packed_coordinates, point_at, point_with, signed_of, subst, sym, value_of, words_in, x_in, y_in, ℕ, ◌%◌, ◌*◌, ◌+◌, ◌<◌, ◌∙◌, ◌≡◌}
 use Rattle.nap_values.proofs.PackedLemmas.{packed_coordinates-parts, packed_coordinates-words, x_in-packed_coordinates, y_in-packed_coordinates, x_in-below, y_in-below, crossed-parts, zero_words}
 use Rattle.nap_values.proofs.InsideLemmas.{sum_point, spelled_back}
 use Rattle.nap_values.proofs.MotionLemmas.{x_added, y_added}

@@ -1,16 +1,7 @@
-use Rattle.std.proofs.Common.{◌≡◌, ℕ, suc, zero, ◌%◌, ◌<◌, ◌≤◌, List, [], ◌∷◌, ◌++◌, length, replicate, take, get_or, All, refl, sym, ap, subst, ◌∙◌, arith, bit_and, append-nil, ◌-◌}
-use Rattle.std.specs.Int.{w64, from_be_bytes}
-use Rattle.std.proofs.lemmas.Nat.{and_mask}
-use Rattle.std.proofs.lemmas.Grind.{get_or_default_zero}
-use Rattle.std.proofs.lemmas.List.{length-map, length-take, take_all, map-append}
-use Rattle.std.proofs.lemmas.List.Elements.{All-map}
-use Rattle.nap_values.specs.Digits.{value_of}
-use Rattle.nap_values.specs.Operands.{operand_words, multi_of}
-use Rattle.nap_values.specs.Laws.{IsWord}
-use Rattle.nap_values.specs.PackedCoordinates.{words_in, HoldsWords}
+use Rattle.nap_values.proofs.Common.{All, All-map, HoldsWords, IsWord, List, [], and_mask, ap, append-nil, arith, bit_and, from_be_bytes, get_or, get_or_default_zero, length, length-map, length-take, map-append, multi_of, operand_words, refl, replicate, slice_index, subst, sym, take, take_all, value_of, w64, words_in, ℕ, ◌%◌, ◌++◌, ◌-◌, ◌<◌, ◌∙◌, ◌∷◌, ◌≡◌, ◌≤◌}
 use Rattle.nap_values.proofs.MaskLemmas.{masked_bytes, map_same, everywhere}
 use Rattle.nap_values.proofs.RunLemmas.{run_holds, words_in_run}
-use Rattle.nap_values.proofs.PublicLaws.{missing_words_are_zero}
+use Rattle.nap_values.proofs.PublicLaws.{map-replicate, missing_words_are_zero}
 
 -- Eight bytes are read at once as one number, and a mask keeps the words that the first of them carry.
 
@@ -55,11 +46,13 @@ module _ (count : ℕ) (bytes : List ℕ) (fit : (i : ℕ) → get_or bytes i 0 
       let none : 8 - length words ≡ 0 = omega (arith, length-map (take count bytes) (λ byte. byte % 64), ap length all) in
       kept_run ∙ ap (λ n. words ++ replicate n 0) none ∙ append-nil words ∙ ap operand_words all
 
-carried_zeros : (n : ℕ) → operand_words (replicate n 0) ≡ replicate n 0
-carried_zeros zero = refl
-carried_zeros (suc n) = ap (λ ws. 0 ∷ ws) (carried_zeros n)
-
 -- zero bytes carry zero words
 pub zero_bytes : (bytes : List ℕ) (missing : ℕ) → operand_words (bytes ++ replicate missing 0) ≡ operand_words bytes ++ replicate missing 0
 zero_bytes bytes missing =
-    map-append (λ byte. byte % 64) bytes (replicate missing 0) ∙ ap (λ ws. operand_words bytes ++ ws) (carried_zeros missing)
+    map-append (λ byte. byte % 64) bytes (replicate missing 0) ∙ ap (λ ws. operand_words bytes ++ ws) (map-replicate (λ byte. byte % 64) missing 0)
+
+-- Eight bytes are an operand without missing words.
+pub eight_bytes : (run : List ℕ) → length run ≡ 8 →
+    operand_words (slice_index run 0 ∷ slice_index run 1 ∷ slice_index run 2 ∷ slice_index run 3 ∷ slice_index run 4 ∷ slice_index run 5 ∷ slice_index run 6 ∷ slice_index run 7 ∷ []) ≡ operand_words run ++ replicate (8 - length run) 0
+eight_bytes (a ∷ b ∷ c ∷ d ∷ e ∷ f ∷ g ∷ h ∷ []) is = refl
+eight_bytes _ is = absurd (omega arith)

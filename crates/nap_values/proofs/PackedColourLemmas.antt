@@ -1,14 +1,4 @@
-use Rattle.std.proofs.Common.{◌≡◌, ℕ, suc, zero, ◌+◌, ◌-◌, ◌*◌, ◌/◌, ◌%◌, ◌^◌, ◌<◌, ◌≤◌, List, [], ◌∷◌, map, length, replicate, All, refl, sym, ap, ap₂, ◌∙◌, arith, bit_and, div-one}
-use Rattle.std.proofs.lemmas.List.{length-map, take_all}
-use Rattle.std.proofs.lemmas.List.Elements.{All-map, All-weaker}
-use Rattle.std.proofs.lemmas.List.Folds.{map_fixed}
-use Rattle.std.proofs.lemmas.Simd.{map-map}
-use Rattle.nap_values.specs.Digits.{value_of, digits_of}
-use Rattle.nap_values.specs.Operands.{g_digit, r_digit, b_digit}
-use Rattle.nap_values.specs.Spellings.{words_of_triples}
-use Rattle.nap_values.specs.Laws.{IsWord}
-use Rattle.nap_values.specs.PackedCoordinates.{words_in, HoldsWords}
-use Rattle.nap_values.specs.PackedColours.{packed_colour}
+use Rattle.nap_values.proofs.Common.{All, All-map, All-weaker, HoldsWords, IsWord, List, [], ap, ap₂, arith, b_digit, bit_and, digits_of, div-one, g_digit, length, length-map, map, map-map, map_fixed, packed_colour, r_digit, refl, replicate, suc, sym, take_all, value_of, words_in, words_of_triples, zero, ℕ, ◌%◌, ◌*◌, ◌+◌, ◌-◌, ◌/◌, ◌<◌, ◌^◌, ◌∙◌, ◌∷◌, ◌≡◌, ◌≤◌}
 use Rattle.nap_values.proofs.DigitLemmas.{value_of-digits_of, digits_of-value_of, length-digits_of, digits_of-below}
 use Rattle.nap_values.proofs.SpellingLemmas.{AreTwoBits, length-words_of_triples, words_of_triples-words, digits-words_of_triples, words_of_triples-digits, g_digits-below, r_digits-below, b_digits-below}
 use Rattle.nap_values.proofs.MaskLemmas.{value_of-scaled, everywhere, map_same, moved_bits, masked_bytes}

@@ -1,13 +1,4 @@
-use Rattle.std.proofs.Common.{◌≡◌, subst, ℕ, suc, zero, ◌+◌, ◌*◌, ◌/◌, ◌%◌, ◌^◌, ◌<◌, List, [], ◌∷◌, map, length, All, refl, sym, ap, ap₂, ◌∙◌, arith, bit_and}
-use Rattle.std.proofs.lemmas.Nat.{and_shr}
-use Rattle.std.proofs.lemmas.List.{length-map}
-use Rattle.std.proofs.lemmas.List.Elements.{All-head, All-weaker}
-use Rattle.nap_values.specs.Digits.{value_of, digits_of}
-use Rattle.nap_values.specs.Operands.{x_digit, y_digit}
-use Rattle.nap_values.specs.Spellings.{words_of_pairs}
-use Rattle.nap_values.specs.Laws.{IsWord}
-use Rattle.nap_values.specs.TwosComplement.{signed_of, bits_of}
-use Rattle.nap_values.specs.PackedCoordinates.{words_in, HoldsWords, x_in, y_in, packed_coordinates}
+use Rattle.nap_values.proofs.Common.{All, All-head, All-weaker, HoldsWords, IsWord, List, [], and_shr, ap, ap₂, arith, bit_and, bits_of, digits_of, length, length-map, map, packed_coordinates, refl, signed_of, subst, suc, sym, value_of, words_in, words_of_pairs, x_digit, x_in, y_digit, y_in, zero, ℕ, ◌%◌, ◌*◌, ◌+◌, ◌/◌, ◌<◌, ◌^◌, ◌∙◌, ◌∷◌, ◌≡◌}
 use Rattle.nap_values.proofs.DigitLemmas.{value_of-digits_of, digits_of-value_of, value_of-below, length-digits_of, digits_of-below}
 use Rattle.nap_values.proofs.SpellingLemmas.{length-words_of_pairs, words_of_pairs-words, x_digits-words_of_pairs, y_digits-words_of_pairs, words_of_pairs-digits, x_digits-below, y_digits-below}
 use Rattle.nap_values.proofs.CoordinateLemmas.{bits_of-signed_of}

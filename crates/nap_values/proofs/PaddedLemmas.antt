@@ -1,7 +1,4 @@
-use Rattle.std.proofs.Common.{◌≡◌, ℕ, suc, zero, ◌-◌, ◌%◌, ◌<◌, ◌≤◌, List, [], ◌∷◌, ◌++◌, map, length, replicate, take, refl, sym, ap, ◌∙◌, arith}
-use Rattle.std.proofs.lemmas.List.{take-map}
-use Rattle.nap_values.specs.Digits.{value_of}
-use Rattle.nap_values.specs.Operands.{operand_words, x_digit, y_digit, g_digit, r_digit, b_digit, multi_of, single_of, colour_of}
+use Rattle.nap_values.proofs.Common.{List, ap, arith, b_digit, colour_of, g_digit, length, map, multi_of, operand_words, r_digit, refl, replicate, single_of, sym, take, take-map, value_of, x_digit, y_digit, ℕ, ◌%◌, ◌++◌, ◌-◌, ◌∙◌, ◌≡◌}
 use Rattle.nap_values.proofs.DigitLemmas.{value_of-take}
 use Rattle.nap_values.proofs.PublicLaws.{missing_words_are_zero}
 
@@ -9,22 +6,6 @@ use Rattle.nap_values.proofs.PublicLaws.{missing_words_are_zero}
 
 abbrev pub padded : ℕ → List ℕ → List ℕ
 padded places run = take places run ++ replicate (places - length run) 0
-
--- the first words, as many as there are places for, with zeros in the other places
-filled : (places at left missing : ℕ) (run : List ℕ) → at ≤ places → at ≤ length run → (at < places → at < length run → ⊥) →
-    left ≡ places - at → missing ≡ places - length run → take at run ++ replicate left 0 ≡ take places run ++ replicate missing 0
-filled zero zero left missing run within there whole left_is missing_is = ap (λ n. replicate n 0) (omega arith)
-filled zero (suc at) left missing run within there whole left_is missing_is = absurd (omega arith)
-filled (suc places) zero left missing [] within there whole left_is missing_is = ap (λ n. replicate n 0) (omega arith)
-filled (suc places) (suc at) left missing [] within there whole left_is missing_is = absurd (omega arith)
-filled (suc places) zero left missing (word ∷ run) within there whole left_is missing_is = absurd (whole (omega arith) (omega arith))
-filled (suc places) (suc at) left missing (word ∷ run) within there whole left_is missing_is =
-    ap (λ words. word ∷ words)
-    (filled places at left missing run (omega arith) (omega arith) (λ few more. whole (omega arith) (omega arith)) (omega arith) (omega arith))
-
-pub padded-filled : (places at : ℕ) (run : List ℕ) → at ≤ places → at ≤ length run → (at < places → at < length run → ⊥) →
-    take at run ++ replicate (places - at) 0 ≡ padded places run
-padded-filled places at run within there whole = filled places at (places - at) (places - length run) run within there whole refl refl
 
 -- words after the last place don't count
 padded-value : (base places : ℕ) (digit : ℕ → ℕ) (run : List ℕ) → value_of base places (map digit (take places run)) ≡ value_of base places (map digit run)

@@ -1,16 +1,7 @@
-use Rattle.std.proofs.Common.{◌≡◌, ℕ, ◌+◌, ◌*◌, ◌/◌, ◌%◌, ◌<◌, [], ◌∷◌, All, refl, sym, ap, ◌∙◌, arith, bit_and}
-use Rattle.std.proofs.lemmas.List.Elements.{All-nil, All-cons}
-use Rattle.nap_values.specs.Digits.{value_of, digits_of}
-use Rattle.nap_values.proofs.DigitLemmas.{value_of-digits_of}
+use Rattle.nap_values.proofs.Common.{All, [], ap, arith, bit_and, digits_of, refl, sym, value_of, ℕ, ◌%◌, ◌*◌, ◌+◌, ◌/◌, ◌<◌, ◌∙◌, ◌∷◌, ◌≡◌}
+use Rattle.nap_values.proofs.DigitLemmas.{value_of-digits_of, all_eight}
 use Rattle.nap_values.proofs.MaskLemmas.{low_bits}
 use Rattle.nap_values.proofs.CollectLemmas.{lower_of_four, lower_of_two, below_base}
-
--- a statement that is true of each of eight numbers
-all_eight : (P : ℕ → Type 0) (a b c d e f g h : ℕ) → P a → P b → P c → P d → P e → P f → P g → P h → All P (a ∷ b ∷ c ∷ d ∷ e ∷ f ∷ g ∷ h ∷ [])
-all_eight P a b c d e f g h pa pb pc pd pe pf pg ph =
-    All-cons P a (b ∷ c ∷ d ∷ e ∷ f ∷ g ∷ h ∷ []) pa (All-cons P b (c ∷ d ∷ e ∷ f ∷ g ∷ h ∷ []) pb
-    (All-cons P c (d ∷ e ∷ f ∷ g ∷ h ∷ []) pc (All-cons P d (e ∷ f ∷ g ∷ h ∷ []) pd
-    (All-cons P e (f ∷ g ∷ h ∷ []) pe (All-cons P f (g ∷ h ∷ []) pf (All-cons P g (h ∷ []) pg (All-cons P h [] ph (All-nil P))))))))
 
 -- Eight digits in base 4: one number of 16 bits, two of 8 bits, four of 4 bits, or a byte for each.
 

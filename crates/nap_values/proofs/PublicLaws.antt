@@ -1,13 +1,4 @@
-use Rattle.std.proofs.Common.{negsuc, ◌≤ℤ◌, ◌<ℤ◌, ◌≡◌, ℕ, pos, zero, suc, ◌∷◌, ◌+◌, ◌<◌, ◌++◌, List, map, length, replicate, All, refl, ap, sym, ◌∙◌, arith, ◌+ℤ◌, ◌-ℤ◌}
-use Rattle.std.proofs.lemmas.List.{length-map, map-append}
-use Rattle.std.proofs.lemmas.Int.{ints}
-use Rattle.nap_values.specs.Digits.{value_of, digits_of}
-use Rattle.nap_values.specs.Coordinates.{Displacement, point_at, displaced_point, displacement_to}
-use Rattle.nap_values.specs.Colours.{Components}
-use Rattle.nap_values.specs.TwosComplement.{bits_of}
-use Rattle.nap_values.specs.Operands.{x_digit, y_digit, g_digit, r_digit, b_digit, multi_of, single_of, colour_of}
-use Rattle.nap_values.specs.Spellings.{operand_bytes, move_bytes, point_bytes, addr_bytes, grb_bytes}
-use Rattle.nap_values.specs.Laws.{IsWord, IsOnlySpelling, MovesSpellOnce, PointsSpellOnce, AddressesSpellOnce, ColoursSpellOnce, MissingWordsAreZero, ValuesAreInRange, DisplacementsLeadThere, DisplacementsAreUnique, PointsAreInside}
+use Rattle.nap_values.proofs.Common.{AddressesSpellOnce, All, ColoursSpellOnce, Components, Displacement, DisplacementsAreUnique, DisplacementsLeadThere, IsOnlySpelling, IsWord, List, MissingWordsAreZero, MovesSpellOnce, PointsAreInside, PointsSpellOnce, ValuesAreInRange, addr_bytes, ap, arith, b_digit, bits_of, colour_of, digits_of, displaced_point, displacement_to, g_digit, grb_bytes, ints, length, length-map, map, map-append, move_bytes, multi_of, negsuc, operand_bytes, point_at, point_bytes, pos, r_digit, refl, replicate, single_of, suc, sym, value_of, x_digit, y_digit, zero, ℕ, ◌++◌, ◌+ℤ◌, ◌+◌, ◌-ℤ◌, ◌<ℤ◌, ◌<◌, ◌∙◌, ◌∷◌, ◌≡◌, ◌≤ℤ◌}
 use Rattle.nap_values.proofs.DigitLemmas.{value_of-digits_of, digits_of-value_of, value_of-below, length-digits_of, digits_of-below, value_of-append-zeros}
 use Rattle.nap_values.proofs.SpellingLemmas.{words_of-operand_bytes, operand_bytes-operand_bytes, g_digits-below, r_digits-below, b_digits-below}
 use Rattle.nap_values.proofs.PackedLemmas.{pair_words, length-pair_words, pair_words-words, x_value-pair_words, y_value-pair_words, pair_words-values, x_value-below, y_value-below}
@@ -91,7 +82,7 @@ colours_spell_once c within =
     let b_is = ap (λ (k : Components). k.b) is in
     rw (g_is, r_is, b_is) at (triple_words-values others all size))
 
-map-replicate : (f : ℕ → ℕ) (n d : ℕ) → map f (replicate n d) ≡ replicate n (f d)
+pub map-replicate : (f : ℕ → ℕ) (n d : ℕ) → map f (replicate n d) ≡ replicate n (f d)
 map-replicate f zero d = refl
 map-replicate f (suc n) d = ap (λ rest. f d ∷ rest) (map-replicate f n d)
 

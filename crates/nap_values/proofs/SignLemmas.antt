@@ -1,12 +1,5 @@
-use Rattle.std.proofs.Common.{◌≡◌, ℕ, ◌+◌, ◌*◌, ◌/◌, ◌%◌, ◌^◌, ◌<◌, map, All, refl, sym, ap, ap₂, ◌∙◌, arith, bit_and}
-use Rattle.std.specs.Int.Bits.{and_zero_r}
-use Rattle.std.proofs.lemmas.Nat.{and_block, div-add-mod'}
-use Rattle.std.proofs.lemmas.List.Elements.{All-head, All-tail}
+use Rattle.nap_values.proofs.Common.{All, All-head, All-tail, HoldsWords, IsWord, and_block, and_zero_r, ap, ap₂, arith, bit_and, digits_of, div-add-mod', map, refl, sym, value_of, words_in, x_digit, x_in, y_digit, y_in, ℕ, ◌%◌, ◌*◌, ◌+◌, ◌/◌, ◌<◌, ◌^◌, ◌∙◌, ◌≡◌}
 use lib.Bits.{and_high}
-use Rattle.nap_values.specs.Digits.{value_of, digits_of}
-use Rattle.nap_values.specs.Operands.{x_digit, y_digit}
-use Rattle.nap_values.specs.Laws.{IsWord}
-use Rattle.nap_values.specs.PackedCoordinates.{words_in, HoldsWords, x_in, y_in}
 use Rattle.nap_values.proofs.DigitLemmas.{value_of-below}
 use Rattle.nap_values.proofs.SpellingLemmas.{x_digits-below, y_digits-below}
 

@@ -1,8 +1,4 @@
-use Rattle.std.proofs.Common.{◌≡◌, ℕ, suc, ◌+◌, ◌-◌, ◌*◌, ◌/◌, ◌%◌, ◌<◌, List, [], ◌∷◌, map, length, All, refl, ap, arith}
-use Rattle.std.proofs.lemmas.List.Elements.{All-nil, All-cons, All-head, All-tail, All-map, All-weaker}
-use Rattle.nap_values.specs.Operands.{x_digit, y_digit, g_digit, r_digit, b_digit}
-use Rattle.nap_values.specs.Spellings.{words_of_pairs, words_of_triples, colour_word, operand_bytes, words_of}
-use Rattle.nap_values.specs.Laws.{IsWord, IsOperandByte}
+use Rattle.nap_values.proofs.Common.{All, All-cons, All-head, All-map, All-nil, All-tail, All-weaker, IsOperandByte, IsWord, List, [], ap, arith, b_digit, colour_word, g_digit, length, map, operand_bytes, r_digit, refl, suc, words_of, words_of_pairs, words_of_triples, x_digit, y_digit, ℕ, ◌%◌, ◌*◌, ◌+◌, ◌-◌, ◌/◌, ◌<◌, ◌∷◌, ◌≡◌}
 
 -- The bytes that carry words, and the digits that words hold.
 
@@ -80,18 +76,12 @@ length-words_of_triples gs rs bs same_r same_b = absurd (omega arith)
 abbrev pub AreTwoBits : List ℕ → Type 0
 AreTwoBits ds = All (λ d. d < 4) ds
 
-head_below : (d : ℕ) (ds : List ℕ) → AreTwoBits (d ∷ ds) → d < 4
-head_below d ds all = All-head (λ k. k < 4) d ds all
-
-rest_two_bits : (d : ℕ) (ds : List ℕ) → AreTwoBits (d ∷ ds) → AreTwoBits ds
-rest_two_bits d ds all = All-tail (λ k. k < 4) d ds all
-
 pub words_of_triples-words : (gs rs bs : List ℕ) → AreTwoBits gs → AreTwoBits rs → AreTwoBits bs → All IsWord (words_of_triples gs rs bs)
 unfolding words_of_triples
 words_of_triples-words (g ∷ gs) (r ∷ rs) (b ∷ bs) all_g all_r all_b =
     All-cons IsWord (colour_word g r b) (words_of_triples gs rs bs)
-    (triple_digits g r b (head_below g gs all_g) (head_below r rs all_r) (head_below b bs all_b)).3
-    (words_of_triples-words gs rs bs (rest_two_bits g gs all_g) (rest_two_bits r rs all_r) (rest_two_bits b bs all_b))
+    (triple_digits g r b (All-head (λ d. d < 4) g gs all_g) (All-head (λ d. d < 4) r rs all_r) (All-head (λ d. d < 4) b bs all_b)).3
+    (words_of_triples-words gs rs bs (All-tail (λ d. d < 4) g gs all_g) (All-tail (λ d. d < 4) r rs all_r) (All-tail (λ d. d < 4) b bs all_b))
 words_of_triples-words _ _ _ all_g all_r all_b = All-nil IsWord
 
 -- the words of triples hold the digits that they are made of
@@ -102,9 +92,9 @@ pub digits-words_of_triples : (gs rs bs : List ℕ) → length gs ≡ length rs 
 unfolding words_of_triples
 digits-words_of_triples [] [] [] same_r same_b all_g all_r all_b = (refl, refl, refl)
 digits-words_of_triples (g ∷ gs) (r ∷ rs) (b ∷ bs) same_r same_b all_g all_r all_b =
-    let first = triple_digits g r b (head_below g gs all_g) (head_below r rs all_r) (head_below b bs all_b) in
+    let first = triple_digits g r b (All-head (λ d. d < 4) g gs all_g) (All-head (λ d. d < 4) r rs all_r) (All-head (λ d. d < 4) b bs all_b) in
     let rest =
-    digits-words_of_triples gs rs bs (omega arith) (omega arith) (rest_two_bits g gs all_g) (rest_two_bits r rs all_r) (rest_two_bits b bs all_b) in
+    digits-words_of_triples gs rs bs (omega arith) (omega arith) (All-tail (λ d. d < 4) g gs all_g) (All-tail (λ d. d < 4) r rs all_r) (All-tail (λ d. d < 4) b bs all_b) in
     (rw (first.0, rest.0) refl, rw (first.1, rest.1) refl, rw (first.2, rest.2) refl)
 digits-words_of_triples gs rs bs same_r same_b all_g all_r all_b = absurd (omega arith)
 

@@ -1,8 +1,4 @@
-use Rattle.std.proofs.Common.{◌≡◌, ℕ, ◌+◌, ◌-◌, ◌*◌, ◌%◌, ◌^◌, ◌<◌, ◌≤◌, [], ◌∷◌, refl, sym, ap, ap₂, ◌∙◌, arith, bit_and, bit_or, mul-lt-mul_of_pos_right, mod-eq_of_lt, pow_pos, add-mul, zero-mul, zero-add, mul_assoc, mul_right_comm, mul-le-mul_left}
-use Rattle.std.proofs.Math.Nat.{pow-le-pow_right, mul-mod_left}
-use Rattle.std.specs.Int.Bits.{or_zero_l, or_zero_r}
-use Rattle.std.proofs.lemmas.Nat.{and_block, or_block, or_lt, and_mask, and_le_r, or_mod, pow-add, mul-add-lt, mod-mul-add, shl_whole}
-use Rattle.nap_values.specs.Digits.{value_of, digits_of}
+use Rattle.nap_values.proofs.Common.{[], add-mul, and_block, and_le_r, and_mask, ap, ap₂, arith, bit_and, bit_or, digits_of, mod-eq_of_lt, mod-mul-add, mul-add-lt, mul-le-mul_left, mul-lt-mul_of_pos_right, mul-mod_left, mul_assoc, mul_right_comm, or_block, or_lt, or_mod, or_zero_l, or_zero_r, pow-add, pow-le-pow_right, pow_pos, refl, shl_whole, sym, value_of, zero-add, zero-mul, ℕ, ◌%◌, ◌*◌, ◌+◌, ◌-◌, ◌<◌, ◌^◌, ◌∙◌, ◌∷◌, ◌≡◌, ◌≤◌}
 use Rattle.nap_values.proofs.DigitLemmas.{value_of-digits_of}
 
 -- Eight digits in base 8 are spread from one number, one to a byte.

@@ -1,7 +1,4 @@
-use Rattle.std.proofs.Common.{◌≡◌, ℕ, suc, zero, ◌+◌, ◌*◌, ◌/◌, ◌%◌, ◌^◌, ◌<◌, List, ◌∷◌, map, length, replicate, All, refl, ap, ap₂, arith, pow-suc}
-use Rattle.std.proofs.lemmas.Nat.{div-mul-add, mod-mul-add, mul-add-lt, mod_below, div_below, div-add-mod'}
-use Rattle.std.proofs.lemmas.List.Elements.{All-head, All-tail}
-use Rattle.nap_values.specs.Digits.{value_of, digits_of}
+use Rattle.nap_values.proofs.Common.{All, All-head, All-tail, List, ap, ap₂, arith, digits_of, div-add-mod', div-mul-add, div_below, length, map, mod-mul-add, mod_below, mul-add-lt, pow-suc, refl, replicate, suc, value_of, zero, ℕ, ◌%◌, ◌*◌, ◌+◌, ◌/◌, ◌<◌, ◌^◌, ◌∷◌, ◌≡◌}
 use Rattle.nap_values.proofs.DigitLemmas.{pow_pos, value_of-below}
 
 -- Digits in bytes are added, and carries pass on to the next byte.

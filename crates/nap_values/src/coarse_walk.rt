@@ -41,10 +41,7 @@ impl CoarseWalk {
         ensures { result ≡ record { point = point; inside = true } }
     {
         CoarseWalk {
-            at: PackedWords::from_coordinates(
-                point.y() / 32_768 * 32_768 + point.x() / 32_768 * 8,
-                0,
-            ),
+            at: point.words().coarse_high(),
             seen: 0,
             start: point,
         }
@@ -69,10 +66,6 @@ impl CoarseWalk {
         if self.seen & SIGNS != 0 {
             return None;
         }
-        let coarse = self.at.x_bits();
-        Point::try_new(
-            coarse % 4_096 / 8 * 32_768 + self.start.x() % 32_768,
-            coarse / 32_768 * 32_768 + self.start.y() % 32_768,
-        )
+        Point::from_words(self.start.words().with_coarse_high(self.at))
     }
 }

@@ -69,7 +69,15 @@ pub(crate) fn pack_padded(run: &[u8]) -> PackedWords
     requires { length run.now ≤ 8 }
     ensures { words_in result ≡ operand_words run.now ++ replicate (8 - length run.now) 0 }
 {
-    let mut bytes = [0; MOST_WORDS];
-    bytes[..run.len()].copy_from_slice(run);
-    pack_eight(bytes)
+    match run {
+        [a] => pack_eight([*a, 0, 0, 0, 0, 0, 0, 0]),
+        [a, b] => pack_eight([*a, *b, 0, 0, 0, 0, 0, 0]),
+        [a, b, c] => pack_eight([*a, *b, *c, 0, 0, 0, 0, 0]),
+        [a, b, c, d] => pack_eight([*a, *b, *c, *d, 0, 0, 0, 0]),
+        [a, b, c, d, e] => pack_eight([*a, *b, *c, *d, *e, 0, 0, 0]),
+        [a, b, c, d, e, f] => pack_eight([*a, *b, *c, *d, *e, *f, 0, 0]),
+        [a, b, c, d, e, f, g] => pack_eight([*a, *b, *c, *d, *e, *f, *g, 0]),
+        [a, b, c, d, e, f, g, h] => pack_eight([*a, *b, *c, *d, *e, *f, *g, *h]),
+        _ => pack_eight([0; MOST_WORDS]),
+    }
 }

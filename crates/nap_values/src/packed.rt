@@ -1,10 +1,10 @@
 //! Eight words packed into a number, one byte for each, the first in the highest byte. A word has three bits of x above
 //! three bits of y, so the base-8 digits of x and y alternate.
 
-ghost use Rattle.std.specs.Prelude.{◌≡◌, ◌+◌, ◌-◌, ◌%◌, ◌<◌, ◌≤◌, ◌↔◌, All, IsTrue, take};
+ghost use Rattle.std.specs.Prelude.{◌≡◌, ◌+◌, ◌-◌, ◌*◌, ◌/◌, ◌%◌, ◌<◌, ◌≤◌, ◌↔◌, All, IsTrue, take};
 ghost use Rattle.nap_values.specs.Digits.{value_of, digits_of};
 ghost use Rattle.nap_values.specs.PackedCoordinates.{HoldsWords, x_in, y_in, packed_coordinates};
-ghost use Rattle.nap_values.specs.Coarse.{coarse_part, coarse_words};
+ghost use Rattle.nap_values.specs.Coarse.{coarse_part, coarse_words, with_high};
 ghost use Rattle.nap_values.specs.Operands.{operand_words};
 
 use std::marker::Model;
@@ -176,6 +176,26 @@ impl PackedWords {
         ensures { result ≡ packed_coordinates (coarse_part (x_in self)) 0 }
     {
         PackedWords(self.0 & COARSE)
+    }
+
+    /// Returns words that hold the nine highest bits of y and of x, side by side as digits of x.
+    #[inline]
+    pub(crate) fn coarse_high(self) -> PackedWords
+        ensures { result ≡ packed_coordinates (y_in self / 32768 * 32768 + x_in self / 32768 * 8) 0 }
+    {
+        let top = self.0 / 4_294_967_296;
+        PackedWords(top.wrapping_mul(0x8_0000_0001) & COARSE)
+    }
+
+    /// Returns these words with the nine highest bits of x and y taken from digits of x side by side.
+    #[inline]
+    pub(crate) fn with_coarse_high(self, coarse: PackedWords) -> PackedWords
+        requires { packed_coordinates (x_in coarse) 0 ≡ coarse }
+        ensures { result ≡ packed_coordinates (with_high (x_in coarse % 4096 / 8) (x_in self)) (with_high (x_in coarse / 32768) (y_in self)) }
+    {
+        let x = (coarse.0 & 0x3838_3800).wrapping_mul(4_294_967_296);
+        let y = coarse.0 / 8 & 0x0707_0700_0000_0000;
+        PackedWords(x.wrapping_add(y).wrapping_add(self.0 & 0xFF_FFFF_FFFF))
     }
 
     /// Returns words that hold the digits of y and those of x of the first three bytes, side by side as digits of x.

@@ -1,37 +1,11 @@
 -- The answer of a conversion, by the state of its reader.
 
-use Rattle.std.proofs.Common.{ℕ, ◌≡◌, ◌≢◌, ◌||◌, Bool, true, false, List, [], ◌++◌, Some, None, Result, Ok, Err, length, take, drop, refl, ap, sym, subst, ◌∙◌, inl, inr, append_assoc, arith}
-use Rattle.std.proofs.lemmas.Bool.{false≢true}
-use Rattle.std.proofs.lemmas.List.{take-append-drop}
-use Rattle.std.specs.Io.KnownBytes.{Appends, Consumes, Keeps}
-use Rattle.std.proofs.KnownBytes.{Appends-kept, Consumes-nil}
-use Rattle.nap_list.specs.Sending.{sending, Writes, Sends}
+use Rattle.nap_canon.proofs.Common.{Answers, AnswersBy, Appends, Appends-kept, Bool, BreaksAmong, BreaksInRun, Broke, Canonical, Cause, Concludes, Consumes, Consumes-nil, ConvertFault, Converts, EndsOutput, Entry, Err, FeedFault, Feeds, FlushedOnce, Ghosts, HasRead, IsKnown, IsPrefixOf, IsTaken, Keeps, LastRead, List, None, Ok, Outcome, Reader, Refusal, Result, Sends, Some, StartsText, StopsAtOnce, Took, Writes, [], ap, append_assoc, arith, begun, begun_comes_first, budget_of, cause_of, device, drop, end_breaks_among, ended_by, false, false≢true, fed_breaks_among, flush_count, header, inl, inr, left_of, length, list_of, means, memory, more_bytes_keep_entries, pieces, pieces_bytes, reading, refl, refusal_of, sending, sending_of, sink_of, start, stream, subst, sym, take, take-append-drop, text, text_end_after_header, true, ℕ, ◌++◌, ◌||◌, ◌∙◌, ◌≡◌, ◌≢◌}
 use Rattle.nap_canon.specs.declared.form.Form.TheVariants.{Two}
-use Rattle.nap_draw.specs.Draws.{Cause, stream, memory, device}
 use Rattle.nap_list.specs.declared.device.inlet.Inlet as inlet
 use Rattle.nap_list.specs.declared.device.outlet.Outlet as outlet
-use Rattle.nap_list.specs.declared.entry.Entry.{Entry}
-use Rattle.nap_list.specs.declared.sink.Sink.{Ghosts}
-use Rattle.nap_list.specs.Flushing.{FlushedOnce, flush_count}
-use Rattle.nap_list.specs.Reading.{reading}
-use Rattle.nap_list.specs.State.{start}
-use Rattle.nap_reader.specs.declared.fault.Refusal.{Refusal}
-use Rattle.nap_reader.specs.declared.feeding.FeedFault.{FeedFault}
 use Rattle.nap_reader.specs.declared.feeding.FeedFault.TheVariants as feed_fault
-use Rattle.nap_reader.specs.Breaking.{cause_of, BreaksInRun}
-use Rattle.nap_reader.specs.declared.reader.Reader.{Reader}
-use Rattle.nap_reader.specs.Feeding.{Feeds, LastRead}
-use Rattle.nap_reader.specs.Laws.{BreaksAmong}
-use Rattle.nap_reader.specs.ReaderAnswers.{Answers, AnswersBy, IsKnown, IsTaken, HasRead, budget_of, left_of, refusal_of, sink_of}
-use Rattle.nap_reader.specs.Stream.{Outcome, begun, means, ended_by}
-use Rattle.nap_reader.proofs.PublicLaws.{begun_comes_first, end_breaks_among, fed_breaks_among, more_bytes_keep_entries}
-use Rattle.nap_canon.specs.declared.conversion.ConvertFault.{ConvertFault}
 use Rattle.nap_canon.specs.declared.conversion.ConvertFault.TheVariants as fault
-use Rattle.nap_canon.specs.Concluding.{Concludes, EndsOutput}
-use Rattle.nap_canon.specs.Converting.{StopsAtOnce, IsPrefixOf, Converts}
-use Rattle.nap_canon.specs.Sinking.{Canonical, sending_of, StartsText, Took, Broke}
-use Rattle.nap_canon.specs.Streams.{list_of}
-use Rattle.nap_canon.specs.Text.{header, text_end_after_header, pieces_bytes, pieces, text}
 use Rattle.nap_canon.proofs.conversions.WentOutLemmas.{prefix_refl, Leaves, concluded, leaves_whole, leaves_refused, leaves_cut, leaves_broken}
 
 -- An output that was written to the end is flushed once if no write failed.

@@ -1,34 +1,9 @@
 -- The bytes that a conversion wrote are a prefix of the text, and all of it if all was read.
 
-use Rattle.std.proofs.Common.{ℕ, ◌≡◌, ◌≢◌, ◌⊎◌, Bool, true, false, List, [], ◌∷◌, ◌++◌, Some, None, Result, Ok, Err, take, drop, refl, ap, sym, subst, ◌∙◌, inl, inr, append-nil, append_assoc, arith}
-use Rattle.std.proofs.lemmas.List.{take-append-drop}
-use Rattle.std.specs.Io.KnownBytes.{Appends, Keeps}
-use Rattle.std.proofs.KnownBytes.{Appends-kept}
-use Rattle.nap_list.specs.Sending.{sending, Writes, Grows, grows_more}
-use Rattle.nap_canon.specs.declared.text_end.TextEnd.{TextEnd}
-use Rattle.nap_canon.specs.declared.form.Form.{Form}
+use Rattle.nap_canon.proofs.Common.{Appends, Appends-kept, Bool, BreaksAmong, Broke, Canonical, Cause, Concludes, ConvertFault, Converts, Entry, Err, FeedFault, Form, Ghosts, Grows, IsCutOff, IsPrefixOf, IsReadWhole, Keeps, LacksWithin, List, None, NoneFailed, Ok, Outcome, Reading, Refusal, RefusesBy, Result, Some, StartsText, State, TextEnd, Took, TookPrefix, WantsSome, Writes, [], after, answer_of, ap, append-nil, append_assoc, arith, begun, begun_comes_first, cause_of, count_of, device, drop, entry_bytes, entry_bytes_after, entry_pieces, false, grows_more, header, inl, inr, list_of, means, memory, pieces, pieces_bytes, pieces_bytes-append, refl, sending, sending_of, start, stream, subst, sym, take, take-append-drop, text, text_end_after, text_end_after_header, true, walk, ℕ, ◌++◌, ◌∙◌, ◌∷◌, ◌≡◌, ◌≢◌, ◌⊎◌}
 use Rattle.nap_canon.specs.declared.form.Form.TheVariants.{Two}
-use Rattle.nap_draw.specs.Draws.{Cause, stream, memory, device}
 use Rattle.nap_list.specs.declared.device.outlet.Outlet as outlet
-use Rattle.nap_list.specs.declared.entry.Entry.{Entry}
-use Rattle.nap_list.specs.declared.state.State.{State}
-use Rattle.nap_list.specs.declared.sink.Sink.{Ghosts}
-use Rattle.nap_list.specs.Reading.{Reading, NoneFailed, IsCutOff, IsReadWhole}
-use Rattle.nap_list.specs.State.{start, walk, after}
-use Rattle.nap_reader.specs.declared.fault.Refusal.{Refusal}
-use Rattle.nap_reader.specs.declared.feeding.FeedFault.{FeedFault}
 use Rattle.nap_reader.specs.declared.feeding.FeedFault.TheVariants as feed_fault
-use Rattle.nap_reader.specs.Breaking.{cause_of, LacksWithin, TookPrefix}
-use Rattle.nap_reader.specs.Laws.{BreaksAmong, WantsSome}
-use Rattle.nap_reader.specs.Stream.{Outcome, begun, means}
-use Rattle.nap_reader.proofs.PublicLaws.{begun_comes_first}
-use Rattle.nap_canon.specs.declared.conversion.ConvertFault.{ConvertFault}
-use Rattle.nap_canon.specs.Concluding.{Concludes, answer_of}
-use Rattle.nap_canon.specs.Converting.{count_of, IsPrefixOf, RefusesBy, Converts}
-use Rattle.nap_canon.specs.Sinking.{Canonical, sending_of, entry_bytes, entry_bytes_after, StartsText, Took, Broke}
-use Rattle.nap_canon.specs.Streams.{list_of}
-use Rattle.nap_canon.specs.Text.{header, text_end_after_header, pieces_bytes, text_end_after, pieces, entry_pieces, text}
-use Rattle.nap_canon.specs.TextParts.{pieces_bytes-append}
 use Rattle.nap_canon.proofs.sinks.SinkingLemmas.{first_of_text, header_sent, sink_writes_text}
 use Rattle.nap_canon.proofs.texts.TextLemmas.{text_of_entries}
 

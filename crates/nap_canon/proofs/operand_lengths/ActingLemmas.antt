@@ -1,32 +1,11 @@
 -- The opcodes of a plain stream act under operands of eight words and four words.
 
-use Rattle.std.proofs.Common.{ℕ, zero, suc, ◌+◌, ◌-◌, ◌≡◌, ◌<◌, List, [], ◌∷◌, ◌++◌, length, map, take, drop, get_or, All, Bool, true, false, cond, Option, Some, None, Result, Ok, Err, refl, ap, sym, subst, ◌∙◌, arith, length-drop, nat_lt}
-use Rattle.std.specs.Prelude.{replicate}
-use Rattle.std.proofs.lemmas.List.{length-map}
-use Rattle.std.proofs.lemmas.List.Elements.{All-nil, All-cons, All-head, All-tail}
+use Rattle.nap_canon.proofs.Common.{Acting, ActsUnderEightAndFour, All, All-cons, All-head, All-nil, All-tail, AllMayFollow, Bool, CodeSets, DrawFault, Err, IsPlainCode, LexResult, List, Machine, Mode, None, Ok, Opcode, Option, Outcome, Placed, PlainOperandLengths, Refusal, Result, RuleResult, Some, StreamFront, Work, [], acting_after, acting_at, acting_in, acting_within, after_charge, after_drawing, ap, arith, begun, between, body_of, bytes_of, carried_words, closed_front, code_length, code_rule, code_taken, cond, drawn_front, drop, ended_by, false, front_after_front, front_by, front_in, get_or, length, length-drop, length-map, lex_result, lex_result_by, map, nat_lt, no_names, one_byte_opcode, opcodes_of, opened_front, outcome_by_front, outcome_from, place_at, placed_from, refl, refusal, replicate, rule, run_front, run_length, run_limit, shown_front, start_machine, start_sets, steps_left, stream_front, subst, suc, sym, take, true, zero, ℕ, ◌++◌, ◌+◌, ◌-◌, ◌<◌, ◌∙◌, ◌∷◌, ◌≡◌}
 use Rattle.nap_codes.specs.declared.code.Code.{Code}
 use Rattle.nap_codes.specs.declared.code.Code.TheVariants as code
-use Rattle.nap_codes.specs.declared.code_set.CodeSets.{CodeSets}
-use Rattle.nap_codes.specs.declared.opcode.Opcode.{Opcode}
-use Rattle.nap_codes.specs.CodeSets.{start_sets}
 use Rattle.nap_codes.specs.Front as codes
-use Rattle.nap_codes.specs.LexResults.{LexResult, lex_result, lex_result_by}
-use Rattle.nap_codes.proofs.PublicLaws.{code_length, code_taken, one_byte_opcode}
-use Rattle.nap_draw.specs.declared.fault.DrawFault.{DrawFault}
-use Rattle.nap_draw.specs.declared.work.Work.{Work}
-use Rattle.nap_draw.specs.Codes.{code_rule}
-use Rattle.nap_draw.specs.Rule.{RuleResult, rule}
 use Rattle.nap_reader.specs.declared.fault.Fault.TheVariants as faults
-use Rattle.nap_reader.specs.declared.fault.Refusal.{Refusal}
-use Rattle.nap_reader.specs.Bodies.{Mode, between, no_names, body_of}
 use Rattle.nap_reader.specs.Course as course
-use Rattle.nap_reader.specs.Course.{outcome_by_front}
-use Rattle.nap_draw.specs.Limits.{run_limit}
-use Rattle.nap_reader.specs.Stream.{Placed, Machine, StreamFront, Outcome, bytes_of, carried_words, run_length, refusal, after_drawing, drawn_front, closed_front, run_front, opened_front, after_charge, shown_front, place_at, front_by, front_in, stream_front, steps_left, outcome_from, placed_from, start_machine, begun, ended_by}
-use Rattle.nap_reader.proofs.PublicLaws.{front_after_front}
-use Rattle.nap_canon.specs.Acting.{Acting, acting_at, acting_in, acting_after, acting_within, opcodes_of, ActsUnderEightAndFour}
-use Rattle.nap_canon.specs.Laws.{PlainOperandLengths}
-use Rattle.nap_canon.specs.Plain.{IsPlainCode, AllMayFollow}
 use Rattle.nap_canon.proofs.operand_lengths.FrontCodes.{no_front, lexed_front, pdi_in_gl, operands_of, run_codes}
 use Rattle.nap_canon.proofs.reading.PlacedLemmas.{bytes_of-placed}
 use Rattle.nap_canon.proofs.operand_lengths.StageLemmas.{Stage, before, lengths_are_current, opcode_stage, IsQuiet, quiet_stage, IsActing, code_stage}

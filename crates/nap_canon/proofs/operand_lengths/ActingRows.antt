@@ -1,16 +1,8 @@
 -- The opcodes of short streams, computed.
 
-use Rattle.std.proofs.Common.{◌≡◌, [], ◌∷◌, refl}
-use Rattle.nap_values.specs.Domains.{OperandLengths}
+use Rattle.nap_canon.proofs.Common.{OperandLengths, [], acting, acting_within, after_control0, argument_front, argument_of, body_front, control0_front, control0_rows, control1_front, control1_rows, designated_front, designation, designation_front, escape_front, final_front, front, gl_front, last_byte, left_out_opcode, more_front, non_pdi_code, number_rows, one_byte_later, opcode_front, opcode_rows, pdi_front, placed_from, refl, row_of, sequence_front, set_rows, shifted_front, single_shift_front, walk, with_argument, with_set, ◌∷◌, ◌≡◌}
 use Rattle.nap_codes.specs.declared.opcode.Opcode.TheVariants as opcodes
-use Rattle.nap_codes.specs.Front.{front, one_byte_later, last_byte, non_pdi_code, opcode_front, pdi_front, gl_front, shifted_front, single_shift_front, argument_of, with_argument, argument_front, designated_front, final_front, designation_front, sequence_front, control1_front, escape_front, more_front, control0_front}
-use Rattle.nap_codes.specs.CodeSets.{with_set, after_control0}
-use Rattle.nap_codes.specs.Tables.{row_of, set_rows, number_rows, designation, control0_rows, control1_rows, opcode_rows, left_out_opcode}
-use Rattle.nap_list.specs.State.{walk}
-use Rattle.nap_reader.specs.Bodies.{body_front}
 use Rattle.nap_reader.specs.Stream as stream
-use Rattle.nap_reader.specs.Stream.{placed_from}
-use Rattle.nap_canon.specs.Acting.{acting_within, acting}
 
 abbrev short : OperandLengths
 short = record { multi = 3; single = 1 }

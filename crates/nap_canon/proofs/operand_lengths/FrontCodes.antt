@@ -1,24 +1,12 @@
 -- The codes of a list, by its front.
 
-use Rattle.std.proofs.Common.{ℕ, zero, suc, ◌-◌, ◌≡◌, ◌<◌, ◌≤◌, List, [], ◌∷◌, ◌++◌, length, take, drop, map, Bool, true, false, cond, Option, Some, None, refl, ap, sym, ◌∙◌, subst, arith, length-drop}
-use Rattle.std.specs.Prelude.{◌==◌, ◌&&◌}
-use Rattle.std.proofs.lemmas.Bool.Decides.{nat_tests}
+use Rattle.nap_canon.proofs.Common.{Bool, CodeSet, CodeSets, Front, LexResult, List, None, Opcode, Option, Placed, Row, Some, [], ap, arith, bytes_of, carried_words, code_is_spelled, code_length, complete, cond, control0_front, control0_rows, drop, escape_front, false, front, gl_front, is_graphic, is_operand, is_operand_byte, length, length-drop, lex_result, lex_result_by, lex_result_within, map, more_front, nat_tests, non_pdi_code, one_byte_later, position_front, refl, refused, row_of, run_length, set_at, single_shift_front, subst, suc, sym, take, true, unfinished, zero, ℕ, ◌&&◌, ◌++◌, ◌-◌, ◌<◌, ◌==◌, ◌∙◌, ◌∷◌, ◌≡◌, ◌≤◌}
 use Rattle.nap_codes.specs.declared.code.Code.{Code}
 use Rattle.nap_codes.specs.declared.code.Code.TheVariants as codes
 use Rattle.nap_codes.specs.declared.code.CodeFault.TheVariants.{EighthBit}
-use Rattle.nap_codes.specs.declared.code_set.CodeSet.{CodeSet}
 use Rattle.nap_codes.specs.declared.code_set.CodeSet.TheVariants as code_sets
-use Rattle.nap_codes.specs.declared.code_set.CodeSets.{CodeSets}
-use Rattle.nap_codes.specs.declared.control.Row.{Row}
 use Rattle.nap_codes.specs.declared.control.Row.TheVariants as rows
-use Rattle.nap_codes.specs.declared.opcode.Opcode.{Opcode}
-use Rattle.nap_codes.specs.CodeSets.{set_at}
-use Rattle.nap_codes.specs.Front.{Front, unfinished, complete, refused, front, one_byte_later, is_graphic, non_pdi_code, gl_front, control0_front, more_front, escape_front, position_front, single_shift_front}
-use Rattle.nap_codes.specs.LexResults.{LexResult, lex_result_by, lex_result_within, lex_result}
 use Rattle.nap_codes.specs.Spelling as spells
-use Rattle.nap_codes.specs.Tables.{row_of, control0_rows}
-use Rattle.nap_codes.proofs.PublicLaws.{code_length, code_is_spelled}
-use Rattle.nap_reader.specs.Stream.{Placed, bytes_of, carried_words, is_operand, is_operand_byte, run_length}
 
 pub no_front : (sets : CodeSets) → front sets [] ≡ unfinished
 unfolding front

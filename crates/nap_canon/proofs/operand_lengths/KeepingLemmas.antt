@@ -1,32 +1,12 @@
 -- The operand lengths, the saved ones and the open definition stay as they were after opcodes, characters and controls,
 -- except DOMAIN, RESET, and the starts and the end of a definition.
 
-use Rattle.std.proofs.Common.{ℕ, zero, suc, ◌≡◌, ◌≢◌, List, [], ◌∷◌, map, Bool, true, false, Option, Some, None, Result, Ok, Err, refl, ◌∙◌}
-use Rattle.std.specs.Prelude.{⊤}
-use Rattle.std.specs.Option.{option_map, option_and_then}
+use Rattle.nap_canon.proofs.Common.{Bool, Colour, Components, Coordinates, Displacement, DrawFault, Drawing, Entry, Err, LastChar, List, None, Ok, Opcode, Option, Result, RuleResult, Some, State, Work, [], absolute_spans, after, and_then, arc_on, arc_points, area_of, at_least_one, at_most_limit, blink, blinks, char_on, code_rule, colour_of, complete_pairs, entries_result, entry_result, false, field_on, first_and_more, from_pen, is_known, map, map_rule, moves_of, one_entry_result, operands, option_and_then, option_map, pen_point, pen_result, point_at, point_entry, points_at, points_reached, poly_on, poly_points, polyline_spans, rect_chain_spans, rect_on, refl, relative_spans, repeated_chars, rule, rule_result, set_color_rule, set_color_under, shape_from_pen, shape_from_point, span_line_entry, suc, true, walk, with_drawing, with_last, with_operands, with_pairs, zero, ℕ, ⊤, ◌∙◌, ◌∷◌, ◌≡◌, ◌≢◌}
 use Rattle.nap_codes.specs.declared.code.Code.{Code}
 use Rattle.nap_codes.specs.declared.code.Code.TheVariants as codes
-use Rattle.nap_codes.specs.declared.opcode.Opcode.{Opcode}
 use Rattle.nap_codes.specs.declared.opcode.Opcode.TheVariants as opcodes
-use Rattle.nap_values.specs.Colours.{Components}
-use Rattle.nap_values.specs.Coordinates.{Coordinates, Displacement, point_at}
-use Rattle.nap_values.specs.Operands.{colour_of}
-use Rattle.nap_list.specs.declared.attribute.Colour.{Colour}
 use Rattle.nap_list.specs.declared.attribute.Colour.TheVariants as colours
-use Rattle.nap_list.specs.declared.entry.Entry.{Entry}
 use Rattle.nap_list.specs.declared.entry.Entry.TheVariants as entries
-use Rattle.nap_list.specs.declared.state.Drawing.{Drawing}
-use Rattle.nap_list.specs.declared.state.LastChar.{LastChar}
-use Rattle.nap_list.specs.declared.state.State.{State}
-use Rattle.nap_list.specs.Known.{is_known}
-use Rattle.nap_list.specs.State.{after, walk}
-use Rattle.nap_draw.specs.declared.fault.DrawFault.{DrawFault}
-use Rattle.nap_draw.specs.declared.work.Work.{Work}
-use Rattle.nap_draw.specs.Codes.{char_on, repeated_chars, one_entry_result, with_last, code_rule}
-use Rattle.nap_draw.specs.Geometry.{points_at, points_reached, polyline_spans, absolute_spans, relative_spans, rect_chain_spans, arc_points, poly_points}
-use Rattle.nap_draw.specs.Operands.{operands}
-use Rattle.nap_list.specs.Batches.{point_entry}
-use Rattle.nap_draw.specs.Rule.{RuleResult, and_then, rule_result, with_drawing, moves_of, at_least_one, complete_pairs, first_and_more, at_most_limit, pen_point, entries_result, entry_result, pen_result, with_operands, from_pen, with_pairs, shape_from_pen, shape_from_point, span_line_entry, rect_on, arc_on, poly_on, field_on, area_of, blinks, blink, map_rule, set_color_under, set_color_rule, rule}
 
 pub record Keeps (work : Work) (d : RuleResult) : Type 0 where
   pub domain : d.work.domain ≡ work.domain

@@ -1,23 +1,10 @@
 -- The stage of a plain stream, and the operand lengths under which its opcodes act.
 
-use Rattle.std.proofs.Common.{ℕ, ◌≡◌, ◌≢◌, ◌⊎◌, inl, inr, ◌%◌, List, [], ◌∷◌, ◌++◌, All, Bool, true, false, cond, Option, Some, None, Result, Ok, Err, refl, sym, subst, ◌∙◌, arith}
-use Rattle.std.specs.Prelude.{⊤, ◌==◌}
-use Rattle.std.proofs.lemmas.Bool.Decides.{nat_tests}
-use Rattle.std.proofs.lemmas.List.Elements.{All-head, All-tail}
-use Rattle.nap_values.specs.Domains.{OperandLengths}
+use Rattle.nap_canon.proofs.Common.{All, All-head, All-tail, Bool, DomainFirst, DomainNext, DrawFault, Entry, Err, IsNoOpcode, LengthsNext, List, MayFollowCode, None, Ok, Opcode, OpenDefinition, OperandLengths, Option, ResetNext, Result, RuleResult, Some, Work, [], arith, code_rule, cond, definition_ended, definition_ended_by, definition_opened, domain_rule, false, inl, inr, nat_tests, refl, rule, rule_result, start_domain, subst, sym, true, walk, with_domain, ℕ, ⊤, ◌%◌, ◌++◌, ◌==◌, ◌∙◌, ◌∷◌, ◌≡◌, ◌≢◌, ◌⊎◌}
 use Rattle.nap_codes.specs.declared.code.Code.{Code}
 use Rattle.nap_codes.specs.declared.code.Code.TheVariants as codes
-use Rattle.nap_codes.specs.declared.opcode.Opcode.{Opcode}
 use Rattle.nap_codes.specs.declared.opcode.Opcode.TheVariants as opcodes
-use Rattle.nap_list.specs.declared.entry.Entry.{Entry}
 use Rattle.nap_list.specs.declared.entry.Entry.TheVariants as entries
-use Rattle.nap_list.specs.declared.state.OpenDefinition.{OpenDefinition}
-use Rattle.nap_list.specs.State.{walk}
-use Rattle.nap_draw.specs.declared.fault.DrawFault.{DrawFault}
-use Rattle.nap_draw.specs.declared.work.Work.{Work}
-use Rattle.nap_draw.specs.Codes.{definition_ended_by, definition_ended, definition_opened, code_rule}
-use Rattle.nap_draw.specs.Rule.{RuleResult, rule_result, start_domain, with_domain, domain_rule, rule}
-use Rattle.nap_canon.specs.Plain.{IsNoOpcode, DomainFirst, LengthsNext, DomainNext, ResetNext, MayFollowCode}
 use Rattle.nap_canon.proofs.operand_lengths.FrontCodes.{operands_of}
 use Rattle.nap_canon.proofs.operand_lengths.KeepingLemmas.{KeepsBy, rule_keeps, code_keeps}
 

@@ -1,20 +1,12 @@
 -- The rules of plain streams that a check still has for the codes to come.
 
-use Rattle.std.proofs.Common.{ℕ, ◌≡◌, ◌↔◌, List, [], ◌∷◌, All, Bool, true, false, cond, Option, Some, None, refl, arith}
-use Rattle.std.specs.Prelude.{⊤, ◌==◌, ◌%◌}
-use Rattle.std.proofs.lemmas.Bool.Decides.{nat_tests}
-use Rattle.std.proofs.lemmas.List.Elements.{All-nil, All-cons, All-head, All-tail}
+use Rattle.nap_canon.proofs.Common.{All, All-cons, All-head, All-nil, All-tail, AllMayFollow, ArePlain, Bool, CodesSeen, DomainFirst, DomainNext, Expected, IsNoOpcode, IsPlainCode, LengthsNext, List, MayFollowCode, None, Option, PlainCheck, ResetNext, Some, [], arith, check_after, check_of_parts, cond, expected_after, expected_after_any, false, is_plain_code, lengths_word, may_end, may_end_at, nat_tests, refl, reset_word, seen_after, true, ℕ, ⊤, ◌%◌, ◌==◌, ◌↔◌, ◌∷◌, ◌≡◌}
 use Rattle.nap_codes.specs.declared.code.Code.{Code}
 use Rattle.nap_codes.specs.declared.code.Code.TheVariants as codes
 use Rattle.nap_codes.specs.declared.code_set.CodeSet.TheVariants as code_sets
 use Rattle.nap_codes.specs.declared.opcode.Opcode.TheVariants as opcodes
-use Rattle.nap_canon.specs.declared.plain.CodesSeen.{CodesSeen}
 use Rattle.nap_canon.specs.declared.plain.CodesSeen.TheVariants as begun
-use Rattle.nap_canon.specs.declared.plain.Expected.{Expected}
 use Rattle.nap_canon.specs.declared.plain.Expected.TheVariants as next
-use Rattle.nap_canon.specs.declared.plain.PlainCheck.{PlainCheck}
-use Rattle.nap_canon.specs.Checking.{is_plain_code, seen_after, expected_after_any, lengths_word, reset_word, expected_after, check_of_parts, check_after, may_end_at, may_end}
-use Rattle.nap_canon.specs.Plain.{IsPlainCode, IsNoOpcode, DomainFirst, LengthsNext, DomainNext, ResetNext, MayFollowCode, AllMayFollow, ArePlain}
 
 -- the rule of the first opcode
 abbrev AsksFirst : CodesSeen → List Code → Type 0

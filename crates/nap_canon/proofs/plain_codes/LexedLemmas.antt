@@ -1,24 +1,9 @@
 -- A stream that is lexed byte after byte, while its codes are checked.
 
-use Rattle.std.proofs.Common.{ℕ, suc, ◌+◌, ◌≡◌, ◌≤◌, ◌<◌, ◌↔◌, List, [], ◌∷◌, ◌++◌, length, take, drop, get_or, Bool, true, false, Option, Some, None, refl, ap, sym, subst, ◌∙◌, append_assoc, arith, length-append}
-use Rattle.std.proofs.lemmas.List.{take-append-le, take-append-drop}
-use Rattle.std.specs.Prelude.{nat_le}
-use Rattle.std.proofs.lemmas.Bool.Decides.{nat_tests}
-use Rattle.std.proofs.Math.ListN.{drop_of_length-le}
-use Rattle.std.proofs.Math.Seq.{drop-cons}
+use Rattle.nap_canon.proofs.Common.{ArePlain, Bool, CodeFault, CodeSets, Front, IsPlain, LexResult, LexerState, List, None, Option, PlainCheck, Some, Steps, StepsBy, StepsThrough, [], ap, append_assoc, arith, at_code, at_end, at_fault, at_more, check_after, code_length, code_stays, code_taken, drop, drop-cons, drop_of_length-le, false, front, get_or, length, length-append, lex_result, may_end, nat_le, nat_tests, refl, refused_index, refused_stays, refused_taken, start_sets, steps_are_lexed, subst, suc, sym, take, take-append-drop, take-append-le, true, ℕ, ◌++◌, ◌+◌, ◌<◌, ◌↔◌, ◌∙◌, ◌∷◌, ◌≡◌, ◌≤◌}
 use Rattle.nap_codes.specs.declared.code.Code.{Code}
-use Rattle.nap_codes.specs.declared.code.CodeFault.{CodeFault}
 use Rattle.nap_codes.specs.declared.code.Step.TheVariants as steps
-use Rattle.nap_codes.specs.declared.code_set.CodeSets.{CodeSets}
-use Rattle.nap_codes.specs.CodeSets.{start_sets}
 use Rattle.nap_codes.specs.Front as codes
-use Rattle.nap_codes.specs.Front.{Front, front}
-use Rattle.nap_codes.specs.Lexer.{LexerState, Steps, StepsBy}
-use Rattle.nap_codes.specs.LexResults.{LexResult, lex_result, StepsThrough, at_end, at_more, at_code, at_fault}
-use Rattle.nap_codes.proofs.PublicLaws.{code_stays, code_length, code_taken, refused_stays, refused_index, refused_taken, steps_are_lexed}
-use Rattle.nap_canon.specs.declared.plain.PlainCheck.{PlainCheck}
-use Rattle.nap_canon.specs.Checking.{check_after, may_end}
-use Rattle.nap_canon.specs.Plain.{IsPlain, ArePlain}
 use Rattle.nap_canon.proofs.operand_lengths.FrontCodes.{no_front}
 use Rattle.nap_canon.proofs.plain_codes.CheckLemmas.{Asks, Turns, check_turns, start_check, all_asked, nothing_asked}
 

@@ -1,28 +1,14 @@
 -- Pieces of canonical text spell plain codes.
 
-use Rattle.std.proofs.Common.{ℕ, ◌-◌, ◌≡◌, ◌<◌, List, [], ◌∷◌, ◌++◌, length, map, All, Bool, true, false, Some, None, refl, sym, subst, append_assoc, append-nil, arith}
-use Rattle.std.proofs.lemmas.List.Elements.{All-nil, All-cons, All-head, All-tail, All-append}
-use Rattle.nap_values.specs.Laws.{IsWord, IsOperandByte}
+use Rattle.nap_canon.proofs.Common.{All, All-append, All-cons, All-head, All-nil, All-tail, AllMayFollow, Bool, DomainNext, GSet, IsAbsolute, IsGraphic, IsOperandByte, IsPlainCode, IsWord, List, MayFollowCode, None, Opcode, Piece, Some, Spells, TextEnd, [], append-nil, append_assoc, arith, char_piece, control, domain, false, gl_of, group, joins_open_run, left_out_opcode, length, map, non_pdi_code, number_rows, opcode, opcode_rows, piece_bytes, pieces_bytes, pieces_bytes-append, primary, refl, row_of, set_rows, shift_to_opcodes, shift_to_primary, subst, sym, text_end_after, text_end_after-append, true, with_set, word_byte, ℕ, ◌++◌, ◌-◌, ◌<◌, ◌∷◌, ◌≡◌}
 use Rattle.nap_codes.specs.declared.code.Code.{Code}
 use Rattle.nap_codes.specs.declared.code.Code.TheVariants as codes
 use Rattle.nap_codes.specs.declared.code_set.CharSet.TheVariants as chars
 use Rattle.nap_codes.specs.declared.code_set.CodeSet.TheVariants as code_sets
-use Rattle.nap_codes.specs.declared.code_set.GSet.{GSet}
 use Rattle.nap_codes.specs.declared.code_set.GSet.TheVariants.{G0, G1, G2, G3}
-use Rattle.nap_codes.specs.declared.opcode.Opcode.{Opcode}
 use Rattle.nap_codes.specs.declared.opcode.Opcode.TheVariants as opcodes
-use Rattle.nap_codes.specs.CodeSets.{with_set}
-use Rattle.nap_codes.specs.Front.{non_pdi_code}
-use Rattle.nap_codes.specs.Laws.{IsGraphic}
-use Rattle.nap_codes.specs.Spelling.{Spells}
 use Rattle.nap_codes.specs.Spelling as spells
-use Rattle.nap_codes.specs.Tables.{row_of, number_rows, opcode_rows, set_rows, left_out_opcode}
-use Rattle.nap_canon.specs.declared.text_end.TextEnd.{TextEnd}
 use Rattle.nap_canon.specs.declared.text_end.TextEnd.TheVariants.{NoRun, InRun}
-use Rattle.nap_canon.specs.Plain.{IsPlainCode, IsAbsolute, DomainNext, MayFollowCode, AllMayFollow}
-use Rattle.nap_canon.specs.Spelling.{Piece, opcode, group, primary, control, char_piece, domain, word_byte}
-use Rattle.nap_canon.specs.Text.{gl_of, joins_open_run, shift_to_opcodes, shift_to_primary, piece_bytes, pieces_bytes, text_end_after}
-use Rattle.nap_canon.specs.TextParts.{pieces_bytes-append, text_end_after-append}
 use Rattle.nap_canon.proofs.reading.PieceLemmas.{sets_with}
 use Rattle.nap_canon.proofs.plain_codes.SpellingLemmas.{AllSpelled, no_code, one_code, spelled_alone, spelled_after}
 

@@ -1,28 +1,11 @@
 -- The text of a list is plain.
 
-use Rattle.std.proofs.Common.{List, [], ◌∷◌, ◌++◌, map, All, inl, inr, refl, ap, sym, subst, append-nil, arith}
-use Rattle.std.proofs.lemmas.List.Elements.{All-cons}
-use Rattle.nap_values.specs.Domains.{OperandLengths}
+use Rattle.nap_canon.proofs.Common.{All, All-cons, AllMayFollow, ArePlain, DomainFirst, Entry, Form, IsPlainCode, LexResult, List, OperandLengths, Piece, State, TextEnd, TextIsPlain, [], after, ap, append-nil, arith, attributes, command_piece, entry_pieces, gl_of, group, inl, inr, left_out_opcode, map, opcode_rows, pieces, pieces_bytes, prelude, refl, row_of, spelling_pieces, start, start_domain, start_sets, subst, sym, text_end_after, text_end_after_header, text_in, with_attributes, ◌++◌, ◌∷◌}
 use Rattle.nap_codes.specs.declared.code.Code.{Code}
 use Rattle.nap_codes.specs.declared.code.Code.TheVariants as codes
 use Rattle.nap_codes.specs.declared.code_set.GSet.TheVariants.{G1}
 use Rattle.nap_codes.specs.declared.opcode.Opcode.TheVariants as opcodes
-use Rattle.nap_codes.specs.CodeSets.{start_sets}
-use Rattle.nap_codes.specs.LexResults.{LexResult}
 use Rattle.nap_codes.specs.Spelling as spells
-use Rattle.nap_codes.specs.Tables.{row_of, opcode_rows, left_out_opcode}
-use Rattle.nap_list.specs.declared.entry.Entry.{Entry}
-use Rattle.nap_list.specs.declared.state.State.{State}
-use Rattle.nap_list.specs.Entry.{attributes}
-use Rattle.nap_list.specs.State.{start, with_attributes, after}
-use Rattle.nap_draw.specs.Rule.{start_domain}
-use Rattle.nap_canon.specs.declared.form.Form.{Form}
-use Rattle.nap_canon.specs.declared.text_end.TextEnd.{TextEnd}
-use Rattle.nap_canon.specs.Preludes.{prelude}
-use Rattle.nap_canon.specs.Laws.{TextIsPlain}
-use Rattle.nap_canon.specs.Plain.{IsPlainCode, DomainFirst, AllMayFollow, ArePlain}
-use Rattle.nap_canon.specs.Spelling.{Piece, group, command_piece, spelling_pieces}
-use Rattle.nap_canon.specs.Text.{gl_of, text_end_after_header, pieces_bytes, text_end_after, entry_pieces, pieces, text_in}
 use Rattle.nap_canon.proofs.spelling.CommandLemmas.{work_at}
 use Rattle.nap_canon.proofs.reading.ConveyLemmas.{convey_plain}
 use Rattle.nap_canon.proofs.spelling.EntryLemmas.{MayCome, next_may, first_kind, prelude_after, prelude_conveys}

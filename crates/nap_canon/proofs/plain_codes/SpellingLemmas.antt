@@ -1,14 +1,8 @@
 -- The codes that the pieces of canonical text spell.
 
-use Rattle.std.proofs.Common.{ℕ, ◌≡◌, ◌≤◌, List, [], ◌∷◌, ◌++◌, length, None, ap, sym, subst, ◌∙◌, append_assoc, append-nil, arith, length-append}
-use Rattle.std.proofs.Math.Seq.{take-append_seam, drop-append_seam}
+use Rattle.nap_canon.proofs.Common.{CodeSets, List, None, Spells, [], ap, append-nil, append_assoc, arith, code_is_spelled, drop-append_seam, front, length, length-append, lex_result, lex_result_by, subst, sym, take-append_seam, ℕ, ◌++◌, ◌∙◌, ◌∷◌, ◌≡◌, ◌≤◌}
 use Rattle.nap_codes.specs.declared.code.Code.{Code}
-use Rattle.nap_codes.specs.declared.code_set.CodeSets.{CodeSets}
 use Rattle.nap_codes.specs.Front as fronts
-use Rattle.nap_codes.specs.Front.{front}
-use Rattle.nap_codes.specs.LexResults.{lex_result, lex_result_by}
-use Rattle.nap_codes.specs.Spelling.{Spells}
-use Rattle.nap_codes.proofs.PublicLaws.{code_is_spelled}
 use Rattle.nap_canon.proofs.operand_lengths.FrontCodes.{no_front, with_code, lexed_front}
 
 -- under these code sets, these bytes spell these codes, one after another

@@ -1,21 +1,7 @@
 -- The prelude sets nothing that is current.
 
-use Rattle.std.proofs.Common.{◌≡◌, ℕ, [], true, Bool, Option, Some, None, IfSome, refl, ap, sym, ◌∙◌, arith}
-use Rattle.std.specs.Prelude.{◌==◌, ◌&&◌}
-use Rattle.std.proofs.lemmas.Bool.Decides.{nat_tests, Decides-int_eq}
-use Rattle.nap_values.specs.Coordinates.{Displacement}
-use Rattle.nap_list.specs.declared.attribute.Pen.{Pen}
-use Rattle.nap_list.specs.declared.attribute.Base.{Base}
-use Rattle.nap_list.specs.declared.attribute.Colour.{Colour}
-use Rattle.nap_list.specs.declared.attribute.CharSize.{CharSize}
+use Rattle.nap_canon.proofs.Common.{AreCurrent, Attributes, Base, Bool, CharSize, Colour, Decides-int_eq, Displacement, Drawing, IfSome, None, Option, Pen, Some, TextLook, Texture, [], ap, arith, colour_commands, colour_prelude, given_size_commands, mask_commands, named_size_commands, nat_tests, pel_prelude, pen_commands, pen_prelude, prelude, refl, same_colour, same_flag, same_move, same_pen, same_size, same_texture, sym, text_prelude, texture_prelude, true, unless, ℕ, ◌&&◌, ◌==◌, ◌∙◌, ◌≡◌}
 use Rattle.nap_list.specs.declared.attribute.CharSize.TheVariants as sizes
-use Rattle.nap_list.specs.declared.attribute.Texture.{Texture}
-use Rattle.nap_list.specs.declared.attribute.TextLook.{TextLook}
-use Rattle.nap_list.specs.declared.attribute.Attributes.{Attributes}
-use Rattle.nap_list.specs.declared.state.Drawing.{Drawing}
-use Rattle.nap_list.specs.Agreement.{AreCurrent}
-use Rattle.nap_canon.specs.Equality.{same_move, same_pen, same_colour, same_size, same_texture, same_flag}
-use Rattle.nap_canon.specs.Preludes.{unless, pen_commands, colour_commands, mask_commands, given_size_commands, named_size_commands, pen_prelude, pel_prelude, colour_prelude, texture_prelude, text_prelude, prelude}
 
 -- equal values pass their test
 

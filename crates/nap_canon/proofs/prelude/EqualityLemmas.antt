@@ -1,14 +1,6 @@
 -- Values that pass a test of equality are equal.
 
-use Rattle.std.proofs.Common.{◌≡◌, true, arith, Bool}
-use Rattle.std.proofs.lemmas.Bool.Decides.{nat_tests, Decides-int_eq}
-use Rattle.nap_values.specs.Coordinates.{Displacement}
-use Rattle.nap_list.specs.declared.attribute.Pen.{Pen}
-use Rattle.nap_list.specs.declared.attribute.Colour.{Colour}
-use Rattle.nap_list.specs.declared.attribute.Base.{Base}
-use Rattle.nap_list.specs.declared.attribute.CharSize.{CharSize}
-use Rattle.nap_list.specs.declared.attribute.Texture.{Texture}
-use Rattle.nap_canon.specs.Equality.{same_move, same_pen, same_colour, same_base, same_size, same_texture, same_flag}
+use Rattle.nap_canon.proofs.Common.{Base, Bool, CharSize, Colour, Decides-int_eq, Displacement, Pen, Texture, arith, nat_tests, same_base, same_colour, same_flag, same_move, same_pen, same_size, same_texture, true, ◌≡◌}
 
 pub move_is : (a b : Displacement) → same_move a b ≡ true → a ≡ b
 move_is a b e = grind (arith, nat_tests, Decides-int_eq)

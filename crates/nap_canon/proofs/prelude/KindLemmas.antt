@@ -1,14 +1,6 @@
 -- The prelude for the attributes of each kind of entry.
 
-use Rattle.std.proofs.Common.{◌≡◌, List, ◌++◌, Some, ap, sym, ◌∙◌, append-nil, append_assoc}
-use Rattle.nap_values.specs.Coordinates.{Displacement}
-use Rattle.nap_list.specs.declared.attribute.Colour.{Colour}
-use Rattle.nap_list.specs.declared.attribute.Ink.{Ink}
-use Rattle.nap_list.specs.declared.attribute.Pen.{Pen}
-use Rattle.nap_list.specs.declared.state.Drawing.{Drawing}
-use Rattle.nap_list.specs.Entry.{point_attributes, ink_attributes, colour_only, pen_only}
-use Rattle.nap_canon.specs.declared.command.Command.{Command}
-use Rattle.nap_canon.specs.Preludes.{pen_prelude, pel_prelude, colour_prelude, texture_prelude, text_prelude, prelude}
+use Rattle.nap_canon.proofs.Common.{Colour, Command, Displacement, Drawing, Ink, List, Pen, Some, ap, append-nil, append_assoc, colour_only, colour_prelude, ink_attributes, pel_prelude, pen_only, pen_prelude, point_attributes, prelude, sym, text_prelude, texture_prelude, ◌++◌, ◌∙◌, ◌≡◌}
 
 pub prelude_of_point : (d : Drawing) (pel : Displacement) (colour : Colour) → prelude d (point_attributes pel colour) ≡ pel_prelude d.pel (Some pel) ++ colour_prelude d.base d.colour (Some colour)
 unfolding prelude pen_prelude texture_prelude text_prelude

@@ -1,19 +1,8 @@
 -- Commands that lead from some attributes to others.
 
-use Rattle.std.proofs.Common.{◌≡◌, List, [], ◌∷◌, ◌++◌, All, Bool, true, false, refl, sym, ap, subst, ◌∙◌}
-use Rattle.std.specs.Prelude.{⊤}
-use Rattle.std.proofs.lemmas.List.Elements.{All-nil, All-cons, All-append}
-use Rattle.nap_values.specs.Colours.{HasSixteenBitParts}
-use Rattle.nap_values.specs.Coordinates.{IsInSquare, IsInRange}
-use Rattle.nap_values.specs.Laws.{IsWord}
-use Rattle.nap_list.specs.declared.attribute.Colour.{Colour}
+use Rattle.nap_canon.proofs.Common.{All, All-append, All-cons, All-nil, Bool, Colour, Command, Drawing, HasSixteenBitParts, IsAddress, IsInRange, IsInSquare, IsWord, List, [], ap, effect, effects, false, refl, subst, sym, true, unless, ⊤, ◌++◌, ◌∙◌, ◌∷◌, ◌≡◌}
 use Rattle.nap_list.specs.declared.attribute.Colour.TheVariants as colours
-use Rattle.nap_list.specs.declared.state.Drawing.{Drawing}
-use Rattle.nap_list.specs.Range.{IsAddress}
-use Rattle.nap_canon.specs.declared.command.Command.{Command}
 use Rattle.nap_canon.specs.declared.command.Command.TheVariants as commands
-use Rattle.nap_canon.specs.Preludes.{unless}
-use Rattle.nap_canon.specs.Commands.{effect, effects}
 
 abbrev pub CommandInRange : Command → Type 0
 CommandInRange (commands.PointSet p) = IsInSquare p

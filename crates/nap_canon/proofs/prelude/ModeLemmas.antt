@@ -1,24 +1,11 @@
 -- The base is the colour of mode 0, after every walk of entries that fit.
 
-use Rattle.std.proofs.Common.{List, [], ◌∷◌, Bool, true, false, Option, Some, None, refl, cond}
-use Rattle.std.specs.Prelude.{unwrap_or, ◌==◌, slice_get, length, ◌-◌, ⊤}
-use Rattle.nap_values.specs.Coordinates.{Coordinates}
+use Rattle.nap_canon.proofs.Common.{AllFit, Base, Bool, Colour, ColourFits, Coordinates, Drawing, Entry, Fits, List, ModeZeroIsBase, None, OpenDefinition, Option, PreludeLeads, Some, State, [], after, attributes, base_after, colour_code, cond, definition_after, effect_on_drawing, false, length, refl, restored_drawing, slice_get, start, true, unwrap_or, walk, with_attributes, with_pen_at, ⊤, ◌-◌, ◌==◌, ◌∷◌}
 use Rattle.nap_list.specs.declared.attribute.Origin.TheVariants as origins
 use Rattle.nap_list.specs.declared.attribute.Preset.TheVariants as presets
-use Rattle.nap_list.specs.declared.attribute.Base.{Base}
 use Rattle.nap_list.specs.declared.attribute.Base.TheVariants as bases
-use Rattle.nap_list.specs.declared.attribute.Colour.{Colour}
 use Rattle.nap_list.specs.declared.attribute.Colour.TheVariants as colours
-use Rattle.nap_list.specs.declared.state.Drawing.{Drawing}
-use Rattle.nap_list.specs.declared.state.OpenDefinition.{OpenDefinition}
-use Rattle.nap_list.specs.declared.state.State.{State}
-use Rattle.nap_list.specs.declared.entry.Entry.{Entry}
 use Rattle.nap_list.specs.declared.entry.Entry.TheVariants as entries
-use Rattle.nap_list.specs.Entry.{attributes}
-use Rattle.nap_list.specs.Known.{colour_code}
-use Rattle.nap_list.specs.State.{ColourFits, Fits, base_after, with_attributes, with_pen_at, restored_drawing, effect_on_drawing, definition_after, after, start, walk, AllFit}
-use Rattle.nap_list.specs.Agreement.{ModeZeroIsBase}
-use Rattle.nap_canon.specs.Laws.{PreludeLeads}
 use Rattle.nap_canon.proofs.prelude.PreludeLemmas as preludes
 
 abbrev SavedInMode : Option OpenDefinition → Type 0

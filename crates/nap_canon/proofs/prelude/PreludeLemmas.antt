@@ -1,35 +1,12 @@
 -- The prelude makes the attributes of an entry current. Its commands are in range if these are.
 
-use Rattle.std.proofs.Common.{◌≡◌, ℕ, List, [], ◌∷◌, ◌++◌, Bool, true, false, Option, Some, None, refl, sym, ap, subst, ◌∙◌, arith, cond}
-use Rattle.std.specs.Prelude.{unwrap_or, IfSome, ◌==◌, ◌&&◌}
-use Rattle.std.proofs.lemmas.Bool.Decides.{nat_tests}
-use Rattle.nap_values.specs.Coordinates.{Displacement, IsInRange}
-use Rattle.nap_values.specs.Colours.{Components, HasSixteenBitParts}
-use Rattle.nap_values.specs.Laws.{IsWord}
-use Rattle.nap_list.specs.declared.attribute.Pen.{Pen}
+use Rattle.nap_canon.proofs.Common.{Attributes, AttributesFit, AttributesInRange, Base, Bool, CharSize, Colour, ColourFits, ColourInRange, Command, Components, Displacement, Drawing, Flag, HasSixteenBitParts, IfSome, IsInRange, IsWord, List, MaskFits, ModeZeroIsBase, None, Option, Pen, PenFits, PenInRange, SizeInRange, Some, TextInRange, TextLook, Texture, TextureFits, TextureInRange, [], ap, arith, base_after, base_commands, colour_of_base, colour_prelude, cond, false, flag_commands, given_size_commands, look_with_flag, mask_commands, named_size_commands, nat_tests, pel_prelude, pen_prelude, prelude, refl, same_base, same_colour, same_flag, same_move, same_pen, same_size, same_texture, subst, sym, text_prelude, texture_prelude, true, unless, unwrap_or, with_attributes, words_commands, ℕ, ◌&&◌, ◌++◌, ◌==◌, ◌∙◌, ◌∷◌, ◌≡◌}
 use Rattle.nap_list.specs.declared.attribute.Pen.TheVariants as pens
-use Rattle.nap_list.specs.declared.attribute.Base.{Base}
 use Rattle.nap_list.specs.declared.attribute.Base.TheVariants as bases
-use Rattle.nap_list.specs.declared.attribute.Colour.{Colour}
 use Rattle.nap_list.specs.declared.attribute.Colour.TheVariants as colours
-use Rattle.nap_list.specs.declared.attribute.CharSize.{CharSize}
 use Rattle.nap_list.specs.declared.attribute.CharSize.TheVariants as sizes
-use Rattle.nap_list.specs.declared.attribute.Texture.{Texture}
-use Rattle.nap_list.specs.declared.attribute.TextLook.{TextLook}
-use Rattle.nap_list.specs.declared.attribute.Attributes.{Attributes}
-use Rattle.nap_list.specs.declared.state.Drawing.{Drawing}
-use Rattle.nap_list.specs.Agreement.{ModeZeroIsBase}
-use Rattle.nap_list.specs.Range.{PenInRange, ColourInRange, TextureInRange, TextInRange, SizeInRange}
-use Rattle.nap_list.specs.State.{PenFits, ColourFits, MaskFits, TextureFits, AttributesFit, base_after, with_attributes}
-use Rattle.nap_draw.specs.Rule.{colour_of_base}
-use Rattle.nap_canon.specs.declared.command.Command.{Command}
 use Rattle.nap_canon.specs.declared.command.Command.TheVariants as commands
-use Rattle.nap_canon.specs.declared.command.Flag.{Flag}
 use Rattle.nap_canon.specs.declared.command.Flag.TheVariants as flags
-use Rattle.nap_canon.specs.Preludes.{unless, base_commands, mask_commands, words_commands, given_size_commands, named_size_commands, flag_commands, pen_prelude, pel_prelude, colour_prelude, texture_prelude, text_prelude, prelude}
-use Rattle.nap_canon.specs.Commands.{look_with_flag}
-use Rattle.nap_canon.specs.Equality.{same_move, same_pen, same_colour, same_base, same_size, same_texture, same_flag}
-use Rattle.nap_canon.specs.Range.{AttributesInRange}
 use Rattle.nap_canon.proofs.prelude.EqualityLemmas.{move_is, pen_is, colour_is, base_is, size_is, texture_is, flag_is}
 use Rattle.nap_canon.proofs.prelude.LeadingLemmas.{Leads, none_leads, one_leads, both_leads, unless_leads}
 

@@ -1,28 +1,13 @@
 -- What a reader does with pieces of canonical text that aren't opcodes.
 
-use Rattle.std.proofs.Common.{ℕ, suc, ◌≡◌, List, [], ◌∷◌, ◌++◌, Ok, refl, ap, sym, subst, ◌∙◌, append-nil}
+use Rattle.nap_canon.proofs.Common.{CodeSets, Entry, GSet, IsAlone, IsGraphic, List, Machine, Ok, Placed, RuleResult, Spells, Work, [], ap, append-nil, char_piece, code_rule, control, in_gl, non_pdi_code, number_rows, piece_bytes, pieces_bytes, placed_from, primary, refl, row_of, rule_result, set_rows, shift_in, single_shift3, subst, suc, sym, text_end_after, walk, with_set, ℕ, ◌++◌, ◌∙◌, ◌∷◌, ◌≡◌}
 use Rattle.nap_codes.specs.declared.code.Code.{Code}
 use Rattle.nap_codes.specs.declared.code.Code.TheVariants as code
 use Rattle.nap_codes.specs.declared.code_set.CharSet.TheVariants as chars
 use Rattle.nap_codes.specs.declared.code_set.CodeSet.TheVariants as code_sets
-use Rattle.nap_codes.specs.declared.code_set.CodeSets.{CodeSets}
-use Rattle.nap_codes.specs.declared.code_set.GSet.{GSet}
 use Rattle.nap_codes.specs.declared.code_set.GSet.TheVariants.{G0, G1, G2, G3}
-use Rattle.nap_codes.specs.CodeSets.{with_set}
-use Rattle.nap_codes.specs.Front.{non_pdi_code}
-use Rattle.nap_codes.specs.Laws.{IsGraphic}
-use Rattle.nap_codes.specs.Spelling.{Spells, shift_in, designation, in_gl, single_shift3}
-use Rattle.nap_codes.specs.Tables.{row_of, number_rows, set_rows}
-use Rattle.nap_list.specs.declared.entry.Entry.{Entry}
-use Rattle.nap_list.specs.State.{walk}
-use Rattle.nap_draw.specs.declared.work.Work.{Work}
-use Rattle.nap_draw.specs.Codes.{code_rule}
-use Rattle.nap_draw.specs.Rule.{RuleResult, rule_result}
-use Rattle.nap_reader.specs.Laws.{IsAlone}
-use Rattle.nap_reader.specs.Stream.{Placed, Machine, placed_from}
-use Rattle.nap_canon.specs.Spelling.{primary, control, char_piece}
+use Rattle.nap_codes.specs.Spelling.{designation}
 use Rattle.nap_canon.specs.declared.text_end.TextEnd.TheVariants.{NoRun}
-use Rattle.nap_canon.specs.Text.{piece_bytes, pieces_bytes, text_end_after}
 use Rattle.nap_canon.proofs.reading.CodeLemmas.{code_reads}
 use Rattle.nap_canon.proofs.reading.PieceLemmas.{Acts, at, sets_with}
 use Rattle.nap_canon.proofs.reading.ReadLemmas.{Reads}

@@ -1,19 +1,8 @@
 -- What a reader does with the bytes of a code that isn't an opcode.
 
-use Rattle.std.proofs.Common.{ℕ, ◌+◌, ◌≡◌, List, [], ◌∷◌, ◌++◌, length, take, Ok, refl, ap, sym, subst, ◌∙◌, append_assoc, arith, length-append}
-use Rattle.std.proofs.lemmas.List.{take_all}
+use Rattle.nap_canon.proofs.Common.{CodeSets, Entry, IsAlone, List, Machine, Ok, Placed, RuleResult, Spells, Work, [], after_drawing, ap, append_assoc, arith, bytes_of, code_acts, code_is_spelled, code_rule, drawn_front, length, length-append, placed_from, refl, stream_front, subst, sym, take, take_all, ℕ, ◌++◌, ◌+◌, ◌∙◌, ◌∷◌, ◌≡◌}
 use Rattle.nap_codes.specs.declared.code.Code.{Code}
-use Rattle.nap_codes.specs.declared.code_set.CodeSets.{CodeSets}
 use Rattle.nap_codes.specs.Front as codes
-use Rattle.nap_codes.specs.Spelling.{Spells}
-use Rattle.nap_codes.proofs.PublicLaws.{code_is_spelled}
-use Rattle.nap_list.specs.declared.entry.Entry.{Entry}
-use Rattle.nap_draw.specs.Codes.{code_rule}
-use Rattle.nap_draw.specs.Rule.{RuleResult}
-use Rattle.nap_draw.specs.declared.work.Work.{Work}
-use Rattle.nap_reader.specs.Laws.{IsAlone}
-use Rattle.nap_reader.specs.Stream.{Placed, Machine, bytes_of, after_drawing, drawn_front, stream_front, placed_from}
-use Rattle.nap_reader.proofs.PublicLaws.{code_acts}
 use Rattle.nap_canon.proofs.reading.PlacedLemmas.{bytes_of-placed, length-placed, placed_from-append}
 use Rattle.nap_canon.proofs.reading.ReadLemmas.{machine_between, between_after, Reads, reads_act}
 

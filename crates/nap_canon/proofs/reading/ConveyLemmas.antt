@@ -1,33 +1,13 @@
 -- The entries that pieces which join no run convey to a reader, and the work that they leave.
 
-use Rattle.std.proofs.Common.{ℕ, ◌≡◌, ◌≤◌, ◌<◌, List, [], ◌∷◌, ◌++◌, Ok, refl, subst, append-nil, arith}
-use Rattle.nap_values.specs.Laws.{IsWord}
-use Rattle.nap_values.specs.Spellings.{words_of}
+use Rattle.nap_canon.proofs.Common.{Entry, GSet, IsAlone, IsGraphic, IsPlainCode, IsWord, List, MayFollowCode, Ok, Opcode, Piece, RuleResult, Spells, TextEnd, Work, [], append-nil, arith, char_piece, code_is_spelled, code_rule, control, domain, gl_of, left_out_opcode, opcode, opcode_rows, primary, refl, row_of, rule, rule_result, run_limit, subst, text_end_after, text_lengths, walk, word_byte, words_of, ℕ, ◌++◌, ◌<◌, ◌∷◌, ◌≡◌, ◌≤◌}
 use Rattle.nap_codes.specs.declared.code.Code.{Code}
 use Rattle.nap_codes.specs.declared.code.Code.TheVariants as code
 use Rattle.nap_codes.specs.declared.code_set.CharSet.TheVariants as chars
-use Rattle.nap_codes.specs.declared.code_set.GSet.{GSet}
 use Rattle.nap_codes.specs.declared.code_set.GSet.TheVariants.{G0, G1}
-use Rattle.nap_codes.specs.declared.opcode.Opcode.{Opcode}
 use Rattle.nap_codes.specs.declared.opcode.Opcode.TheVariants as opcodes
-use Rattle.nap_codes.specs.Laws.{IsGraphic}
-use Rattle.nap_codes.specs.Spelling.{Spells}
 use Rattle.nap_codes.specs.Spelling as spells
-use Rattle.nap_codes.proofs.PublicLaws.{code_is_spelled}
-use Rattle.nap_codes.specs.Tables.{row_of, opcode_rows, left_out_opcode}
-use Rattle.nap_list.specs.declared.entry.Entry.{Entry}
-use Rattle.nap_list.specs.State.{walk}
-use Rattle.nap_draw.specs.declared.work.Work.{Work}
-use Rattle.nap_draw.specs.Codes.{code_rule}
-use Rattle.nap_draw.specs.Limits.{run_limit}
-use Rattle.nap_draw.specs.Rule.{RuleResult, rule_result, rule}
-use Rattle.nap_reader.specs.Laws.{IsAlone}
-use Rattle.nap_canon.specs.declared.text_end.TextEnd.{TextEnd}
 use Rattle.nap_canon.specs.declared.text_end.TextEnd.TheVariants.{NoRun}
-use Rattle.nap_canon.specs.Laws.{text_lengths}
-use Rattle.nap_canon.specs.Plain.{IsPlainCode, MayFollowCode}
-use Rattle.nap_canon.specs.Spelling.{Piece, opcode, primary, control, char_piece, domain, word_byte}
-use Rattle.nap_canon.specs.Text.{gl_of, text_end_after}
 use Rattle.nap_canon.proofs.reading.AloneLemmas.{alone_acts, primary_acts, drcs_acts}
 use Rattle.nap_canon.proofs.spelling.OperandLemmas.{AreOperands, no_bytes, no_moves, word_bytes}
 use Rattle.nap_canon.proofs.reading.PieceLemmas.{Acts, Begins, Names, sets_with, gl_after, acts_nothing, acts_after, opcode_acts}

@@ -1,29 +1,11 @@
 -- What a reader does with pieces of canonical text.
 
-use Rattle.std.proofs.Common.{ℕ, suc, ◌+◌, ◌≡◌, ◌≤◌, ◌<◌, List, [], ◌∷◌, ◌++◌, length, All, false, Ok, refl, ap, sym, subst, ◌∙◌, append_assoc, append-nil, arith}
-use Rattle.std.specs.Prelude.{⊤}
-use Rattle.std.proofs.lemmas.Bool.Decides.{nat_tests}
-use Rattle.nap_values.specs.Laws.{IsOperandByte}
+use Rattle.nap_canon.proofs.Common.{All, CodeSets, Entry, GSet, IsOperandByte, List, Machine, Ok, Opcode, Piece, Placed, RuleResult, TextEnd, Work, [], ap, append-nil, append_assoc, arith, control, false, gl_of, group, is_operand_byte, joins_open_run, length, nat_tests, opcode, piece_bytes, pieces_bytes, pieces_bytes-append, placed_from, primary, refl, rule, rule_result, run_limit, shift_out, start_sets, subst, suc, sym, text_end_after, text_end_after-append, walk, ℕ, ⊤, ◌++◌, ◌+◌, ◌<◌, ◌∙◌, ◌∷◌, ◌≡◌, ◌≤◌}
 use Rattle.nap_values.specs.Spellings as spellings
 use Rattle.nap_codes.specs.declared.code.Code.TheVariants as code
-use Rattle.nap_codes.specs.declared.code_set.CodeSets.{CodeSets}
-use Rattle.nap_codes.specs.declared.code_set.GSet.{GSet}
 use Rattle.nap_codes.specs.declared.code_set.GSet.TheVariants.{G0, G1, G2, G3}
-use Rattle.nap_codes.specs.declared.opcode.Opcode.{Opcode}
-use Rattle.nap_codes.specs.CodeSets.{start_sets}
-use Rattle.nap_codes.specs.Spelling.{shift_out}
 use Rattle.nap_codes.specs.Front as codes
-use Rattle.nap_list.specs.declared.entry.Entry.{Entry}
-use Rattle.nap_list.specs.State.{walk}
-use Rattle.nap_draw.specs.declared.work.Work.{Work}
-use Rattle.nap_draw.specs.Rule.{RuleResult, rule, rule_result}
-use Rattle.nap_draw.specs.Limits.{run_limit}
-use Rattle.nap_reader.specs.Stream.{Placed, Machine, is_operand_byte, placed_from}
-use Rattle.nap_canon.specs.Spelling.{Piece, opcode, group, primary, control}
-use Rattle.nap_canon.specs.declared.text_end.TextEnd.{TextEnd}
 use Rattle.nap_canon.specs.declared.text_end.TextEnd.TheVariants.{NoRun}
-use Rattle.nap_canon.specs.Text.{gl_of, joins_open_run, piece_bytes, pieces_bytes, text_end_after}
-use Rattle.nap_canon.specs.TextParts.{pieces_bytes-append, text_end_after-append}
 use Rattle.nap_canon.proofs.reading.PlacedLemmas.{words_of-placed, placed_from-append, spelled_run}
 use Rattle.nap_canon.proofs.reading.CodeLemmas.{code_reads}
 use Rattle.nap_canon.proofs.reading.ReadLemmas.{machine_between, Reads, BeginsAnew, reads_run}

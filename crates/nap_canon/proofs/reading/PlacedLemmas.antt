@@ -1,15 +1,9 @@
 -- Bytes with their places.
 
-use Rattle.std.proofs.Common.{ℕ, suc, ◌+◌, ◌≡◌, ◌≤◌, List, [], ◌∷◌, ◌++◌, length, All, refl, ap, sym, subst, ◌∙◌, arith}
-use Rattle.nap_values.specs.Laws.{IsOperandByte}
+use Rattle.nap_canon.proofs.Common.{All, IsOperandByte, IsRun, List, Machine, Opcode, Placed, [], ap, arith, between, bytes_of, carried_words, length, placed_from, refl, run_limit, subst, suc, sym, ℕ, ◌++◌, ◌+◌, ◌∙◌, ◌∷◌, ◌≡◌, ◌≤◌}
 use Rattle.nap_values.specs.Spellings as spellings
 use Rattle.nap_codes.specs.declared.code.Code.TheVariants as code
-use Rattle.nap_codes.specs.declared.opcode.Opcode.{Opcode}
 use Rattle.nap_codes.specs.Front as codes
-use Rattle.nap_reader.specs.Bodies.{between}
-use Rattle.nap_reader.specs.Laws.{IsRun}
-use Rattle.nap_draw.specs.Limits.{run_limit}
-use Rattle.nap_reader.specs.Stream.{Placed, Machine, bytes_of, carried_words, placed_from}
 
 pub words_of-placed : (n : ℕ) (bytes : List ℕ) → carried_words (placed_from n bytes) ≡ spellings.words_of bytes
 unfolding placed_from

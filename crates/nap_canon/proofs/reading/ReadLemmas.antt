@@ -1,19 +1,7 @@
 -- The machine in canonical text.
 
-use Rattle.std.proofs.Common.{ℕ, ◌≡◌, List, [], ◌∷◌, ◌++◌, length, false, true, Bool, cond, Option, None, Some, Result, Ok, Err, refl, ap, sym, subst, ◌∙◌, append_assoc, append-nil}
-use Rattle.std.specs.Prelude.{⊤}
-use Rattle.nap_codes.specs.declared.code_set.CodeSets.{CodeSets}
-use Rattle.nap_codes.specs.declared.opcode.Opcode.{Opcode}
-use Rattle.nap_list.specs.declared.entry.Entry.{Entry}
-use Rattle.nap_draw.specs.Rule.{RuleResult, rule}
-use Rattle.nap_draw.specs.declared.fault.DrawFault.{DrawFault}
-use Rattle.nap_draw.specs.declared.work.Work.{Work}
-use Rattle.nap_reader.specs.Bodies.{no_names}
+use Rattle.nap_canon.proofs.Common.{Bool, CodeSets, DrawFault, Entry, Err, IsRun, List, Machine, None, Ok, Opcode, Option, Outcome, Placed, Result, RuleResult, Some, Unfinished, Work, [], after_drawing, ap, append-nil, append_assoc, carried_words, cond, drawn_front, ended, ended_by, false, front_after_front, is_operand, length, means, no_names, nothing, open_run, outcome_by_front, outcome_from, paused, placed_from, prepend, refl, rule, run_acts, run_waits, start_machine, stream_front, subst, sym, true, with_definition, with_drawn, with_end, with_run, with_run_by, ℕ, ⊤, ◌++◌, ◌∙◌, ◌∷◌, ◌≡◌}
 use Rattle.nap_reader.specs.Course as course
-use Rattle.nap_reader.specs.Course.{prepend, paused, outcome_by_front}
-use Rattle.nap_reader.specs.Laws.{IsRun}
-use Rattle.nap_reader.specs.Stream.{Placed, Machine, Outcome, Unfinished, nothing, open_run, carried_words, is_operand, stream_front, after_drawing, drawn_front, outcome_from, with_run, with_run_by, with_drawn, with_definition, with_end, placed_from, start_machine, means, ended, ended_by}
-use Rattle.nap_reader.proofs.PublicLaws.{front_after_front, run_acts, run_waits}
 use Rattle.nap_canon.proofs.operand_lengths.FrontCodes.{no_front}
 
 -- the machine between two codes, with no macro bound and nothing charged

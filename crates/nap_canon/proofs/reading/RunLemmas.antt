@@ -1,27 +1,7 @@
 -- Groups of operands that join a run.
 
-use Rattle.std.proofs.Common.{ℕ, ◌≡◌, ◌≤◌, ◌+◌, ◌-◌, ◌*◌, List, [], ◌∷◌, ◌++◌, length, All, true, false, Ok, refl, ap, sym, subst, ◌∙◌, append_assoc, length-append, arith}
-use Rattle.std.proofs.lemmas.Bool.Decides.{nat_tests}
-use Rattle.std.proofs.lemmas.List.{length-map, map-append}
-use Rattle.std.proofs.lemmas.List.Elements.{All-append}
-use Rattle.nap_values.specs.Domains.{OperandLengths}
-use Rattle.nap_values.specs.Laws.{IsOperandByte}
-use Rattle.nap_values.specs.Spellings.{words_of}
-use Rattle.nap_codes.specs.declared.code_set.GSet.{GSet}
-use Rattle.nap_codes.specs.declared.opcode.Opcode.{Opcode}
-use Rattle.nap_list.specs.declared.entry.Entry.{Entry}
-use Rattle.nap_list.specs.declared.state.State.{State}
-use Rattle.nap_list.specs.State.{after}
-use Rattle.nap_draw.specs.declared.work.Work.{Work}
-use Rattle.nap_draw.specs.Joining.{CanJoin, AreWholeOperands}
-use Rattle.nap_draw.specs.Rule.{RuleResult, rule}
-use Rattle.nap_draw.proofs.PublicLaws.{runs_join}
-use Rattle.nap_draw.specs.Limits.{run_limit}
-use Rattle.nap_reader.specs.Stream.{placed_from}
-use Rattle.nap_canon.specs.declared.text_end.TextEnd.{TextEnd}
+use Rattle.nap_canon.proofs.Common.{All, All-append, AreWholeOperands, CanJoin, Entry, GSet, IsOperandByte, List, Ok, Opcode, OperandLengths, Piece, RuleResult, State, TextEnd, Work, [], after, ap, append_assoc, arith, false, gl_of, group, joins_open_run, length, length-append, length-map, map-append, nat_tests, pieces_bytes, placed_from, refl, rule, run_after, run_limit, runs_join, shift_to_opcodes, subst, sym, text_end_after, true, words_of, ℕ, ◌*◌, ◌++◌, ◌+◌, ◌-◌, ◌∙◌, ◌∷◌, ◌≡◌, ◌≤◌}
 use Rattle.nap_canon.specs.declared.text_end.TextEnd.TheVariants.{NoRun, InRun}
-use Rattle.nap_canon.specs.Spelling.{Piece, group}
-use Rattle.nap_canon.specs.Text.{gl_of, shift_to_opcodes, joins_open_run, run_after, pieces_bytes, text_end_after}
 use Rattle.nap_canon.proofs.spelling.CommandLemmas.{work_at}
 use Rattle.nap_canon.proofs.reading.ConveyLemmas.{names}
 use Rattle.nap_canon.proofs.spelling.HoldingLemmas.{holding, work_with_attributes}

@@ -1,20 +1,7 @@
 -- The laws of canonical streams: their text is read as the list, so they are equal exactly if the lists are.
 
-use Rattle.std.proofs.Common.{ℕ, ◌≡◌, ◌↔◌, List, Option, Some, None, ap, sym, ◌∙◌, subst}
-use Rattle.std.specs.Prelude.{IsSome}
-use Rattle.nap_values.specs.Domains.{OperandLengths}
-use Rattle.nap_list.specs.declared.entry.Entry.{Entry}
-use Rattle.nap_list.specs.declared.state.OpenDefinition.{OpenDefinition}
-use Rattle.nap_list.specs.State.{start, walk}
-use Rattle.nap_draw.specs.Rule.{start_domain}
-use Rattle.nap_reader.specs.Stream.{Outcome}
-use Rattle.nap_reader.proofs.PublicLaws.{accepted_is_legal, read_values_are_in_range}
-use Rattle.nap_canon.specs.declared.form.Form.{Form}
+use Rattle.nap_canon.proofs.Common.{CanonicalStreamsAgree, Entry, Form, IsAccepted, IsCanonicalOf, IsPlain, IsReadAs, IsSome, List, None, OpenDefinition, OperandLengths, Option, Outcome, Some, TextIsRead, TextLeads, accepted_is_legal, ap, list_of, read_values_are_in_range, start, start_domain, subst, sym, text, text_lengths, walk, ℕ, ◌↔◌, ◌∙◌, ◌≡◌}
 use Rattle.nap_canon.specs.declared.form.Form.TheVariants.{Two}
-use Rattle.nap_canon.specs.Laws.{IsReadAs, text_lengths, TextIsRead, TextLeads, CanonicalStreamsAgree}
-use Rattle.nap_canon.specs.Plain.{IsPlain}
-use Rattle.nap_canon.specs.Streams.{IsAccepted, list_of, IsCanonicalOf}
-use Rattle.nap_canon.specs.Text.{text}
 use Rattle.nap_canon.proofs.reading_back.ListLemmas.{text_reads, means_text}
 use Rattle.nap_canon.proofs.spelling.SavedLemmas.{SavesLengths, saved_along, saves_along}
 use Rattle.nap_canon.proofs.plain_codes.PlainTexts.{text_is_plain}

@@ -1,31 +1,12 @@
 -- The text of a list is no longer than its text in form 1.
 
-use Rattle.std.proofs.Common.{ℕ, ◌≡◌, ◌≤◌, ◌+◌, List, [], ◌∷◌, ◌++◌, length, map, Bool, true, false, Some, refl, ap, sym, ◌∙◌, append-nil, length-append, arith}
-use Rattle.std.specs.Prelude.{⊤, ◌%◌, ◌==◌, if◌then◌else◌}
-use Rattle.nap_values.specs.Coordinates.{Coordinates}
-use Rattle.nap_values.specs.Spellings.{point_bytes, grb_bytes}
-use Rattle.nap_codes.specs.declared.code_set.CharSet.{CharSet}
+use Rattle.nap_canon.proofs.Common.{Bool, CharSet, Command, Coordinates, Drawing, Entry, FormsAgree, GSet, List, Pen, Piece, Some, State, TextEnd, [], after, ap, append-nil, arith, attributes, char_piece, colour_prelude, command_piece, control, domain, entry_pieces, false, gl_of, grb_bytes, group, if◌then◌else◌, joins_open_run, length, length-append, line_piece, map, opcode, pieces, pieces_bytes, pieces_bytes-append, point_bytes, prelude, primary, refl, same_pen, shift_to_opcodes, spelling_pieces, start, sym, text, text_end_after, text_end_after-append, text_end_after_header, text_end_after_piece, true, with_attributes, ℕ, ⊤, ◌%◌, ◌++◌, ◌+◌, ◌==◌, ◌∙◌, ◌∷◌, ◌≡◌, ◌≤◌}
 use Rattle.nap_codes.specs.declared.code_set.CharSet.TheVariants as chars
-use Rattle.nap_codes.specs.declared.code_set.GSet.{GSet}
 use Rattle.nap_list.specs.declared.attribute.Colour.TheVariants as colours
-use Rattle.nap_list.specs.declared.attribute.Pen.{Pen}
 use Rattle.nap_list.specs.declared.attribute.Pen.TheVariants as pens
-use Rattle.nap_list.specs.declared.entry.Entry.{Entry}
 use Rattle.nap_list.specs.declared.entry.Entry.TheVariants as entries
-use Rattle.nap_list.specs.declared.state.Drawing.{Drawing}
-use Rattle.nap_list.specs.declared.state.State.{State}
-use Rattle.nap_list.specs.Entry.{attributes}
-use Rattle.nap_list.specs.State.{start, with_attributes, after}
-use Rattle.nap_canon.specs.declared.command.Command.{Command}
 use Rattle.nap_canon.specs.declared.command.Command.TheVariants as commands
 use Rattle.nap_canon.specs.declared.form.Form.TheVariants.{One, Two}
-use Rattle.nap_canon.specs.declared.text_end.TextEnd.{TextEnd}
-use Rattle.nap_canon.specs.Preludes.{prelude, colour_prelude}
-use Rattle.nap_canon.specs.Equality.{same_pen}
-use Rattle.nap_canon.specs.Laws.{FormsAgree}
-use Rattle.nap_canon.specs.Spelling.{Piece, opcode, group, primary, control, domain, char_piece, command_piece, line_piece, spelling_pieces}
-use Rattle.nap_canon.specs.Text.{gl_of, shift_to_opcodes, joins_open_run, text_end_after_header, pieces_bytes, text_end_after_piece, text_end_after, entry_pieces, pieces, text}
-use Rattle.nap_canon.specs.TextParts.{pieces_bytes-append, text_end_after-append}
 use Rattle.nap_canon.proofs.reading_back.CanonicalLaws.{text_is_read}
 
 -- after the same set in GL, the first pieces have no more bytes than the others, and leave the same set

@@ -1,26 +1,8 @@
 -- What a reader does with the text of a list.
 
-use Rattle.std.proofs.Common.{ℕ, ◌≡◌, ◌≤◌, ◌+◌, List, [], ◌∷◌, ◌++◌, length, map, Bool, true, false, ap, sym, subst, ◌∙◌, append_assoc, append-nil, inl, inr, refl}
-use Rattle.nap_values.specs.Domains.{OperandLengths}
-use Rattle.nap_codes.specs.declared.code_set.GSet.{GSet}
+use Rattle.nap_canon.proofs.Common.{AllFit, AllInRange, Bool, Command, Drawing, Entry, Form, GSet, Legal, List, Machine, OperandLengths, Piece, Placed, State, TextEnd, [], after, ap, append-nil, append_assoc, attributes, command_piece, domain, effects, entry_pieces, false, group, inl, inr, joins_open_run, length, map, means, pieces, pieces_bytes, placed_from, prelude, refl, run_after, run_limit, spelling_pieces, start, start_domain, start_machine, start_work, subst, sym, text_end_after, text_in, true, walk, with_attributes, ℕ, ◌++◌, ◌+◌, ◌∙◌, ◌∷◌, ◌≡◌, ◌≤◌}
 use Rattle.nap_codes.specs.declared.code_set.GSet.TheVariants.{G0, G1}
-use Rattle.nap_list.specs.declared.entry.Entry.{Entry}
-use Rattle.nap_list.specs.declared.state.Drawing.{Drawing}
-use Rattle.nap_list.specs.declared.state.State.{State}
-use Rattle.nap_list.specs.Entry.{attributes}
-use Rattle.nap_list.specs.Range.{AllInRange}
-use Rattle.nap_list.specs.State.{start, with_attributes, after, walk, AllFit, Legal}
-use Rattle.nap_draw.specs.Limits.{run_limit}
-use Rattle.nap_draw.specs.Rule.{start_domain, start_work}
-use Rattle.nap_reader.specs.Stream.{Placed, Machine, start_machine, placed_from, means}
-use Rattle.nap_canon.specs.declared.command.Command.{Command}
-use Rattle.nap_canon.specs.declared.form.Form.{Form}
-use Rattle.nap_canon.specs.declared.text_end.TextEnd.{TextEnd}
 use Rattle.nap_canon.specs.declared.text_end.TextEnd.TheVariants.{NoRun, InRun}
-use Rattle.nap_canon.specs.Preludes.{prelude}
-use Rattle.nap_canon.specs.Commands.{effects}
-use Rattle.nap_canon.specs.Spelling.{Piece, group, domain, command_piece, spelling_pieces}
-use Rattle.nap_canon.specs.Text.{joins_open_run, run_after, pieces_bytes, text_end_after, entry_pieces, pieces, text_in}
 use Rattle.nap_canon.proofs.spelling.CommandLemmas.{work_at}
 use Rattle.nap_canon.proofs.reading.ConveyLemmas.{nothing, next, lengths_convey, convey_act, convey_end}
 use Rattle.nap_canon.proofs.spelling.EntryLemmas.{MayCome, next_may, first_kind, led, prelude_after, prelude_conveys, group_parts, entry_begins, JoinsNone, spelled_begins}

@@ -1,45 +1,13 @@
 -- Entries that join the end of the text: all are written as equally many bytes, but for the opening before the first.
 
-use Rattle.std.proofs.Common.{ℕ, inl, inr, zero, suc, ◌≡◌, ◌+◌, ◌*◌, ◌/◌, ◌-◌, ◌<◌, ◌≤◌, Bool, true, false, Option, Some, None, Result, Ok, Err, List, [], ◌∷◌, ◌++◌, length, map, take, drop, refl, ap, sym, subst, ◌∙◌, append-nil, append_assoc, length-append, length-drop, arith}
-use Rattle.std.specs.Prelude.{⊤}
-use Rattle.std.proofs.lemmas.Bool.{false≢true}
-use Rattle.std.proofs.lemmas.Bool.Decides.{nat_tests}
-use Rattle.std.proofs.lemmas.List.{take-append-le, length-take-le, length-map}
-use Rattle.std.proofs.Math.Seq.{take-append-add}
-use Rattle.nap_values.specs.Coordinates.{Coordinates}
-use Rattle.nap_values.specs.Spellings.{point_bytes}
-use Rattle.nap_codes.specs.declared.code_set.CharSet.{CharSet}
+use Rattle.nap_canon.proofs.Common.{AreCurrent, Batch, Bool, CharSet, Command, Coordinates, Drawing, EachIsCurrent, Entry, Err, Form, FormatEffector, Hand, Joins, List, None, Ok, Option, Parted, Pen, Piece, PointsJoin, Result, SentUpTo, SentWhole, Some, State, TextEnd, TextJoins, TextStep, [], after, ap, append-nil, append_assoc, arith, attributes, backward, batch_entries, command_piece, down, drop, entry_pieces, entry_size, false, false≢true, format_effector, format_effector_known, forward, gl_of, group, hand_of, home, ink_of, inl, inr, joinable_piece, joined_bytes, joins_open_run, last_point, length, length-append, length-drop, length-map, length-take-le, line_entry, line_piece, lines_count, lines_prefix, lines_rest, map, nat_tests, opening, piece_bytes, pieces, pieces_bytes, pieces_bytes-append, point_bytes, point_entry, points_bytes, points_prefix, points_rest, polyline_entries, refl, return, run_after, run_limit, run_opening, same_pen, shift_to_opcodes, shift_to_primary, spelling_pieces, step_bytes, subst, suc, sym, take, take-append-add, take-append-le, text_byte_piece, text_byte_piece_as, text_count, text_end_after, text_end_after-append, text_end_after_joined, text_end_after_piece, text_entries_in, text_entry, text_entry_as, text_prefix, true, up, walk, with_attributes, zero, ℕ, ⊤, ◌*◌, ◌++◌, ◌+◌, ◌-◌, ◌/◌, ◌<◌, ◌∙◌, ◌∷◌, ◌≡◌, ◌≤◌}
 use Rattle.nap_codes.specs.declared.code_set.CharSet.TheVariants.{Primary}
 use Rattle.nap_codes.specs.declared.code_set.GSet.TheVariants.{G0}
-use Rattle.nap_codes.specs.declared.control.TextStep.{TextStep}
-use Rattle.nap_codes.specs.Laws.{FormatEffector, backward, forward, down, up, return, home}
-use Rattle.nap_codes.specs.Tables.{format_effector}
-use Rattle.nap_codes.proofs.PublicLaws.{format_effector_known}
-use Rattle.nap_list.specs.declared.attribute.Hand.{Hand}
-use Rattle.nap_list.specs.declared.attribute.Pen.{Pen}
 use Rattle.nap_list.specs.declared.attribute.Pen.TheVariants.{At, After}
-use Rattle.nap_list.specs.declared.batch.Batch.{Batch}
 use Rattle.nap_list.specs.declared.batch.Batch.TheVariants as batches
-use Rattle.nap_list.specs.declared.entry.Entry.{Entry}
 use Rattle.nap_list.specs.declared.entry.Entry.TheVariants as entries
-use Rattle.nap_list.specs.declared.state.Drawing.{Drawing}
-use Rattle.nap_list.specs.declared.state.State.{State}
-use Rattle.nap_list.specs.Agreement.{AreCurrent}
-use Rattle.nap_list.specs.Batches.{EachIsCurrent, batch_entries, point_entry, line_entry, polyline_entries, text_entries_in, text_entry, text_entry_as, last_point}
-use Rattle.nap_list.specs.BatchLaws.{points_prefix, lines_prefix, text_prefix, points_rest, lines_rest, lines_count, text_count}
-use Rattle.nap_list.specs.Entry.{attributes}
-use Rattle.nap_list.specs.State.{with_attributes, after, walk, ink_of, hand_of}
-use Rattle.nap_draw.specs.Limits.{run_limit}
-use Rattle.nap_canon.specs.declared.command.Command.{Command}
-use Rattle.nap_canon.specs.declared.form.Form.{Form}
 use Rattle.nap_canon.specs.declared.form.Form.TheVariants.{Two}
-use Rattle.nap_canon.specs.declared.text_end.TextEnd.{TextEnd}
 use Rattle.nap_canon.specs.declared.text_end.TextEnd.TheVariants.{NoRun, InRun}
-use Rattle.nap_canon.specs.Batches.{Parted, PointsJoin, TextJoins, Joins, SentUpTo, SentWhole, points_bytes, run_opening, opening, entry_size, joined_bytes, text_end_after_joined}
-use Rattle.nap_canon.specs.Equality.{same_pen}
-use Rattle.nap_canon.specs.Spelling.{Piece, command_piece, group, joinable_piece, line_piece, step_bytes, text_byte_piece, text_byte_piece_as, spelling_pieces}
-use Rattle.nap_canon.specs.Text.{gl_of, shift_to_opcodes, shift_to_primary, joins_open_run, run_after, piece_bytes, text_end_after_piece, pieces_bytes, text_end_after, entry_pieces, pieces}
-use Rattle.nap_canon.specs.TextParts.{pieces_bytes-append, text_end_after-append}
 use Rattle.nap_canon.proofs.texts.PointsLemmas.{point_size, points_size}
 use Rattle.nap_canon.proofs.reading.RunLemmas.{same_opcode, space_for}
 use Rattle.nap_canon.proofs.prelude.CurrentLemmas.{nothing_to_set}
@@ -60,7 +28,7 @@ one_after form text_end s e piece is = ap (text_end_after text_end) is
 
 -- the piece of the entry at an index of a batch, whose attributes are current
 
-heads : (x y : Entry) (xs ys : List Entry) → x ∷ xs ≡ y ∷ ys → x ≡ y
+pub heads : (x y : Entry) (xs ys : List Entry) → x ∷ xs ≡ y ∷ ys → x ≡ y
 heads x y xs ys is = cc
 
 first_of_current : (s : State) (list : List Entry) (e : Entry) (es : List Entry) → EachIsCurrent s list → list ≡ e ∷ es → AreCurrent (attributes e) s.drawing
@@ -101,7 +69,7 @@ text_after set hand [] (suc n) = (hand, refl)
 text_after set hand (c ∷ cs) (suc n) = text_after set (record hand { pen = After }) cs n
 
 -- the spelling of a byte of a text
-typed_spelled : (form : Form) (d : Drawing) (set : CharSet) (hand : Hand) (code : ℕ) → spelling_pieces form d (text_entry set hand code) ≡ text_byte_piece set code ∷ []
+pub typed_spelled : (form : Form) (d : Drawing) (set : CharSet) (hand : Hand) (code : ℕ) → spelling_pieces form d (text_entry set hand code) ≡ text_byte_piece set code ∷ []
 typed_spelled form d set hand code = by (format_effector code)
   where
     by : (step : Option TextStep) → spelling_pieces form d (text_entry_as step set hand code) ≡ text_byte_piece_as step set code ∷ []

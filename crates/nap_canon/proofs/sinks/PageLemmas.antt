@@ -1,16 +1,8 @@
 -- The text of a page in memory.
 
-use Rattle.std.proofs.Common.{ℕ, ◌≡◌, false, List, [], ◌++◌, Option, Some, Err, refl, ap, subst, ◌∙◌}
-use Rattle.std.specs.Io.KnownBytes.{Appends}
+use Rattle.nap_canon.proofs.Common.{Appends, Canonical, Entry, Err, Fault, Ghosts, IsCounted, IsRead, List, Option, RefusesPage, Some, StartsText, Took, [], ap, false, refl, refusal_of_text, subst, text, ℕ, ◌++◌, ◌∙◌, ◌≡◌}
 use Rattle.nap_list.specs.declared.device.outlet.Outlet as outlet
-use Rattle.nap_list.specs.declared.entry.Entry.{Entry}
-use Rattle.nap_list.specs.declared.sink.Sink.{Ghosts}
-use Rattle.nap_reader.specs.declared.fault.Fault.{Fault}
 use Rattle.nap_reader.specs.declared.fault.Fault.TheVariants as fault
-use Rattle.nap_reader.specs.Collecting.{IsCounted, IsRead}
-use Rattle.nap_canon.specs.PageTexts.{RefusesPage, refusal_of_text}
-use Rattle.nap_canon.specs.Sinking.{StartsText, Canonical, Took}
-use Rattle.nap_canon.specs.Text.{text}
 use Rattle.nap_canon.proofs.sinks.SinkingLemmas.{sink_writes_text}
 
 -- the text that a sink wrote to an outlet that tells its bytes and had none

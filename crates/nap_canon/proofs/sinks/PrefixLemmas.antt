@@ -1,23 +1,7 @@
 -- Entries that are one write: those that join the end of the text, and an entry with those that join after it.
 
-use Rattle.std.proofs.Common.{Bool, false, Result, Ok, Err, ℕ, zero, suc, ◌≡◌, ◌+◌, ◌*◌, ◌/◌, ◌-◌, ◌<◌, ◌≤◌, List, [], ◌∷◌, ◌++◌, length, take, drop, refl, ap, sym, subst, ◌∙◌, length-append, length-drop, arith}
-use Rattle.std.proofs.lemmas.List.{drop-drop, length-take-le}
-use Rattle.nap_values.specs.Coordinates.{Coordinates}
+use Rattle.nap_canon.proofs.Common.{AppendsNext, Batch, Bool, Coordinates, CutAfter, CutsPrefix, Drawing, EachIsCurrent, Entry, Err, Form, Joins, JoinsAfter, List, Ok, Parted, Pending, Result, State, TextEnd, Writer, WritesPrefix, WritesWhole, [], after, ap, arith, batch_entries, bytes_of_rest, drop, drop-drop, entry_pieces, entry_size, false, joined_bytes, last_point, length, length-append, length-drop, length-take-le, opening, pieces, pieces_bytes, pieces_bytes-append, polyline_entries, refl, subst, suc, sym, take, text_end_after, text_end_after-append, text_end_after_joined, text_end_after_rest, walk, zero, ℕ, ◌*◌, ◌++◌, ◌+◌, ◌-◌, ◌/◌, ◌<◌, ◌∙◌, ◌∷◌, ◌≡◌, ◌≤◌}
 use Rattle.nap_list.specs.declared.attribute.Pen.TheVariants.{At}
-use Rattle.nap_list.specs.declared.batch.Batch.{Batch}
-use Rattle.nap_list.specs.declared.entry.Entry.{Entry}
-use Rattle.nap_list.specs.declared.state.Drawing.{Drawing}
-use Rattle.nap_list.specs.declared.state.State.{State}
-use Rattle.nap_list.specs.Batches.{EachIsCurrent, batch_entries, polyline_entries, last_point}
-use Rattle.nap_list.specs.State.{after, walk}
-use Rattle.nap_canon.specs.declared.form.Form.{Form}
-use Rattle.nap_canon.specs.declared.text_end.TextEnd.{TextEnd}
-use Rattle.nap_canon.specs.declared.pending.Pending.{Pending}
-use Rattle.nap_canon.specs.declared.writer.Writer.{Writer}
-use Rattle.nap_canon.specs.Writing.{CutsPrefix, AppendsNext, WritesPrefix, WritesWhole}
-use Rattle.nap_canon.specs.Batches.{CutAfter, Joins, JoinsAfter, Parted, bytes_of_rest, text_end_after_rest, opening, entry_size, joined_bytes, text_end_after_joined}
-use Rattle.nap_canon.specs.Text.{pieces_bytes, text_end_after, entry_pieces, pieces}
-use Rattle.nap_canon.specs.TextParts.{pieces_bytes-append, text_end_after-append}
 use Rattle.nap_canon.proofs.sinks.JoinLemmas.{Joined, batch_joins, each_prefix, joined_length, parted_after, parted_first, whole_less, whole_of}
 
 -- what a writer put of a batch from one entry on, whose entries join the end of the text, or open a run or a text
@@ -117,8 +101,15 @@ begins (e ∷ es) some = record { first = e; rest = es; is = refl }
 cut_at : (n l b j m total : ℕ) → total ≡ l + (b + j) → j ≡ m → n - (total - m) ≡ (n - l) - b
 cut_at n l b j m total is size = omega (arith, is, size)
 
+-- the attributes of the entries after one are current, if those of all are
+pub then_current : (s : State) (batch : Batch) (index : ℕ) → EachIsCurrent s (drop index (batch_entries batch)) → (e : Entry) (es : List Entry) → drop index (batch_entries batch) ≡ e ∷ es →
+    EachIsCurrent (after s e) (drop (index + 1) (batch_entries batch))
+unfolding EachIsCurrent
+then_current s batch index all_current e es at =
+    subst (EachIsCurrent (after s e)) (sym (ap (drop 1) at) ∙ drop-drop 1 index (batch_entries batch)) (subst (EachIsCurrent s) at all_current).1
+
 module _ (form : Form) (text_end : TextEnd) (s : State) (batch : Batch) (index more : ℕ) (e : Entry) (es : List Entry) (at : drop index (batch_entries batch) ≡ e ∷ es)
-    (all_current : EachIsCurrent s (drop index (batch_entries batch))) (few : more + (index + 1) ≤ length (batch_entries batch))
+    (next_current : EachIsCurrent (after s e) (drop (index + 1) (batch_entries batch))) (few : more + (index + 1) ≤ length (batch_entries batch))
     (joins : 0 < more → JoinsAfter form (text_end_after text_end (entry_pieces form s e)) batch index more) where
   abbrev own_bytes : List ℕ
   own_bytes = pieces_bytes text_end (entry_pieces form s e)
@@ -142,10 +133,6 @@ module _ (form : Form) (text_end : TextEnd) (s : State) (batch : Batch) (index m
   those_are =
       ap (take (more + 1)) at
       ∙ (let next : more + 1 ≡ suc more = omega arith in ap (λ (n : ℕ). take n (e ∷ es)) next)
-
-  next_current : EachIsCurrent (after s e) (drop (index + 1) (batch_entries batch))
-  unfolding EachIsCurrent
-  next_current = subst (EachIsCurrent (after s e)) (sym rest_is) (subst (EachIsCurrent s) at all_current).1
 
   left : walk s (take 1 (drop index (batch_entries batch))) ≡ after s e
   unfolding walk
@@ -240,7 +227,8 @@ module _ (form : Form) (text_end : TextEnd) (s : State) (batch : Batch) (index m
 -- what a writer put of a batch from one entry on, which was appended with those that join after it
 
 module _ {T F : Type 0} (sends : T → List ℕ → Bool → T → Type 0) (w : Writer T F) (batch : Batch) (index more : ℕ) (some : 0 < length (drop index (batch_entries batch)))
-    (all_current : EachIsCurrent w.state (drop index (batch_entries batch))) (few : more + (index + 1) ≤ length (batch_entries batch)) (clear : List ℕ) (none : clear ≡ []) (r : Pending)
+    (rest_current : (e : Entry) (es : List Entry) → drop index (batch_entries batch) ≡ e ∷ es → EachIsCurrent (after w.state e) (drop (index + 1) (batch_entries batch)))
+    (few : more + (index + 1) ≤ length (batch_entries batch)) (clear : List ℕ) (none : clear ≡ []) (r : Pending)
     (appended : AppendsNext w.form w.state (drop index (batch_entries batch)) (record { text_end = w.pending.text_end; bytes = clear }) r) (joins : 0 < more → JoinsAfter w.form r.text_end batch index more)
     (u : Pending) (bytes : u.bytes ≡ r.bytes ++ bytes_of_rest r.text_end batch (index + 1) more) (ends : u.text_end ≡ text_end_after_rest r.text_end batch more) where
   abbrev list : List Entry
@@ -248,6 +236,9 @@ module _ {T F : Type 0} (sends : T → List ℕ → Bool → T → Type 0) (w : 
 
   abbrev begins_with : Begins list
   begins_with = begins list some
+
+  own_current : EachIsCurrent (after w.state begins_with.first) (drop (index + 1) (batch_entries batch))
+  own_current = rest_current begins_with.first begins_with.rest begins_with.is
 
   abbrev own : List ℕ
   own = pieces_bytes w.pending.text_end (entry_pieces w.form w.state begins_with.first)
@@ -271,7 +262,7 @@ module _ {T F : Type 0} (sends : T → List ℕ → Bool → T → Type 0) (w : 
       ∙ ap (λ (t : TextEnd). own ++ bytes_of_rest t batch (index + 1) more) own_ends
 
   all_written : u.bytes ≡ pieces_bytes w.pending.text_end (pieces w.form w.state (take (more + 1) list))
-  all_written = all_appended ∙ prefix_written w.form w.pending.text_end w.state batch index more begins_with.first begins_with.rest begins_with.is all_current few joins_own
+  all_written = all_appended ∙ prefix_written w.form w.pending.text_end w.state batch index more begins_with.first begins_with.rest begins_with.is own_current few joins_own
 
   enough : more + 1 ≤ length list
   enough = omega (arith, few, length-drop index (batch_entries batch))
@@ -285,7 +276,7 @@ module _ {T F : Type 0} (sends : T → List ℕ → Bool → T → Type 0) (w : 
     text_end =
         ends
         ∙ ap (λ (t : TextEnd). text_end_after_rest t batch more) own_ends
-        ∙ prefix_ends w.form w.pending.text_end w.state batch index more begins_with.first begins_with.rest begins_with.is all_current few joins_own;
+        ∙ prefix_ends w.form w.pending.text_end w.state batch index more begins_with.first begins_with.rest begins_with.is own_current few joins_own;
     form = refl;
     state = is;
   }
@@ -299,7 +290,7 @@ module _ {T F : Type 0} (sends : T → List ℕ → Bool → T → Type 0) (w : 
       less = omega arith;
       far = n;
       cut = subst (λ (bs : List ℕ). CutAfter sends w.target bs n to) all_written cut;
-      parted = prefix_none w.form w.pending.text_end w.state batch index more begins_with.first begins_with.rest begins_with.is all_current few joins_own n (omega (arith, less, ap length own_appended));
+      parted = prefix_none w.form w.pending.text_end w.state batch index more begins_with.first begins_with.rest begins_with.is own_current few joins_own n (omega (arith, less, ap length own_appended));
       state = refl;
     }
 
@@ -314,7 +305,7 @@ module _ {T F : Type 0} (sends : T → List ℕ → Bool → T → Type 0) (w : 
       counted = is ∙ ap (λ (bs : List ℕ). (n - (length bs - entry_size batch * more)) / entry_size batch) all_appended
 
       pub puts_less : k < more
-      puts_less = prefix_less w.form w.pending.text_end w.state batch index more begins_with.first begins_with.rest begins_with.is all_current few joins_own n k low_own within_all counted
+      puts_less = prefix_less w.form w.pending.text_end w.state batch index more begins_with.first begins_with.rest begins_with.is own_current few joins_own n k low_own within_all counted
 
       pub puts_cut : (s : State) → s ≡ walk w.state (take (k + 1) list) → CutsPrefix sends list w (record { target = to; form = w.form; pending = u; state = s }) (k + 1)
       puts_cut s state = record {
@@ -323,6 +314,6 @@ module _ {T F : Type 0} (sends : T → List ℕ → Bool → T → Type 0) (w : 
         less = omega (arith, puts_less);
         far = n;
         cut = subst (λ (bs : List ℕ). CutAfter sends w.target bs n to) all_written cut;
-        parted = prefix_parted w.form w.pending.text_end w.state batch index more begins_with.first begins_with.rest begins_with.is all_current few joins_own n k low_own within_all counted;
+        parted = prefix_parted w.form w.pending.text_end w.state batch index more begins_with.first begins_with.rest begins_with.is own_current few joins_own n k low_own within_all counted;
         state = state;
       }

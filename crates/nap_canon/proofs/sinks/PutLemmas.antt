@@ -1,38 +1,10 @@
 -- What a canonical sink that hasn't failed takes of a batch.
 
-use Rattle.std.proofs.Common.{ℕ, zero, suc, ◌≡◌, ◌+◌, ◌<◌, ◌≤◌, inl, inr, Bool, true, false, List, [], ◌∷◌, ◌++◌, Option, Some, None, Result, Ok, Err, OnOk, OnErr, IsErrOf, is_err, length, map, take, drop, refl, ap, sym, subst, ◌∙◌, append-nil, append_assoc, length-append, length-drop, arith}
-use Rattle.std.specs.Prelude.{slice_index}
-use Rattle.std.proofs.lemmas.Bool.{true≢false, false≢true}
-use Rattle.std.proofs.lemmas.List.{take-append-drop, take-take, length-take-le, drop-drop}
-use Rattle.nap_values.specs.Coordinates.{Coordinates}
-use Rattle.nap_codes.specs.declared.code_set.CharSet.{CharSet}
-use Rattle.nap_codes.specs.declared.control.TextStep.{TextStep}
-use Rattle.nap_codes.specs.Tables.{format_effector}
-use Rattle.nap_list.specs.declared.attribute.Hand.{Hand}
-use Rattle.nap_list.specs.declared.attribute.Attributes.{Attributes}
-use Rattle.nap_list.specs.declared.batch.Batch.{Batch}
+use Rattle.nap_canon.proofs.Common.{AreCurrent, Attributes, Batch, Bool, Broke, Canonical, CharSet, Coordinates, CutAfter, Drawing, EachIsCurrent, Entry, Err, FirstIsCurrent, Grows, HaltsAfter, Hand, IsErrOf, List, None, NotTaken, Ok, OnErr, OnOk, Option, Parted, Put, PutSome, PutsAfter, PutsFirst, PutsPrefix, PutsSome, Putting, Result, Sending, Sends, SendsAll, SinkFault, Some, State, TakesAll, TextStep, Took, WantsMore, Writer, [], after, ap, append-nil, append_assoc, arith, attributes, batch_entries, batch_is_current, canon_sink_model, drop, drop-drop, entry_bytes, entry_pieces, false, false≢true, format_effector, grows_more, hand_attributes, hand_of, inl, inr, is_err, length, length-append, length-drop, length-take-le, line_entry, map, pieces, pieces_bytes, point_entry, polyline_entries, put_begins, put_ends, put_goes, put_halts, refl, sending_of, slice_index, some_put, stops_at_first, subst, suc, sym, take, take-append-drop, take-take, takes_one, text_end_after, text_entries, text_entries_in, text_entry, text_entry_as, text_entry_on, took_broke, took_more, took_none, true, walk, zero, ℕ, ◌++◌, ◌+◌, ◌<◌, ◌∙◌, ◌∷◌, ◌≡◌, ◌≤◌}
 use Rattle.nap_list.specs.declared.batch.Batch.TheVariants as batches
 use Rattle.nap_list.specs.declared.device.outlet.Outlet as outlet
-use Rattle.nap_list.specs.declared.entry.Entry.{Entry}
-use Rattle.nap_list.specs.declared.sink.SinkFault.{SinkFault}
 use Rattle.nap_list.specs.declared.sink.SinkFault.TheVariants.{Write}
 use Rattle.nap_list.specs.declared.sink.SinkFault.TheVariants as faults
-use Rattle.nap_list.specs.declared.state.Drawing.{Drawing}
-use Rattle.nap_list.specs.declared.state.State.{State}
-use Rattle.nap_list.specs.Agreement.{AreCurrent}
-use Rattle.nap_list.specs.Batches.{EachIsCurrent, FirstIsCurrent, batch_entries, point_entry, line_entry, text_entry, text_entry_as, text_entry_on, polyline_entries, text_entries_in, text_entries}
-use Rattle.nap_list.specs.Entry.{attributes, hand_attributes}
-use Rattle.nap_list.specs.Putting.{HaltsAfter, NotTaken, Put, PutSome, Putting, TakesAll, WantsMore}
-use Rattle.nap_list.specs.PuttingLaws.{put_begins, put_goes, put_halts, put_ends, some_put, stops_at_first, takes_one}
-use Rattle.nap_list.specs.State.{after, walk, hand_of}
-use Rattle.nap_list.proofs.PublicLaws.{batch_is_current}
-use Rattle.nap_list.specs.Sending.{Sending, Grows, grows_more, Sends, SendsAll}
-use Rattle.nap_canon.specs.declared.writer.Writer.{Writer}
-use Rattle.nap_canon.specs.Writing.{PutsPrefix}
-use Rattle.nap_canon.specs.Batches.{canon_sink_model, CutAfter, Parted, PutsFirst, PutsSome, PutsAfter}
-use Rattle.nap_canon.specs.Sinking.{Canonical, sending_of, entry_bytes, Took, Broke}
-use Rattle.nap_canon.specs.Text.{pieces_bytes, entry_pieces, pieces, text_end_after}
-use Rattle.nap_canon.specs.SinkLaws.{took_none, took_more, took_broke}
 use Rattle.nap_canon.proofs.sinks.JoinLemmas.{rest_current}
 use Rattle.nap_canon.proofs.sinks.SinkingLemmas.{broke_answered}
 
@@ -92,9 +64,26 @@ module _ {O : Type 0} (o : outlet.Ghosts O) (s t : Canonical O) (e : Entry) (es 
       } in
       stops_at_first (canon_sink_model o) s t e es Write (took_none o s) put
 
-pub first_taken : {O E : Type 0} (o : outlet.Ghosts O) (s t : Canonical O) (list : List Entry) (r : Result (Unit {0}) E) → is_err r ≡ false → PutsFirst o list s t r → PutsSome o list s t (Ok 1)
-first_taken o s t list (Ok x) none put = put
-first_taken o s t list (Err x) none put = absurd (true≢false none)
+-- whether lack of memory is the answer
+is_memory : Result (Unit {0}) SinkFault → Bool
+is_memory (Err faults.Memory) = true
+is_memory _ = false
+
+-- a sink that has failed takes nothing of a list
+pub none_put : {O : Type 0} (o : outlet.Ghosts O) (s : Canonical O) (list : List Entry) → 0 < length list → o.failed s.outlet ≡ true → PutsSome o list s s (Err 0)
+unfolding is_memory
+none_put o s [] some failed = absurd (omega (arith, some))
+none_put o s (e ∷ es) some failed =
+    let put : NotTaken (canon_sink_model o) s s e Write = record {
+      memory = λ is. refl;
+      wants = λ is. absurd (false≢true (ap is_memory is));
+      refuses = λ is. refl;
+      write = λ is. failed;
+      only_write = λ is. refl;
+      broke = λ is works. absurd (false≢true (sym works ∙ failed));
+      still = λ is failed. refl;
+    } in
+    stops_at_first (canon_sink_model o) s s e es Write (took_none o s) put
 
 -- entries that are one write
 
@@ -163,7 +152,7 @@ module _ {O T F : Type 0} (o : outlet.Ghosts O) (view : T → Sending) (w v : Wr
 -- a list that is put part by part
 
 -- a byte of a text has its attributes
-typed_attributes : (set : CharSet) (hand : Hand) (code : ℕ) → attributes (text_entry set hand code) ≡ hand_attributes hand
+pub typed_attributes : (set : CharSet) (hand : Hand) (code : ℕ) → attributes (text_entry set hand code) ≡ hand_attributes hand
 typed_attributes set hand code = by (format_effector code)
   where
     by : (step : Option TextStep) → attributes (text_entry_as step set hand code) ≡ hand_attributes hand
@@ -209,6 +198,11 @@ current_after batch s t (suc n) some is = subst (λ (t : State). EachIsCurrent t
     by : (list : List Entry) → batch_entries batch ≡ list → EachIsCurrent (walk s (take (suc n) list)) (drop (suc n) list)
     by [] all = tt
     by (e ∷ es) all = rest_current (after s e) es n (batch_is_current batch s e es all)
+
+-- so are those after the first, in the state that it leaves
+pub current_after_first : (batch : Batch) (s : State) (e : Entry) (es : List Entry) → batch_entries batch ≡ e ∷ es → EachIsCurrent (after s e) (drop 1 (batch_entries batch))
+unfolding walk
+current_after_first batch s e es is = current_after batch s (after s e) 1 (omega arith) (sym (ap (λ (list : List Entry). walk s (take 1 list)) is))
 
 wants_none : {O : Type 0} (o : outlet.Ghosts O) → WantsMore (canon_sink_model o)
 wants_none o s t d e f took wants = absurd wants

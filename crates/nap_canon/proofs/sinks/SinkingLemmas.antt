@@ -1,19 +1,8 @@
 -- What an outlet took, write after write and entry after entry.
 
-use Rattle.std.proofs.Common.{Result, Ok, Err, is_err, OnOk, OnErr, ℕ, ◌≡◌, Bool, true, false, List, [], ◌∷◌, ◌++◌, append-nil, ap, sym, subst, ◌∙◌}
-use Rattle.std.proofs.lemmas.Bool.{true≢false, false≢true}
+use Rattle.nap_canon.proofs.Common.{Bool, Broke, Canonical, Entry, Err, Form, List, Ok, OnErr, OnOk, Piece, Result, Sends, SendsAll, SendsSome, StartsTextIn, State, TextEnd, Took, WritesText, [], after, ap, append-nil, entry_bytes, entry_pieces, false, false≢true, header, is_err, pieces, pieces_bytes, sending, sending_of, sends_more, start, subst, sym, text_end_after, text_end_after_header, true, true≢false, walk, ℕ, ◌++◌, ◌∙◌, ◌∷◌, ◌≡◌}
 use Rattle.nap_list.specs.declared.device.outlet.Outlet as outlet
-use Rattle.nap_list.specs.Sending.{sending, SendsAll, SendsSome, Sends}
-use Rattle.nap_canon.specs.declared.text_end.TextEnd.{TextEnd}
-use Rattle.nap_canon.specs.declared.form.Form.{Form}
 use Rattle.nap_canon.specs.declared.form.Form.TheVariants.{Two}
-use Rattle.nap_list.specs.declared.entry.Entry.{Entry}
-use Rattle.nap_list.specs.declared.state.State.{State}
-use Rattle.nap_list.specs.State.{start, walk, after}
-use Rattle.nap_canon.specs.Spelling.{Piece}
-use Rattle.nap_canon.specs.Text.{header, text_end_after_header, pieces_bytes, text_end_after, pieces, entry_pieces}
-use Rattle.nap_canon.specs.Sinking.{StartsTextIn, Canonical, sending_of, entry_bytes, Took, Broke, WritesText}
-use Rattle.nap_canon.specs.SinkLaws.{sends_more}
 
 -- one entry more, or a failure amid its bytes
 

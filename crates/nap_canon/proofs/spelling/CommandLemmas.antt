@@ -1,33 +1,15 @@
 -- The piece of a command conveys what the command does, and no entry.
 
-use Rattle.std.proofs.Common.{◌≡◌, List, [], ◌∷◌, ◌++◌, map, All, Bool, true, false, Some, Ok, refl, arith}
-use Rattle.std.proofs.lemmas.List.Elements.{All-head, All-tail}
-use Rattle.nap_values.specs.Colours.{Components}
-use Rattle.nap_values.specs.Domains.{OperandLengths}
-use Rattle.nap_values.specs.Spellings.{move_bytes, point_bytes, addr_bytes, grb_bytes}
+use Rattle.nap_canon.proofs.Common.{All, All-head, All-tail, Bool, Colour, Command, Components, Entry, Flag, List, Ok, OperandLengths, Piece, RuleResult, Size, Some, State, Work, [], addr_bytes, arith, command_piece, control1_rows, drawing_with_set_color, effect, effects, false, flag_byte, grb_bytes, last_or, left_out_opcode, map, move_bytes, opcode_rows, point_bytes, points_at, refl, row_of, set_color_under, size_byte, text_lengths, true, walk, word_byte, ◌++◌, ◌∷◌, ◌≡◌}
 use Rattle.nap_codes.specs.declared.code.Code.{Code}
 use Rattle.nap_codes.specs.declared.code.Code.TheVariants as code
 use Rattle.nap_codes.specs.declared.control.Row.TheVariants.{Whole}
-use Rattle.nap_codes.specs.declared.control.Size.{Size}
 use Rattle.nap_codes.specs.declared.control.Size.TheVariants as sizes
 use Rattle.nap_codes.specs.declared.opcode.Opcode.TheVariants as opcodes
 use Rattle.nap_codes.specs.Spelling as spells
-use Rattle.nap_codes.specs.Tables.{row_of, control1_rows, opcode_rows, left_out_opcode}
-use Rattle.nap_list.specs.declared.attribute.Colour.{Colour}
 use Rattle.nap_list.specs.declared.attribute.Colour.TheVariants as colours
-use Rattle.nap_list.specs.declared.entry.Entry.{Entry}
-use Rattle.nap_list.specs.declared.state.State.{State}
-use Rattle.nap_list.specs.State.{walk}
-use Rattle.nap_draw.specs.declared.work.Work.{Work}
-use Rattle.nap_draw.specs.Geometry.{points_at, last_or}
-use Rattle.nap_draw.specs.Rule.{RuleResult, set_color_under}
-use Rattle.nap_canon.specs.declared.command.Command.{Command}
 use Rattle.nap_canon.specs.declared.command.Command.TheVariants as commands
-use Rattle.nap_canon.specs.declared.command.Flag.{Flag}
 use Rattle.nap_canon.specs.declared.command.Flag.TheVariants as flags
-use Rattle.nap_canon.specs.Commands.{drawing_with_set_color, effect, effects}
-use Rattle.nap_canon.specs.Laws.{text_lengths}
-use Rattle.nap_canon.specs.Spelling.{Piece, word_byte, size_byte, flag_byte, command_piece}
 use Rattle.nap_canon.proofs.reading.ConveyLemmas.{Conveys, by_opcode, by_control, ConveyAll, next}
 use Rattle.nap_canon.proofs.prelude.LeadingLemmas.{CommandInRange, IsModeZero, Takes, AllTake}
 use Rattle.nap_canon.proofs.spelling.OperandLemmas.{no_bytes, word_bytes, both_bytes, move_operand, point_operand, colour_operand, address_operand, word_of, no_moves, move_alone, point_alone, point_there, colour_alone, colour_there, no_addresses, address_alone, address_pair}

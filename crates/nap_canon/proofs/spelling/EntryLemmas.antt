@@ -1,28 +1,7 @@
 -- The pieces of an entry: its prelude, and its own spelling.
 
-use Rattle.std.proofs.Common.{ℕ, ◌≡◌, List, [], ◌∷◌, ◌++◌, length, map, false, refl, ap, sym, subst, ◌∙◌, append_assoc, append-nil, inl, inr}
-use Rattle.std.specs.Prelude.{⊤}
-use Rattle.std.proofs.lemmas.List.Elements.{All-head, All-tail}
-use Rattle.nap_values.specs.Domains.{OperandLengths}
-use Rattle.nap_list.specs.declared.attribute.Colour.{Colour}
-use Rattle.nap_list.specs.declared.attribute.Hand.{Hand}
-use Rattle.nap_list.specs.declared.attribute.Ink.{Ink}
-use Rattle.nap_list.specs.declared.attribute.Pen.{Pen}
-use Rattle.nap_list.specs.declared.entry.Entry.{Entry}
+use Rattle.nap_canon.proofs.Common.{All-head, All-tail, AllFit, AllInRange, AttributesInRange, Colour, ColourInRange, Command, Drawing, Entry, Fits, Form, Hand, HandInRange, InRange, Ink, InkInRange, List, OperandLengths, Pen, PenInRange, Piece, State, TextEnd, Work, [], after, ap, append-nil, append_assoc, attributes, colour_only, command_piece, entry_pieces, false, group, hand_attributes, ink_attributes, inl, inr, joins_open_run, length, map, pen_only, prelude, refl, spelling_pieces, subst, sym, with_attributes, ℕ, ⊤, ◌++◌, ◌∙◌, ◌∷◌, ◌≡◌}
 use Rattle.nap_list.specs.declared.entry.Entry.TheVariants as entries
-use Rattle.nap_list.specs.declared.state.Drawing.{Drawing}
-use Rattle.nap_list.specs.declared.state.State.{State}
-use Rattle.nap_list.specs.Entry.{attributes, ink_attributes, hand_attributes, colour_only, pen_only}
-use Rattle.nap_list.specs.Range.{InRange, AllInRange, PenInRange, ColourInRange, InkInRange, HandInRange}
-use Rattle.nap_list.specs.State.{with_attributes, after, Fits, AllFit}
-use Rattle.nap_draw.specs.declared.work.Work.{Work}
-use Rattle.nap_canon.specs.declared.command.Command.{Command}
-use Rattle.nap_canon.specs.declared.form.Form.{Form}
-use Rattle.nap_canon.specs.declared.text_end.TextEnd.{TextEnd}
-use Rattle.nap_canon.specs.Preludes.{prelude}
-use Rattle.nap_canon.specs.Range.{AttributesInRange}
-use Rattle.nap_canon.specs.Spelling.{Piece, group, command_piece, spelling_pieces}
-use Rattle.nap_canon.specs.Text.{joins_open_run, entry_pieces}
 use Rattle.nap_canon.proofs.prelude.PreludeLemmas.{prelude_leads}
 use Rattle.nap_canon.proofs.spelling.CommandLemmas.{work_at, commands_after}
 use Rattle.nap_canon.proofs.reading.ConveyLemmas.{ConveyAll, nothing, nothing_conveyed, convey_begin}

@@ -1,26 +1,8 @@
 -- What the rules of drawing do with the operands of a shape, and of a blink.
 
-use Rattle.std.proofs.Common.{ℕ, suc, ◌≡◌, ◌≤◌, List, [], ◌∷◌, ◌++◌, length, take, drop, All, false, Option, Some, Ok, refl, ap, sym, ◌∙◌, append-nil, arith}
-use Rattle.std.specs.Prelude.{nat_lt}
-use Rattle.std.proofs.lemmas.Bool.Decides.{nat_tests}
-use Rattle.std.proofs.lemmas.List.Elements.{All-nil, All-cons, All-head, All-tail}
-use Rattle.nap_values.specs.Coordinates.{Coordinates, Displacement, IsInSquare, displacement_to}
-use Rattle.nap_values.specs.Domains.{OperandLengths}
-use Rattle.nap_values.specs.Digits.{digits_of}
-use Rattle.nap_values.specs.Spellings.{words_of, point_bytes, addr_bytes}
-use Rattle.nap_values.proofs.PublicLaws.{displacements_lead_there, addresses_spell_once}
+use Rattle.nap_canon.proofs.Common.{All, All-cons, All-head, All-nil, All-tail, Coordinates, Displacement, Drawing, Entry, IsAddress, IsInSquare, List, Ok, OperandLengths, Option, Some, State, [], addr_bytes, addresses_spell_once, ap, append-nil, arc_points, arith, digits_of, displacement_bytes, displacement_to, displacements_lead_there, drop, false, length, moves, nat_lt, nat_tests, no_operands, operands, point_bytes, points_reached, poly_points, refl, rule, rule_result, shape_bytes, shape_from_point, steps_limit, suc, sym, take, whole_operand_first, word_byte, words_of, ℕ, ◌++◌, ◌∙◌, ◌∷◌, ◌≡◌, ◌≤◌}
 use Rattle.nap_codes.specs.declared.opcode.Opcode.TheVariants as opcodes
-use Rattle.nap_list.specs.declared.entry.Entry.{Entry}
 use Rattle.nap_list.specs.declared.entry.Entry.TheVariants as entries
-use Rattle.nap_list.specs.declared.state.Drawing.{Drawing}
-use Rattle.nap_list.specs.declared.state.State.{State}
-use Rattle.nap_list.specs.Limits.{steps_limit}
-use Rattle.nap_list.specs.Range.{IsAddress}
-use Rattle.nap_draw.specs.Operands.{operands, moves}
-use Rattle.nap_draw.specs.Geometry.{points_reached, arc_points, poly_points}
-use Rattle.nap_draw.specs.Rule.{rule, rule_result, shape_from_point}
-use Rattle.nap_draw.proofs.PublicLaws.{whole_operand_first, no_operands}
-use Rattle.nap_canon.specs.Spelling.{word_byte, displacement_bytes, shape_bytes}
 use Rattle.nap_canon.proofs.spelling.CommandLemmas.{work_at}
 use Rattle.nap_canon.proofs.spelling.OperandLemmas.{word_of, no_moves, move_first, from_origin, point_first, point_alone, point_there}
 

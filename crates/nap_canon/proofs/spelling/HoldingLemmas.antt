@@ -1,21 +1,8 @@
 -- The state in which the attributes of an entry are current, and how the entry is drawn in it.
 
-use Rattle.std.proofs.Common.{◌≡◌, List, [], ◌∷◌, Option, Some, None, refl, ap, subst}
-use Rattle.std.specs.Prelude.{unwrap_or}
-use Rattle.nap_values.specs.Domains.{OperandLengths}
-use Rattle.nap_list.specs.declared.attribute.Base.{Base}
-use Rattle.nap_list.specs.declared.attribute.Colour.{Colour}
+use Rattle.nap_canon.proofs.Common.{Attributes, Base, Colour, Drawing, Entry, List, None, OperandLengths, Option, Piece, RuleResult, Some, State, Work, [], after, ap, attributes, base_after, definition_after, effect_on_drawing, known_after, last_after, refl, subst, unwrap_or, walk, with_attributes, ◌∷◌, ◌≡◌}
 use Rattle.nap_list.specs.declared.attribute.Colour.TheVariants as colours
-use Rattle.nap_list.specs.declared.attribute.Attributes.{Attributes}
-use Rattle.nap_list.specs.declared.entry.Entry.{Entry}
-use Rattle.nap_list.specs.declared.state.Drawing.{Drawing}
-use Rattle.nap_list.specs.declared.state.State.{State}
-use Rattle.nap_list.specs.Entry.{attributes}
-use Rattle.nap_list.specs.State.{base_after, with_attributes, effect_on_drawing, definition_after, last_after, known_after, after, walk}
-use Rattle.nap_draw.specs.declared.work.Work.{Work}
 use Rattle.nap_draw.specs.Rule as rule
-use Rattle.nap_draw.specs.Rule.{RuleResult}
-use Rattle.nap_canon.specs.Spelling.{Piece}
 use Rattle.nap_canon.proofs.spelling.CommandLemmas.{work_at}
 use Rattle.nap_canon.proofs.reading.ConveyLemmas.{Conveys, ConveyAll, nothing, next}
 use Rattle.nap_canon.proofs.spelling.SavedLemmas.{saved_after}

@@ -1,68 +1,20 @@
 -- The spelling of each kind of entry whose attributes are current, and that a reader draws it.
 
-use Rattle.std.proofs.Common.{ℕ, ◌≡◌, ◌≤◌, ◌<◌, ◌+◌, ◌-◌, ◌*◌, ◌⊎◌, List, [], ◌∷◌, ◌++◌, length, All, Bool, true, false, Option, Some, None, Result, Ok, inl, inr, refl, ap, sym, subst, ◌∙◌, arith}
-use Rattle.std.specs.Prelude.{IsSome, ◌/◌, ◌%◌, ◌==◌, if◌then◌else◌}
-use Rattle.std.proofs.lemmas.Bool.Decides.{nat_tests}
-use Rattle.std.proofs.lemmas.List.Elements.{All-nil, All-cons, All-head, All-tail}
-use Rattle.nap_values.specs.Colours.{Components, HasSixteenBitParts}
-use Rattle.nap_values.specs.Coordinates.{Coordinates, Displacement, IsInSquare}
-use Rattle.nap_values.specs.Domains.{OperandLengths}
-use Rattle.nap_values.specs.Laws.{IsWord}
-use Rattle.nap_values.specs.Spellings.{words_of, point_bytes, addr_bytes, grb_bytes}
-use Rattle.nap_values.proofs.PublicLaws.{displacements_lead_there}
+use Rattle.nap_canon.proofs.Common.{All, All-cons, All-head, All-nil, All-tail, Bool, CharSet, Colour, Command, Components, Coordinates, CursorKind, Displacement, DrawFault, Drawing, Entry, Fits, Form, GSet, Hand, HasSixteenBitParts, InRange, Ink, IsAddress, IsAlone, IsCode, IsGraphic, IsInSquare, IsPlainCode, IsSome, IsWord, LastChar, List, Mask, MayFollowCode, ModeZeroIsBase, None, Ok, Opcode, OpenDefinition, OperandLengths, Option, Pen, Piece, Result, RuleResult, Some, Spells, State, StepMade, TextStep, [], addr_bytes, after, ap, arc_on, arc_points, arith, attributes, char_piece, code_rule, colour_prelude, control, control0_rows, control1_rows, cursor_byte, definition_ended_by, definition_opened, displacements_lead_there, domain, domain_again, escape, false, grb_bytes, group, if◌then◌else◌, inl, inr, is_known, joinable_piece, left_out_opcode, length, map_pieces, mask_byte, mask_rows, nat_tests, no_operands, non_pdi_code, opcode, opcode_rows, point_bytes, points_limit, points_reached, poly_on, poly_points, refl, row_of, rule, rule_result, run_limit, same_pen, shape_bytes, shape_from_point, spelling_pieces, start_domain, step_bytes, subst, sym, text_lengths, true, walk, with_attributes, with_colour, with_last, word_byte, words_of, ℕ, ◌%◌, ◌*◌, ◌++◌, ◌+◌, ◌-◌, ◌/◌, ◌<◌, ◌==◌, ◌∙◌, ◌∷◌, ◌≡◌, ◌≤◌, ◌⊎◌}
 use Rattle.nap_codes.specs.declared.code.Code.{Code}
 use Rattle.nap_codes.specs.declared.code.Code.TheVariants as code
-use Rattle.nap_codes.specs.declared.code_set.CharSet.{CharSet}
 use Rattle.nap_codes.specs.declared.code_set.CharSet.TheVariants as chars
-use Rattle.nap_codes.specs.declared.code_set.GSet.{GSet}
-use Rattle.nap_codes.specs.declared.control.CursorKind.{CursorKind}
 use Rattle.nap_codes.specs.declared.control.CursorKind.TheVariants as cursors
-use Rattle.nap_codes.specs.declared.control.Mask.{Mask}
 use Rattle.nap_codes.specs.declared.control.Mask.TheVariants as masks
 use Rattle.nap_codes.specs.declared.control.Row.TheVariants.{Whole}
-use Rattle.nap_codes.specs.declared.control.TextStep.{TextStep}
 use Rattle.nap_codes.specs.declared.control.TextStep.TheVariants as steps
-use Rattle.nap_codes.specs.declared.opcode.Opcode.{Opcode}
 use Rattle.nap_codes.specs.declared.opcode.Opcode.TheVariants as opcodes
-use Rattle.nap_codes.specs.Front.{non_pdi_code}
-use Rattle.nap_codes.specs.Laws.{IsGraphic}
-use Rattle.nap_codes.specs.Spelling.{Spells}
 use Rattle.nap_codes.specs.Spelling as spells
-use Rattle.nap_codes.specs.Tables.{row_of, control0_rows, control1_rows, mask_rows, opcode_rows, left_out_opcode}
 use Rattle.nap_list.specs.declared.attribute.Area.TheVariants as areas
-use Rattle.nap_list.specs.declared.attribute.Colour.{Colour}
 use Rattle.nap_list.specs.declared.attribute.Colour.TheVariants as colours
-use Rattle.nap_list.specs.declared.attribute.Hand.{Hand}
-use Rattle.nap_list.specs.declared.attribute.Ink.{Ink}
-use Rattle.nap_list.specs.declared.attribute.Pen.{Pen}
 use Rattle.nap_list.specs.declared.attribute.Pen.TheVariants as pens
-use Rattle.nap_list.specs.declared.entry.Entry.{Entry}
 use Rattle.nap_list.specs.declared.entry.Entry.TheVariants as entries
-use Rattle.nap_list.specs.declared.state.Drawing.{Drawing}
-use Rattle.nap_list.specs.declared.state.LastChar.{LastChar}
-use Rattle.nap_list.specs.declared.state.OpenDefinition.{OpenDefinition}
-use Rattle.nap_list.specs.declared.state.State.{State}
-use Rattle.nap_list.specs.Agreement.{ModeZeroIsBase}
-use Rattle.nap_list.specs.Entry.{attributes, IsCode, StepMade}
-use Rattle.nap_list.specs.Known.{is_known}
-use Rattle.nap_list.specs.Limits.{points_limit}
-use Rattle.nap_list.specs.Range.{IsAddress, InRange}
-use Rattle.nap_list.specs.State.{Fits, with_attributes, after, walk, with_colour}
-use Rattle.nap_draw.specs.declared.fault.DrawFault.{DrawFault}
-use Rattle.nap_draw.specs.Codes.{code_rule, definition_ended_by, definition_opened, with_last}
-use Rattle.nap_draw.specs.Geometry.{points_reached, arc_points, poly_points}
-use Rattle.nap_draw.specs.Limits.{run_limit}
-use Rattle.nap_draw.specs.Rule.{RuleResult, rule_result, rule, start_domain, arc_on, poly_on, shape_from_point}
-use Rattle.nap_draw.proofs.PublicLaws.{no_operands}
-use Rattle.nap_reader.specs.Laws.{IsAlone}
-use Rattle.nap_canon.specs.declared.command.Command.{Command}
-use Rattle.nap_canon.specs.declared.form.Form.{Form}
 use Rattle.nap_canon.specs.declared.form.Form.TheVariants as forms
-use Rattle.nap_canon.specs.Preludes.{colour_prelude}
-use Rattle.nap_canon.specs.Equality.{same_pen}
-use Rattle.nap_canon.specs.Laws.{text_lengths}
-use Rattle.nap_canon.specs.Plain.{IsPlainCode, MayFollowCode}
-use Rattle.nap_canon.specs.Spelling.{Piece, opcode, group, control, escape, domain, word_byte, shape_bytes, char_piece, step_bytes, mask_byte, cursor_byte, map_pieces, domain_again, joinable_piece, spelling_pieces}
 use Rattle.nap_canon.proofs.prelude.PreludeLemmas.{colour_leads}
 use Rattle.nap_canon.proofs.spelling.CommandLemmas.{work_at, commands_after}
 use Rattle.nap_canon.proofs.reading.ConveyLemmas.{by_opcode, by_control, by_primary, by_drcs, ConveyAll, nothing, next, resets}

@@ -1,17 +1,6 @@
 -- Operands that are spelled one after another, as they are read.
 
-use Rattle.std.proofs.Common.{ℕ, suc, ◌≡◌, ◌<◌, ◌≤◌, ◌+◌, ◌-◌, List, [], ◌∷◌, ◌++◌, length, map, All, Some, refl, ap, sym, ◌∙◌, append-nil, arith, length-append}
-use Rattle.std.proofs.lemmas.List.{length-map, map-append}
-use Rattle.std.proofs.lemmas.List.Elements.{All-nil, All-cons, All-append}
-use Rattle.nap_values.specs.Coordinates.{Coordinates, Displacement, IsInSquare, IsInRange, point_at}
-use Rattle.nap_values.specs.Colours.{Components, HasSixteenBitParts}
-use Rattle.nap_values.specs.Laws.{IsWord, IsOperandByte}
-use Rattle.nap_values.specs.Operands.{multi_of, single_of, colour_of}
-use Rattle.nap_values.specs.Spellings.{words_of, move_bytes, point_bytes, addr_bytes, grb_bytes}
-use Rattle.nap_values.proofs.PublicLaws.{moves_spell_once, points_spell_once, addresses_spell_once, colours_spell_once}
-use Rattle.nap_draw.specs.Operands.{operands, moves, addresses}
-use Rattle.nap_draw.proofs.PublicLaws.{whole_operand_first, no_operands}
-use Rattle.nap_canon.specs.Spelling.{word_byte}
+use Rattle.nap_canon.proofs.Common.{All, All-append, All-cons, All-nil, Components, Coordinates, Displacement, HasSixteenBitParts, IsInRange, IsInSquare, IsOperandByte, IsWord, List, Some, [], addr_bytes, addresses, addresses_spell_once, ap, append-nil, arith, colour_of, colours_spell_once, grb_bytes, length, length-append, length-map, map, map-append, move_bytes, moves, moves_spell_once, multi_of, no_operands, operands, point_at, point_bytes, points_spell_once, refl, single_of, suc, sym, whole_operand_first, word_byte, words_of, ℕ, ◌++◌, ◌+◌, ◌-◌, ◌<◌, ◌∙◌, ◌∷◌, ◌≡◌, ◌≤◌}
 
 pub word_of : (word : ℕ) → word_byte word - 64 ≡ word
 word_of word = omega arith

@@ -1,14 +1,7 @@
 -- The operand lengths that a definition saved, along canonical text.
 
-use Rattle.std.proofs.Common.{◌≡◌, List, [], ◌∷◌, Option, Some, None, refl}
-use Rattle.std.specs.Prelude.{⊤}
-use Rattle.nap_values.specs.Domains.{OperandLengths}
-use Rattle.nap_list.specs.declared.entry.Entry.{Entry}
+use Rattle.nap_canon.proofs.Common.{Entry, List, None, OpenDefinition, OperandLengths, Option, Some, State, [], after, refl, text_lengths, walk, ⊤, ◌∷◌, ◌≡◌}
 use Rattle.nap_list.specs.declared.entry.Entry.TheVariants as entries
-use Rattle.nap_list.specs.declared.state.OpenDefinition.{OpenDefinition}
-use Rattle.nap_list.specs.declared.state.State.{State}
-use Rattle.nap_list.specs.State.{after, walk}
-use Rattle.nap_canon.specs.Laws.{text_lengths}
 
 -- the saved operand lengths after an entry
 abbrev pub saved_after : OperandLengths → Entry → OperandLengths

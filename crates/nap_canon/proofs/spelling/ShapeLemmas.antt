@@ -1,11 +1,6 @@
 -- The operands of a shape: a point, and the displacements to the others.
 
-use Rattle.std.proofs.Common.{◌+◌, ◌*◌, List, [], ◌∷◌, length, All, arith}
-use Rattle.std.proofs.lemmas.List.Elements.{All-head, All-tail}
-use Rattle.nap_values.specs.Coordinates.{Coordinates, IsInSquare, displacement_to}
-use Rattle.nap_values.specs.Spellings.{move_bytes, point_bytes}
-use Rattle.nap_values.proofs.PublicLaws.{displacements_lead_there}
-use Rattle.nap_canon.specs.Spelling.{displacement_bytes, shape_bytes}
+use Rattle.nap_canon.proofs.Common.{All, All-head, All-tail, Coordinates, IsInSquare, List, [], arith, displacement_bytes, displacement_to, displacements_lead_there, length, move_bytes, point_bytes, shape_bytes, ◌*◌, ◌+◌, ◌∷◌}
 use Rattle.nap_canon.proofs.spelling.OperandLemmas.{AreOperands, no_bytes, both_bytes, move_operand, point_operand}
 
 pub displacements_operands : (p : Coordinates) (qs : List Coordinates) → IsInSquare p → All IsInSquare qs → AreOperands (displacement_bytes p qs) (8 * length qs)

@@ -1,29 +1,11 @@
 -- Opcodes whose runs can be joined: they draw points, lines and rectangles.
 
-use Rattle.std.proofs.Common.{ℕ, ◌≡◌, ◌≤◌, ◌*◌, List, [], ◌∷◌, ◌++◌, All, Bool, true, false, Ok, refl, ap, sym, ◌∙◌, arith}
-use Rattle.std.specs.Prelude.{if◌then◌else◌}
-use Rattle.std.proofs.lemmas.List.Elements.{All-nil, All-cons}
-use Rattle.nap_values.specs.Coordinates.{Coordinates, Displacement, IsInSquare}
-use Rattle.nap_values.specs.Domains.{OperandLengths}
-use Rattle.nap_values.specs.Spellings.{words_of, point_bytes}
-use Rattle.nap_values.proofs.PublicLaws.{displacements_lead_there}
+use Rattle.nap_canon.proofs.Common.{All, All-cons, All-nil, Bool, CanJoin, Colour, Coordinates, Displacement, Entry, Ink, IsInSquare, List, MayFollowCode, Ok, Opcode, OperandLengths, RuleResult, State, [], absolute_spans, after, ap, arith, displacements_lead_there, false, if◌then◌else◌, left_out_opcode, opcode, opcode_rows, point_bytes, points_at, polyline_spans, refl, relative_spans, row_of, rule, shape_bytes, sym, true, walk, words_of, ℕ, ◌*◌, ◌++◌, ◌∙◌, ◌∷◌, ◌≡◌, ◌≤◌}
 use Rattle.nap_codes.specs.declared.code.Code.{Code}
 use Rattle.nap_codes.specs.declared.code.Code.TheVariants as codes
-use Rattle.nap_codes.specs.declared.opcode.Opcode.{Opcode}
 use Rattle.nap_codes.specs.declared.opcode.Opcode.TheVariants as opcodes
-use Rattle.nap_codes.specs.Tables.{row_of, opcode_rows, left_out_opcode}
-use Rattle.nap_list.specs.declared.attribute.Colour.{Colour}
-use Rattle.nap_list.specs.declared.attribute.Ink.{Ink}
 use Rattle.nap_list.specs.declared.attribute.Pen.TheVariants as pens
-use Rattle.nap_list.specs.declared.entry.Entry.{Entry}
 use Rattle.nap_list.specs.declared.entry.Entry.TheVariants as entries
-use Rattle.nap_list.specs.declared.state.State.{State}
-use Rattle.nap_list.specs.State.{after, walk}
-use Rattle.nap_draw.specs.Geometry.{points_at, polyline_spans, absolute_spans, relative_spans}
-use Rattle.nap_draw.specs.Joining.{CanJoin}
-use Rattle.nap_draw.specs.Rule.{RuleResult, rule}
-use Rattle.nap_canon.specs.Plain.{MayFollowCode}
-use Rattle.nap_canon.specs.Spelling.{opcode, shape_bytes}
 use Rattle.nap_canon.proofs.spelling.CommandLemmas.{work_at}
 use Rattle.nap_canon.proofs.reading.ConveyLemmas.{by_opcode, nothing, next}
 use Rattle.nap_canon.proofs.spelling.EntryRules as rules

@@ -1,8 +1,6 @@
 -- Bytes that are written into a buffer.
 
-use Rattle.std.proofs.Common.{ℕ, ◌≡◌, ◌+◌, ◌≤◌, List, [], ◌++◌, length, take, drop, ap, sym, ◌∙◌, append_assoc, length-append, take-append-drop, arith}
-use Rattle.std.proofs.lemmas.List.{length-take-le, take_at, drop_at, drop-drop}
-use Rattle.nap_canon.specs.Buffers.{with_bytes_at}
+use Rattle.nap_canon.proofs.Common.{List, [], ap, append_assoc, arith, drop, drop-drop, drop_at, length, length-append, length-take-le, sym, take, take-append-drop, take_at, with_bytes_at, ℕ, ◌++◌, ◌+◌, ◌∙◌, ◌≡◌, ◌≤◌}
 
 -- nothing was written
 pub appended_none : (buffer : List ℕ) (at : ℕ) → buffer ≡ with_bytes_at buffer at []

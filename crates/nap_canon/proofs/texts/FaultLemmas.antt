@@ -1,9 +1,6 @@
 -- The places where `canon` finds that a list isn't legal.
 
-use Rattle.std.proofs.Common.{ℕ, ◌≡◌, ◌↔◌, List, Result, Ok, Err, Vec, Global, IsErrOf, ap}
-use Rattle.nap_list.specs.declared.entry.Entry.{Entry}
-use Rattle.nap_list.specs.State.{IsIllegalAt}
-use Rattle.nap_canon.specs.declared.fault.CanonFault.{CanonFault}
+use Rattle.nap_canon.proofs.Common.{CanonFault, Entry, Err, Global, IsErrOf, IsIllegalAt, List, Ok, Result, Vec, ap, ℕ, ◌↔◌, ◌≡◌}
 use Rattle.nap_canon.specs.declared.fault.CanonFault.TheVariants.{Illegal}
 
 abbrev Answer : Type 0

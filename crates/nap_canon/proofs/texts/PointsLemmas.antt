@@ -1,12 +1,6 @@
 -- Operands of points, one after another.
 
-use Rattle.std.proofs.Common.{ℕ, ◌≡◌, ◌+◌, ◌*◌, ◌<◌, ◌≤◌, List, [], ◌∷◌, ◌++◌, length, take, get_or, refl, ap, sym, ◌∙◌, append-nil, append_assoc, length-append, arith}
-use Rattle.std.proofs.lemmas.List.{take_more, take_all}
-use Rattle.nap_values.specs.Colours.{Components}
-use Rattle.nap_values.specs.Coordinates.{Coordinates}
-use Rattle.nap_values.specs.Digits.{digits_of}
-use Rattle.nap_values.specs.Spellings.{point_bytes, addr_bytes, grb_bytes, words_of_pairs, words_of_triples}
-use Rattle.nap_canon.specs.Batches.{points_bytes}
+use Rattle.nap_canon.proofs.Common.{Components, Coordinates, List, [], addr_bytes, ap, append-nil, append_assoc, arith, digits_of, get_or, grb_bytes, length, length-append, point_bytes, points_bytes, refl, sym, take, take_all, take_more, words_of_pairs, words_of_triples, ℕ, ◌*◌, ◌++◌, ◌+◌, ◌<◌, ◌∙◌, ◌∷◌, ◌≡◌, ◌≤◌}
 
 pub point_size : (p : Coordinates) → length (point_bytes p) ≡ 8
 unfolding point_bytes words_of_pairs digits_of

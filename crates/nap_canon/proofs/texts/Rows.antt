@@ -1,27 +1,14 @@
 -- Texts of a few entries, computed.
 
-use Rattle.std.proofs.Common.{◌≡◌, ℕ, List, [], ◌∷◌, ◌++◌, true, false, refl}
-use Rattle.std.specs.Prelude.{pos, zero, suc}
+use Rattle.nap_canon.proofs.Common.{Colour, Coordinates, Entry, Hand, Ink, List, Pen, [], addr_bytes, colour_prelude, digits_of, displacement_bytes, displacement_to, false, grb_bytes, header, joins_open_run, move_bytes, pel_prelude, pen_prelude, pieces, pieces_bytes, point_bytes, pos, prelude, refl, start_drawing, start_text, start_texture, suc, text, text1, text_prelude, texture_prelude, true, words_of_pairs, words_of_triples, zero, ℕ, ◌++◌, ◌∷◌, ◌≡◌}
 use Rattle.nap_codes.specs.declared.code_set.CharSet.TheVariants as chars
 use Rattle.nap_codes.specs.declared.control.Size.TheVariants as named
-use Rattle.nap_values.specs.Coordinates.{Coordinates, displacement_to}
-use Rattle.nap_values.specs.Digits.{digits_of}
-use Rattle.nap_values.specs.Spellings.{move_bytes, point_bytes, addr_bytes, grb_bytes, words_of_pairs, words_of_triples}
 use Rattle.nap_list.specs.declared.attribute.Pen.TheVariants as pens
-use Rattle.nap_list.specs.declared.attribute.Pen.{Pen}
-use Rattle.nap_list.specs.declared.attribute.Hand.{Hand}
-use Rattle.nap_list.specs.declared.attribute.Ink.{Ink}
-use Rattle.nap_list.specs.declared.attribute.Colour.{Colour}
 use Rattle.nap_list.specs.declared.attribute.Colour.TheVariants as colours
 use Rattle.nap_list.specs.declared.attribute.CharSize.TheVariants as sizes
 use Rattle.nap_list.specs.declared.attribute.Origin.TheVariants as origins
-use Rattle.nap_list.specs.declared.entry.Entry.{Entry}
 use Rattle.nap_list.specs.declared.entry.Entry.TheVariants as entries
-use Rattle.nap_list.specs.State.{start_text, start_texture, start_drawing}
-use Rattle.nap_canon.specs.Preludes.{prelude, pen_prelude, pel_prelude, colour_prelude, texture_prelude, text_prelude}
-use Rattle.nap_canon.specs.Spelling.{displacement_bytes}
 use Rattle.nap_canon.specs.declared.text_end.TextEnd.TheVariants.{InRun}
-use Rattle.nap_canon.specs.Text.{header, joins_open_run, text, text1, pieces_bytes, pieces}
 
 -- n words of zero
 unfoldable zeros : ℕ → List ℕ

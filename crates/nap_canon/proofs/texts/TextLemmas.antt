@@ -1,13 +1,6 @@
 -- The text of a list, split in two.
 
-use Rattle.std.proofs.Common.{ℕ, ◌≡◌, List, ◌++◌, ap, ◌∙◌}
-use Rattle.nap_canon.specs.declared.form.Form.{Form}
-use Rattle.nap_list.specs.declared.entry.Entry.{Entry}
-use Rattle.nap_list.specs.State.{start, walk}
-use Rattle.nap_list.proofs.PublicLaws.{fits_join}
-use Rattle.nap_canon.specs.Text.{text_end_after_header, pieces_bytes, text_end_after, pieces, header, text_in}
-use Rattle.nap_canon.specs.Laws.{TextOfPrefix}
-use Rattle.nap_canon.specs.TextParts.{pieces_bytes-append, pieces-append}
+use Rattle.nap_canon.proofs.Common.{Entry, Form, List, TextOfPrefix, ap, fits_join, header, pieces, pieces-append, pieces_bytes, pieces_bytes-append, start, text_end_after, text_end_after_header, text_in, walk, ℕ, ◌++◌, ◌∙◌, ◌≡◌}
 
 pub text_of_entries : (form : Form) (es fs : List Entry) → text_in form (es ++ fs) ≡ text_in form es ++ pieces_bytes (text_end_after text_end_after_header (pieces form start es)) (pieces form (walk start es) fs)
 text_of_entries form es fs =

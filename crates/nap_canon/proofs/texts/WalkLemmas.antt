@@ -1,15 +1,6 @@
 -- The text of a list, after one more entry.
 
-use Rattle.std.proofs.Common.{ℕ, suc, ◌+◌, ◌≡◌, ◌<◌, List, [], ◌∷◌, ◌++◌, length, take, drop, get_or, ap, sym, subst, ◌∙◌, append-nil}
-use Rattle.std.proofs.lemmas.List.{take_more, take-append-drop}
-use Rattle.std.proofs.Math.Seq.{drop-cons}
-use Rattle.nap_canon.specs.declared.form.Form.{Form}
-use Rattle.nap_list.specs.declared.entry.Entry.{Entry}
-use Rattle.nap_list.specs.State.{start, after, walk, Fits, AllFit}
-use Rattle.nap_list.proofs.PublicLaws.{walks_join, fits_join}
-use Rattle.nap_canon.specs.Spelling.{Piece}
-use Rattle.nap_canon.specs.Text.{text_end_after_header, pieces_bytes, text_end_after, entry_pieces, pieces, text_in}
-use Rattle.nap_canon.specs.TextParts.{pieces-append, text_end_after-append}
+use Rattle.nap_canon.proofs.Common.{AllFit, Entry, Fits, Form, List, Piece, [], after, ap, append-nil, drop, drop-cons, entry_pieces, fits_join, get_or, length, pieces, pieces-append, pieces_bytes, start, subst, suc, sym, take, take-append-drop, take_more, text_end_after, text_end_after-append, text_end_after_header, text_in, walk, walks_join, ℕ, ◌++◌, ◌+◌, ◌<◌, ◌∙◌, ◌∷◌, ◌≡◌}
 use Rattle.nap_canon.proofs.texts.TextLemmas.{text_of_entries}
 
 one_more : (es : List Entry) (i : ℕ) (e : Entry) → i < length es → e ≡ get_or es i e → take (i + 1) es ≡ take i es ++ e ∷ []

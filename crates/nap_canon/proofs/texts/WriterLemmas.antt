@@ -1,14 +1,6 @@
 -- The bytes that a writer sends, part by part.
 
-use Rattle.std.proofs.Common.{Result, Ok, Err, OnOk, Bool, true, false, refl, subst, ℕ, suc, ◌+◌, ◌*◌, ◌≡◌, ◌<◌, List, [], ◌∷◌, ◌++◌, length, length-append, drop, get_or, ap, sym, ◌∙◌, append_assoc, arith}
-use Rattle.std.proofs.Math.Seq.{drop-cons}
-use Rattle.nap_values.specs.Coordinates.{Coordinates, Displacement, displacement_to}
-use Rattle.nap_values.specs.Digits.{digits_of}
-use Rattle.nap_values.specs.Spellings.{move_bytes, point_bytes, words_of_pairs}
-use Rattle.nap_canon.specs.declared.text_end.TextEnd.{TextEnd}
-use Rattle.nap_list.specs.Batches.{last_point}
-use Rattle.nap_canon.specs.Spelling.{displacement_bytes, opcode, shape_bytes}
-use Rattle.nap_canon.specs.Text.{gl_of, shift_to_opcodes, piece_bytes}
+use Rattle.nap_canon.proofs.Common.{Bool, Coordinates, Displacement, Err, List, Ok, OnOk, Result, TextEnd, [], ap, append_assoc, arith, digits_of, displacement_bytes, displacement_to, drop, drop-cons, false, get_or, gl_of, last_point, length, length-append, move_bytes, opcode, piece_bytes, point_bytes, refl, shape_bytes, shift_to_opcodes, subst, suc, sym, true, words_of_pairs, ℕ, ◌*◌, ◌++◌, ◌+◌, ◌<◌, ◌∙◌, ◌∷◌, ◌≡◌}
 
 -- one displacement more of a shape
 pub displacements_more : (now next piece whole : List ℕ) (from to : Coordinates) (others : List Coordinates) (i : ℕ) → i < length others → to ≡ get_or others i to →

@@ -1,27 +1,7 @@
 -- The appended text, and the bytes that a writer sends.
 
-use Rattle.std.proofs.Common.{Option, Result, Ok, Err, is_err, Bool, true, false, List, [], ◌∷◌, ◌++◌, ℕ, ◌≡◌, append-nil, append_assoc, map, ap, sym, subst, ◌∙◌}
-use Rattle.std.proofs.lemmas.List.{map-append}
-use Rattle.nap_list.specs.declared.attribute.Attributes.{Attributes}
-use Rattle.nap_list.specs.declared.entry.Entry.{Entry}
-use Rattle.nap_list.specs.declared.shape.Shape.{Shape}
-use Rattle.nap_list.specs.declared.shape.ShapeKind.{ShapeKind}
+use Rattle.nap_canon.proofs.Common.{AppendsCommands, AppendsPiece, AppendsPieces, Attributes, Bool, Command, Drawing, Entry, Err, Form, List, Ok, Option, Pending, Piece, Puts, Result, Shape, ShapeKind, State, TextEnd, Writer, WritesPendingAnd, WritesPieces, [], after, ap, append-nil, append_assoc, attributes, circle_closed, command_piece, entry_of_shape, entry_pieces, false, is_err, map, map-append, option_commands, outline, piece_bytes, pieces_bytes, pieces_bytes-append, prelude, shape, shape_on, spelling_pieces, subst, sym, text_end_after, text_end_after-append, true, with_attributes, ℕ, ◌++◌, ◌∙◌, ◌∷◌, ◌≡◌}
 use Rattle.nap_list.specs.declared.shape.ShapeKind.TheVariants as kinds
-use Rattle.nap_list.specs.declared.state.Drawing.{Drawing}
-use Rattle.nap_list.specs.declared.state.State.{State}
-use Rattle.nap_list.specs.Entry.{attributes}
-use Rattle.nap_list.specs.Shapes.{entry_of_shape, outline, circle_closed, shape_on}
-use Rattle.nap_list.specs.State.{with_attributes, after}
-use Rattle.nap_canon.specs.declared.command.Command.{Command}
-use Rattle.nap_canon.specs.declared.form.Form.{Form}
-use Rattle.nap_canon.specs.declared.pending.Pending.{Pending}
-use Rattle.nap_canon.specs.declared.text_end.TextEnd.{TextEnd}
-use Rattle.nap_canon.specs.declared.writer.Writer.{Writer}
-use Rattle.nap_canon.specs.Preludes.{option_commands, prelude}
-use Rattle.nap_canon.specs.Spelling.{Piece, command_piece, shape, spelling_pieces}
-use Rattle.nap_canon.specs.Text.{piece_bytes, pieces_bytes, text_end_after, entry_pieces}
-use Rattle.nap_canon.specs.TextParts.{pieces_bytes-append, text_end_after-append}
-use Rattle.nap_canon.specs.Writing.{AppendsPieces, AppendsPiece, AppendsCommands, Puts, WritesPendingAnd, WritesPieces}
 
 -- a piece alone
 pub one_piece : (p : Piece) (w t : Pending) → AppendsPiece p w t → AppendsPieces (p ∷ []) w t

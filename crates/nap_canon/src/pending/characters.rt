@@ -1,11 +1,20 @@
 //! The spelling of characters and format effectors.
-ghost use Rattle.std.specs.Prelude.{◌≤◌, ◌+◌, length};
+ghost use Rattle.std.specs.Prelude.{◌≡◌, ◌≤◌, ◌+◌, length};
+ghost use Rattle.nap_list.specs.declared.state.State.{State};
+ghost use Rattle.nap_list.specs.Batches.{text_entry_on};
+ghost use Rattle.nap_list.specs.Entry.{hand_attributes};
+ghost use Rattle.nap_list.specs.State.{hand_of};
+ghost use Rattle.nap_canon.specs.declared.form.Form.{Form};
+ghost use Rattle.nap_canon.specs.Preludes.{prelude};
 ghost use Rattle.nap_canon.specs.Spelling.{step_bytes, primary, char_piece, text_byte_piece, control};
-ghost use Rattle.nap_canon.specs.Writing.{AppendsPiece};
+ghost use Rattle.nap_canon.specs.Text.{entry_pieces};
+ghost use Rattle.nap_canon.specs.Writing.{AppendsCommands, AppendsPiece, AppendsPieces};
 ghost use Rattle.nap_canon.specs.Buffers.{buffer_limit};
 
+use crate::command::pen_prelude;
 use crate::pending::Pending;
 use nap_codes::{CharSet, TextStep, format_effector};
+use nap_list::{Drawing, Pen};
 
 impl Pending {
     /// Appends a code of the primary characters, after SI if G0 isn't in GL.
@@ -59,5 +68,34 @@ impl Pending {
             Some(step) => self.append_text_move(step),
             None => self.character(set, code),
         }
+    }
+
+    /// Appends the prelude of a text at this pen.
+    #[inline(always)]
+    fn append_text_prelude(&mut self, old: &Drawing, pen: Pen, drawing: &Drawing)
+        requires space { length self.old.bytes + 162 ≤ buffer_limit }
+        ensures appends { AppendsCommands (prelude old.now (hand_attributes (record (hand_of drawing.now) { pen = pen }))) self.old self.new }
+        ensures most { length self.new.bytes ≤ length self.old.bytes + 162 }
+    {
+        self.append_command_if(pen_prelude(old.pen, pen));
+        self.append_colour_prelude(old, drawing.colour);
+        self.append_look_prelude(&old.text, &drawing.text);
+    }
+
+    /// Appends the first byte of a text at this pen, with its prelude.
+    #[inline(always)]
+    pub(crate) fn append_text_start(
+        &mut self,
+        old: &Drawing,
+        set: CharSet,
+        code: u8,
+        pen: Pen,
+        drawing: &Drawing,
+    )
+        requires { length self.old.bytes + 170 ≤ buffer_limit }
+        ensures { (form : Form) (s : State) → s.drawing ≡ old.now → AppendsPieces (entry_pieces form s (text_entry_on drawing.now pen set code)) self.old self.new }
+    {
+        self.append_text_prelude(old, pen, drawing);
+        self.append_text_byte(set, code);
     }
 }

@@ -9,7 +9,7 @@ ghost use Rattle.nap_canon.specs.Writing.{AppendsPiece, AppendsCommands};
 ghost use Rattle.nap_canon.specs.Buffers.{piece_limit, buffer_limit};
 
 use crate::command::{
-    Command, Flag, colour_prelude, flag_prelude, given_size_prelude, named_size_prelude,
+    Command, Flag, colour_prelude, flag_prelude, given_size_prelude, is_colour, named_size_prelude,
     pel_prelude, pen_prelude, texture_prelude,
 };
 use crate::current::ink_is_current;
@@ -126,7 +126,7 @@ impl Pending {
     /// Appends a command, if there is one.
     #[tactic(auto, unfolding(crate::specs::Text::pieces_bytes, crate::specs::Text::text_end_after))]
     #[inline(always)]
-    fn append_command_if(&mut self, command: Option<Command>)
+    pub(super) fn append_command_if(&mut self, command: Option<Command>)
         requires space { length self.old.bytes + piece_limit ≤ buffer_limit }
         ensures appends { AppendsCommands (option_commands command) self.old self.new }
         ensures most { length self.new.bytes ≤ length self.old.bytes + piece_limit }
@@ -136,9 +136,9 @@ impl Pending {
         }
     }
 
-    /// Appends the prelude of a colour.
-    #[inline(always)]
-    pub(super) fn append_colour_prelude(&mut self, old: &Drawing, colour: Colour)
+    /// Appends the prelude of a colour, which may not be current.
+    #[inline(never)]
+    fn append_other_colour_prelude(&mut self, old: &Drawing, colour: Colour)
         requires space { length self.old.bytes + 36 ≤ buffer_limit }
         ensures appends { AppendsCommands (colour_prelude old.now.base old.now.colour (Some colour)) self.old self.new }
         ensures most { length self.new.bytes ≤ length self.old.bytes + 36 }
@@ -146,6 +146,20 @@ impl Pending {
         let (first, second) = colour_prelude(old.base, old.colour, colour);
         self.append_command_if(first);
         self.append_command_if(second);
+    }
+
+    /// Appends the prelude of a colour.
+    #[tactic(auto, unfolding(crate::specs::Text::pieces_bytes, crate::specs::Text::text_end_after, crate::specs::Preludes::colour_prelude))]
+    #[inline(always)]
+    pub(super) fn append_colour_prelude(&mut self, old: &Drawing, colour: Colour)
+        requires space { length self.old.bytes + 36 ≤ buffer_limit }
+        ensures appends { AppendsCommands (colour_prelude old.now.base old.now.colour (Some colour)) self.old self.new }
+        ensures most { length self.new.bytes ≤ length self.old.bytes + 36 }
+    {
+        if is_colour(&old.colour, &colour) {
+            return;
+        }
+        self.append_other_colour_prelude(old, colour);
     }
 
     /// Appends the prelude of text attributes, some of which aren't current.
@@ -165,7 +179,7 @@ impl Pending {
 
     /// Appends the prelude of text attributes.
     #[inline(always)]
-    fn append_look_prelude(&mut self, old: &TextLook, look: &TextLook)
+    pub(super) fn append_look_prelude(&mut self, old: &TextLook, look: &TextLook)
         requires space { length self.old.bytes + 108 ≤ buffer_limit }
         ensures appends { AppendsCommands (text_prelude old.now (Some look.now)) self.old self.new }
         ensures most { length self.new.bytes ≤ length self.old.bytes + 108 }

@@ -103,7 +103,7 @@ impl<T: ByteSink + Drop> Writer<T> {
     /// Returns how many entries of a batch after this one, which is pending, join the last run or text or open one, as
     /// many as the pending text has space for.
     #[inline(always)]
-    fn joining_count_after(&self, batch: &Batch, index: usize) -> usize
+    pub(super) fn joining_count_after(&self, batch: &Batch, index: usize) -> usize
         requires some { index < length (batch_entries batch.now) }
         ensures few { result + (index + 1) ≤ length (batch_entries batch.now) }
         ensures space { 0 < result → length self.now.pending.bytes + 2 + 8 * result ≤ buffer_limit }
@@ -125,7 +125,7 @@ impl<T: ByteSink + Drop> Writer<T> {
 
     /// Puts the entry of a batch at an index, whose attributes are current, and those after it that make one write with
     /// it. Returns their number; the error has the number taken.
-    #[inline(always)]
+    #[inline(never)]
     pub(crate) fn put_next(&mut self, batch: &Batch, index: usize) -> Result<usize, usize>
         requires some { index < length (batch_entries batch.now) }
         requires current { EachIsCurrent self.old.state (drop index (batch_entries batch.now)) }
@@ -158,7 +158,7 @@ impl<T: ByteSink + Drop> Writer<T> {
     }
 
     /// Writes points that join the run of this opcode or open one. The error has the number taken.
-    #[inline(always)]
+    #[inline(never)]
     fn write_run(&mut self, opcode: u8, points: &[Point]) -> Result<(), usize>
         requires few { length points.now ≤ 126 }
         ensures { WritesWhole T.sent (run_opening self.old.pending.text_end opcode (8 * length points.now)) 8 (points_bytes points.now) (InRun (run_after self.old.pending.text_end opcode (8 * length points.now))) self.old self.new result }

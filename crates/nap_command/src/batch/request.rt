@@ -51,7 +51,7 @@ pub enum RequestFront {
 
 impl Question {
     /// Returns the question with this name.
-    pub fn named(name: &[u8]) -> Option<Question>
+    fn named(name: &[u8]) -> Option<Question>
         ensures { MatchOption result ((q : Question) → name.now ≢ question_name q) (λ q. name.now ≡ question_name q) }
     {
         match name {

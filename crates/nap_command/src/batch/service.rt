@@ -150,7 +150,7 @@ fn exchange<I: Inlet, O: Outlet>(
 }
 
 /// Answers requests until the input ends or a device fails.
-pub fn serve<I: Inlet, O: Outlet>(alloc: Global, input: &mut I, output: &mut O) -> Ended
+fn serve<I: Inlet, O: Outlet>(alloc: Global, input: &mut I, output: &mut O) -> Ended
     ensures { let seen = pipes I.Inlet O.Outlet in Session (seen input.old output.old) (seen input.new output.new) result }
 {
     let Ok(memory) = Vec::with_capacity(alloc, LEAST_MEMORY) else {

@@ -1,10 +1,10 @@
 //! Decoding of operands as points, into the scratch list.
-ghost use Rattle.std.specs.Prelude.{◌≡◌, ◌/◌, ◌≤◌, [], None, false, length, vec_capacity, IfOk, IfErr};
+ghost use Rattle.std.specs.Prelude.{◌≡◌, ◌/◌, ◌+◌, ◌≤◌, [], None, false, length, vec_len, vec_capacity, IfOk, IfErr};
 ghost use Rattle.nap_values.specs.Operands.{operand_words};
 ghost use Rattle.nap_draw.specs.declared.fault.DrawFault.TheVariants.{Outside};
 ghost use Rattle.nap_draw.specs.Operands.{moves};
 ghost use Rattle.nap_draw.specs.Geometry.{points_at};
-ghost use Rattle.nap_draw.specs.Execution.{Fills, Filling};
+ghost use Rattle.nap_draw.specs.Execution.{Fills, Filling, LacksPlaces};
 
 use crate::fault::DrawFault;
 use crate::scratch::{memory_fault_if, put_back, reset_scratch, take_vector};
@@ -16,7 +16,8 @@ pub(crate) fn points_into(
     domain: Domain,
     run: &[u8],
 ) -> Result<(), DrawFault>
-    ensures { Fills (points_at (moves domain.multi (operand_words run.now))) scratch.new.items result }
+    ensures fills { Fills (points_at (moves domain.multi (operand_words run.now))) scratch.new.items result }
+    ensures memory { LacksPlaces (length run.now) scratch.old scratch.new result }
 {
     let size = domain.multi();
     let mut full = reset_scratch(scratch, run.len(), domain);
@@ -40,6 +41,8 @@ fn fill_whole_points<'a>(
     requires { scratch.old.items ≡ [] }
     ensures ok { IfOk result (λ rest. Filling (points_at (moves size (operand_words run.now))) (points_at (moves size (operand_words rest.now))) false (λ prefix. scratch.new.items ≡ prefix)) }
     ensures err { IfErr result (λ fault. (fault ≡ Outside) × (points_at (moves size (operand_words run.now)) ≡ None)) }
+    ensures space { vec_capacity scratch.new ≡ vec_capacity scratch.old }
+    ensures few { IfOk result (λ rest. vec_len scratch.new + length rest.now ≤ length run.now) }
 {
     if size != 3 || run.len() / 3 > scratch.capacity() {
         return Ok(run);
@@ -52,6 +55,8 @@ fn fill_points_of_three<'a>(scratch: &mut Vec<Point>, run: &'a [u8]) -> Result<&
     requires places { length run.now / 3 ≤ vec_capacity scratch.old }
     ensures ok { IfOk result (λ rest. Filling (points_at (moves 3 (operand_words run.now))) (points_at (moves 3 (operand_words rest.now))) false (λ prefix. scratch.new.items ≡ prefix)) }
     ensures err { IfErr result (λ fault. (fault ≡ Outside) × (points_at (moves 3 (operand_words run.now)) ≡ None)) }
+    ensures space { vec_capacity scratch.new ≡ vec_capacity scratch.old }
+    ensures few { IfOk result (λ rest. vec_len scratch.new + length rest.now ≤ length run.now) }
 {
     let mut points = take_vector(scratch);
     let mut rest = run;

@@ -1,8 +1,9 @@
 //! Decoding of operands as the ends of spans, into the scratch list.
+ghost use Rattle.std.specs.Prelude.{length};
 ghost use Rattle.nap_values.specs.Operands.{operand_words};
 ghost use Rattle.nap_draw.specs.Operands.{moves};
 ghost use Rattle.nap_draw.specs.Geometry.{relative_spans, rect_chain_spans};
-ghost use Rattle.nap_draw.specs.Execution.{Fills, pair_spans, rect_spans};
+ghost use Rattle.nap_draw.specs.Execution.{Fills, LacksPlaces, pair_spans, rect_spans};
 
 use crate::fault::DrawFault;
 use crate::scratch::{memory_fault_if, reset_scratch};
@@ -17,7 +18,8 @@ pub(crate) fn corners_into(
     domain: Domain,
     run: &[u8],
 ) -> Result<(), DrawFault>
-    ensures { Fills (rect_chain_spans from (moves domain.multi (operand_words run.now))) (rect_spans from scratch.new.items) result }
+    ensures fills { Fills (rect_chain_spans from (moves domain.multi (operand_words run.now))) (rect_spans from scratch.new.items) result }
+    ensures memory { LacksPlaces (length run.now) scratch.old scratch.new result }
 {
     let size = domain.multi();
     let mut at = from;
@@ -38,7 +40,8 @@ pub(crate) fn pairs_into(
     domain: Domain,
     run: &[u8],
 ) -> Result<(), DrawFault>
-    ensures { Fills (relative_spans (moves domain.multi (operand_words run.now))) (pair_spans scratch.new.items) result }
+    ensures fills { Fills (relative_spans (moves domain.multi (operand_words run.now))) (pair_spans scratch.new.items) result }
+    ensures memory { LacksPlaces (length run.now) scratch.old scratch.new result }
 {
     let size = domain.multi();
     let mut full = reset_scratch(scratch, run.len(), domain);

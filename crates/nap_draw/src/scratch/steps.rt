@@ -1,11 +1,11 @@
 //! Decoding of operands as displacements, into the scratch list of the points that they reach.
-ghost use Rattle.std.specs.Prelude.{◌≡◌, ◌/◌, ◌≤◌, List, [], Option, None, false, length, vec_capacity, IfOk, IfErr};
+ghost use Rattle.std.specs.Prelude.{◌≡◌, ◌/◌, ◌+◌, ◌<◌, ◌≤◌, ◌⊎◌, List, [], Option, None, false, true, length, vec_len, vec_capacity, IfOk, IfErr, IsErrOf};
 ghost use Rattle.nap_values.specs.Coordinates.{Coordinates};
 ghost use Rattle.nap_values.specs.Operands.{operand_words};
-ghost use Rattle.nap_draw.specs.declared.fault.DrawFault.TheVariants.{Outside};
+ghost use Rattle.nap_draw.specs.declared.fault.DrawFault.TheVariants.{Memory, Outside};
 ghost use Rattle.nap_draw.specs.Operands.{moves};
 ghost use Rattle.nap_draw.specs.Geometry.{points_reached};
-ghost use Rattle.nap_draw.specs.Execution.{Fills, Filling};
+ghost use Rattle.nap_draw.specs.Execution.{Fills, Filling, LacksPlaces};
 
 use crate::fault::DrawFault;
 use crate::scratch::{clear_if_fits, memory_fault_if, put_back, reset_scratch, take_vector};
@@ -18,7 +18,8 @@ pub(crate) fn steps_into(
     domain: Domain,
     run: &[u8],
 ) -> Result<(), DrawFault>
-    ensures { Fills (points_reached from (moves domain.multi (operand_words run.now))) scratch.new.items result }
+    ensures fills { Fills (points_reached from (moves domain.multi (operand_words run.now))) scratch.new.items result }
+    ensures memory { LacksPlaces (length run.now) scratch.old scratch.new result }
 {
     if !clear_if_fits(scratch, run.len() / 3) || domain.multi() != 3 {
         return fill_any_steps(scratch, from, domain, run);
@@ -39,7 +40,8 @@ fn fill_any_steps(
     domain: Domain,
     run: &[u8],
 ) -> Result<(), DrawFault>
-    ensures { Fills (points_reached from (moves domain.multi (operand_words run.now))) scratch.new.items result }
+    ensures fills { Fills (points_reached from (moves domain.multi (operand_words run.now))) scratch.new.items result }
+    ensures memory { LacksPlaces (length run.now) scratch.old scratch.new result }
 {
     let mut at = from;
     let full = reset_scratch(scratch, run.len(), domain);
@@ -57,7 +59,9 @@ fn fill_more_steps(
     run: &[u8],
     lacks: bool,
 ) -> Result<(), DrawFault>
-    ensures { (all : Option (List Coordinates)) → Filling all (points_reached from (moves domain.multi (operand_words run.now))) lacks (λ prefix. scratch.old.items ≡ prefix) → Fills all scratch.new.items result }
+    ensures fills { (all : Option (List Coordinates)) → Filling all (points_reached from (moves domain.multi (operand_words run.now))) lacks (λ prefix. scratch.old.items ≡ prefix) → Fills all scratch.new.items result }
+    ensures space { vec_capacity scratch.old ≤ vec_capacity scratch.new }
+    ensures memory { IsErrOf result Memory → (lacks ≡ true) ⊎ (vec_capacity scratch.old < vec_len scratch.old + length run.now) }
 {
     let mut at = from;
     let mut full = lacks;
@@ -83,6 +87,8 @@ fn fill_whole_steps<'a>(
     requires { scratch.old.items ≡ [] }
     ensures ok { IfOk result (λ rest. Filling (points_reached at.old (moves size (operand_words run.now))) (points_reached at.new (moves size (operand_words rest.now))) false (λ prefix. scratch.new.items ≡ prefix)) }
     ensures err { IfErr result (λ fault. (fault ≡ Outside) × (points_reached at.old (moves size (operand_words run.now)) ≡ None)) }
+    ensures space { vec_capacity scratch.new ≡ vec_capacity scratch.old }
+    ensures few { IfOk result (λ rest. vec_len scratch.new + length rest.now ≤ length run.now) }
 {
     if size != 3 || run.len() / 3 > scratch.capacity() {
         return Ok(run);
@@ -100,6 +106,8 @@ fn fill_steps_of_three<'a>(
     requires places { length run.now / 3 ≤ vec_capacity scratch.old }
     ensures ok { IfOk result (λ rest. Filling (points_reached at.old (moves 3 (operand_words run.now))) (points_reached at.new (moves 3 (operand_words rest.now))) false (λ prefix. scratch.new.items ≡ prefix)) }
     ensures err { IfErr result (λ fault. (fault ≡ Outside) × (points_reached at.old (moves 3 (operand_words run.now)) ≡ None)) }
+    ensures space { vec_capacity scratch.new ≡ vec_capacity scratch.old }
+    ensures few { IfOk result (λ rest. vec_len scratch.new + length rest.now ≤ length run.now) }
 {
     let mut points = take_vector(scratch);
     let mut walk = MovingPoint::from_point(*at);

@@ -1,15 +1,31 @@
 //! Entries of lines that come one after another.
-ghost use Rattle.std.specs.Prelude.{◌≡◌, ◌+◌, ◌^◌, ◌<◌, List, [], IsSome, OnOk, false, length};
+ghost use Rattle.std.specs.Prelude.{◌≡◌, ◌≢◌, ◌+◌, ◌^◌, ◌<◌, ◌++◌, List, [], ◌∷◌, All, IfOk, IsSome, MatchResult, OnOk, false, length};
 ghost use Rattle.nap_list.specs.declared.entry.Entry.{Entry};
-ghost use Rattle.nap_list.specs.State.{start};
-ghost use Rattle.nap_make.specs.Entries.{IsEntryLine, IsProper};
-ghost use Rattle.nap_make.specs.ListMaking.{IsUnendedLine, MakerHasPut, PutsEntry, TakesLine};
+ghost use Rattle.nap_list.specs.Batches.{text_entries};
+ghost use Rattle.nap_list.specs.Entry.{IsCode};
+ghost use Rattle.nap_list.specs.State.{Fits, after, start};
+ghost use Rattle.nap_lines.specs.Listing.{lines};
+ghost use Rattle.nap_make.specs.Entries.{IsProper};
+ghost use Rattle.nap_make.specs.ListMaking.{IsUnendedLine, MakerHasPut, PutsEntry, StopsLines};
+ghost use Rattle.nap_make.specs.Runs.{FollowsLine, LeavesRest, PutsEntries, TakesLines, fault_of_sink};
 
 use crate::fault::LineFault;
 use crate::lines::fault::MakeFault;
+use crate::lines::run::{CharLine, RUN, char_line, read_codes};
 use crate::reading::entry_of_line;
-use nap_list::{Entry, Sink, SinkFault, State};
+use arrayvec::ArrayVec;
+use nap_list::{Batch, Entry, Hand, Pen, Sink, SinkFault, State};
 use std::alloc::Global;
+
+/// Returns the fault of a sink as that of lines.
+fn fault_of_sink(fault: SinkFault) -> MakeFault
+    ensures { result ≡ fault_of_sink fault }
+{
+    match fault {
+        SinkFault::Memory => MakeFault::Memory,
+        SinkFault::Write => MakeFault::Write,
+    }
+}
 
 /// Puts the entries of lines into a sink. Its state is what the next entry has to fit.
 #[derive(Drop)]
@@ -56,6 +72,8 @@ impl<S: Sink> LineMaker<S> {
         requires agrees { S.state self.old.sink ≡ self.old.state }
         requires line { line ≡ self.old.lines + 1 }
         ensures agrees { OnOk result (S.state self.new.sink ≡ self.new.state) }
+        ensures fits { OnOk result (Fits self.old.state entry) }
+        ensures after { OnOk result (self.new.state ≡ after self.old.state entry) }
         ensures puts { (s : S) (es : List Entry) → MakerHasPut S.Sink s es self.old → IsProper entry → PutsEntry S.Sink s es entry self.new result }
     {
         if !self.state.fits(&entry) {
@@ -71,20 +89,80 @@ impl<S: Sink> LineMaker<S> {
         }
     }
 
-    /// Takes the next line, without LF.
-    pub(crate) fn take_line(&mut self, alloc: Global, bytes: &[u8]) -> Result<(), MakeFault>
-        requires agrees { S.state self.old.sink ≡ self.old.state }
+    /// Puts characters with the current attributes, whose lines were read.
+    fn put_codes(&mut self, line: &CharLine, codes: &[u8]) -> Result<(), MakeFault>
+        requires follows { FollowsLine S.Sink line.now self.old }
+        requires codes { All IsCode codes.now }
         ensures agrees { OnOk result (S.state self.new.sink ≡ self.new.state) }
-        ensures own { OnOk result (IsEntryLine bytes.now) }
-        ensures takes { (s : S) (es : List Entry) → MakerHasPut S.Sink s es self.old → TakesLine S.Sink s es bytes.now self.new result }
+        ensures puts { (s : S) (es : List Entry) → MakerHasPut S.Sink s es self.old → PutsEntries S.Sink s es (text_entries self.old.state.drawing Pen.After line.now.set codes.now) self.new result }
+    {
+        let Some((last, _)) = codes.split_last() else {
+            return Ok(());
+        };
+        let Some(lines) = self.lines.checked_add(codes.len()) else {
+            return Err(MakeFault::Memory);
+        };
+        let drawing = self.state.drawing;
+        let batch = Batch::Text {
+            set: line.set,
+            codes,
+            pen: Pen::After,
+            drawing: &drawing,
+        };
+        if let Err(stop) = self.sink.put_batch(&batch) {
+            return Err(fault_of_sink(stop.fault));
+        }
+        self.lines = lines;
+        self.state.step(&Entry::Char {
+            set: line.set,
+            code: *last,
+            hand: Hand {
+                pen: Pen::After,
+                colour: drawing.colour,
+                text: drawing.text,
+            },
+        });
+        Ok(())
+    }
+
+    /// Takes the lines in front that differ from this one in their character alone, and returns what follows them.
+    fn take_alike<'a>(&mut self, line: &CharLine, more: &'a [u8]) -> Result<&'a [u8], MakeFault>
+        requires { FollowsLine S.Sink line.now self.old }
+        ensures leaves { IfOk result (λ rest. LeavesRest S.Sink self.new more.now rest.now) }
+        ensures takes { (s : S) (es : List Entry) → MakerHasPut S.Sink s es self.old → MatchResult result (λ rest. TakesLines S.Sink s es more.now self.new rest.now) (StopsLines S.Sink s (lines es ++ more.now) self.new.sink) }
+    {
+        let mut codes: ArrayVec<u8, RUN> = ArrayVec::new();
+        let rest = read_codes(&mut codes, line, more);
+        self.put_codes(line, codes.as_slice())?;
+        Ok(rest)
+    }
+
+    /// Takes the next line, without LF, and those behind it that differ from it in their character alone. Returns what
+    /// follows them.
+    pub(crate) fn take_line<'a>(
+        &mut self,
+        alloc: Global,
+        bytes: &[u8],
+        more: &'a [u8],
+    ) -> Result<&'a [u8], MakeFault>
+        requires agrees { S.state self.old.sink ≡ self.old.state }
+        requires whole { All (λ b. b ≢ 10) bytes.now }
+        ensures leaves { IfOk result (λ rest. LeavesRest S.Sink self.new more.now rest.now) }
+        ensures takes { (s : S) (es : List Entry) → MakerHasPut S.Sink s es self.old → MatchResult result (λ rest. TakesLines S.Sink s es (bytes.now ++ 10 ∷ more.now) self.new rest.now) (StopsLines S.Sink s (lines es ++ (bytes.now ++ 10 ∷ more.now)) self.new.sink) }
     {
         let Some(line) = self.lines.checked_add(1) else {
             return Err(MakeFault::Memory);
         };
-        match entry_of_line(alloc, bytes) {
-            Ok(entry) => self.put_entry(line, entry),
-            Err(LineFault::Line(column)) => Err(MakeFault::Line { line, column }),
-            Err(LineFault::Memory) => Err(MakeFault::Memory),
+        let entry = match entry_of_line(alloc, bytes) {
+            Ok(entry) => entry,
+            Err(LineFault::Line(column)) => return Err(MakeFault::Line { line, column }),
+            Err(LineFault::Memory) => return Err(MakeFault::Memory),
+        };
+        let text = char_line(&entry, bytes);
+        self.put_entry(line, entry)?;
+        match text {
+            Some(text) => self.take_alike(&text, more),
+            None => Ok(more),
         }
     }
 

@@ -1,9 +1,11 @@
 //! Lines that are read in pieces.
-ghost use Rattle.std.specs.Prelude.{◌≡◌, ◌≢◌, ◌≤◌, ◌++◌, ℕ, List, [], All, IfErr, OnOk, length, false};
+ghost use Rattle.std.specs.Prelude.{◌≡◌, ◌≢◌, ◌≤◌, ◌++◌, ◌∷◌, ℕ, List, [], All, IfErr, IfOk, MatchResult, OnOk, length, false};
 ghost use Rattle.nap_list.specs.declared.entry.Entry.{Entry};
 ghost use Rattle.nap_list.specs.State.{start};
 ghost use Rattle.nap_make.specs.Laws.{longest_line};
-ghost use Rattle.nap_make.specs.ListMaking.{EndsLine, FeedsLines, Finishes, MakerHasPut, IsReady, KeepsPart, HasReadLines};
+ghost use Rattle.nap_make.specs.ListMaking.{FeedsLines, Finishes, MakerHasPut, IsReady, KeepsPart, HasReadLines, StopsLines};
+ghost use Rattle.nap_make.specs.Runs.{LeavesRest, TakesLines};
+ghost use Rattle.nap_lines.specs.Listing.{lines};
 
 use crate::cutting::split_at_byte;
 use crate::lines::fault::MakeFault;
@@ -51,22 +53,31 @@ impl<S: Sink> LineReader<S> {
         self.part.extend_from_slice(&bytes[..kept])?;
         if self.part.len() > LONGEST_LINE {
             // No line of an entry is as long.
-            return self.maker.take_line(alloc, self.part.as_slice());
+            return Err(self.maker.unended_line_fault(alloc, self.part.as_slice()));
         }
         Ok(())
     }
 
-    /// Reads the last bytes of a line, which LF follows.
-    fn end_line(&mut self, alloc: Global, bytes: &[u8]) -> Result<(), MakeFault>
+    /// Reads the last bytes of a line, which LF follows, and the lines behind it that differ from it in their character
+    /// alone. Returns what follows them.
+    fn end_line<'a>(
+        &mut self,
+        alloc: Global,
+        bytes: &[u8],
+        more: &'a [u8],
+    ) -> Result<&'a [u8], MakeFault>
         requires { IsReady S.Sink self.old × All (λ b. b ≢ 10) bytes.now }
-        ensures ready { OnOk result (IsReady S.Sink self.new) }
         ensures part { OnOk result (self.new.part.items ≡ []) }
-        ensures ends { (s : S) (es : List Entry) → MakerHasPut S.Sink s es self.old.maker → EndsLine S.Sink s es (self.old.part.items ++ bytes.now) self.new.maker result }
+        ensures leaves { IfOk result (λ rest. LeavesRest S.Sink self.new.maker more.now rest.now) }
+        ensures takes { (s : S) (es : List Entry) → MakerHasPut S.Sink s es self.old.maker → let all = (self.old.part.items ++ bytes.now) ++ 10 ∷ more.now in MatchResult result (λ rest. TakesLines S.Sink s es all self.new.maker rest.now) (StopsLines S.Sink s (lines es ++ all) self.new.maker.sink) }
     {
+        if self.part.len() == 0 {
+            return self.maker.take_line(alloc, bytes, more);
+        }
         self.keep_part(alloc, bytes)?;
-        self.maker.take_line(alloc, self.part.as_slice())?;
+        let rest = self.maker.take_line(alloc, self.part.as_slice(), more)?;
         self.part.clear();
-        Ok(())
+        Ok(rest)
     }
 
     /// Reads the next piece of the input.
@@ -78,8 +89,7 @@ impl<S: Sink> LineReader<S> {
         let mut rest = piece;
         while let Some(next) = split_at_byte(rest, b'\n') {
             let (prefix, more) = next;
-            self.end_line(alloc, prefix)?;
-            rest = more;
+            rest = self.end_line(alloc, prefix, more)?;
         }
         self.keep_part(alloc, rest)
     }

@@ -33,7 +33,7 @@ impl Input {
         if count > self.budget_left() {
             return Err(Fault::Budget);
         }
-        let Ok(()) = self.frames.reserve() else {
+        let Ok(()) = self.frames.reserve(1) else {
             return Err(Fault::Memory);
         };
         self.frames.push_reserved(span, place);
@@ -51,7 +51,7 @@ impl Input {
         if count > self.budget_left() {
             return Err(Fault::Budget);
         }
-        let Ok(()) = self.frames.reserve() else {
+        let Ok(()) = self.frames.reserve(1) else {
             return Err(Fault::Memory);
         };
         let Ok(span) = self.store.show(name, ender) else {

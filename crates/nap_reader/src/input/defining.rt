@@ -9,7 +9,7 @@ use std::alloc::AllocError;
 
 impl Input {
     ghost use Rattle.nap_reader.specs.NextBytes.{StoresBody};
-    ghost use Rattle.nap_reader.specs.Stored.{store_bound, store_grown};
+    ghost use Rattle.nap_reader.specs.Stored.{Exceeds, store_bound, store_grown};
 
     /// Opens the body of a macro, and keeps whether it is presented at its end.
     pub(crate) fn open_body(&mut self, name: u8, show: bool)
@@ -42,6 +42,7 @@ impl Input {
         requires few { self.old.store.stored + length self.old.store.body < store_limit }
         ensures ok { OnOk result (StoresBody self.old self.new (store_grown self.old.store (0x1B ∷ [])) (Some (record body { escape = None }))) }
         ensures err { OnErr result (self.new ≡ self.old) }
+        ensures full { OnErr result (Exceeds self.old.store.promise (self.old.store.stored + length self.old.store.body + 1) self.old.charged) }
     {
         self.store.push(0x1B)?;
         self.open_body(body.name, body.show);

@@ -7,7 +7,7 @@ use std::alloc::AllocError;
 
 impl Input {
     ghost use Rattle.nap_reader.specs.NextBytes.{CanPass, Moves, StoresBody, next_bytes};
-    ghost use Rattle.nap_reader.specs.Stored.{store_grown};
+    ghost use Rattle.nap_reader.specs.Stored.{Exceeds, store_grown};
     ghost use Rattle.nap_reader.specs.Stream.{bytes_of};
 
     /// Adds the next `count` bytes to the open body, and advances past them.
@@ -17,6 +17,7 @@ impl Input {
         requires few { self.old.store.stored + length self.old.store.body + count ≤ store_limit }
         ensures ok { OnOk result (Moves self.old self.new count [] (store_grown self.old.store (bytes_of (take count (next_bytes self.old piece.now)))) self.old.body) }
         ensures err { OnErr result (self.new ≡ self.old) }
+        ensures full { OnErr result (Exceeds self.old.store.promise (self.old.store.stored + length self.old.store.body + count) self.old.charged) }
     {
         self.append(count, piece)?;
         self.advance(count);
@@ -30,6 +31,7 @@ impl Input {
         requires few { self.old.store.stored + length self.old.store.body + count ≤ store_limit }
         ensures ok { OnOk result (StoresBody self.old self.new (store_grown self.old.store (bytes_of (take count (next_bytes self.old piece.now)))) self.old.body) }
         ensures err { OnErr result (self.new ≡ self.old) }
+        ensures full { OnErr result (Exceeds self.old.store.promise (self.old.store.stored + length self.old.store.body + count) self.old.charged) }
     {
         match self.frames.next() {
             Some(next) => self.store.extend_within(next, count),

@@ -1,7 +1,6 @@
-//! Codes that aren't complete as one byte or as a run.
+//! Codes a byte at a time, which may be incomplete at the end of a slice.
 ghost use Rattle.std.specs.Prelude.{◌≡◌, ◌⊎◌, ◌<◌, None, length};
 
-use super::front::call_bytes;
 use super::{Machine, Request, Taken, took};
 use crate::fault::Fault;
 use crate::kind::Kind;
@@ -12,30 +11,9 @@ use nap_list::Sink;
 impl<S: Sink> Machine<S> {
     ghost use Rattle.nap_reader.specs.Steps.{EndsClosed, IsLive, TakesFrom};
 
-    /// Consumes the call or the control at this index, if it is complete, or else a byte of any code.
+    /// Consumes a byte of any code.
     #[inline(never)]
     pub(super) fn other(&mut self, slice: &Slice, at: usize, ended: bool) -> Taken
-        requires live { IsLive self.old }
-        requires closed { self.old.open_run ≡ None }
-        requires within { at < length slice.now.bytes.now }
-        ensures some { at < result.count ⊎ (result.request ≡ Request.Stop) }
-        ensures closed { EndsClosed self.new (length slice.now.bytes.now) result.count result.request }
-        ensures takes { TakesFrom self.old self.new slice.now.place slice.now.step slice.now.bytes.now at ended result.count result.request }
-    {
-        let bytes = &slice.bytes[at..];
-        if let Some(more) = call_bytes(&self.lexer, bytes) {
-            let count = at + more;
-            return Taken {
-                count,
-                request: Request::Call(slice.bytes[count - 1]),
-            };
-        }
-        self.byte(slice, at, ended)
-    }
-
-    /// Consumes a byte of any code.
-    #[inline(always)]
-    fn byte(&mut self, slice: &Slice, at: usize, ended: bool) -> Taken
         requires live { IsLive self.old }
         requires closed { self.old.open_run ≡ None }
         requires within { at < length slice.now.bytes.now }

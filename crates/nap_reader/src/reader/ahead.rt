@@ -2,7 +2,7 @@
 ghost use Rattle.std.specs.Prelude.{◌≡◌, ◌<◌, ◌≤◌, ℕ, List, None, length};
 
 use super::Reader;
-use crate::operands::operand_prefix_len;
+use crate::prefix::operand_prefix_len;
 use crate::text::text_bytes;
 use nap_list::Sink;
 

@@ -1,7 +1,4 @@
-use Rattle.std.proofs.Common.{◌≡◌, ◌+◌, ◌++◌, [], ◌∷◌, ℕ, List, arith, ◌∙◌, ap, sym, take}
-use Rattle.std.proofs.lemmas.List.{take_more, take_all, length-take-le}
-use Rattle.std.specs.Prelude.{slice_index}
-use Rattle.nap_canon.specs.Buffers.{with_bytes_at}
+use Rattle.nap_canon.proofs.Common.{List, [], ap, arith, length-take-le, slice_index, sym, take, take_all, take_more, with_bytes_at, ℕ, ◌++◌, ◌+◌, ◌∙◌, ◌∷◌, ◌≡◌}
 use Rattle.nap_canon.proofs.texts.AppendedLemmas.{appended_none, appended_after}
 use Rattle.nap_canon.proofs.byte_buffer.write_bytes_at.Goals as goal
 

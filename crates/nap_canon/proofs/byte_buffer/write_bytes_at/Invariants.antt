@@ -1,5 +1,4 @@
-use Rattle.std.proofs.Common.{◌≡◌, take}
-use Rattle.nap_canon.specs.Buffers.{with_bytes_at}
+use Rattle.nap_canon.proofs.Common.{take, with_bytes_at, ◌≡◌}
 use Rattle.nap_canon.proofs.byte_buffer.write_bytes_at.Given as goal
 
 -- the bytes so far

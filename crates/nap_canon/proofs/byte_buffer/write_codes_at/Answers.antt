@@ -1,5 +1,4 @@
-use Rattle.std.proofs.Common.{◌+◌, ◌-◌, ◌≡◌, ◌++◌, ℕ, List, arith, ◌∙◌, ap, length, take}
-use Rattle.std.proofs.lemmas.List.{drop-drop}
+use Rattle.nap_canon.proofs.Common.{List, ap, arith, drop-drop, length, take, ℕ, ◌++◌, ◌+◌, ◌-◌, ◌∙◌, ◌≡◌}
 use borrow.Rule.Slice.PartMut.{put_mid}
 use Rattle.nap_canon.proofs.byte_buffer.write_codes_at.Goals as goal
 

@@ -1,9 +1,4 @@
-use Rattle.std.proofs.Common.{◌≡◌, ◌+◌, ◌*◌, ◌++◌, [], ℕ, List, arith, ◌∙◌, ap, sym, refl, length, length-append, append-nil}
-use Rattle.std.proofs.Math.ListN.{drop_of_length-le}
-use Rattle.nap_values.specs.Coordinates.{Coordinates, displacement_to}
-use Rattle.nap_values.specs.Spellings.{move_bytes}
-use Rattle.nap_canon.specs.Buffers.{with_bytes_at}
-use Rattle.nap_canon.specs.Spelling.{displacement_bytes}
+use Rattle.nap_canon.proofs.Common.{Coordinates, List, [], ap, append-nil, arith, displacement_bytes, displacement_to, drop_of_length-le, length, length-append, move_bytes, refl, sym, with_bytes_at, ℕ, ◌*◌, ◌++◌, ◌+◌, ◌∙◌, ◌≡◌}
 use Rattle.nap_canon.proofs.texts.AppendedLemmas.{appended_none, appended_after}
 use Rattle.nap_canon.proofs.texts.WriterLemmas.{move_size, displacements_more}
 use Rattle.nap_canon.proofs.byte_buffer.write_displacements_at.Goals as goal

@@ -1,6 +1,4 @@
-use Rattle.std.proofs.Common.{◌≡◌, ◌*◌, ◌++◌, ℕ, List, length, drop}
-use Rattle.nap_canon.specs.Spelling.{displacement_bytes}
-use Rattle.nap_canon.specs.Buffers.{with_bytes_at}
+use Rattle.nap_canon.proofs.Common.{List, displacement_bytes, drop, length, with_bytes_at, ℕ, ◌*◌, ◌++◌, ◌≡◌}
 use Rattle.nap_canon.proofs.byte_buffer.write_displacements_at.Given as goal
 
 -- the displacements so far, and those left, are all of them

@@ -1,7 +1,4 @@
-use Rattle.std.proofs.Common.{◌≡◌, ◌+◌, ◌++◌, ℕ, List, arith, ◌∙◌, ap, sym, take, refl, length, length-append}
-use Rattle.nap_canon.specs.Batches.{points_bytes}
-use Rattle.nap_canon.specs.Buffers.{with_bytes_at}
-use Rattle.nap_values.specs.Spellings.{point_bytes}
+use Rattle.nap_canon.proofs.Common.{List, ap, arith, length, length-append, point_bytes, points_bytes, refl, sym, take, with_bytes_at, ℕ, ◌++◌, ◌+◌, ◌∙◌, ◌≡◌}
 use Rattle.nap_canon.proofs.texts.PointsLemmas.{point_size, points_more, points_all}
 use Rattle.nap_canon.proofs.texts.AppendedLemmas.{appended_none, appended_after}
 use Rattle.nap_canon.proofs.byte_buffer.write_points_at.Goals as goal

@@ -1,6 +1,4 @@
-use Rattle.std.proofs.Common.{◌≡◌, ◌+◌, ◌*◌, length, take}
-use Rattle.nap_canon.specs.Batches.{points_bytes}
-use Rattle.nap_canon.specs.Buffers.{with_bytes_at}
+use Rattle.nap_canon.proofs.Common.{length, points_bytes, take, with_bytes_at, ◌*◌, ◌+◌, ◌≡◌}
 use Rattle.nap_canon.proofs.byte_buffer.write_points_at.Given as goal
 
 -- the points so far

@@ -1,11 +1,4 @@
-use Rattle.std.proofs.Common.{◌≡◌, ◌∙◌, ℕ, [], true, false, Ok, refl, sym, ap, subst}
-use Rattle.std.specs.Io.KnownBytes.{Keeps}
-use Rattle.std.proofs.KnownBytes.{Consumes-nil}
-use Rattle.nap_list.specs.Reading.{reading}
-use Rattle.nap_list.specs.Sending.{sending, Writes}
-use Rattle.nap_canon.specs.Concluding.{Concludes}
-use Rattle.nap_canon.specs.Converting.{Converts, StopsAtOnce}
-use Rattle.nap_canon.specs.Sinking.{Canonical, sending_of}
+use Rattle.nap_canon.proofs.Common.{Canonical, Concludes, Consumes-nil, Converts, Keeps, Ok, StopsAtOnce, Writes, [], ap, false, reading, refl, sending, sending_of, subst, sym, true, ℕ, ◌∙◌, ◌≡◌}
 use Rattle.nap_canon.proofs.conversions.ConvertLemmas.{end_converts, fed_converts, flushed_once, header_fails, whole_converts}
 use Rattle.nap_canon.proofs.conversion.convert.Goals as goal
 

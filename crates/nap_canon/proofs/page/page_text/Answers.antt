@@ -1,7 +1,4 @@
-use Rattle.std.proofs.Common.{◌≡◌, ◌∙◌, ap, refl, subst, sym}
-use Rattle.nap_list.specs.Device.{WritingTo}
-use Rattle.nap_canon.specs.PageTexts.{RefusesPage}
-use Rattle.nap_canon.specs.Streams.{list_of}
+use Rattle.nap_canon.proofs.Common.{RefusesPage, WritingTo, ap, list_of, refl, subst, sym, ◌∙◌, ◌≡◌}
 use Rattle.nap_canon.proofs.sinks.PageLemmas.{refuses_page, text_written}
 use Rattle.nap_canon.proofs.page.page_text.Goals as goal
 

@@ -1,6 +1,4 @@
-use Rattle.std.proofs.Common.{◌+◌, sym, subst, ◌∙◌, arith}
-use Rattle.nap_codes.specs.Lexer.{LexerState}
-use Rattle.nap_canon.specs.declared.plain.PlainCheck.{PlainCheck}
+use Rattle.nap_canon.proofs.Common.{LexerState, PlainCheck, arith, subst, sym, ◌+◌, ◌∙◌}
 use Rattle.nap_canon.proofs.plain_codes.CheckLemmas.{start_check}
 use Rattle.nap_canon.proofs.plain_codes.LexedLemmas.{Checked, checked_start, checked_more, checked_code, refused_byte, refused_code, checked_end}
 use Rattle.nap_canon.proofs.plain.is_plain.Goals.{in-More, in-Code+in-Some}

@@ -1,7 +1,4 @@
-use Rattle.std.proofs.Common.{All, subst, arith}
-use Rattle.std.proofs.lemmas.List.{take_all}
-use Rattle.std.proofs.lemmas.List.Elements.{All-more}
-use Rattle.nap_values.specs.Coordinates.{IsInSquare}
+use Rattle.nap_canon.proofs.Common.{All, All-more, IsInSquare, arith, subst, take_all}
 use Rattle.nap_canon.proofs.ranges.points_in_range.Goals as goal
 
 pub loop-at-preserved : goal.loop-at-preserved

@@ -1,5 +1,4 @@
-use Rattle.std.proofs.Common.{All, take}
-use Rattle.nap_values.specs.Coordinates.{IsInSquare}
+use Rattle.nap_canon.proofs.Common.{All, IsInSquare, take}
 use Rattle.nap_canon.proofs.ranges.points_in_range.Given as goal
 
 -- the points so far

@@ -1,5 +1,4 @@
-use Rattle.std.proofs.Common.{inl, subst}
-use Rattle.nap_canon.specs.PageTexts.{IsPageText}
+use Rattle.nap_canon.proofs.Common.{IsPageText, inl, subst}
 use Rattle.nap_canon.proofs.reading_back.CanonicalLaws.{equal_texts, own_text, plain_text, read_as}
 use Rattle.nap_canon.proofs.stream.normalise.Goals as goal
 

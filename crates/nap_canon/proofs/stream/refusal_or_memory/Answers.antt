@@ -1,4 +1,4 @@
-use Rattle.std.proofs.Common.{inl, inr, refl}
+use Rattle.nap_canon.proofs.Common.{inl, inr, refl}
 use Rattle.nap_canon.proofs.sinks.PageLemmas.{refuses_counted}
 use Rattle.nap_canon.proofs.stream.refusal_or_memory.Goals as goal
 

@@ -1,15 +1,4 @@
-use Rattle.std.proofs.Common.{◌≡◌, ◌++◌, ℕ, List, [], ◌∷◌, append-nil, take, ap, sym, subst, ◌∙◌}
-use Rattle.std.proofs.lemmas.List.Elements.{All-nil, All-more}
-use Rattle.nap_canon.specs.declared.form.Form.{Form}
-use Rattle.nap_canon.specs.declared.text_end.TextEnd.{TextEnd}
-use Rattle.nap_list.specs.declared.entry.Entry.{Entry}
-use Rattle.nap_list.specs.declared.state.State.{State}
-use Rattle.nap_list.specs.Device.{WritingTo}
-use Rattle.nap_list.specs.Range.{InRange}
-use Rattle.nap_list.specs.State.{start, walk, Fits, after}
-use Rattle.nap_canon.specs.Sinking.{Canonical}
-use Rattle.nap_canon.specs.Spelling.{Piece}
-use Rattle.nap_canon.specs.Text.{pieces_bytes, text_end_after, pieces, entry_pieces, header, text_in}
+use Rattle.nap_canon.proofs.Common.{All-more, All-nil, Canonical, Entry, Fits, Form, InRange, List, Piece, State, TextEnd, WritingTo, [], after, ap, append-nil, entry_pieces, header, pieces, pieces_bytes, start, subst, sym, take, text_end_after, text_in, walk, ℕ, ◌++◌, ◌∙◌, ◌∷◌, ◌≡◌}
 use Rattle.nap_canon.proofs.sinks.SinkingLemmas.{header_sent}
 use Rattle.nap_canon.proofs.texts.WalkLemmas.{text_more, text_end_more, walk_more, fits_at}
 use Rattle.nap_canon.proofs.text.text_in_form.Goals as goal

@@ -1,7 +1,4 @@
-use Rattle.std.proofs.Common.{◌≡◌, take}
-use Rattle.nap_list.specs.Range.{AllInRange}
-use Rattle.nap_list.specs.State.{start, walk}
-use Rattle.nap_canon.specs.Text.{text_end_after_header, text_in, text_end_after, pieces}
+use Rattle.nap_canon.proofs.Common.{AllInRange, pieces, start, take, text_end_after, text_end_after_header, text_in, walk, ◌≡◌}
 use Rattle.nap_canon.proofs.text.text_in_form.Given as goal
 
 -- the text of the entries so far

@@ -1,6 +1,5 @@
-use Rattle.std.proofs.Common.{refl}
+use Rattle.nap_codes.proofs.Common.{designation_front, final_front, one_byte_later, refl}
 use Rattle.nap_codes.specs.declared.lexer.HalfRead.TheVariants.{SpacedDesignation}
-use Rattle.nap_codes.specs.Front.{designation_front, one_byte_later, final_front}
 use Rattle.nap_codes.proofs.HalfLemmas.{designation_final}
 use Rattle.nap_codes.proofs.lexer.designation_byte.Goals as goal
 

@@ -1,4 +1,4 @@
-use Rattle.std.proofs.Common.{Some, ap, sym, ◌∙◌}
+use Rattle.nap_codes.proofs.Common.{Some, ap, sym, ◌∙◌}
 use Rattle.nap_codes.proofs.HalfLemmas.{escaped_more}
 use Rattle.nap_codes.proofs.lexer.escaped_byte.Goals as goal
 

@@ -1,4 +1,4 @@
-use Rattle.std.proofs.Common.{Some, ap, sym, ◌∙◌, arith}
+use Rattle.nap_codes.proofs.Common.{Some, ap, arith, sym, ◌∙◌}
 use Rattle.nap_codes.proofs.HalfLemmas.{first_more, first_graphic}
 use Rattle.nap_codes.proofs.TableLemmas.{control0_missing}
 use Rattle.nap_codes.proofs.lexer.first_byte.Goals as goal

@@ -1,7 +1,5 @@
-use Rattle.std.proofs.Common.{◌∙◌, ap, refl}
+use Rattle.nap_command.proofs.Common.{WritingTo, ap, reading, refl, ◌∙◌}
 use Rattle.nap_list.specs.declared.count_sink.CountSink.{CountSink}
-use Rattle.nap_list.specs.Device.{WritingTo}
-use Rattle.nap_list.specs.Reading.{reading}
 use Rattle.nap_command.proofs.AnswerLemmas.{finds_count, finds_text}
 use Rattle.nap_command.proofs.answer.answer_input.Goals as goal
 

@@ -1,8 +1,4 @@
-use Rattle.std.proofs.Common.{ap, refl, subst, sym}
-use Rattle.std.specs.Prelude.{MatchResult}
-use Rattle.nap_list.specs.declared.count_sink.CountSink.{CountSink}
-use Rattle.nap_command.specs.declared.command.Action.{Action}
-use Rattle.nap_command.specs.Commands.{Denies, PrintsBy}
+use Rattle.nap_command.proofs.Common.{Action, CountSink, Denies, MatchResult, PrintsBy, ap, refl, subst, sym}
 use Rattle.nap_command.proofs.AnswerLemmas.{prints_count, prints_page}
 use Rattle.nap_command.proofs.answer.answer_stream.Goals as goal
 

@@ -1,6 +1,4 @@
-use Rattle.std.proofs.Common.{◌++◌, take}
-use Rattle.std.proofs.KnownBytes.{Consumes-trans}
-use Rattle.std.proofs.lemmas.Result.{err_from_is_err_and}
+use Rattle.nap_command.proofs.Common.{Consumes-trans, err_from_is_err_and, take, ◌++◌}
 use Rattle.nap_command.proofs.DeviceLemmas.{flag_stays}
 use Rattle.nap_command.proofs.device.read_whole.Goals as goal
 

@@ -1,6 +1,4 @@
-use Rattle.std.proofs.Common.{◌≡◌, ◌+◌, ◌*◌, ◌≤◌, length}
-use Rattle.std.specs.Io.KnownBytes.{Consumes}
-use Rattle.nap_list.specs.declared.device.inlet.TheConstants.{READ_SIZE}
+use Rattle.nap_command.proofs.Common.{Consumes, READ_SIZE, length, ◌*◌, ◌+◌, ◌≡◌, ◌≤◌}
 use Rattle.nap_command.proofs.device.read_whole.Given as goal
 
 abbrev pub invariant-loop : goal.invariant-loop

@@ -1,5 +1,4 @@
-use Rattle.std.proofs.Common.{◌≡◌, ◌∙◌, [], Err, true, false, inr, refl, sym, arith}
-use Rattle.std.proofs.KnownBytes.{Appends-nil, Consumes-nil}
+use Rattle.nap_command.proofs.Common.{Appends-nil, Consumes-nil, Err, [], arith, false, inr, refl, sym, true, ◌∙◌, ◌≡◌}
 use Rattle.nap_command.specs.declared.failure.Failure.TheVariants as failure
 use Rattle.nap_command.proofs.execution.execute.Goals as goal
 

@@ -1,5 +1,4 @@
-use Rattle.std.proofs.Common.{◌≡◌, ◌∙◌, ◌||◌, ℕ, List, Bool, false, true, Err, ap, subst, sym}
-use Rattle.nap_command.specs.Devices.{TakesText}
+use Rattle.nap_command.proofs.Common.{Bool, Err, List, TakesText, ap, false, subst, sym, true, ℕ, ◌||◌, ◌∙◌, ◌≡◌}
 use Rattle.nap_command.proofs.CommandLemmas.{ends_after, ends_amid}
 use Rattle.nap_command.proofs.DeviceLemmas.{none_written_amiss}
 use Rattle.nap_command.proofs.execution.print_answer.Goals as goal

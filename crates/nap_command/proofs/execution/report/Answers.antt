@@ -1,5 +1,4 @@
-use Rattle.std.proofs.Common.{◌∙◌, List, ℕ, subst}
-use Rattle.nap_command.specs.Devices.{TakesText}
+use Rattle.nap_command.proofs.Common.{List, TakesText, subst, ℕ, ◌∙◌}
 use Rattle.nap_command.proofs.TellLemmas.{tells_written}
 use Rattle.nap_command.proofs.execution.report.Goals as goal
 

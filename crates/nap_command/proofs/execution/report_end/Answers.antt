@@ -1,5 +1,4 @@
-use Rattle.std.proofs.Common.{[], refl}
-use Rattle.std.proofs.KnownBytes.{Appends-nil}
+use Rattle.nap_command.proofs.Common.{Appends-nil, [], refl}
 use Rattle.nap_command.proofs.execution.report_end.Goals as goal
 
 pub returns-in-Ok : goal.returns-in-Ok

@@ -1,4 +1,4 @@
-use Rattle.std.proofs.Common.{◌∙◌, ◌||◌, Bool, true, ap}
+use Rattle.nap_command.proofs.Common.{Bool, ap, true, ◌||◌, ◌∙◌}
 use Rattle.nap_command.proofs.ListingLemmas.{listed_after}
 use Rattle.nap_command.proofs.listing.print_list.Goals as goal
 

@@ -1,9 +1,5 @@
-use Rattle.std.proofs.Common.{subst, sym}
-use Rattle.nap_list.specs.Reading.{reading}
-use Rattle.nap_make.specs.declared.lines.fault.ListFault.{ListFault}
-use Rattle.nap_make.specs.Texts.{DeniesInput}
+use Rattle.nap_command.proofs.Common.{DeniesInput, FailsToMake, ListFault, reading, subst, sym}
 use Rattle.nap_command.specs.declared.failure.Failure.{Failure}
-use Rattle.nap_command.specs.Making.{FailsToMake}
 use Rattle.nap_command.proofs.MakeLemmas.{lines_refused}
 use Rattle.nap_command.proofs.make.find_page.Goals as goal
 

@@ -1,5 +1,4 @@
-use Rattle.std.proofs.Common.{◌≡◌, ◌∙◌, ◌||◌, ℕ, List, Bool, false, true, Err, ap, subst, sym}
-use Rattle.nap_command.specs.Devices.{TakesText}
+use Rattle.nap_command.proofs.Common.{Bool, Err, List, TakesText, ap, false, subst, sym, true, ℕ, ◌||◌, ◌∙◌, ◌≡◌}
 use Rattle.nap_command.proofs.DeviceLemmas.{none_written_amiss}
 use Rattle.nap_command.proofs.MakeLemmas.{page_after, page_amid}
 use Rattle.nap_command.proofs.make.print_page.Goals as goal

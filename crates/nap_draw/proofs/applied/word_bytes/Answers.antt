@@ -1,5 +1,4 @@
-use Rattle.std.proofs.Common.{◌≡◌, ◌<◌, ◌%◌, ◌∙◌, ◌++◌, ℕ, List, [], ◌∷◌, length, map, take, get_or, length-set, arith, ap, ap₂, sym}
-use Rattle.std.proofs.lemmas.List.{take_more_set, take_more, map-append, get_or_read}
+use Rattle.nap_draw.proofs.Common.{List, [], ap, ap₂, arith, get_or, get_or_read, length, length-set, map, map-append, sym, take, take_more, take_more_set, ℕ, ◌%◌, ◌++◌, ◌<◌, ◌∙◌, ◌∷◌, ◌≡◌}
 use Rattle.nap_draw.proofs.applied.word_bytes.Goals as goal
 
 pub loop-at-preserved : goal.loop-at-preserved

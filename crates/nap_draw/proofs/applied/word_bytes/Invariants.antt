@@ -1,6 +1,4 @@
-use Rattle.std.proofs.Common.{◌≡◌, length, take}
-use Rattle.nap_values.specs.Operands.{operand_words}
-use Rattle.nap_draw.specs.Limits.{run_limit}
+use Rattle.nap_draw.proofs.Common.{length, operand_words, run_limit, take, ◌≡◌}
 use Rattle.nap_draw.proofs.applied.word_bytes.Given as goal
 
 abbrev pub invariant-loop-at : goal.invariant-loop-at

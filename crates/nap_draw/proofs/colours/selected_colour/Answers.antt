@@ -1,9 +1,5 @@
-use Rattle.std.proofs.Common.{◌≡◌, ℕ, List, map, refl, sym, ap, ◌∙◌}
-use Rattle.std.specs.Slice.Iter.{chunks_rest}
-use Rattle.nap_values.specs.Operands.{operand_words, single_of}
+use Rattle.nap_draw.proofs.Common.{List, addresses, ap, chunks_rest, colour_of_base, map, operand_words, refl, selected_colour, single_of, sym, ℕ, ◌∙◌, ◌≡◌}
 use Rattle.nap_list.specs.declared.attribute.Colour.TheVariants.{Front, Pair}
-use Rattle.nap_draw.specs.Operands.{addresses}
-use Rattle.nap_draw.specs.Rule.{colour_of_base, selected_colour}
 use Rattle.nap_draw.proofs.ByteRuns.{addresses_none, only_operand, two_operands}
 use Rattle.nap_draw.proofs.colours.selected_colour.Goals as goal
 

@@ -1,10 +1,4 @@
-use Rattle.std.proofs.Common.{◌≡◌, ◌∷◌, [], ◌/◌, ap, arith, drop, get_or, length, refl, subst, sym, take, true}
-use Rattle.nap_values.specs.Coarse.{Course}
-use Rattle.nap_values.specs.Coordinates.{Coordinates}
-use Rattle.nap_values.specs.Operands.{operand_words}
-use Rattle.nap_draw.specs.Counted.{Arrives}
-use Rattle.nap_draw.specs.Geometry.{points_reached}
-use Rattle.nap_draw.specs.Operands.{moves}
+use Rattle.nap_draw.proofs.Common.{Arrives, Coordinates, Course, [], ap, arith, drop, get_or, length, moves, operand_words, points_reached, refl, subst, sym, take, true, ◌/◌, ◌∷◌, ◌≡◌}
 use Rattle.nap_draw.proofs.Counting.{Along, along_ends, along_more, along_starts, bytes_left, if_some_map, three_bytes}
 use Rattle.nap_draw.proofs.counted.end_of_steps_of_three.Goals as goal
 

@@ -1,4 +1,4 @@
-use Rattle.std.proofs.Common.{◌≡◌, length, true}
+use Rattle.nap_draw.proofs.Common.{length, true, ◌≡◌}
 use Rattle.nap_draw.proofs.Counting.{Along}
 use Rattle.nap_draw.proofs.counted.end_of_steps_of_three.Given as goal
 

@@ -1,8 +1,4 @@
-use Rattle.std.proofs.Common.{ℕ, List, map, Some, sym, ◌∙◌, ap}
-use Rattle.std.specs.List.{slice_get}
-use Rattle.std.specs.Slice.Iter.{chunks_rest}
-use Rattle.nap_values.specs.Operands.{operand_words, multi_of}
-use Rattle.nap_draw.specs.Operands.{moves}
+use Rattle.nap_draw.proofs.Common.{List, Some, ap, chunks_rest, map, moves, multi_of, operand_words, slice_get, sym, ℕ, ◌∙◌}
 use Rattle.nap_draw.proofs.ByteRuns.{first_operand, moves_none}
 use Rattle.nap_draw.proofs.operands.first_move.Goals as goal
 

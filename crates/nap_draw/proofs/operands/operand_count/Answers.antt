@@ -1,6 +1,4 @@
-use Rattle.std.proofs.Common.{ℕ, ◌≤◌, sym, ◌∙◌, ap₂, subst}
-use Rattle.std.specs.Int.{div_ceil}
-use Rattle.nap_values.specs.Operands.{operand_words}
+use Rattle.nap_draw.proofs.Common.{ap₂, div_ceil, operand_words, subst, sym, ℕ, ◌∙◌, ◌≤◌}
 use Rattle.nap_draw.proofs.Cuts.{moves_count_is}
 use Rattle.nap_draw.proofs.ByteRuns.{carried_length}
 use Rattle.nap_draw.proofs.operands.operand_count.Goals as goal

@@ -1,6 +1,4 @@
-use Rattle.std.proofs.Common.{refl, arith}
-use Rattle.std.proofs.lemmas.Bool.Decides.{nat_tests}
-use Rattle.nap_values.specs.Operands.{operand_words}
+use Rattle.nap_draw.proofs.Common.{arith, nat_tests, operand_words, refl}
 use Rattle.nap_draw.proofs.Cuts.{none_of, more_of}
 use Rattle.nap_draw.proofs.ByteRuns.{carried_length}
 use Rattle.nap_draw.proofs.operands.require_operand.Goals as goal

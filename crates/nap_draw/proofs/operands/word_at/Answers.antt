@@ -1,6 +1,4 @@
-use Rattle.std.proofs.Common.{◌∙◌}
-use Rattle.std.proofs.lemmas.Option.{unwrap_or-slice_get}
-use Rattle.nap_values.specs.Operands.{operand_words}
+use Rattle.nap_draw.proofs.Common.{operand_words, unwrap_or-slice_get, ◌∙◌}
 use Rattle.nap_draw.proofs.operands.word_at.Goals as goal
 
 pub returns : goal.returns

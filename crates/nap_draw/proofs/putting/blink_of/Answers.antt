@@ -1,5 +1,4 @@
-use Rattle.std.proofs.Common.{arith}
-use Rattle.nap_values.specs.Operands.{operand_words}
+use Rattle.nap_draw.proofs.Common.{arith, operand_words}
 use Rattle.nap_draw.proofs.ByteRuns.{carried_length, words_prefix, carried_rest}
 use Rattle.nap_draw.proofs.Still.{blink_made}
 use Rattle.nap_draw.proofs.putting.blink_of.Goals as goal

@@ -1,14 +1,6 @@
-use Rattle.std.proofs.Common.{◌≡◌, ◌+◌, map, ◌∙◌, ap, arith, rules, subst, sym, ℕ, List}
-use Rattle.std.specs.Slice.Iter.{chunks_rest, chunks_size}
-use Rattle.std.proofs.lemmas.Result.{err_from_is_err_and}
-use Rattle.nap_values.specs.Operands.{operand_words}
-use Rattle.nap_draw.specs.Operands.{operands}
-use Rattle.nap_draw.specs.Rule.{blink}
-use Rattle.nap_draw.specs.Execution.{PutsSoFar}
+use Rattle.nap_draw.proofs.Common.{List, PutsSoFar, ap, arith, blink, chunks_rest, chunks_size, err_from_is_err_and, map, one_fits, one_goes, one_stops, operand_words, operands, put_begins, put_ends, rules, sink_model_of, subst, sym, ℕ, ◌+◌, ◌∙◌, ◌≡◌}
 use Rattle.nap_draw.proofs.ByteRuns.{operands_none}
 use Rattle.nap_draw.proofs.Still.{blink_left}
-use Rattle.nap_list.specs.SinkModels.{sink_model_of}
-use Rattle.nap_list.specs.PuttingLaws.{put_begins, one_fits, one_goes, one_stops, put_ends}
 use Rattle.nap_draw.proofs.putting.put_blinks.Goals as goal
 
 pub loop-group-init : goal.loop-group-init

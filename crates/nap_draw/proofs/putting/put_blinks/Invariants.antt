@@ -1,9 +1,4 @@
-use Rattle.std.proofs.Common.{◌≡◌, ◌+◌, map}
-use Rattle.std.specs.Slice.Iter.{chunks_rest, chunks_size}
-use Rattle.nap_values.specs.Operands.{operand_words}
-use Rattle.nap_draw.specs.Operands.{operands}
-use Rattle.nap_draw.specs.Rule.{blink}
-use Rattle.nap_draw.specs.Execution.{PutsSoFar}
+use Rattle.nap_draw.proofs.Common.{PutsSoFar, blink, chunks_rest, chunks_size, map, operand_words, operands, ◌+◌, ◌≡◌}
 use Rattle.nap_draw.proofs.putting.put_blinks.Given as goal
 
 abbrev pub invariant-loop-group : goal.invariant-loop-group

@@ -1,11 +1,5 @@
-use Rattle.std.proofs.Common.{map, sym, refl, ◌∙◌, ap, arith, Option}
-use Rattle.std.proofs.lemmas.List.{drop_all}
-use Rattle.std.proofs.lemmas.Result.{err_from_is_err_and}
-use Rattle.nap_draw.specs.declared.spans.Span.{Span}
-use Rattle.nap_draw.specs.Execution.{figure_entry}
+use Rattle.nap_draw.proofs.Common.{Option, Span, ap, arith, drop_all, err_from_is_err_and, figure_entry, map, one_fits, one_goes, one_stops, put_begins, put_ends, refl, sink_model_of, sym, ◌∙◌}
 use Rattle.nap_draw.proofs.Links.{linked_left, linked_last, linked_end, end_here}
-use Rattle.nap_list.specs.SinkModels.{sink_model_of}
-use Rattle.nap_list.specs.PuttingLaws.{put_begins, one_fits, one_goes, one_stops, put_ends}
 use Rattle.nap_draw.proofs.Links.{drop_at}
 use Rattle.nap_draw.proofs.putting.put_chain.Goals as goal
 

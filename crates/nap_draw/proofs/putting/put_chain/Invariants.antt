@@ -1,6 +1,4 @@
-use Rattle.std.proofs.Common.{◌≡◌, map, drop, None}
-use Rattle.nap_draw.specs.Geometry.{last_or}
-use Rattle.nap_draw.specs.Execution.{PutsSoFar, chain_spans, figure_entry}
+use Rattle.nap_draw.proofs.Common.{None, PutsSoFar, chain_spans, drop, figure_entry, last_or, map, ◌≡◌}
 use Rattle.nap_draw.proofs.putting.put_chain.Given as goal
 
 abbrev pub invariant-loop-to : goal.invariant-loop-to

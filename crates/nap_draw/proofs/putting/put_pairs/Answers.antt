@@ -1,13 +1,5 @@
-use Rattle.std.proofs.Common.{◌≡◌, map, sym, ◌∙◌, ap, arith, rules, Option, None, subst, List}
-use Rattle.std.specs.Slice.Iter.{chunks_exact_rest, chunks_exact_size}
-use Rattle.std.proofs.lemmas.Result.{err_from_is_err_and}
-use Rattle.nap_values.specs.Coordinates.{Coordinates}
-use Rattle.nap_draw.specs.declared.spans.Span.{Span}
-use Rattle.nap_draw.specs.Geometry.{last_or}
-use Rattle.nap_draw.specs.Execution.{PutsSoFar, pair_spans, figure_entry}
+use Rattle.nap_draw.proofs.Common.{Coordinates, List, None, Option, PutsSoFar, Span, ap, arith, chunks_exact_rest, chunks_exact_size, err_from_is_err_and, figure_entry, last_or, map, one_fits, one_goes, one_stops, pair_spans, put_begins, put_ends, rules, sink_model_of, subst, sym, ◌∙◌, ◌≡◌}
 use Rattle.nap_draw.proofs.Links.{two_of, paired_left, paired_last, paired_few, end_here}
-use Rattle.nap_list.specs.SinkModels.{sink_model_of}
-use Rattle.nap_list.specs.PuttingLaws.{put_begins, one_fits, one_goes, one_stops, put_ends}
 use Rattle.nap_draw.proofs.putting.put_pairs.Goals as goal
 
 pub loop-pair-init : goal.loop-pair-init

@@ -1,7 +1,4 @@
-use Rattle.std.proofs.Common.{◌≡◌, map, None}
-use Rattle.std.specs.Slice.Iter.{chunks_exact_rest, chunks_exact_size}
-use Rattle.nap_draw.specs.Geometry.{last_or}
-use Rattle.nap_draw.specs.Execution.{PutsSoFar, pair_spans, figure_entry}
+use Rattle.nap_draw.proofs.Common.{None, PutsSoFar, chunks_exact_rest, chunks_exact_size, figure_entry, last_or, map, pair_spans, ◌≡◌}
 use Rattle.nap_draw.proofs.putting.put_pairs.Given as goal
 
 abbrev pub invariant-loop-pair : goal.invariant-loop-pair

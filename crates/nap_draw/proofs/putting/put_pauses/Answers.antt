@@ -1,10 +1,5 @@
-use Rattle.std.proofs.Common.{ℕ, List, map, ap, arith}
-use Rattle.std.proofs.lemmas.List.{drop_all}
-use Rattle.std.proofs.lemmas.Result.{err_from_is_err_and}
-use Rattle.nap_values.specs.Operands.{operand_words}
+use Rattle.nap_draw.proofs.Common.{List, ap, arith, drop_all, err_from_is_err_and, map, one_fits, one_goes, one_stops, operand_words, put_begins, put_ends, sink_model_of, ℕ}
 use Rattle.nap_list.specs.declared.entry.Entry.TheVariants.{Wait}
-use Rattle.nap_list.specs.SinkModels.{sink_model_of}
-use Rattle.nap_list.specs.PuttingLaws.{put_begins, one_fits, one_goes, one_stops, put_ends}
 use Rattle.nap_draw.proofs.Still.{pause_left}
 use Rattle.nap_draw.proofs.putting.put_pauses.Goals as goal
 

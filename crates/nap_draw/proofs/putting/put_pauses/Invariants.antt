@@ -1,7 +1,5 @@
-use Rattle.std.proofs.Common.{map, drop}
-use Rattle.nap_values.specs.Operands.{operand_words}
+use Rattle.nap_draw.proofs.Common.{PutsSoFar, drop, map, operand_words}
 use Rattle.nap_list.specs.declared.entry.Entry.TheVariants.{Wait}
-use Rattle.nap_draw.specs.Execution.{PutsSoFar}
 use Rattle.nap_draw.proofs.putting.put_pauses.Given as goal
 
 abbrev pub invariant-loop-byte : goal.invariant-loop-byte

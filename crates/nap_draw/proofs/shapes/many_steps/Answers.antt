@@ -1,5 +1,4 @@
-use Rattle.std.proofs.Common.{ℕ, ◌≤◌, ◌*◌, nat_lt, sym, ◌∙◌, ap, ap₂, subst}
-use Rattle.nap_values.specs.Operands.{operand_words}
+use Rattle.nap_draw.proofs.Common.{ap, ap₂, nat_lt, operand_words, subst, sym, ℕ, ◌*◌, ◌∙◌, ◌≤◌}
 use Rattle.nap_draw.proofs.Cuts.{more_than}
 use Rattle.nap_draw.proofs.ByteRuns.{carried_length}
 use Rattle.nap_draw.proofs.shapes.many_steps.Goals as goal

@@ -1,10 +1,4 @@
-use Rattle.std.proofs.Common.{◌<◌, ◌≤◌, length, refl, sym, ◌∙◌, ap, arith}
-use Rattle.std.proofs.lemmas.Bool.Decides.{nat_tests}
-use Rattle.std.proofs.lemmas.Result.{err_from_is_err_and}
-use Rattle.nap_values.specs.Coordinates.{point_at}
-use Rattle.nap_values.specs.Operands.{operand_words}
-use Rattle.nap_list.specs.Limits.{steps_limit}
-use Rattle.nap_draw.specs.Rule.{moves_of}
+use Rattle.nap_draw.proofs.Common.{ap, arith, err_from_is_err_and, length, moves_of, nat_tests, operand_words, point_at, refl, steps_limit, sym, ◌<◌, ◌∙◌, ◌≤◌}
 use Rattle.nap_draw.proofs.Areas.{point_stream}
 use Rattle.nap_draw.proofs.ByteRuns.{moves_none, moves_some}
 use Rattle.nap_draw.proofs.ShapeStarts.{cut_at, start_missing, start_many, at_pen, at_pen_lost, at_operand, at_operand_lost}

@@ -1,10 +1,5 @@
-use Rattle.std.proofs.Common.{◌++◌, codes, ap, arith}
-use Rattle.nap_list.specs.declared.attribute.Pen.{Pen}
-use Rattle.nap_list.specs.State.{hand_of}
-use Rattle.nap_list.specs.BatchLaws.{sized_points, sized_lines, sized_text}
-use Rattle.nap_lines.specs.Lines.{ink_text}
-use Rattle.nap_lines.specs.Batches.{point_end}
-use Rattle.nap_lines.proofs.BatchLemmas.{ended, few_of, points_written, lines_written, part_written}
+use Rattle.nap_lines.proofs.Common.{Pen, ap, arith, codes, hand_of, ink_text, point_end, sized_lines, sized_points, sized_text, ◌++◌}
+use Rattle.nap_lines.proofs.BatchLemmas.{ended, few_of, needs_all, points_written, lines_written, part_written}
 use Rattle.nap_lines.proofs.batch.write_batch.Goals as goal
 
 pub slice_part-requires : goal.slice_part-requires
@@ -46,3 +41,13 @@ pub returns-in-Text-clause-text : goal.returns-in-Text-clause-text
 returns-in-Text-clause-text c =
     part_written c.args.batch.now _ _ _ _ c.args.first c.args.count c.write_text_lines.result _ _ _ c.slice_part-in-Text.result.now c.in-Text.is
     (few_of _ _ _ _ c.slice_part-in-Text.ensures c.write_text_lines.ensures.count) (ap (λ (pen : Pen). record (hand_of c.in-Text.drawing.now) { pen = pen }) c.pen_at.ensures) c.slice_part-in-Text.ensures c.write_text_lines.ensures.text
+
+pub returns-in-Lines-clause-memory : goal.returns-in-Lines-clause-memory
+returns-in-Lines-clause-memory c =
+    needs_all _ c.in-Lines.points.now c.args.first c.args.count c.args.text.now c.write_line_lines.new.text c.write_line_lines.result c.slice_part-in-Lines.ensures
+    (omega (arith, c.requires, sized_lines _ _ _ _ c.in-Lines.is)) c.write_line_lines.ensures.memory
+
+pub returns-in-Text-clause-memory : goal.returns-in-Text-clause-memory
+returns-in-Text-clause-memory c =
+    needs_all _ c.in-Text.codes.now c.args.first c.args.count c.args.text.now c.write_text_lines.new.text c.write_text_lines.result c.slice_part-in-Text.ensures
+    (omega (arith, c.requires, sized_text _ _ _ _ _ c.in-Text.is)) c.write_text_lines.ensures.memory

@@ -1,8 +1,5 @@
-use Rattle.std.proofs.Common.{ℕ, ◌≡◌, ◌+◌, List, ◌++◌, codes, append_assoc, refl, sym, append-nil, length, take, ap, ◌∙◌, arith, length-append}
-use Rattle.nap_values.specs.Coordinates.{Coordinates}
-use Rattle.nap_lines.specs.Lines.{point_text}
-use Rattle.nap_lines.specs.Batches.{line_front, lines_with}
-use Rattle.nap_lines.proofs.BatchLemmas.{appended, kept, text_goes, goes_first, goes_line, continues}
+use Rattle.nap_lines.proofs.Common.{Coordinates, List, ap, append-nil, append_assoc, arith, codes, length, length-append, line_front, lines_with, point_text, refl, sym, take, ℕ, ◌++◌, ◌+◌, ◌∙◌, ◌≡◌}
+use Rattle.nap_lines.proofs.BatchLemmas.{appended, grown, kept, text_goes, goes_first, goes_line, continues}
 use Rattle.nap_lines.proofs.batch.write_line_lines.Goals as goal
 
 -- the beginning of a Line's line, pushed part by part
@@ -18,7 +15,7 @@ made_front from to end pointed spaced started named kept point space start name 
 
 pub loop-to-init : goal.loop-to-init
 unfolding lines_with
-loop-to-init c = record { front = point_text c.args.from; buffer = c.push_point_copied-kept.ensures.text; written = refl; at = c.args.from; kept = c.push_point_copied-kept.ensures.kept; few = c.push_point_copied-kept.ensures.few; text = sym (append-nil c.args.text.now.items); goes = goes_first c.args.buffer.now c.args.from }
+loop-to-init c = record { front = point_text c.args.from; buffer = c.push_point_copied-kept.ensures.text; written = refl; at = c.args.from; kept = c.push_point_copied-kept.ensures.kept; few = c.push_point_copied-kept.ensures.few; size = omega arith; capacity = omega arith; text = sym (append-nil c.args.text.now.items); goes = goes_first c.args.buffer.now c.args.from }
 
 pub keep_last-requires-clause-within : goal.keep_last-requires-clause-within
 keep_last-requires-clause-within c =
@@ -39,10 +36,13 @@ loop-to-preserved c =
     let points = c.args.points.now in
     let buffer = made_front at to c.keep_last.new.self c.push_point_copied-next.new.self c.push.new.self c.push_copied.new.self c.push_line_name.new.self c.loop-to.kept c.push_point_copied-next.ensures.text c.push.ensures.text c.push_copied.ensures.text c.push_line_name.ensures.text invariant.kept ∙ ap (λ (bytes : List ℕ). line_front at to ++ bytes) (c.keep_last.ensures ∙ kept c.loop-to.buffer invariant.front end c.len-end.result invariant.buffer c.len-end.ensures.count) in
     let line = c.as_slice.ensures.bytes ∙ buffer in
+    let added = grown c.extend_from_slice.result c.is_err.result _ _ _ c.is_err.ensures.value c.if-is_err.false c.extend_from_slice.ensures.len in
     record {
       front = line_front at to;
       buffer = buffer;
       written = ap (λ n. n + 1) invariant.written;
+      size = omega (arith, invariant.size, added, c.as_slice.ensures.few);
+      capacity = omega (arith, invariant.capacity, c.extend_from_slice.ensures.capacity);
       at = to;
       kept = c.push_point_copied-next.ensures.kept;
       few = c.push_point_copied-next.ensures.few;

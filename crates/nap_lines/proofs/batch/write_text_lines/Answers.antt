@@ -1,6 +1,4 @@
-use Rattle.std.proofs.Common.{ℕ, ◌≡◌, List, ◌++◌, codes, length, ap, ◌∙◌, arith, append_assoc, length-append}
-use Rattle.nap_lines.specs.Lines.{pen_text}
-use Rattle.nap_lines.specs.Batches.{text_byte_front, hand_text_without_pen}
+use Rattle.nap_lines.proofs.Common.{List, ap, append_assoc, arith, codes, hand_text_without_pen, length, length-append, pen_text, text_byte_front, ℕ, ◌++◌, ◌∙◌, ◌≡◌}
 use Rattle.nap_lines.proofs.BatchLemmas.{appended, ended, kept, text_written}
 use Rattle.nap_lines.proofs.batch.write_text_lines.Goals as goal
 

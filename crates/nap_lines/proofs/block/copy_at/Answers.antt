@@ -1,5 +1,4 @@
-use Rattle.std.proofs.Common.{◌+◌, ◌-◌, ◌≡◌, ◌++◌, ℕ, List, arith, ◌∙◌, ap, length, take}
-use Rattle.std.proofs.lemmas.List.{drop-drop}
+use Rattle.nap_lines.proofs.Common.{List, ap, arith, drop-drop, length, take, ℕ, ◌++◌, ◌+◌, ◌-◌, ◌∙◌, ◌≡◌}
 use borrow.Rule.Slice.PartMut.{put_mid}
 use Rattle.nap_lines.proofs.block.copy_at.Goals as goal
 

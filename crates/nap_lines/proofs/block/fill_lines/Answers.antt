@@ -1,6 +1,4 @@
-use Rattle.std.proofs.Common.{◌≡◌, ◌+◌, ◌*◌, ◌≤◌, ◌++◌, ℕ, List, arith, ◌∙◌, ap, sym, length, drop}
-use Rattle.std.proofs.Math.Nat.{add-mul, mul-le-mul_right}
-use Rattle.nap_lines.specs.Blocks.{patched, repeated}
+use Rattle.nap_lines.proofs.Common.{List, add-mul, ap, arith, drop, length, mul-le-mul_right, patched, repeated, sym, ℕ, ◌*◌, ◌++◌, ◌+◌, ◌∙◌, ◌≡◌, ◌≤◌}
 use Rattle.nap_lines.proofs.BlockLemmas.{one_more_line, repeated_size}
 use Rattle.nap_lines.proofs.block.fill_lines.Goals as goal
 

@@ -1,5 +1,4 @@
-use Rattle.std.proofs.Common.{◌≡◌, ◌*◌, ◌++◌, length, drop}
-use Rattle.nap_lines.specs.Blocks.{repeated}
+use Rattle.nap_lines.proofs.Common.{drop, length, repeated, ◌*◌, ◌++◌, ◌≡◌}
 use Rattle.nap_lines.proofs.block.fill_lines.Given as goal
 
 -- i copies of the line

@@ -1,7 +1,4 @@
-use Rattle.std.proofs.Common.{◌≡◌, ◌+◌, ◌/◌, ◌++◌, ℕ, suc, List, [], ◌∷◌, arith, ◌∙◌, ap, set, take, drop, append_assoc}
-use Rattle.std.specs.Char.{digit_char}
-use Rattle.std.proofs.lemmas.List.Edits.{sets-eq}
-use Rattle.nap_lines.specs.Lines.{code_text}
+use Rattle.nap_lines.proofs.Common.{List, [], ap, append_assoc, arith, code_text, digit_char, drop, set, sets-eq, suc, take, ℕ, ◌++◌, ◌+◌, ◌/◌, ◌∙◌, ◌∷◌, ◌≡◌}
 use Rattle.nap_lines.proofs.block.put_code.Goals as goal
 
 pub returns : goal.returns

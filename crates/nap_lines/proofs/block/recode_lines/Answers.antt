@@ -1,10 +1,4 @@
-use Rattle.std.proofs.Common.{◌≡◌, ◌+◌, ◌*◌, ◌≤◌, ◌++◌, ℕ, List, [], ◌∷◌, arith, refl, ◌∙◌, ap, sym, subst, length, take}
-use Rattle.std.specs.Prelude.{All, slice_index}
-use Rattle.std.proofs.lemmas.List.{take_more, length-take-le}
-use Rattle.std.proofs.lemmas.List.Elements.{All-append, All-cons, All-nil}
-use Rattle.std.proofs.Math.Nat.{add-mul, mul-le-mul_right}
-use Rattle.nap_lines.specs.Lines.{code_text}
-use Rattle.nap_lines.specs.Blocks.{patched, recoded}
+use Rattle.nap_lines.proofs.Common.{All, All-append, All-cons, All-nil, List, [], add-mul, ap, arith, code_text, length, length-take-le, mul-le-mul_right, patched, recoded, refl, slice_index, subst, sym, take, take_more, ℕ, ◌*◌, ◌++◌, ◌+◌, ◌∙◌, ◌∷◌, ◌≡◌, ◌≤◌}
 use Rattle.nap_lines.proofs.BlockLemmas.{recoded_next}
 use Rattle.nap_lines.proofs.block.recode_lines.Goals as goal
 

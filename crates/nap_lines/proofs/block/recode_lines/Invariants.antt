@@ -1,6 +1,4 @@
-use Rattle.std.proofs.Common.{◌≡◌, ◌≤◌, take}
-use Rattle.std.specs.Prelude.{All}
-use Rattle.nap_lines.specs.Blocks.{recoded}
+use Rattle.nap_lines.proofs.Common.{All, recoded, take, ◌≡◌, ◌≤◌}
 use Rattle.nap_lines.proofs.block.recode_lines.Given as goal
 
 -- the digits of the first i codes

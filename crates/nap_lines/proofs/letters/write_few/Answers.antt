@@ -1,7 +1,5 @@
-use Rattle.std.proofs.Common.{ℕ, ◌≡◌, ◌≤◌, ◌+◌, ◌-◌, List, ◌++◌, flat_map, length, take, drop, get_or, refl, sym, ap, ◌∙◌, arith, append-nil, append_assoc, length-append}
-use Rattle.nap_lines.specs.Lines.{code_text}
-use Rattle.nap_lines.specs.Batches.{char_front, text_byte_front}
-use Rattle.nap_lines.proofs.BatchLemmas.{appended, worked, around, kept, char_start, start_utf8, letter_typed, one_more, text_goes}
+use Rattle.nap_lines.proofs.Common.{List, ap, append-nil, append_assoc, arith, char_front, code_text, drop, flat_map, get_or, length, length-append, refl, sym, take, text_byte_front, ℕ, ◌++◌, ◌+◌, ◌-◌, ◌∙◌, ◌≡◌, ◌≤◌}
+use Rattle.nap_lines.proofs.BatchLemmas.{appended, grown, needed, worked, around, kept, char_start, start_utf8, letter_typed, one_more, text_goes}
 use Rattle.nap_lines.proofs.letters.write_few.Goals as goal
 use Rattle.nap_lines.proofs.letters.write_few.Goals.{then-code-lt32+else-is_err, else-code-lt32+else-is_err-2}
 
@@ -14,7 +12,7 @@ recoded start end old buffer last all rest place is count ends at now =
     (omega (arith, front, ap length now, length-append (start ++ code_text last) end, length-append start (code_text last)), parts.0, parts.1)
 
 pub loop-code-init : goal.loop-code-init
-loop-code-init c = record { last = 0; buffer = c.push_char_front.ensures; written = refl; text = sym (append-nil c.args.text.now.items) }
+loop-code-init c = record { last = 0; buffer = c.push_char_front.ensures; written = refl; few = omega arith; capacity = omega arith; text = sym (append-nil c.args.text.now.items) }
 
 pub overflow_sub-place : goal.overflow_sub-place
 overflow_sub-place c =
@@ -61,11 +59,14 @@ loop-code-preserved c =
     elim c.if-code-lt32.branch [
       | then-code-lt32+else-is_err w ↦
           let left = kept c.loop-code.buffer (char_front set invariant.last) end c.len-end.result invariant.buffer c.len-end.ensures.count in
+          let needs = needed 256 c.loop-code.text w.write_text_byte.new.text w.write_text_byte.result w.is_err.result w.is_err.ensures.value w.if-is_err.false w.write_text_byte.ensures.memory in
           let line = worked w.write_text_byte.result _ w.is_err.result w.is_err.ensures.value w.if-is_err.false w.write_text_byte.ensures.ok in
           record {
             last = 0;
             buffer = w.buffer-is ∙ w.write_text_byte.ensures.space ∙ ap (λ (bytes : List ℕ). char_front set 0 ++ bytes) left;
             written = ap (λ n. n + 1) invariant.written;
+            few = omega (arith, invariant.few, ap (λ t. t.len) w.text-is, needs.1);
+            capacity = omega (arith, invariant.capacity, ap (λ t. t.cap) w.text-is, needs.0);
             text = goes _ (ap (λ t. t.items) w.text-is ∙ line ∙ ap (λ (bytes : List ℕ). c.loop-code.text.items ++ (text_byte_front set code ++ bytes)) left);
           }
       | else-code-lt32+else-is_err-2 w ↦
@@ -76,12 +77,15 @@ loop-code-preserved c =
           ∙ ap (λ (rest : List ℕ). start ++ (code_text code ++ rest)) parts.2
           ∙ sym (append_assoc start (code_text code) end) in
           let line = w.as_slice.ensures.bytes ∙ buffer ∙ ap (λ (front : List ℕ). front ++ end) (sym (letter_typed set code (omega (arith, w.if-code-lt32.false)))) in
+          let added = grown w.extend_from_slice.result w.is_err-else-code-lt32.result _ _ _ w.is_err-else-code-lt32.ensures.value w.if-is_err-2.false w.extend_from_slice.ensures.len in
           let more = appended w.extend_from_slice.result w.is_err-else-code-lt32.result w.extend_from_slice.new.self.items c.loop-code.text.items w.as_slice.result.now w.extend_from_slice.ensures.items
           w.is_err-else-code-lt32.ensures.value w.if-is_err-2.false in
           record {
             last = code;
             buffer = w.buffer-is ∙ buffer;
             written = ap (λ n. n + 1) invariant.written;
+            few = omega (arith, invariant.few, ap (λ t. t.len) w.text-is, added, w.as_slice.ensures.few);
+            capacity = omega (arith, invariant.capacity, ap (λ t. t.cap) w.text-is, w.extend_from_slice.ensures.capacity);
             text = goes _ (ap (λ t. t.items) w.text-is ∙ more ∙ ap (λ (bytes : List ℕ). c.loop-code.text.items ++ bytes) line);
           }
     ]

@@ -1,9 +1,4 @@
-use Rattle.std.proofs.Common.{◌+◌, ◌++◌, List, ℕ, codes, take, drop, append-nil, ap, ◌∙◌, arith}
-use Rattle.std.proofs.lemmas.List.Concat.{flat_map-append}
-use Rattle.std.proofs.lemmas.Str.{IsUtf8-append}
-use Rattle.std.proofs.Math.Seq.{take-add}
-use Rattle.nap_values.specs.Coordinates.{Coordinates}
-use Rattle.nap_lines.specs.Lines.{point_text, points_text}
+use Rattle.nap_lines.proofs.Common.{Coordinates, IsUtf8-append, List, ap, append-nil, arith, codes, drop, flat_map-append, length, length-take, point_text, points_text, take, take-add, ℕ, ◌++◌, ◌+◌, ◌∙◌, ◌≤◌}
 use Rattle.nap_lines.proofs.BatchLemmas.{text_goes}
 use Rattle.nap_lines.proofs.line.write_points.Goals as goal
 
@@ -16,12 +11,15 @@ loop-written-preserved c =
     let few : List Coordinates = take count (drop i all) in
     let made =
     c.as_slice.ensures.bytes
-    ∙ c.push_points.ensures
+    ∙ c.push_points.ensures.text
     ∙ ap (λ (rest : List ℕ). points_text c.slice_part.result.now ++ rest) c.clear.ensures
     ∙ append-nil (points_text c.slice_part.result.now)
     ∙ ap points_text c.slice_part.ensures in
+    let short : length c.slice_part.result.now ≤ count = omega (arith, ap length c.slice_part.ensures, length-take count (drop i all)) in
     record {
       within = omega (arith, c.min-count.ensures, c.loop-written-test.true);
+      few = omega (arith, at.few, c.in_ok-extend_from_slice.ensures.len, ap length c.as_slice.ensures.bytes, c.push_points.ensures.size, ap length c.clear.ensures, short);
+      capacity = omega (arith, at.capacity, c.in_ok-extend_from_slice.ensures.capacity);
       text = text_goes c.args.text.now.items c.loop-written.text.items _ (points_text (take i all)) (points_text (take (i + count) all)) (points_text few) at.text
           (c.in_ok-extend_from_slice.ensures.items ∙ ap (λ (bytes : List ℕ). c.loop-written.text.items ++ bytes) made)
           (ap points_text (take-add i count all) ∙ flat_map-append (λ (p : Coordinates). codes " " ++ point_text p) (take i all) few);

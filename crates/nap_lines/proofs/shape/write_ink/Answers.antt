@@ -1,10 +1,8 @@
-use Rattle.std.proofs.Common.{arith, append_assoc}
-use Rattle.std.proofs.lemmas.Grind.{common_steps}
-use Rattle.std.proofs.lemmas.Str.{IsUtf8-append}
+use Rattle.nap_lines.proofs.Common.{IsUtf8-append, append_assoc, arith, common_steps}
 use Rattle.nap_lines.proofs.shape.write_ink.Goals as goal
 
-pub returns : goal.returns
-returns c = (
+pub returns-clause-appends : goal.returns-clause-appends
+returns-clause-appends c = (
   grind (arith, common_steps, append_assoc),
   λ h. rw c.in_ok-extend_from_slice.ensures.items (IsUtf8-append _ _ h c.as_slice.ensures.utf8),
 )

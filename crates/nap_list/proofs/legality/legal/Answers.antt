@@ -1,8 +1,5 @@
-use Rattle.std.proofs.Common.{◌∙◌, take, subst, sym, ap, arith, length}
-use Rattle.std.proofs.lemmas.Bool.{true≢false}
+use Rattle.nap_list.proofs.Common.{AllFit, Fits, after, ap, arith, fit_more, length, start, subst, sym, take, true≢false, walk, walk_more, ◌∙◌}
 use Rattle.nap_list.specs.declared.state.State.{State}
-use Rattle.nap_list.specs.State.{start, after, walk, AllFit, Fits}
-use Rattle.nap_list.specs.Walks.{walk_more, fit_more}
 use Rattle.nap_list.proofs.Breaks.{misfit_at, one_more, only_break, no_break, not_legal, ends_open, ends_legal}
 use Rattle.nap_list.proofs.legality.legal.Goals as goal
 

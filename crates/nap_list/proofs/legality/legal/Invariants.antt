@@ -1,5 +1,4 @@
-use Rattle.std.proofs.Common.{◌≡◌, take}
-use Rattle.nap_list.specs.State.{start, walk, AllFit}
+use Rattle.nap_list.proofs.Common.{AllFit, start, take, walk, ◌≡◌}
 use Rattle.nap_list.proofs.legality.legal.Given as goal
 
 -- the state after the entries so far, which fit

@@ -1,6 +1,4 @@
-use Rattle.std.proofs.Common.{List, ◌∷◌, ◌∙◌, ap, arith}
-use Rattle.std.proofs.lemmas.List.{take_all}
-use Rattle.nap_values.specs.Coordinates.{Coordinates}
+use Rattle.nap_list.proofs.Common.{Coordinates, List, ap, arith, take_all, ◌∙◌, ◌∷◌}
 use Rattle.nap_list.proofs.shape.points_from.Goals as goal
 
 pub returns : goal.returns

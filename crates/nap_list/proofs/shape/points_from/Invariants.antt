@@ -1,4 +1,4 @@
-use Rattle.std.proofs.Common.{◌≡◌, ◌∷◌, take}
+use Rattle.nap_list.proofs.Common.{take, ◌∷◌, ◌≡◌}
 use Rattle.nap_list.proofs.shape.points_from.Given as goal
 
 abbrev pub invariant-loop-point : goal.invariant-loop-point

@@ -1,6 +1,4 @@
-use Rattle.std.proofs.Common.{codes}
-use Rattle.nap_list.specs.Range.{ColourInRange}
-use Rattle.nap_lines.specs.Lines.{colour_text}
+use Rattle.nap_make.proofs.Common.{ColourInRange, codes, colour_text}
 use Rattle.nap_make.proofs.LayoutLemmas.{reads_keyed}
 use Rattle.nap_make.proofs.attribute.colour_field.Goals as goal
 

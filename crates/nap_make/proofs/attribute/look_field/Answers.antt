@@ -1,6 +1,4 @@
-use Rattle.std.proofs.Common.{codes}
-use Rattle.nap_list.specs.Range.{TextInRange}
-use Rattle.nap_lines.specs.Lines.{look_text}
+use Rattle.nap_make.proofs.Common.{TextInRange, codes, look_text}
 use Rattle.nap_make.proofs.LayoutLemmas.{reads_keyed}
 use Rattle.nap_make.proofs.attribute.look_field.Goals as goal
 

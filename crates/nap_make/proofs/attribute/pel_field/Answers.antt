@@ -1,6 +1,4 @@
-use Rattle.std.proofs.Common.{codes}
-use Rattle.nap_values.specs.Coordinates.{IsInRange}
-use Rattle.nap_lines.specs.Lines.{move_text}
+use Rattle.nap_make.proofs.Common.{IsInRange, codes, move_text}
 use Rattle.nap_make.proofs.LayoutLemmas.{reads_keyed}
 use Rattle.nap_make.proofs.attribute.pel_field.Goals as goal
 

@@ -1,6 +1,4 @@
-use Rattle.std.proofs.Common.{codes}
-use Rattle.nap_list.specs.Range.{PenInRange}
-use Rattle.nap_lines.specs.Lines.{pen_text}
+use Rattle.nap_make.proofs.Common.{PenInRange, codes, pen_text}
 use Rattle.nap_make.proofs.LayoutLemmas.{reads_keyed}
 use Rattle.nap_make.proofs.attribute.pen_field.Goals as goal
 

@@ -1,6 +1,4 @@
-use Rattle.std.proofs.Common.{codes}
-use Rattle.nap_list.specs.Range.{TextureInRange}
-use Rattle.nap_lines.specs.Lines.{texture_text}
+use Rattle.nap_make.proofs.Common.{TextureInRange, codes, texture_text}
 use Rattle.nap_make.proofs.LayoutLemmas.{reads_keyed}
 use Rattle.nap_make.proofs.attribute.texture_field.Goals as goal
 

@@ -1,5 +1,4 @@
-use Rattle.std.proofs.Common.{arith, codes}
-use Rattle.std.proofs.lemmas.Slice.Eq.{text_from_reads}
+use Rattle.nap_make.proofs.Common.{arith, codes, text_from_reads}
 use Rattle.nap_make.proofs.choice.char_set.Goals as goal
 
 pub returns-in-supplementary : goal.returns-in-supplementary

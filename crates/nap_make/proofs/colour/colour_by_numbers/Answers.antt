@@ -1,6 +1,5 @@
-use Rattle.std.proofs.Common.{◌∙◌, ap}
+use Rattle.nap_make.proofs.Common.{ap, kind_name, ◌∙◌}
 use Rattle.nap_make.specs.declared.colour.ColourKind.TheVariants as kinds
-use Rattle.nap_make.specs.Fields.{kind_name}
 use Rattle.nap_make.proofs.ColourLemmas.{no_colon, no_kind, no_numbers}
 use Rattle.nap_make.proofs.colour.colour_by_numbers.Goals as goal
 

@@ -1,8 +1,7 @@
 use Rattle.nap_make.proofs.LayoutLemmas.{both_written, no_byte, no_first, no_second, none_alike, written_alike}
 use Rattle.nap_make.proofs.LayoutLemmas.{reads_tried}
 use Rattle.nap_make.proofs.ColourLemmas.{grb_triple, part_pair, part_triple}
-use Rattle.nap_values.specs.Colours.{Components, HasSixteenBitParts}
-use Rattle.nap_lines.specs.Lines.{grb_text}
+use Rattle.nap_make.proofs.Common.{Components, HasSixteenBitParts, grb_text}
 use Rattle.nap_make.proofs.colour.grb.Goals as goal
 
 pub returns-in_err-g : goal.returns-in_err-g

@@ -1,8 +1,4 @@
-use Rattle.std.proofs.Common.{◌≡◌, ◌||◌, ◌++◌, ◌∙◌, Bool, false, ℕ, List, [], ap, subst, append-nil, inl, inr, take, length, length-append, arith}
-use Rattle.std.specs.Io.KnownBytes.{Consumes}
-use Rattle.std.proofs.KnownBytes.{Consumes-trans, Consumes-kept}
-use Rattle.std.proofs.Math.Bool.{or-false, or-true}
-use Rattle.std.proofs.lemmas.Result.{err_from_is_err_and}
+use Rattle.nap_make.proofs.Common.{Bool, Consumes, Consumes-kept, Consumes-trans, List, [], ap, append-nil, arith, err_from_is_err_and, false, inl, inr, length, length-append, or-false, or-true, subst, take, ℕ, ◌++◌, ◌||◌, ◌∙◌, ◌≡◌}
 use Rattle.nap_make.proofs.lines.feed_from.Goals as goal
 
 -- a call that doesn't fail keeps the flag

@@ -1,6 +1,4 @@
-use Rattle.std.proofs.Common.{◌≡◌, ◌+◌, ◌≤◌, ℕ, List, [], length}
-use Rattle.std.specs.Io.KnownBytes.{Consumes}
-use Rattle.nap_make.specs.ListMaking.{IsReady, HasReadLines}
+use Rattle.nap_make.proofs.Common.{Consumes, HasReadLines, IsReady, List, [], length, ℕ, ◌+◌, ◌≡◌, ◌≤◌}
 use Rattle.nap_make.proofs.lines.feed_from.Given as goal
 
 abbrev pub invariant-loop : goal.invariant-loop

@@ -1,6 +1,4 @@
-use Rattle.std.proofs.Common.{Err, subst, sym}
-use Rattle.nap_list.specs.Reading.{reading}
-use Rattle.nap_make.specs.ListMaking.{Makes, MakesList}
+use Rattle.nap_make.proofs.Common.{Err, Makes, MakesList, reading, subst, sym}
 use Rattle.nap_make.proofs.MakeLemmas.{makes_none}
 use Rattle.nap_make.proofs.lines.make_list.Goals as goal
 

@@ -1,5 +1,4 @@
-use Rattle.std.proofs.Common.{[], Err, subst, sym}
-use Rattle.nap_make.specs.ListMaking.{PutsLines}
+use Rattle.nap_make.proofs.Common.{Err, PutsLines, [], subst, sym}
 use Rattle.nap_make.proofs.MakeLemmas.{puts_all, puts_none}
 use Rattle.nap_make.proofs.lines.put_lines.Goals as goal
 

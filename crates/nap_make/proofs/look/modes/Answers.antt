@@ -1,4 +1,4 @@
-use Rattle.std.proofs.Common.{arith}
+use Rattle.nap_make.proofs.Common.{arith}
 use Rattle.nap_make.proofs.LookLemmas.{modes_written, no_reverse, no_scroll, no_underline, no_wrap, not_four}
 use Rattle.nap_make.proofs.look.modes.Goals as goal
 

@@ -1,5 +1,4 @@
-use Rattle.std.specs.Fmt.{decimal}
-use Rattle.nap_list.specs.Range.{IsAddress}
+use Rattle.nap_make.proofs.Common.{IsAddress, decimal}
 use Rattle.nap_make.proofs.LayoutLemmas.{reads_tried}
 use Rattle.nap_make.proofs.number.addr.Goals as goal
 

@@ -1,4 +1,4 @@
-use Rattle.std.proofs.Common.{List, ℕ, ap, length, arith}
+use Rattle.nap_make.proofs.Common.{List, ap, arith, length, ℕ}
 use Rattle.nap_make.proofs.CodeLemmas.{code_written, high_digit, no_high, no_low}
 use Rattle.nap_make.proofs.number.code.Goals as goal
 

@@ -1,4 +1,4 @@
-use Rattle.std.proofs.Common.{suc, arith}
+use Rattle.nap_make.proofs.Common.{arith, suc}
 use Rattle.nap_make.proofs.NumberLemmas.{same_number}
 use Rattle.nap_make.proofs.SpellLemmas.{low_neg}
 use Rattle.nap_make.proofs.number.negative.Goals as goal

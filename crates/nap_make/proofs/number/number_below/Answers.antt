@@ -1,4 +1,4 @@
-use Rattle.std.proofs.Common.{arith}
+use Rattle.nap_make.proofs.Common.{arith}
 use Rattle.nap_make.proofs.NumberLemmas.{no_zero, numeral_of, numeral_tells, zero_first}
 use Rattle.nap_make.proofs.number.number_below.Goals as goal
 

@@ -1,7 +1,4 @@
-use Rattle.std.proofs.Common.{get_or, arith}
-use Rattle.std.proofs.lemmas.Int.Digits.{digits_more, digits_value_more}
-use Rattle.std.proofs.lemmas.Str.{digit_value_digit}
-use Rattle.std.proofs.lemmas.Str.Parse.{digit_from_value}
+use Rattle.nap_make.proofs.Common.{arith, digit_from_value, digit_value_digit, digits_more, digits_value_more, get_or}
 use Rattle.nap_make.proofs.NumberLemmas.{digit_at, small}
 use Rattle.nap_make.proofs.number.numeral.Goals as goal
 

@@ -1,5 +1,4 @@
-use Rattle.std.proofs.Common.{◌≡◌, take}
-use Rattle.std.specs.Str.Parse.{AllDigits, digits_value}
+use Rattle.nap_make.proofs.Common.{AllDigits, digits_value, take, ◌≡◌}
 use Rattle.nap_make.proofs.number.numeral.Given as goal
 
 abbrev pub invariant-loop-digit : goal.invariant-loop-digit

@@ -1,4 +1,4 @@
-use Rattle.std.proofs.Common.{arith}
+use Rattle.nap_make.proofs.Common.{arith}
 use Rattle.nap_make.proofs.SpellLemmas.{low_pos}
 use Rattle.nap_make.proofs.number.positive.Goals as goal
 

@@ -1,4 +1,4 @@
-use Rattle.std.proofs.Common.{arith}
+use Rattle.nap_make.proofs.Common.{arith}
 use Rattle.nap_make.proofs.SignedLemmas.{after_minus, no_sign, with_minus, without_minus}
 use Rattle.nap_make.proofs.number.signed.Goals as goal
 

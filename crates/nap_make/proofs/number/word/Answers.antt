@@ -1,5 +1,4 @@
-use Rattle.std.specs.Fmt.{decimal}
-use Rattle.nap_values.specs.Laws.{IsWord}
+use Rattle.nap_make.proofs.Common.{IsWord, decimal}
 use Rattle.nap_make.proofs.LayoutLemmas.{reads_tried}
 use Rattle.nap_make.proofs.number.word.Goals as goal
 

@@ -1,6 +1,4 @@
-use Rattle.std.proofs.Common.{◌≡◌, ◌∙◌, [], true, false, refl, sym, arith}
-use Rattle.std.proofs.KnownBytes.{Consumes-nil}
-use Rattle.nap_list.specs.Reading.{reading}
+use Rattle.nap_make.proofs.Common.{Consumes-nil, [], arith, false, reading, refl, sym, true, ◌∙◌, ◌≡◌}
 use Rattle.nap_make.proofs.PageLemmas.{concluded, header_fails}
 use Rattle.nap_make.proofs.TextLemmas.{flushed_once}
 use Rattle.nap_make.proofs.page.make_page.Goals as goal

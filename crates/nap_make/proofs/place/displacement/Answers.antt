@@ -1,8 +1,6 @@
-use Rattle.std.proofs.Common.{ℤ, ap₂}
-use Rattle.nap_values.specs.Coordinates.{Displacement}
+use Rattle.nap_make.proofs.Common.{Displacement, ap₂, to_z-of_z, ℤ}
 use Rattle.nap_make.proofs.LayoutLemmas.{both_written, no_byte, no_first, no_second, none_alike, written_alike}
 use Rattle.nap_make.proofs.PlaceLemmas.{move_pair, signs}
-use Rattle.std.proofs.lemmas.Int.{to_z-of_z}
 use mir.Syntax.{w32}
 use Rattle.nap_make.proofs.PlaceLemmas.{move_tried}
 use Rattle.nap_make.proofs.SignedLemmas.{signed_fits}

@@ -1,7 +1,6 @@
 use Rattle.nap_make.proofs.LayoutLemmas.{both_written, no_byte, no_first, no_second, none_alike, written_alike}
 use Rattle.nap_make.proofs.PlaceLemmas.{coordinates, point_pair}
-use Rattle.nap_values.specs.Coordinates.{IsInSquare}
-use Rattle.nap_lines.specs.Lines.{point_text}
+use Rattle.nap_make.proofs.Common.{IsInSquare, point_text}
 use Rattle.nap_make.proofs.LayoutLemmas.{reads_tried}
 use Rattle.nap_make.proofs.place.point.Goals as goal
 

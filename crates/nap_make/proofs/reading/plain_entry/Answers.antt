@@ -1,8 +1,4 @@
-use Rattle.std.proofs.Common.{List, ◌≡◌, sym, subst}
-use Rattle.nap_make.specs.declared.field.Sort.{Sort}
-use Rattle.nap_make.specs.declared.field.Value.{Value}
-use Rattle.nap_make.specs.Kinds.{kind_row}
-use Rattle.nap_make.specs.Rows.{FitsSort, fields_text}
+use Rattle.nap_make.proofs.Common.{FitsSort, List, Sort, Value, fields_text, kind_row, subst, sym, ◌≡◌}
 use Rattle.nap_make.proofs.ReadingLemmas.{left_fits, plain_tells, plain_wrong}
 use Rattle.nap_make.proofs.reading.plain_entry.Goals as goal
 

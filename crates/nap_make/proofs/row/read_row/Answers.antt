@@ -1,5 +1,4 @@
-use Rattle.std.proofs.Common.{refl, arith}
-use Rattle.std.proofs.lemmas.List.{take_all}
+use Rattle.nap_make.proofs.Common.{arith, refl, take_all}
 use Rattle.nap_make.proofs.RowLemmas.{all_read, last_read, no_space, no_word, one_read}
 use Rattle.nap_make.proofs.row.read_row.Goals as goal
 

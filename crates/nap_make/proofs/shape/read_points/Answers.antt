@@ -1,5 +1,4 @@
-use Rattle.std.proofs.Common.{List, length, ap, arith}
-use Rattle.nap_values.specs.Coordinates.{Coordinates}
+use Rattle.nap_make.proofs.Common.{Coordinates, List, ap, arith, length}
 use Rattle.nap_make.proofs.ShapeLemmas.{point_read}
 use Rattle.nap_make.proofs.shape.read_points.Goals as goal
 

@@ -1,4 +1,4 @@
-use Rattle.std.proofs.Common.{length}
+use Rattle.nap_make.proofs.Common.{length}
 use Rattle.nap_make.proofs.ShapeLemmas.{HasPointsSo}
 use Rattle.nap_make.proofs.shape.read_points.Given as goal
 

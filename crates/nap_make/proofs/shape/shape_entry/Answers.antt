@@ -1,9 +1,4 @@
-use Rattle.std.proofs.Common.{List, ◌≡◌, length, ap, sym, subst, arith}
-use Rattle.nap_values.specs.Coordinates.{Coordinates}
-use Rattle.nap_make.specs.declared.field.Sort.{Sort}
-use Rattle.nap_make.specs.declared.field.Value.{Value}
-use Rattle.nap_make.specs.Kinds.{kind_row}
-use Rattle.nap_make.specs.Rows.{FitsSort, fields_text}
+use Rattle.nap_make.proofs.Common.{Coordinates, FitsSort, List, Sort, Value, ap, arith, fields_text, kind_row, length, subst, sym, ◌≡◌}
 use Rattle.nap_make.proofs.ReadingLemmas.{few_points, points_left_fit, shape_left_fits, shape_tells, shape_wrong}
 use Rattle.nap_make.proofs.shape.shape_entry.Goals as goal
 

@@ -1,4 +1,4 @@
-use Rattle.nap_reader.proofs.{IsTextByte, ap, arith, drop, get_or, get_or-take, is_of_text, length-take-le, of_text_is, prefix_len, prefix_len-le-length, prefix_len_passes, subst, sym, ◌+◌, ◌<◌, ◌∙◌, ◌≡◌}
+use Rattle.nap_reader.proofs.{IsTextByte, arith, get_or, get_or-take, is_of_text, length-take-le, of_text_is, prefix_len_passes, subst, sym, ◌<◌}
 use Rattle.nap_reader.proofs.text.text_bytes.Goals as goal
 
 pub returns-in-Some-clause-typed : goal.returns-in-Some-clause-typed

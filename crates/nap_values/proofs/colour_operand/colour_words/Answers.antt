@@ -1,5 +1,4 @@
-use Rattle.std.proofs.Common.{◌≡◌, ◌∙◌, ◌-◌, ℕ, List, [], ◌∷◌, length, get_or, refl, ap, arith}
-use Rattle.nap_values.specs.Operands.{operand_words, colour_of}
+use Rattle.nap_values.proofs.Common.{List, [], ap, arith, colour_of, get_or, length, operand_words, refl, ℕ, ◌-◌, ◌∙◌, ◌∷◌, ◌≡◌}
 use Rattle.nap_values.proofs.OperandWordLemmas.{zero_bytes}
 use Rattle.nap_values.proofs.PublicLaws.{missing_words_are_zero}
 use Rattle.nap_values.proofs.colour_operand.colour_words.Goals as goal

@@ -1,5 +1,4 @@
-use Rattle.std.proofs.Common.{◌≡◌, ◌∙◌, ◌-◌, ℕ, List, [], ◌∷◌, length, get_or, refl, ap, arith}
-use Rattle.nap_values.specs.Operands.{operand_words, multi_of}
+use Rattle.nap_values.proofs.Common.{List, [], ap, arith, get_or, length, multi_of, operand_words, refl, ℕ, ◌-◌, ◌∙◌, ◌∷◌, ◌≡◌}
 use Rattle.nap_values.proofs.OperandWordLemmas.{zero_bytes}
 use Rattle.nap_values.proofs.PublicLaws.{missing_words_are_zero}
 use Rattle.nap_values.proofs.operand.multi_bytes.Goals as goal

@@ -1,7 +1,4 @@
-use Rattle.std.proofs.Common.{◌∙◌, ap, subst, sym, bit_and}
-use Rattle.nap_values.specs.Digits.{value_of}
-use Rattle.nap_values.specs.Operands.{multi_of}
-use Rattle.nap_values.specs.PackedCoordinates.{HoldsWords, words_in}
+use Rattle.nap_values.proofs.Common.{HoldsWords, ap, bit_and, multi_of, subst, sym, value_of, words_in, ◌∙◌}
 use Rattle.nap_values.proofs.OperandWordLemmas.{kept_holds, kept_spells}
 use Rattle.nap_values.proofs.operand.multi_first_three.Goals as goal
 

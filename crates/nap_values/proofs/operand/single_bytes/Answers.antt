@@ -1,5 +1,4 @@
-use Rattle.std.proofs.Common.{get_or, arith, refl, ◌∙◌}
-use Rattle.nap_values.specs.Operands.{single_of}
+use Rattle.nap_values.proofs.Common.{arith, get_or, refl, single_of, ◌∙◌}
 use Rattle.nap_values.proofs.LoopLemmas.{IsSumSoFar-more, IsSumSoFar-all}
 use Rattle.nap_values.proofs.operand.single_bytes.Goals as goal
 

@@ -1,4 +1,4 @@
-use Rattle.std.proofs.Common.{◌%◌}
+use Rattle.nap_values.proofs.Common.{◌%◌}
 use Rattle.nap_values.proofs.LoopLemmas.{IsSumSoFar}
 use Rattle.nap_values.proofs.operand.single_bytes.Given as goal
 

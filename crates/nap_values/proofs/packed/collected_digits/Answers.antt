@@ -1,4 +1,4 @@
-use Rattle.std.proofs.Common.{rules}
+use Rattle.nap_values.proofs.Common.{rules}
 use Rattle.nap_values.proofs.CollectLemmas.{collects, collects-below}
 use Rattle.nap_values.proofs.packed.collected_digits.Goals as goal
 

@@ -1,4 +1,4 @@
-use Rattle.std.proofs.Common.{rules}
+use Rattle.nap_values.proofs.Common.{rules}
 use Rattle.nap_values.proofs.CollectLemmas.{below_base}
 use Rattle.nap_values.proofs.PartLemmas.{collects}
 use Rattle.nap_values.proofs.packed_colours.collected_digits.Goals as goal

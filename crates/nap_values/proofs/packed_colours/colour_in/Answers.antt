@@ -1,6 +1,4 @@
-use Rattle.std.proofs.Common.{◌∙◌, refl}
-use Rattle.nap_values.specs.Operands.{colour_of}
-use Rattle.nap_values.specs.PackedColours.{g_in, r_in, b_in}
+use Rattle.nap_values.proofs.Common.{b_in, colour_of, g_in, r_in, refl, ◌∙◌}
 use Rattle.nap_values.proofs.packed_colours.colour_in.Goals as goal
 
 pub returns : goal.returns

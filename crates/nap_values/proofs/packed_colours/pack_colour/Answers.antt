@@ -1,5 +1,4 @@
-use Rattle.std.proofs.Common.{rules, ◌<◌, ◌∙◌, sym, subst}
-use Rattle.nap_values.specs.PackedCoordinates.{HoldsWords}
+use Rattle.nap_values.proofs.Common.{HoldsWords, rules, subst, sym, ◌<◌, ◌∙◌}
 use Rattle.nap_values.proofs.PackedColourLemmas.{packed_colour-parts, packed_colour-words}
 use Rattle.nap_values.proofs.packed_colours.pack_colour.Goals as goal
 

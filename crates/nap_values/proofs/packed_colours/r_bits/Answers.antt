@@ -1,15 +1,11 @@
-use Rattle.std.proofs.Common.{◌<◌, ◌∙◌, All, ap, sym, subst}
-use Rattle.nap_values.specs.Digits.{value_of}
-use Rattle.nap_values.specs.PackedCoordinates.{words_in}
-use Rattle.nap_values.specs.PackedColours.{r_in}
+use Rattle.nap_values.proofs.Common.{All, ap, r_in, subst, sym, value_of, words_in, ◌<◌, ◌∙◌}
 use Rattle.nap_values.proofs.SpellingLemmas.{r_digits-below}
 use Rattle.nap_values.proofs.PackedColourLemmas.{r_digits_are}
 use Rattle.nap_values.proofs.packed_colours.r_bits.Goals as goal
 
 pub collected_digits-requires : goal.collected_digits-requires
 collected_digits-requires c =
-    let words = c.get-words.ensures.words in
-    subst (All (λ d. d < 4)) (sym (r_digits_are _ words)) (r_digits-below (words_in _) words)
+    subst (All (λ d. d < 4)) (sym (r_digits_are _ c.get-words.ensures.words)) (r_digits-below (words_in _) c.get-words.ensures.words)
 
 pub returns : goal.returns
 unfolding r_in

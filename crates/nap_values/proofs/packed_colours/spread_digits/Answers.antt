@@ -1,4 +1,4 @@
-use Rattle.std.proofs.Common.{arith}
+use Rattle.nap_values.proofs.Common.{arith}
 use Rattle.nap_values.proofs.PartLemmas.{spreads}
 use Rattle.nap_values.proofs.packed_colours.spread_digits.Goals as goal
 

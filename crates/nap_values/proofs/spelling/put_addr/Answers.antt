@@ -1,6 +1,4 @@
-use Rattle.std.proofs.Common.{◌≡◌, ◌+◌, ◌-◌, arith, sym, ap, ◌∙◌, append_assoc, append-nil}
-use Rattle.nap_values.specs.Digits.{digits_of}
-use Rattle.nap_values.specs.Spellings.{addr_bytes}
+use Rattle.nap_values.proofs.Common.{addr_bytes, ap, append-nil, append_assoc, arith, digits_of, sym, ◌+◌, ◌-◌, ◌∙◌, ◌≡◌}
 use Rattle.nap_values.proofs.LoopLemmas.{IsRestAt-more, digits_of-more}
 use Rattle.nap_values.proofs.spelling.put_addr.Goals as goal
 
@@ -18,5 +16,4 @@ pub returns : goal.returns
 unfolding digits_of addr_bytes
 returns c =
     let left : 4 - c.loop-i.i ≡ 0 = omega arith in
-    let whole = rw left at c.loop-i.invariant.bytes in
-    sym (append-nil c.loop-i.bytes.items) ∙ whole
+    sym (append-nil c.loop-i.bytes.items) ∙ rw left at c.loop-i.invariant.bytes

@@ -1,7 +1,4 @@
-use Rattle.std.proofs.Common.{◌≡◌, ◌-◌, ◌++◌}
-use Rattle.arrayvec.specs.ArrayVec.{array_vec_len}
-use Rattle.nap_values.specs.Digits.{digits_of}
-use Rattle.nap_values.specs.Spellings.{operand_bytes}
+use Rattle.nap_values.proofs.Common.{array_vec_len, digits_of, operand_bytes, ◌++◌, ◌-◌, ◌≡◌}
 use Rattle.nap_values.proofs.LoopLemmas.{IsRestAt}
 use Rattle.nap_values.proofs.spelling.put_addr.Given as goal
 

@@ -1,5 +1,4 @@
-use Rattle.std.proofs.Common.{◌∙◌, ap}
-use Rattle.nap_values.specs.Spellings.{operand_bytes, move_bytes}
+use Rattle.nap_values.proofs.Common.{ap, move_bytes, operand_bytes, ◌∙◌}
 use Rattle.nap_values.proofs.ByteLemmas.{words_of_move}
 use Rattle.nap_values.proofs.spelling.put_move.Goals as goal
 

@@ -1,5 +1,4 @@
-use Rattle.std.proofs.Common.{◌∙◌, ap}
-use Rattle.nap_values.specs.Spellings.{operand_bytes, point_bytes}
+use Rattle.nap_values.proofs.Common.{ap, operand_bytes, point_bytes, ◌∙◌}
 use Rattle.nap_values.proofs.ByteLemmas.{words_of_point}
 use Rattle.nap_values.proofs.spelling.put_point.Goals as goal
 

@@ -1,7 +1,4 @@
-use Rattle.std.proofs.Common.{rules, ◌∙◌, ap}
-use Rattle.std.specs.Int.{w64, to_le_bytes}
-use Rattle.nap_values.specs.PackedCoordinates.{words_in}
-use Rattle.nap_values.specs.Spellings.{operand_bytes}
+use Rattle.nap_values.proofs.Common.{ap, operand_bytes, rules, to_le_bytes, w64, words_in, ◌∙◌}
 use Rattle.nap_values.proofs.PackedLemmas.{packed_fits}
 use Rattle.nap_values.proofs.ByteLemmas.{bytes_of_words}
 use Rattle.nap_values.proofs.spelling.put_words.Goals as goal

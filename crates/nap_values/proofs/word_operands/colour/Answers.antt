@@ -1,5 +1,4 @@
-use Rattle.std.proofs.Common.{◌∙◌, ap}
-use Rattle.nap_values.specs.Operands.{colour_of}
+use Rattle.nap_values.proofs.Common.{ap, colour_of, ◌∙◌}
 use Rattle.nap_values.proofs.PaddedLemmas.{colour_of-padded}
 use Rattle.nap_values.proofs.word_operands.colour.Goals as goal
 

@@ -1,5 +1,4 @@
-use Rattle.std.proofs.Common.{◌∙◌, ap}
-use Rattle.nap_values.specs.Operands.{multi_of}
+use Rattle.nap_values.proofs.Common.{ap, multi_of, ◌∙◌}
 use Rattle.nap_values.proofs.PaddedLemmas.{multi_of-padded}
 use Rattle.nap_values.proofs.word_operands.multi.Goals as goal
 

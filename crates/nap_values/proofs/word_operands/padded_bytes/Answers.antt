@@ -1,7 +1,4 @@
-use Rattle.std.proofs.Common.{◌≡◌, ◌+◌, ◌-◌, ◌<◌, ◌%◌, ◌∙◌, ◌++◌, [], ◌∷◌, ℕ, List, suc, length, take, replicate, set, get_or, length-set, append_assoc, arith, ap, sym}
-use Rattle.std.proofs.lemmas.List.{take_more, map-set, set_at, length-take-le, get_or_read}
-use Rattle.nap_values.specs.Operands.{operand_words}
-use Rattle.nap_values.proofs.PaddedLemmas.{padded-filled}
+use Rattle.nap_values.proofs.Common.{List, [], ap, append_assoc, arith, get_or, get_or_read, length, length-set, length-take-le, map-set, operand_words, replicate, set, set_at, suc, sym, take, take_more, ℕ, ◌%◌, ◌++◌, ◌+◌, ◌-◌, ◌<◌, ◌∙◌, ◌∷◌, ◌≡◌}
 use Rattle.nap_values.proofs.word_operands.padded_bytes.Goals as goal
 
 -- one more byte replaces a zero
@@ -27,8 +24,3 @@ loop-at-preserved c =
       size = length-set l.bytes l.at c.get.result ∙ l.invariant.size;
       words = one_byte_more l.bytes run l.at c.get.result (omega arith) inside (omega (arith, same, c.get.ensures.below)) l.invariant.words;
     }
-
-pub returns : goal.returns
-returns c =
-    c.loop-at.invariant.words
-    ∙ padded-filled 8 c.loop-at.at c.args.run.now (omega arith) (omega arith) (λ few more. absurd (omega arith))

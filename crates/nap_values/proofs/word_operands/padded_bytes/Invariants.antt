@@ -1,5 +1,4 @@
-use Rattle.std.proofs.Common.{◌≡◌, ◌-◌, ◌++◌, length, take, replicate}
-use Rattle.nap_values.specs.Operands.{operand_words}
+use Rattle.nap_values.proofs.Common.{length, operand_words, replicate, take, ◌++◌, ◌-◌, ◌≡◌}
 use Rattle.nap_values.proofs.word_operands.padded_bytes.Given as goal
 
 abbrev pub invariant-loop-at : goal.invariant-loop-at

@@ -1,4 +1,4 @@
-use Rattle.std.proofs.Common.{◌∙◌}
+use Rattle.nap_values.proofs.Common.{◌∙◌}
 use Rattle.nap_values.proofs.PaddedLemmas.{single_of-padded}
 use Rattle.nap_values.proofs.word_operands.single.Goals as goal
 

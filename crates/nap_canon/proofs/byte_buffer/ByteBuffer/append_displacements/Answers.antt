@@ -1,5 +1,4 @@
-use Rattle.std.proofs.Common.{◌+◌, ◌*◌, ◌++◌, ◌∙◌, ℕ, List, arith, ap, sym, length}
-use Rattle.nap_canon.specs.Spelling.{displacement_bytes}
+use Rattle.nap_canon.proofs.Common.{List, ap, arith, displacement_bytes, length, sym, ℕ, ◌*◌, ◌++◌, ◌+◌, ◌∙◌}
 use Rattle.nap_canon.proofs.texts.WriterLemmas.{displacements_size}
 use Rattle.nap_canon.proofs.texts.AppendedLemmas.{appended_ends}
 use Rattle.nap_canon.proofs.byte_buffer.ByteBuffer.append_displacements.Goals as goal

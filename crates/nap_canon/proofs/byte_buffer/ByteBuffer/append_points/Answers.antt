@@ -1,5 +1,4 @@
-use Rattle.std.proofs.Common.{◌+◌, ◌*◌, ◌++◌, ◌∙◌, ℕ, List, arith, ap, sym, length}
-use Rattle.nap_canon.specs.Batches.{points_bytes}
+use Rattle.nap_canon.proofs.Common.{List, ap, arith, length, points_bytes, sym, ℕ, ◌*◌, ◌++◌, ◌+◌, ◌∙◌}
 use Rattle.nap_canon.proofs.texts.PointsLemmas.{points_size}
 use Rattle.nap_canon.proofs.texts.AppendedLemmas.{appended_ends}
 use Rattle.nap_canon.proofs.byte_buffer.ByteBuffer.append_points.Goals as goal

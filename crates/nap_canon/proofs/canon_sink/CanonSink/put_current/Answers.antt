@@ -1,8 +1,4 @@
-use Rattle.std.proofs.Common.{◌+◌, ◌≤◌, Ok, drop, length, arith, length-drop, refl}
-use Rattle.nap_list.specs.Batches.{batch_entries}
-use Rattle.nap_list.specs.PuttingLaws.{put_begins}
-use Rattle.nap_canon.specs.Batches.{canon_sink_model, PutsSome}
-use Rattle.nap_canon.specs.SinkLaws.{took_none}
+use Rattle.nap_canon.proofs.Common.{Ok, PutsSome, arith, batch_entries, canon_sink_model, drop, length, length-drop, put_begins, refl, took_none, ◌+◌, ◌≤◌}
 use Rattle.nap_canon.proofs.sinks.PutLemmas.{broke_after, halts_within, part_put, current_after_part, works_after}
 use Rattle.nap_canon.proofs.canon_sink.CanonSink.put_current.Goals as goal
 

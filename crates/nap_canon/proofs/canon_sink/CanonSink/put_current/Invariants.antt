@@ -1,7 +1,4 @@
-use Rattle.std.proofs.Common.{◌≡◌, ◌-◌, ◌≤◌, false, drop, length}
-use Rattle.nap_list.specs.Batches.{EachIsCurrent, batch_entries}
-use Rattle.nap_list.specs.Putting.{Putting}
-use Rattle.nap_canon.specs.Batches.{canon_sink_model}
+use Rattle.nap_canon.proofs.Common.{EachIsCurrent, Putting, batch_entries, canon_sink_model, drop, false, length, ◌-◌, ◌≡◌, ◌≤◌}
 use Rattle.nap_canon.proofs.canon_sink.CanonSink.put_current.Given as goal
 
 -- the entries so far

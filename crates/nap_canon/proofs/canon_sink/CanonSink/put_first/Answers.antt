@@ -1,7 +1,4 @@
-use Rattle.std.proofs.Common.{List, sym, subst}
-use Rattle.nap_list.specs.declared.entry.Entry.{Entry}
-use Rattle.nap_list.specs.State.{AllFit}
-use Rattle.nap_canon.specs.Batches.{PutsFirst}
+use Rattle.nap_canon.proofs.Common.{AllFit, Entry, List, PutsFirst, subst, sym}
 use Rattle.nap_canon.proofs.sinks.PutLemmas.{first_put}
 use Rattle.nap_canon.proofs.canon_sink.CanonSink.put_first.Goals as goal
 

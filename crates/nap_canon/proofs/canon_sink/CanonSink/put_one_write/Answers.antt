@@ -1,8 +1,4 @@
-use Rattle.std.proofs.Common.{◌≡◌, false, drop, refl, sym, subst}
-use Rattle.nap_list.specs.Batches.{batch_entries}
-use Rattle.nap_list.specs.Sending.{sending}
-use Rattle.nap_canon.specs.Batches.{PutsSome}
-use Rattle.nap_canon.specs.Sinking.{Canonical}
+use Rattle.nap_canon.proofs.Common.{Canonical, PutsSome, batch_entries, drop, false, refl, sending, subst, sym, ◌≡◌}
 use Rattle.nap_canon.proofs.sinks.PutLemmas.{next_put}
 use Rattle.nap_canon.proofs.canon_sink.CanonSink.put_one_write.Goals as goal
 

@@ -1,4 +1,4 @@
-use Rattle.std.proofs.Common.{sym}
+use Rattle.nap_canon.proofs.Common.{sym}
 use Rattle.nap_canon.proofs.sinks.SinkingLemmas.{took_answered, broke_answered}
 use Rattle.nap_canon.proofs.canon_sink.CanonSink.put_ref.Goals as goal
 

@@ -1,9 +1,5 @@
-use Rattle.std.proofs.Common.{◌≡◌, [], ◌∷◌, Err, false, sym, subst, ◌∙◌}
+use Rattle.nap_canon.proofs.Common.{Canonical, Err, PutSome, TakesAll, [], canon_sink_model, entry_of_shape, false, subst, sym, ◌∙◌, ◌∷◌, ◌≡◌}
 use Rattle.nap_list.specs.declared.sink.SinkFault.TheVariants.{Write}
-use Rattle.nap_list.specs.Putting.{PutSome, TakesAll}
-use Rattle.nap_list.specs.Shapes.{entry_of_shape}
-use Rattle.nap_canon.specs.Batches.{canon_sink_model}
-use Rattle.nap_canon.specs.Sinking.{Canonical}
 use Rattle.nap_canon.proofs.sinks.PutLemmas.{one_breaks, still_put, takes_all}
 use Rattle.nap_canon.proofs.sinks.SinkingLemmas.{took_answered}
 use Rattle.nap_canon.proofs.canon_sink.CanonSinkSink.put_shape.Goals as goal

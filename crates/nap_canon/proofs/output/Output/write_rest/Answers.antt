@@ -1,7 +1,4 @@
-use Rattle.std.proofs.Common.{ℕ, List, false, arith, subst, sym, take, drop, length-drop, take-add}
-use Rattle.std.proofs.lemmas.List.{take-append-drop}
-use Rattle.nap_list.specs.Sending.{SendsAll, FailsAfter, rest_of, sending}
-use Rattle.nap_canon.specs.SinkLaws.{sends_more}
+use Rattle.nap_canon.proofs.Common.{FailsAfter, List, SendsAll, arith, drop, false, length-drop, rest_of, sending, sends_more, subst, sym, take, take-add, take-append-drop, ℕ}
 use Rattle.nap_canon.proofs.output.Output.write_rest.Goals as goal
 
 -- the rest was taken after what came before

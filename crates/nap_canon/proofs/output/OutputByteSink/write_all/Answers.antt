@@ -1,4 +1,4 @@
-use Rattle.nap_list.specs.Sending.{sending}
+use Rattle.nap_canon.proofs.Common.{sending}
 use Rattle.nap_canon.proofs.sinks.CutLemmas.{cut_sends}
 use Rattle.nap_canon.proofs.output.OutputByteSink.write_all.Goals as goal
 

@@ -1,8 +1,4 @@
-use Rattle.std.proofs.Common.{◌∙◌, sym, arith}
-use Rattle.std.proofs.lemmas.Bool.{eqb-false}
-use Rattle.std.specs.Prelude.{slice_index}
-use Rattle.nap_list.specs.Sending.{sending}
-use Rattle.nap_canon.specs.SinkLaws.{sends_none}
+use Rattle.nap_canon.proofs.Common.{arith, eqb-false, sending, sends_none, slice_index, sym, ◌∙◌}
 use Rattle.nap_canon.proofs.sinks.CutLemmas.{none_taken}
 use Rattle.nap_canon.proofs.output.OutputByteSink.write_counted.Goals as goal
 

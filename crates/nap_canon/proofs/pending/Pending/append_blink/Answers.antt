@@ -1,8 +1,4 @@
-use Rattle.std.proofs.Common.{◌≡◌, ◌++◌, ◌∷◌, [], ℕ, List, arith, ap, refl, subst, sym, ◌∙◌, length, take}
-use Rattle.std.proofs.lemmas.List.{length-take-le, take_all}
-use Rattle.nap_values.specs.Spellings.{addr_bytes}
-use Rattle.nap_canon.specs.Spelling.{opcode, word_byte}
-use Rattle.nap_canon.specs.Writing.{AppendsPiece}
+use Rattle.nap_canon.proofs.Common.{AppendsPiece, List, [], addr_bytes, ap, arith, length, length-take-le, opcode, refl, subst, sym, take, take_all, word_byte, ℕ, ◌++◌, ◌∙◌, ◌∷◌, ◌≡◌}
 use Rattle.nap_canon.proofs.texts.PointsLemmas.{addr_size}
 use Rattle.nap_canon.proofs.pending.Pending.append_blink.Goals as goal
 

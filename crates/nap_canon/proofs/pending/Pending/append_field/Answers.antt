@@ -1,9 +1,4 @@
-use Rattle.std.proofs.Common.{◌≡◌, ◌++◌, ℕ, List, [], ◌∷◌, ap, sym, subst, ◌∙◌, append-nil}
-use Rattle.nap_values.specs.Coordinates.{displacement_to}
-use Rattle.nap_values.specs.Spellings.{move_bytes, point_bytes}
-use Rattle.nap_list.specs.declared.attribute.Area.{Area}
-use Rattle.nap_canon.specs.Spelling.{displacement_bytes, shape_bytes, area_bytes, opcode}
-use Rattle.nap_canon.specs.Writing.{AppendsPiece}
+use Rattle.nap_canon.proofs.Common.{AppendsPiece, Area, List, [], ap, append-nil, area_bytes, displacement_bytes, displacement_to, move_bytes, opcode, point_bytes, shape_bytes, subst, sym, ℕ, ◌++◌, ◌∙◌, ◌∷◌, ◌≡◌}
 use Rattle.nap_canon.proofs.pending.Pending.append_field.Goals as goal
 
 pub returns-in-Part : goal.returns-in-Part

@@ -1,6 +1,4 @@
-use Rattle.std.proofs.Common.{List, ◌++◌, Some, refl}
-use Rattle.nap_canon.specs.declared.command.Command.{Command}
-use Rattle.nap_canon.specs.Preludes.{pen_prelude, pel_prelude, colour_prelude, texture_prelude, text_prelude, prelude}
+use Rattle.nap_canon.proofs.Common.{Command, List, Some, colour_prelude, pel_prelude, pen_prelude, prelude, refl, text_prelude, texture_prelude, ◌++◌}
 use Rattle.nap_canon.proofs.texts.WritingLemmas.{both_commands, commands_before}
 use Rattle.nap_canon.proofs.pending.Pending.append_hand_prelude.Goals as goal
 

@@ -1,8 +1,4 @@
-use Rattle.std.proofs.Common.{List, refl, sym, subst, append-nil}
-use Rattle.nap_list.specs.Entry.{ink_attributes}
-use Rattle.nap_canon.specs.declared.command.Command.{Command}
-use Rattle.nap_canon.specs.Text.{pieces_bytes, text_end_after}
-use Rattle.nap_canon.specs.Writing.{AppendsCommands}
+use Rattle.nap_canon.proofs.Common.{AppendsCommands, Command, List, append-nil, ink_attributes, pieces_bytes, refl, subst, sym, text_end_after}
 use Rattle.nap_canon.proofs.prelude.CurrentLemmas.{nothing_to_set}
 use Rattle.nap_canon.proofs.pending.Pending.append_ink_prelude.Goals as goal
 

@@ -1,11 +1,5 @@
-use Rattle.std.proofs.Common.{ℕ, List, ◌≡◌, ◌*◌, ◌++◌, length, drop, ap, sym, ◌∙◌, length-drop, arith}
-use Rattle.std.proofs.lemmas.List.{length-take-le}
-use Rattle.nap_values.specs.Coordinates.{Coordinates}
-use Rattle.nap_list.specs.declared.batch.Batch.{Batch}
-use Rattle.nap_list.specs.BatchLaws.{sized_lines, sized_text}
+use Rattle.nap_canon.proofs.Common.{Batch, Coordinates, List, ap, arith, drop, joined_bytes, length, length-drop, length-take-le, opening, points_bytes, run_after, run_opening, sized_lines, sized_text, sym, text_end_after_joined, ℕ, ◌*◌, ◌++◌, ◌∙◌, ◌≡◌}
 use Rattle.nap_canon.specs.declared.text_end.TextEnd.TheVariants.{InRun}
-use Rattle.nap_canon.specs.Batches.{opening, joined_bytes, text_end_after_joined, points_bytes, run_opening}
-use Rattle.nap_canon.specs.Text.{run_after}
 use Rattle.nap_canon.proofs.sinks.PrefixLemmas.{rest_some, rest_ends}
 use Rattle.nap_canon.proofs.pending.Pending.append_joined.Goals as goal
 

@@ -1,7 +1,4 @@
-use Rattle.std.proofs.Common.{◌≡◌, List, Some, refl, sym, subst, append-nil}
-use Rattle.nap_canon.specs.declared.command.Command.{Command}
-use Rattle.nap_canon.specs.Text.{pieces_bytes, text_end_after}
-use Rattle.nap_canon.specs.Writing.{AppendsCommands}
+use Rattle.nap_canon.proofs.Common.{AppendsCommands, Command, List, Some, append-nil, pieces_bytes, refl, subst, sym, text_end_after, ◌≡◌}
 use Rattle.nap_canon.proofs.prelude.CurrentLemmas.{look_is_current}
 use Rattle.nap_canon.proofs.pending.Pending.append_look_prelude.Goals as goal
 

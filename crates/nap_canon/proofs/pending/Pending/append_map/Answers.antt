@@ -1,8 +1,5 @@
-use Rattle.std.proofs.Common.{List, [], ◌∷◌, map, refl, Some}
-use Rattle.nap_values.specs.Spellings.{grb_bytes}
+use Rattle.nap_canon.proofs.Common.{List, Piece, Some, [], colour_prelude, command_piece, grb_bytes, map, opcode, refl, ◌∷◌}
 use Rattle.nap_list.specs.declared.attribute.Colour.TheVariants.{Front}
-use Rattle.nap_canon.specs.Preludes.{colour_prelude}
-use Rattle.nap_canon.specs.Spelling.{Piece, opcode, command_piece}
 use Rattle.nap_canon.proofs.texts.WritingLemmas.{both_appended, one_piece}
 use Rattle.nap_canon.proofs.pending.Pending.append_map.Goals as goal
 

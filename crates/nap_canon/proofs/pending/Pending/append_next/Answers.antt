@@ -1,7 +1,4 @@
-use Rattle.std.proofs.Common.{arith}
-use Rattle.nap_values.specs.Spellings.{point_bytes}
-use Rattle.nap_list.specs.BatchLaws.{sized_lines, sized_text}
-use Rattle.nap_canon.specs.Spelling.{joinable_piece, line_piece, text_byte_piece}
+use Rattle.nap_canon.proofs.Common.{arith, joinable_piece, line_piece, point_bytes, sized_lines, sized_text, text_byte_piece}
 use Rattle.nap_canon.proofs.sinks.JoinLemmas.{next_point, next_line, next_typed}
 use Rattle.nap_canon.proofs.texts.WritingLemmas.{one_appended}
 use Rattle.nap_canon.proofs.pending.Pending.append_next.Goals as goal

@@ -1,7 +1,4 @@
-use Rattle.std.proofs.Common.{List, ◌++◌, ap, ◌∙◌}
-use Rattle.nap_list.specs.Entry.{point_attributes, ink_attributes}
-use Rattle.nap_canon.specs.declared.command.Command.{Command}
-use Rattle.nap_canon.specs.Preludes.{option_commands, prelude}
+use Rattle.nap_canon.proofs.Common.{Command, List, ap, ink_attributes, option_commands, point_attributes, prelude, ◌++◌, ◌∙◌}
 use Rattle.nap_canon.proofs.prelude.KindLemmas.{prelude_of_ink}
 use Rattle.nap_canon.proofs.texts.WritingLemmas.{both_commands}
 use Rattle.nap_canon.proofs.pending.Pending.append_other_ink_prelude.Goals as goal

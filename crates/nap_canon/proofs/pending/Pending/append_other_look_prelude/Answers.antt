@@ -1,7 +1,5 @@
-use Rattle.std.proofs.Common.{List, ◌++◌}
-use Rattle.nap_canon.specs.declared.command.Command.{Command}
+use Rattle.nap_canon.proofs.Common.{Command, List, flag_commands, given_size_commands, named_size_commands, text_prelude, ◌++◌}
 use Rattle.nap_canon.specs.declared.command.Flag.TheVariants as flags
-use Rattle.nap_canon.specs.Preludes.{given_size_commands, named_size_commands, flag_commands, text_prelude}
 use Rattle.nap_canon.proofs.texts.WritingLemmas.{commands_as, commands_before}
 use Rattle.nap_canon.proofs.pending.Pending.append_other_look_prelude.Goals as goal
 

@@ -1,7 +1,4 @@
-use Rattle.std.proofs.Common.{List, ◌++◌, Some, ap, sym, ◌∙◌}
-use Rattle.nap_list.specs.Entry.{point_attributes}
-use Rattle.nap_canon.specs.declared.command.Command.{Command}
-use Rattle.nap_canon.specs.Preludes.{option_commands, colour_prelude, prelude}
+use Rattle.nap_canon.proofs.Common.{Command, List, Some, ap, colour_prelude, option_commands, point_attributes, prelude, sym, ◌++◌, ◌∙◌}
 use Rattle.nap_canon.proofs.prelude.KindLemmas.{prelude_of_point}
 use Rattle.nap_canon.proofs.texts.WritingLemmas.{both_commands}
 use Rattle.nap_canon.proofs.pending.Pending.append_point_prelude.Goals as goal

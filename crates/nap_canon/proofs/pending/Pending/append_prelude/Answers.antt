@@ -1,9 +1,4 @@
-use Rattle.std.proofs.Common.{rules, ◌≡◌, List, subst, ◌∙◌}
-use Rattle.nap_list.specs.declared.attribute.Attributes.{Attributes}
-use Rattle.nap_list.specs.Entry.{attributes, colour_only, pen_only}
-use Rattle.nap_canon.specs.declared.command.Command.{Command}
-use Rattle.nap_canon.specs.Preludes.{prelude}
-use Rattle.nap_canon.specs.Writing.{AppendsCommands}
+use Rattle.nap_canon.proofs.Common.{AppendsCommands, Attributes, Command, List, attributes, colour_only, pen_only, prelude, rules, subst, ◌∙◌, ◌≡◌}
 use Rattle.nap_canon.proofs.prelude.KindLemmas.{prelude_of_colour, prelude_of_pen}
 use Rattle.nap_canon.proofs.texts.WritingLemmas.{commands_as}
 use Rattle.nap_canon.proofs.pending.Pending.append_prelude.Goals as goal

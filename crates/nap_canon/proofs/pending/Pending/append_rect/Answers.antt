@@ -1,9 +1,4 @@
-use Rattle.std.proofs.Common.{◌≡◌, ◌++◌, ℕ, List, [], ◌∷◌, ap, sym, subst, ◌∙◌, append-nil}
-use Rattle.nap_values.specs.Coordinates.{displacement_to}
-use Rattle.nap_values.specs.Spellings.{move_bytes, point_bytes}
-use Rattle.std.specs.Prelude.{if◌then◌else◌}
-use Rattle.nap_canon.specs.Spelling.{Piece, displacement_bytes, shape_bytes, joinable_piece, rect_piece}
-use Rattle.nap_canon.specs.Writing.{AppendsPiece}
+use Rattle.nap_canon.proofs.Common.{AppendsPiece, List, Piece, [], ap, append-nil, displacement_bytes, displacement_to, if◌then◌else◌, joinable_piece, move_bytes, point_bytes, rect_piece, shape_bytes, subst, sym, ℕ, ◌++◌, ◌∙◌, ◌∷◌, ◌≡◌}
 use Rattle.nap_canon.proofs.pending.Pending.append_rect.Goals as goal
 
 pub returns : goal.returns

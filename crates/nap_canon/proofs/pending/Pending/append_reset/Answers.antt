@@ -1,5 +1,4 @@
-use Rattle.std.proofs.Common.{[], ◌∷◌, refl}
-use Rattle.nap_canon.specs.Spelling.{Piece, word_byte, opcode, domain_again}
+use Rattle.nap_canon.proofs.Common.{Piece, [], domain_again, opcode, refl, word_byte, ◌∷◌}
 use Rattle.nap_canon.proofs.texts.WritingLemmas.{both_appended, one_piece}
 use Rattle.nap_canon.proofs.pending.Pending.append_reset.Goals as goal
 

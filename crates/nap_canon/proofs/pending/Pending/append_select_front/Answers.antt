@@ -1,8 +1,4 @@
-use Rattle.std.proofs.Common.{◌≡◌, ℕ, List, arith, ap, subst, sym, ◌∙◌, length, take}
-use Rattle.std.proofs.lemmas.List.{length-take-le, take_all}
-use Rattle.nap_values.specs.Spellings.{addr_bytes}
-use Rattle.nap_canon.specs.Spelling.{opcode}
-use Rattle.nap_canon.specs.Writing.{AppendsPiece}
+use Rattle.nap_canon.proofs.Common.{AppendsPiece, List, addr_bytes, ap, arith, length, length-take-le, opcode, subst, sym, take, take_all, ℕ, ◌∙◌, ◌≡◌}
 use Rattle.nap_canon.proofs.texts.PointsLemmas.{addr_size}
 use Rattle.nap_canon.proofs.pending.Pending.append_select_front.Goals as goal
 

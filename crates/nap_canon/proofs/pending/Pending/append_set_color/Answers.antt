@@ -1,5 +1,4 @@
-use Rattle.std.proofs.Common.{◌≡◌, arith, ap, sym, ◌∙◌, length}
-use Rattle.std.proofs.lemmas.List.{length-take-le}
+use Rattle.nap_canon.proofs.Common.{ap, arith, length, length-take-le, sym, ◌∙◌, ◌≡◌}
 use Rattle.nap_canon.proofs.texts.PointsLemmas.{grb_size}
 use Rattle.nap_canon.proofs.pending.Pending.append_set_color.Goals as goal
 

@@ -1,8 +1,5 @@
-use Rattle.std.proofs.Common.{arith, subst}
-use Rattle.nap_list.specs.declared.batch.Batch.{Batch}
+use Rattle.nap_canon.proofs.Common.{Batch, Joins, arith, sized_lines, sized_text, subst}
 use Rattle.nap_list.specs.declared.batch.Batch.TheVariants as batches
-use Rattle.nap_list.specs.BatchLaws.{sized_lines, sized_text}
-use Rattle.nap_canon.specs.Batches.{Joins}
 use Rattle.nap_canon.proofs.writer.Writer.joining_count.Goals as goal
 
 pub line_start-requires : goal.line_start-requires

@@ -1,7 +1,4 @@
-use Rattle.std.proofs.Common.{arith, subst, sym, ◌<◌, length}
-use Rattle.nap_list.specs.declared.batch.Batch.{Batch}
-use Rattle.nap_list.specs.BatchLaws.{sized_lines, sized_text}
-use Rattle.nap_canon.specs.Batches.{JoinsAfter}
+use Rattle.nap_canon.proofs.Common.{Batch, JoinsAfter, arith, length, sized_lines, sized_text, subst, sym, ◌<◌}
 use Rattle.nap_canon.proofs.sinks.PrefixLemmas.{line_left}
 use Rattle.nap_canon.proofs.writer.Writer.joining_count_after.Goals as goal
 

@@ -1,4 +1,4 @@
-use Rattle.nap_canon.specs.Batches.{opening}
+use Rattle.nap_canon.proofs.Common.{opening}
 use Rattle.nap_canon.proofs.sinks.PrefixLemmas.{joined_cut, joined_whole}
 use Rattle.nap_canon.proofs.sinks.JoinLemmas.{whole_few}
 use Rattle.nap_canon.proofs.writer.Writer.put_joined.Goals as goal

@@ -1,8 +1,5 @@
-use Rattle.std.proofs.Common.{refl}
-use Rattle.std.proofs.lemmas.Result.{err_from_is_err_and}
-use Rattle.nap_list.specs.declared.entry.Entry.{Entry}
+use Rattle.nap_canon.proofs.Common.{Entry, attributes, err_from_is_err_and, refl}
 use Rattle.nap_list.specs.declared.entry.Entry.TheVariants.{Map}
-use Rattle.nap_list.specs.Entry.{attributes}
 use Rattle.nap_canon.proofs.texts.WritingLemmas.{prelude_fails, prelude_written}
 use Rattle.nap_canon.proofs.writer.Writer.put_map.Goals as goal
 

@@ -1,7 +1,5 @@
-use Rattle.std.proofs.Common.{◌≡◌, ◌+◌, ◌-◌, ◌*◌, ◌/◌, ◌<◌, ℕ, List, false, length, drop, ap, subst, ◌∙◌, length-append, length-drop, arith}
-use Rattle.nap_list.specs.Batches.{batch_entries}
-use Rattle.nap_canon.specs.Batches.{CutAfter, bytes_of_rest, entry_size}
-use Rattle.nap_canon.proofs.sinks.PrefixLemmas.{rest_size, puts_cut, puts_none, puts_whole}
+use Rattle.nap_canon.proofs.Common.{CutAfter, List, ap, arith, batch_entries, bytes_of_rest, drop, entry_size, false, length, length-append, length-drop, subst, ℕ, ◌*◌, ◌+◌, ◌-◌, ◌/◌, ◌<◌, ◌∙◌, ◌≡◌}
+use Rattle.nap_canon.proofs.sinks.PrefixLemmas.{rest_size, puts_cut, puts_none, puts_whole, then_current}
 use Rattle.nap_canon.proofs.writer.Writer.put_next.Goals as goal
 
 pub overflow_sub-begun : goal.overflow_sub-begun
@@ -29,7 +27,7 @@ returns-in-Ok g c =
     let u = c.append_joined.new.self in
     let sent : g.T.ByteSink.sent w.target u.bytes false c.write_counted.new.self =
     subst (λ (bs : List ℕ). g.T.ByteSink.sent w.target bs false c.write_counted.new.self) c.as_slice.ensures c.in-Ok.ensures in
-    puts_whole g.T.ByteSink.sent w batch c.args.index more some c.requires.current c.joining_count_after-more.ensures.few c.clear.new.self c.clear.ensures c.append_next.new.self c.append_next.ensures
+    puts_whole g.T.ByteSink.sent w batch c.args.index more some (then_current w.state batch c.args.index c.requires.current) c.joining_count_after-more.ensures.few c.clear.new.self c.clear.ensures c.append_next.new.self c.append_next.ensures
     c.joining_count_after-more.ensures.joins u c.append_joined.ensures.bytes c.append_joined.ensures.text_end c.write_counted.new.self sent c.step_from.new.self c.step_from.ensures
 
 pub returns-then-taken-first_end : goal.returns-then-taken-first_end
@@ -41,7 +39,7 @@ returns-then-taken-first_end g c =
     let u = c.append_joined.new.self in
     let cut : CutAfter g.T.ByteSink.sent w.target u.bytes c.in-Err.taken c.write_counted.new.self =
     subst (λ (bs : List ℕ). CutAfter g.T.ByteSink.sent w.target bs c.in-Err.taken c.write_counted.new.self) c.as_slice.ensures c.in-Err.ensures in
-    puts_none g.T.ByteSink.sent w batch c.args.index more some c.requires.current c.joining_count_after-more.ensures.few c.clear.new.self c.clear.ensures c.append_next.new.self c.append_next.ensures
+    puts_none g.T.ByteSink.sent w batch c.args.index more some (then_current w.state batch c.args.index c.requires.current) c.joining_count_after-more.ensures.few c.clear.new.self c.clear.ensures c.append_next.new.self c.append_next.ensures
     c.joining_count_after-more.ensures.joins u c.append_joined.ensures.bytes c.append_joined.ensures.text_end c.write_counted.new.self c.in-Err.taken cut (omega (arith, c.if-taken-first_end.true, c.len-first_end.ensures))
 
 pub returns-else-taken-first_end : goal.returns-else-taken-first_end
@@ -58,6 +56,6 @@ returns-else-taken-first_end g c =
     ap (λ (n : ℕ). n / c.entry_size-size.result) c.saturating_sub.ensures
     ∙ ap (λ (n : ℕ). (taken - (n - c.entry_size-size.result * more)) / c.entry_size-size.result) c.len.ensures
     ∙ ap (λ (n : ℕ). (taken - (length u.bytes - n * more)) / n) c.entry_size-size.ensures in
-    puts_cut g.T.ByteSink.sent w batch c.args.index more some c.requires.current c.joining_count_after-more.ensures.few c.clear.new.self c.clear.ensures c.append_next.new.self c.append_next.ensures
+    puts_cut g.T.ByteSink.sent w batch c.args.index more some (then_current w.state batch c.args.index c.requires.current) c.joining_count_after-more.ensures.few c.clear.new.self c.clear.ensures c.append_next.new.self c.append_next.ensures
     c.joining_count_after-more.ensures.joins u c.append_joined.ensures.bytes c.append_joined.ensures.text_end c.write_counted.new.self taken cut (c.saturating_sub.result / c.entry_size-size.result)
     (omega (arith, c.if-taken-first_end.false, c.len-first_end.ensures)) whole c.step_from-in-Err.new.self c.step_from-in-Err.ensures

@@ -1,6 +1,4 @@
-use Rattle.std.proofs.Common.{refl}
-use Rattle.std.proofs.lemmas.Result.{err_from_is_err_and}
-use Rattle.nap_list.specs.Entry.{attributes}
+use Rattle.nap_canon.proofs.Common.{attributes, err_from_is_err_and, refl}
 use Rattle.nap_canon.proofs.texts.WritingLemmas.{prelude_fails, prelude_written}
 use Rattle.nap_canon.proofs.writer.Writer.put_other.Goals as goal
 

@@ -1,8 +1,5 @@
-use Rattle.std.proofs.Common.{refl}
-use Rattle.std.proofs.lemmas.Result.{err_from_is_err_and}
-use Rattle.nap_list.specs.declared.entry.Entry.{Entry}
+use Rattle.nap_canon.proofs.Common.{Entry, err_from_is_err_and, ink_attributes, refl}
 use Rattle.nap_list.specs.declared.entry.Entry.TheVariants.{Rect}
-use Rattle.nap_list.specs.Entry.{ink_attributes}
 use Rattle.nap_canon.proofs.texts.WritingLemmas.{prelude_fails, prelude_written, one_written}
 use Rattle.nap_canon.proofs.writer.Writer.put_rect.Goals as goal
 

@@ -1,12 +1,5 @@
-use Rattle.std.proofs.Common.{◌≡◌, Bool, List, refl, ap, ◌∙◌}
-use Rattle.std.proofs.lemmas.Result.{err_from_is_err_and}
-use Rattle.nap_values.specs.Coordinates.{Coordinates}
-use Rattle.nap_list.specs.declared.shape.ShapeKind.{ShapeKind}
+use Rattle.nap_canon.proofs.Common.{Bool, Coordinates, Drawing, List, ShapeKind, ap, attributes, entry_of_shape, err_from_is_err_and, ink_attributes, ink_of, refl, shape_on, ◌∙◌, ◌≡◌}
 use Rattle.nap_list.specs.declared.shape.ShapeKind.TheVariants as kinds
-use Rattle.nap_list.specs.declared.state.Drawing.{Drawing}
-use Rattle.nap_list.specs.Entry.{attributes, ink_attributes}
-use Rattle.nap_list.specs.Shapes.{entry_of_shape, shape_on}
-use Rattle.nap_list.specs.State.{ink_of}
 use Rattle.nap_canon.proofs.texts.WritingLemmas.{prelude_fails, prelude_written}
 use Rattle.nap_canon.proofs.writer.Writer.put_shape.Goals as goal
 

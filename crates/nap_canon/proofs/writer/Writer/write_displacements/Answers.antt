@@ -1,10 +1,4 @@
-use Rattle.std.proofs.Common.{◌++◌, subst, ℕ, [], List, ◌≡◌, ◌∙◌, ap, sym, refl, false, append-nil, arith, rules}
-use Rattle.std.specs.Slice.Iter.{chunks_rest, chunks_size}
-use Rattle.std.proofs.lemmas.List.{nil_from_length, take_all}
-use Rattle.std.proofs.lemmas.Result.{err_from_is_err_and}
-use Rattle.nap_values.specs.Coordinates.{Coordinates}
-use Rattle.nap_list.specs.Batches.{last_point}
-use Rattle.nap_canon.specs.Spelling.{displacement_bytes}
+use Rattle.nap_canon.proofs.Common.{Coordinates, List, [], ap, append-nil, arith, chunks_rest, chunks_size, displacement_bytes, err_from_is_err_and, false, last_point, nil_from_length, refl, rules, subst, sym, take_all, ℕ, ◌++◌, ◌∙◌, ◌≡◌}
 use Rattle.nap_canon.proofs.texts.WriterLemmas.{displacements_part, sent_second}
 use Rattle.nap_canon.proofs.writer.Writer.write_displacements.Goals as goal
 

@@ -1,13 +1,7 @@
-use Rattle.std.proofs.Common.{rules, inl, inr, ◌⊎◌, ◌≤◌, ℕ, ◌≡◌, ◌*◌, OnOk, List, length, drop, ap, subst, ◌∙◌, length-drop, arith}
-use Rattle.std.proofs.lemmas.List.{length-take-le}
-use Rattle.nap_list.specs.BatchLaws.{sized_lines, sized_text}
+use Rattle.nap_canon.proofs.Common.{Batch, Joins, List, OnOk, TextEnd, TextJoins, ap, arith, drop, inl, inr, length, length-drop, length-take-le, rules, run_after, sized_lines, sized_text, subst, ℕ, ◌*◌, ◌∙◌, ◌≡◌, ◌≤◌, ◌⊎◌}
 use Rattle.nap_canon.specs.declared.text_end.TextEnd.TheVariants.{NoRun, InRun}
-use Rattle.nap_list.specs.declared.batch.Batch.{Batch}
 use Rattle.nap_list.specs.declared.batch.Batch.TheVariants as batches
 use Rattle.nap_codes.specs.declared.code_set.GSet.TheVariants.{G0}
-use Rattle.nap_canon.specs.declared.text_end.TextEnd.{TextEnd}
-use Rattle.nap_canon.specs.Batches.{Joins, TextJoins}
-use Rattle.nap_canon.specs.Text.{run_after}
 use Rattle.nap_canon.proofs.writer.Writer.write_joined.Goals as goal
 
 pub part-requires-in-Lines : goal.part-requires-in-Lines

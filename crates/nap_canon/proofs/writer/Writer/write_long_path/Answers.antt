@@ -1,8 +1,4 @@
-use Rattle.std.proofs.Common.{◌≡◌, ap, refl, ◌∙◌, is_err, arith}
-use Rattle.std.proofs.lemmas.List.{take_all}
-use Rattle.std.proofs.lemmas.Result.{err_from_is_err_and}
-use Rattle.nap_list.specs.Batches.{last_point}
-use Rattle.nap_canon.specs.Spelling.{displacement_bytes}
+use Rattle.nap_canon.proofs.Common.{ap, arith, displacement_bytes, err_from_is_err_and, is_err, last_point, refl, take_all, ◌∙◌, ◌≡◌}
 use Rattle.nap_canon.proofs.texts.WriterLemmas.{shape_joined, sent_both, sent_first}
 use Rattle.nap_canon.proofs.writer.Writer.write_long_path.Goals as goal
 

@@ -1,9 +1,4 @@
-use Rattle.std.proofs.Common.{◌∷◌, List, sym, subst}
-use Rattle.nap_list.specs.Entry.{attributes}
-use Rattle.nap_list.specs.Shapes.{entry_of_shape, circle_closed}
-use Rattle.nap_list.specs.State.{with_attributes}
-use Rattle.nap_canon.specs.Spelling.{Piece, opcode, shape, shape_bytes}
-use Rattle.nap_canon.specs.Writing.{WritesPieces, WritesPendingAnd}
+use Rattle.nap_canon.proofs.Common.{List, Piece, WritesPendingAnd, WritesPieces, attributes, circle_closed, entry_of_shape, opcode, shape, shape_bytes, subst, sym, with_attributes, ◌∷◌}
 use Rattle.nap_canon.proofs.texts.WritingLemmas.{one_written, arc_spelled, poly_spelled}
 use Rattle.nap_canon.proofs.writer.Writer.write_shape_spelling.Goals as goal
 

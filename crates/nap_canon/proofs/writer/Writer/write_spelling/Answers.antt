@@ -1,8 +1,4 @@
-use Rattle.std.proofs.Common.{List, sym, subst}
-use Rattle.nap_list.specs.Entry.{attributes}
-use Rattle.nap_list.specs.State.{with_attributes}
-use Rattle.nap_canon.specs.Spelling.{Piece, opcode, shape_bytes}
-use Rattle.nap_canon.specs.Writing.{PathOf, WritesPieces}
+use Rattle.nap_canon.proofs.Common.{List, PathOf, Piece, WritesPieces, attributes, opcode, shape_bytes, subst, sym, with_attributes}
 use Rattle.nap_canon.proofs.texts.WritingLemmas.{one_written}
 use Rattle.nap_canon.proofs.writer.Writer.write_spelling.Goals as goal
 

@@ -1,4 +1,4 @@
-use Rattle.std.proofs.Common.{rules, ◌≡◌, refl}
+use Rattle.nap_canon.proofs.Common.{refl, rules, ◌≡◌}
 use Rattle.nap_codes.specs.declared.code_set.GSet.TheVariants.{G0}
 use Rattle.nap_canon.specs.declared.text_end.TextEnd.TheVariants.{NoRun}
 use Rattle.nap_canon.proofs.sinks.JoinLemmas.{whole_bytes}

@@ -1,7 +1,5 @@
-use Rattle.std.proofs.Common.{◌≡◌, refl, ◌∙◌, ap}
-use Rattle.nap_codes.specs.CodeSets.{char_set_of, set_at}
+use Rattle.nap_codes.proofs.Common.{LexerState, ap, char_set_of, refl, set_at, ◌∙◌, ◌≡◌}
 use Rattle.nap_codes.specs.declared.code_set.CodeSets.{CodeSets}
-use Rattle.nap_codes.specs.Lexer.{LexerState}
 use Rattle.nap_codes.proofs.CharacterLemmas.{all_in_gl, all_amid}
 use Rattle.nap_codes.proofs.lexer.Lexer.char_set.Goals as goal
 

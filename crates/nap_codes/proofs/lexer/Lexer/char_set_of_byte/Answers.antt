@@ -1,5 +1,4 @@
-use Rattle.std.proofs.Common.{arith}
-use Rattle.nap_codes.specs.Laws.{IsGraphic}
+use Rattle.nap_codes.proofs.Common.{IsGraphic, arith}
 use Rattle.nap_codes.proofs.CharacterLemmas.{all_alike, none_beyond}
 use Rattle.nap_codes.proofs.lexer.Lexer.char_set_of_byte.Goals as goal
 use Rattle.nap_codes.proofs.lexer.Lexer.char_set_of_byte.Goals.{then-byte-lt32-via-then-byte-lt32, then-byte-lt32-via-else-byte-lt32+then-byte-ge128}

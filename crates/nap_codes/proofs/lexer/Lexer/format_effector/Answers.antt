@@ -1,4 +1,4 @@
-use Rattle.std.proofs.Common.{rules}
+use Rattle.nap_codes.proofs.Common.{rules}
 use Rattle.nap_codes.proofs.ControlLemmas.{format_effector_alone}
 use Rattle.nap_codes.proofs.lexer.Lexer.format_effector.Goals as goal
 

@@ -1,6 +1,4 @@
-use Rattle.std.proofs.Common.{rules, ◌≡◌, [], ◌∷◌, refl, ap, sym, ◌∙◌}
-use Rattle.nap_codes.specs.HalfReadCodes.{half_read_bytes}
-use Rattle.nap_codes.specs.Lexer.{LexerState}
+use Rattle.nap_codes.proofs.Common.{LexerState, [], ap, half_read_bytes, refl, rules, sym, ◌∙◌, ◌∷◌, ◌≡◌}
 use Rattle.nap_codes.proofs.NextLemmas.{next_is}
 use Rattle.nap_codes.proofs.lexer.Lexer.next.Goals as goal
 

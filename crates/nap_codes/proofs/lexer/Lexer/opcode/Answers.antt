@@ -1,5 +1,4 @@
-use Rattle.std.proofs.Common.{rules}
-use Rattle.nap_codes.specs.Lexer.{IsOpcode}
+use Rattle.nap_codes.proofs.Common.{IsOpcode, rules}
 use Rattle.nap_codes.proofs.OpcodeLemmas.{none_above, none_below, opcode_alone}
 use Rattle.nap_codes.proofs.lexer.Lexer.opcode.Goals as goal
 use Rattle.nap_codes.proofs.lexer.Lexer.opcode.Goals.{then-byte-lt32-via-then-byte-lt32, then-byte-lt32-via-else-byte-lt32+then-byte-ge64}

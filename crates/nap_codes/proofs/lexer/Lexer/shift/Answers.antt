@@ -1,8 +1,5 @@
-use Rattle.std.proofs.Common.{ℕ, ◌≡◌, List, [], ap, ◌∙◌}
-use Rattle.nap_codes.specs.CodeSets.{after_control0}
+use Rattle.nap_codes.proofs.Common.{LexerState, List, [], after_control0, ap, half_read_bytes, ℕ, ◌∙◌, ◌≡◌}
 use Rattle.nap_codes.specs.declared.code_set.CodeSets.{CodeSets}
-use Rattle.nap_codes.specs.HalfReadCodes.{half_read_bytes}
-use Rattle.nap_codes.specs.Lexer.{LexerState}
 use Rattle.nap_codes.proofs.ControlLemmas.{shift_steps}
 use Rattle.nap_codes.proofs.lexer.Lexer.shift.Goals as goal
 

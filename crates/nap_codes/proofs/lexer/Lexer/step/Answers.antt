@@ -1,6 +1,5 @@
-use Rattle.std.proofs.Common.{refl}
+use Rattle.nap_codes.proofs.Common.{front, refl}
 use Rattle.nap_codes.specs.declared.lexer.ByteOutcome.TheVariants as turns
-use Rattle.nap_codes.specs.Front.{front}
 use Rattle.nap_codes.proofs.HalfLemmas.{half_unfinished, turn_more-IsHalfRead, turn-Steps}
 use Rattle.nap_codes.proofs.lexer.Lexer.step.Goals as goal
 

@@ -1,4 +1,4 @@
-use Rattle.std.proofs.lemmas.Result.{IfOk-weaker}
+use Rattle.nap_command.proofs.Common.{IfOk-weaker}
 use Rattle.nap_command.proofs.PageAnswerLemmas.{answers_spelled}
 use Rattle.nap_command.proofs.batch.answer.canon_answer.Goals as goal
 

@@ -1,9 +1,4 @@
-use Rattle.std.proofs.Common.{◌≡◌, ◌∙◌, ◌++◌, List, ℕ, ap, arith, drop, length, length-append, refl, sym}
-use Rattle.std.proofs.lemmas.List.{drop_at}
-use Rattle.std.proofs.lemmas.Result.{IfOk-weaker}
-use Rattle.nap_lines.specs.Listing.{LineSinkState, lines}
-use Rattle.nap_canon.specs.Streams.{list_of}
-use Rattle.nap_command.specs.declared.batch.body.TheConstants.{HEAD_SPACE}
+use Rattle.nap_command.proofs.Common.{HEAD_SPACE, IfOk-weaker, LineSinkState, ap, arith, drop, drop_at, length, length-append, lines, list_of, refl, ◌++◌, ◌∙◌}
 use Rattle.nap_command.specs.declared.batch.request.Question.TheVariants as question
 use Rattle.nap_command.proofs.PageAnswerLemmas.{answers_accepted, answers_refused}
 use Rattle.nap_command.proofs.batch.answer.list_answer.Goals as goal

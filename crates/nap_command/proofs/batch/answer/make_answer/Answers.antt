@@ -1,5 +1,4 @@
-use Rattle.std.proofs.Common.{◌∙◌, ap}
-use Rattle.nap_command.specs.Commands.{count_line}
+use Rattle.nap_command.proofs.Common.{ap, count_line, ◌∙◌}
 use Rattle.nap_command.proofs.PageAnswerLemmas.{answers_made}
 use Rattle.nap_command.proofs.batch.answer.make_answer.Goals as goal
 

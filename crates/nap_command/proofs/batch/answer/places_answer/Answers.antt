@@ -1,6 +1,5 @@
-use Rattle.std.proofs.Common.{ℕ, List, subst, sym}
+use Rattle.nap_command.proofs.Common.{IsAnswer, List, subst, sym, ℕ}
 use Rattle.nap_command.specs.declared.batch.request.Question.TheVariants as question
-use Rattle.nap_command.specs.Answers.{IsAnswer}
 use Rattle.nap_command.proofs.PageAnswerLemmas.{answers_placed}
 use Rattle.nap_command.proofs.batch.answer.places_answer.Goals as goal
 

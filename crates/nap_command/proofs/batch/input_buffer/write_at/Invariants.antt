@@ -1,4 +1,4 @@
-use Rattle.std.proofs.Common.{◌≡◌, ◌++◌, take, vec_capacity}
+use Rattle.nap_command.proofs.Common.{take, vec_capacity, ◌++◌, ◌≡◌}
 use Rattle.nap_command.proofs.batch.input_buffer.write_at.Given as goal
 
 -- what there is, and the bytes so far after it

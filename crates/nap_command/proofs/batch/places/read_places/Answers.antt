@@ -1,13 +1,6 @@
-use Rattle.std.proofs.Common.{ℕ, ◌+◌, ◌-◌, ◌≡◌, ◌≢◌, ◌≤◌, List, [], ◌++◌, length, take, drop, sym, ap, subst, ◌∙◌, refl, arith, length-drop}
-use Rattle.std.proofs.lemmas.List.{length-take-le, take-append-drop}
-use Rattle.std.proofs.lemmas.Result.{IfOk-weaker}
+use Rattle.nap_command.proofs.Common.{BreaksWithin, HasRead, IfOk-weaker, LineSinkState, List, [], ap, arith, begun, budget_of, drop, length, length-drop, length-take-le, lines, lines_on, means, subst, sym, take, take-append-drop, ℕ, ◌++◌, ◌+◌, ◌-◌, ◌∙◌, ◌≡◌, ◌≢◌, ◌≤◌}
 use Rattle.nap_list.specs.declared.entry.Entry.{Entry}
-use Rattle.nap_lines.specs.Listing.{LineSinkState, lines}
 use Rattle.nap_reader.specs.declared.fault.Fault.TheVariants as fault
-use Rattle.nap_reader.specs.Breaking.{BreaksWithin}
-use Rattle.nap_reader.specs.ReaderAnswers.{HasRead, budget_of}
-use Rattle.nap_reader.specs.Stream.{begun, means}
-use Rattle.nap_command.specs.Placing.{lines_on}
 use Rattle.nap_command.proofs.PlaceLemmas.{BrokenAfter, IsFed, all_places, breaks_at, breaks_last, broke_apart, came, came_last, kept, kept_refused, last_count, last_new, lines_taken, next_count, next_new, next_same, next_has_read, next_written, no_entries, no_lines, none_before, own_cause, rest_is, still_refused, stops_so, true_isnt, whole_page, written_last}
 use Rattle.nap_command.proofs.batch.places.read_places.Goals as goal
 

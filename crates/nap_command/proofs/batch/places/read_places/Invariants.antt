@@ -1,7 +1,4 @@
-use Rattle.std.proofs.Common.{◌≡◌, ◌≤◌, ◌-◌, None, length, take}
-use Rattle.nap_lines.specs.Listing.{lines}
-use Rattle.nap_reader.specs.ReaderAnswers.{HasRead, budget_of, fed_of, refusal_of}
-use Rattle.nap_command.specs.Answers.{places_before}
+use Rattle.nap_command.proofs.Common.{HasRead, None, budget_of, fed_of, length, lines, places_before, refusal_of, take, ◌-◌, ◌≡◌, ◌≤◌}
 use Rattle.nap_command.proofs.PlaceLemmas.{known, no_lines}
 use Rattle.nap_command.proofs.batch.places.read_places.Given as goal
 

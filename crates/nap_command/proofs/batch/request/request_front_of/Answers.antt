@@ -1,4 +1,4 @@
-use Rattle.std.proofs.Common.{◌-◌, length, refl, arith}
+use Rattle.nap_command.proofs.Common.{arith, length, refl, ◌-◌}
 use Rattle.nap_command.proofs.FrontLemmas.{is_more, long_line, uncut_open, wrong_line}
 use Rattle.nap_command.proofs.batch.request.request_front_of.Goals as goal
 

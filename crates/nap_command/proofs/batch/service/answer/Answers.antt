@@ -1,5 +1,4 @@
-use Rattle.std.proofs.Common.{inr, refl}
-use Rattle.nap_command.specs.Sessions.{no_memory}
+use Rattle.nap_command.proofs.Common.{inr, no_memory, refl}
 use Rattle.nap_command.proofs.batch.service.answer.Goals as goal
 
 pub returns-in-Err : goal.returns-in-Err

@@ -1,5 +1,4 @@
-use Rattle.std.proofs.Common.{ℕ, List, ◌+◌, ◌-◌, ◌≡◌, ◌∙◌, ap, arith, drop, subst, take}
-use Rattle.nap_command.specs.Sessions.{IsAnswered}
+use Rattle.nap_command.proofs.Common.{IsAnswered, List, ap, arith, drop, subst, take, ℕ, ◌+◌, ◌-◌, ◌∙◌, ◌≡◌}
 use Rattle.nap_command.proofs.batch.service.answer_front.Goals as goal
 
 pub returns-clause-answers : goal.returns-clause-answers

@@ -1,5 +1,4 @@
-use Rattle.std.proofs.Common.{[], refl}
-use Rattle.std.proofs.KnownBytes.{Appends-nil}
+use Rattle.nap_command.proofs.Common.{Appends-nil, [], refl}
 use Rattle.nap_command.specs.declared.failure.Failure.TheVariants as failure
 use Rattle.nap_command.specs.declared.batch.service.Ended.TheVariants as ended
 use Rattle.nap_command.proofs.ReportLemmas.{memory_reported, read_reported, report_of_line, report_of_end, write_reported}

@@ -1,9 +1,5 @@
-use Rattle.std.proofs.Common.{ℕ, List, Ok, ◌≡◌, ◌++◌, ◌+◌, ◌∙◌, drop, take, ap, refl, subst, sym, append-nil}
-use Rattle.nap_list.specs.Reading.{reading}
+use Rattle.nap_command.proofs.Common.{Buffered, FindsRequest, IsWhole, KeepsWithin, List, Ok, ap, append-nil, drop, reading, refl, subst, sym, take, ℕ, ◌++◌, ◌+◌, ◌∙◌, ◌≡◌}
 use Rattle.nap_command.specs.declared.batch.waiting.FoundRequest.{FoundRequest}
-use Rattle.nap_command.specs.Buffering.{Buffered, KeepsWithin}
-use Rattle.nap_command.specs.Requests.{IsWhole}
-use Rattle.nap_command.specs.Waiting.{FindsRequest}
 use Rattle.nap_command.proofs.ExchangeLemmas.{answered, dropped_exchange, exchange_of, is_dropped, is_exchange, parts_of, unasked}
 use Rattle.nap_command.proofs.batch.service.exchange.Goals as goal
 

@@ -1,4 +1,4 @@
-use Rattle.std.proofs.Common.{arith}
+use Rattle.nap_command.proofs.Common.{arith}
 use Rattle.nap_command.proofs.SendLemmas.{head_goes_out, write_fails}
 use Rattle.nap_command.proofs.batch.service.send_head.Goals as goal
 

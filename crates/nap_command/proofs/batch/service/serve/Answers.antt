@@ -1,6 +1,4 @@
-use Rattle.std.proofs.Common.{List, ℕ, ap, refl, sym, subst, arith}
-use Rattle.nap_command.specs.Buffering.{Buffered}
-use Rattle.nap_command.specs.Sessions.{pipes}
+use Rattle.nap_command.proofs.Common.{Buffered, List, ap, arith, pipes, refl, subst, sym, ℕ}
 use Rattle.nap_command.proofs.GoingLemmas.{Going, ends, ends_full, ends_unbegun, one_more_answered, starts}
 use Rattle.nap_command.proofs.batch.service.serve.Goals as goal
 

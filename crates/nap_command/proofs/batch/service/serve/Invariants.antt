@@ -1,6 +1,4 @@
-use Rattle.std.proofs.Common.{◌≡◌, length}
-use Rattle.nap_list.specs.declared.device.inlet.TheConstants.{READ_SIZE}
-use Rattle.nap_command.specs.Sessions.{pipes}
+use Rattle.nap_command.proofs.Common.{READ_SIZE, length, pipes, ◌≡◌}
 use Rattle.nap_command.proofs.GoingLemmas.{Going}
 use Rattle.nap_command.proofs.batch.service.serve.Given as goal
 

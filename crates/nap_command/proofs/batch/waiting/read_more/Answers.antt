@@ -1,8 +1,4 @@
-use Rattle.std.proofs.Common.{Result, Err, ◌≡◌, ◌∙◌, ap, arith, subst, sym}
-use Rattle.std.proofs.lemmas.Result.{err_from_is_err_and}
-use Rattle.nap_command.specs.declared.batch.service.Ended.{Ended}
-use Rattle.nap_command.specs.declared.batch.waiting.ReadStep.{ReadStep}
-use Rattle.nap_command.specs.Waiting.{IsStep}
+use Rattle.nap_command.proofs.Common.{Ended, Err, IsStep, ReadStep, Result, ap, arith, err_from_is_err_and, subst, sym, ◌∙◌, ◌≡◌}
 use Rattle.nap_command.proofs.WaitLemmas.{drops_step, ends_step, fails_step, longer_step, stops_step}
 use Rattle.nap_command.proofs.batch.waiting.read_more.Goals as goal
 

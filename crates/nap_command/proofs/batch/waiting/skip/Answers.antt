@@ -1,5 +1,4 @@
-use Rattle.std.proofs.Common.{◌++◌, ◌∙◌, length-append, arith}
-use Rattle.std.proofs.KnownBytes.{Consumes-trans}
+use Rattle.nap_command.proofs.Common.{Consumes-trans, arith, length-append, ◌++◌, ◌∙◌}
 use Rattle.nap_command.proofs.batch.waiting.skip.Goals as goal
 
 pub loop-preserved : goal.loop-preserved

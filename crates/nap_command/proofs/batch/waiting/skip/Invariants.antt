@@ -1,5 +1,4 @@
-use Rattle.std.proofs.Common.{ℕ, List, ◌≡◌, ◌+◌, ◌≤◌, length}
-use Rattle.std.specs.Io.KnownBytes.{Consumes}
+use Rattle.nap_command.proofs.Common.{Consumes, List, length, ℕ, ◌+◌, ◌≡◌, ◌≤◌}
 use Rattle.nap_command.proofs.batch.waiting.skip.Given as goal
 
 abbrev pub invariant-loop : goal.invariant-loop

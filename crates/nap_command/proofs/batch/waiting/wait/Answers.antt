@@ -1,11 +1,5 @@
-use Rattle.std.proofs.Common.{List, [], ℕ, Result, Err, ◌≡◌, ◌++◌, ◌∙◌, ap, append-nil, append_assoc, arith, length-append, refl, rules, subst, sym}
-use Rattle.std.proofs.KnownBytes.{Consumes-nil, Consumes-trans}
-use Rattle.std.proofs.lemmas.Result.{err_from_is_err_and}
-use Rattle.nap_command.specs.declared.batch.service.Ended.{Ended}
-use Rattle.nap_command.specs.declared.batch.waiting.FoundRequest.{FoundRequest}
+use Rattle.nap_command.proofs.Common.{Consumes-nil, Consumes-trans, Ended, Err, FoundRequest, IsFound, IsLast, IsWhole, List, NeverStarts, Result, [], ap, append-nil, append_assoc, arith, err_from_is_err_and, length-append, refl, rules, subst, sym, ℕ, ◌++◌, ◌∙◌, ◌≡◌}
 use Rattle.nap_command.specs.declared.batch.waiting.ReadStep.TheVariants as step
-use Rattle.nap_command.specs.Requests.{IsWhole, NeverStarts}
-use Rattle.nap_command.specs.Waiting.{IsFound, IsLast}
 use Rattle.nap_command.proofs.MemoryLemmas.{stays_within}
 use Rattle.nap_command.proofs.WaitLemmas.{finds_dropped, finds_end, finds_last, finds_whole, finds_wrong, longer}
 use Rattle.nap_command.proofs.batch.waiting.wait.Goals as goal

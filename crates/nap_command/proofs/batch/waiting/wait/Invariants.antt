@@ -1,7 +1,4 @@
-use Rattle.std.proofs.Common.{ℕ, List, ◌≡◌, ◌++◌, ◌≤◌, length}
-use Rattle.std.specs.Io.KnownBytes.{Consumes}
-use Rattle.nap_list.specs.declared.device.inlet.TheConstants.{READ_SIZE}
-use Rattle.nap_command.specs.Buffering.{KeepsWithin}
+use Rattle.nap_command.proofs.Common.{Consumes, KeepsWithin, List, READ_SIZE, length, ℕ, ◌++◌, ◌≡◌, ◌≤◌}
 use Rattle.nap_command.proofs.batch.waiting.wait.Given as goal
 
 abbrev pub invariant-loop-reads : goal.invariant-loop-reads

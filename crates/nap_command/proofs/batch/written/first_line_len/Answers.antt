@@ -1,4 +1,4 @@
-use Rattle.std.proofs.Common.{ap, ◌+◌}
+use Rattle.nap_command.proofs.Common.{ap, ◌+◌}
 use Rattle.nap_command.proofs.WriteLemmas.{first_end, some_end}
 use Rattle.nap_command.proofs.batch.written.first_line_len.Goals as goal
 

@@ -1,5 +1,4 @@
-use Rattle.std.proofs.Common.{arith, decimal, length}
-use Rattle.std.proofs.lemmas.Fmt.{length-decimal-le}
+use Rattle.nap_command.proofs.Common.{arith, length-decimal-le}
 use Rattle.nap_command.proofs.batch.written.write_place.Goals as goal
 
 pub write_digits-from-requires : goal.write_digits-from-requires

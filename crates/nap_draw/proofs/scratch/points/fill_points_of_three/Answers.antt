@@ -1,5 +1,4 @@
-use Rattle.std.proofs.Common.{[], ◌∷◌, ◌++◌, refl, sym, ◌∙◌, ap, arith}
-use Rattle.nap_values.specs.Coordinates.{point_at}
+use Rattle.nap_draw.proofs.Common.{[], ap, arith, point_at, refl, sym, ◌++◌, ◌∙◌, ◌∷◌}
 use Rattle.nap_draw.proofs.ByteRuns.{moves_turn, three_of_eight}
 use Rattle.nap_draw.proofs.Decoding.{filling_more, filling_none}
 use Rattle.nap_draw.proofs.Turns.{points_turn, cons_if_all_more, cons_if_all_none}
@@ -16,6 +15,8 @@ loop-block-preserved c =
     record {
       vacant = c.loop-block.invariant.vacant;
       places = omega (arith, c.loop-block.invariant.places, c.in-Some.ensures.cases.2, c.split_at.ensures.back_len, c.push_reserved.ensures.len, c.push_reserved.ensures.capacity);
+      few = omega (arith, c.loop-block.invariant.few, c.in-Some.ensures.cases.2, c.split_at.ensures.back_len, c.push_reserved.ensures.len);
+      space = omega (arith, c.loop-block.invariant.space, c.push_reserved.ensures.capacity);
       filling = filling_more _ _ _ c.in-Some-point.point _ _ _ _ c.loop-block.invariant.filling
           (cons_if_all_more _ _ _ _ (points_turn _ _ _ cut) (sym (c.point.ensures ∙ ap point_at c.multi_first_three.ensures) ∙ c.in-Some-point.is))
           (λ e. e)
@@ -33,6 +34,8 @@ loop-rest-preserved c =
     record {
       vacant = c.loop-rest.invariant.vacant;
       places = omega (arith, c.loop-rest.invariant.places, c.split_at-in-loop-rest.ensures.back_len, c.push_reserved-in-loop-rest.ensures.len, c.push_reserved-in-loop-rest.ensures.capacity);
+      few = omega (arith, c.loop-rest.invariant.few, c.split_at-in-loop-rest.ensures.back_len, c.push_reserved-in-loop-rest.ensures.len);
+      space = omega (arith, c.loop-rest.invariant.space, c.push_reserved-in-loop-rest.ensures.capacity);
       filling = filling_more _ _ _ c.in-Some-point-2.point _ _ _ _ c.loop-rest.invariant.filling
           (cons_if_all_more _ _ _ _ (points_turn _ _ _ cut) (sym (c.point-in-loop-rest.ensures ∙ ap point_at c.multi_bytes.ensures) ∙ c.in-Some-point-2.is))
           (λ e. e)

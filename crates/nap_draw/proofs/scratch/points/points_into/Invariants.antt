@@ -1,9 +1,4 @@
-use Rattle.std.proofs.Common.{◌≡◌}
-use Rattle.std.specs.Slice.Iter.{chunks_rest, chunks_size}
-use Rattle.nap_values.specs.Operands.{operand_words}
-use Rattle.nap_draw.specs.Operands.{moves}
-use Rattle.nap_draw.specs.Geometry.{points_at}
-use Rattle.nap_draw.specs.Execution.{Filling}
+use Rattle.nap_draw.proofs.Common.{Filling, Holding, chunks_rest, chunks_size, length, moves, operand_words, points_at, ◌≡◌}
 use Rattle.nap_draw.proofs.scratch.points.points_into.Given as goal
 
 abbrev pub invariant-loop-operand : goal.invariant-loop-operand
@@ -12,4 +7,5 @@ invariant-loop-operand l = record {
   finite : (goal.iterator-loop-operand).is_finite l.operand-iterator;
   size : chunks_size l.operand-iterator ≡ l.fn.domain.multi;
   filling : Filling (points_at (moves l.fn.domain.multi (operand_words l.fn.run))) (points_at (moves l.fn.domain.multi (operand_words (chunks_rest l.operand-iterator)))) l.full (λ prefix. l.scratch.items ≡ prefix);
+  held : Holding l.fn.scratch l.scratch (length l.fn.run) (length (chunks_rest l.operand-iterator)) l.full;
 }

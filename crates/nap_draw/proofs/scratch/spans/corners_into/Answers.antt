@@ -1,14 +1,11 @@
-use Rattle.std.proofs.Common.{sym, ◌∙◌, ap, arith, Some}
-use Rattle.nap_values.specs.Coordinates.{displaced_point}
-use Rattle.nap_draw.specs.declared.spans.Span.{Span}
-use Rattle.nap_draw.specs.Geometry.{rect_chain_spans, span}
+use Rattle.nap_draw.proofs.Common.{Some, Span, ap, arith, displaced_point, rect_chain_spans, span, sym, ◌∙◌}
 use Rattle.nap_draw.proofs.ByteRuns.{moves_chunk, moves_none}
-use Rattle.nap_draw.proofs.Decoding.{filling_more, filling_none, filled, still_kept, pushed, crossed_more, crossed_all}
+use Rattle.nap_draw.proofs.Decoding.{filling_more, filling_none, chunk_less, filled, held, held_more, still_kept, pushed, crossed_more, crossed_all}
 use Rattle.nap_draw.proofs.Turns.{across_turn, cons_if_all_more, cons_if_all_none}
 use Rattle.nap_draw.proofs.scratch.spans.corners_into.Goals as goal
 
-pub returns-in_default : goal.returns-in_default
-returns-in_default c =
+pub returns-in_default-clause-fills : goal.returns-in_default-clause-fills
+returns-in_default-clause-fills c =
     let inv = c.loop-operand.invariant in
     let steps = c.in-Some.ensures.steps in
     let cut = moves_chunk c.args.domain.multi _ _ _ _ inv.size (omega (arith, c.multi-size.ensures.value, c.multi-size.ensures.least)) steps.1.0 steps.1.1 steps.1.2 in
@@ -27,13 +24,20 @@ loop-operand-preserved c =
       can = omega (arith, steps.0, inv.can);
       finite = tt;
       size = steps.0 ∙ inv.size;
+      held = held_more _ _ _ _ _ _ _ _ c.push.result inv.held (chunk_less c.args.domain.multi _ _ _ _ inv.size (omega (arith, c.multi-size.ensures.value, c.multi-size.ensures.least)) steps.1.0 steps.1.1 steps.1.2) c.push.ensures.capacity c.push.ensures.upper_bound c.is_err-full.ensures.value c.push.ensures.full;
       filling = filling_more _ _ _ here _ _ _ _ inv.filling
           (cons_if_all_more _ _ here _ (across_turn at _ _ _ cut) (ap (span (Some at)) inside))
           (still_kept _ _)
           (λ prefix e kept. crossed_more _ at _ _ _ prefix (pushed _ _ _ _ _ _ c.push.ensures.items c.is_err-full.ensures.value e) kept);
     })
 
-pub returns : goal.returns
+pub returns-clause-fills : goal.returns-clause-fills
 unfolding rect_chain_spans
-returns c =
+returns-clause-fills c =
     filled _ _ _ _ _ _ c.loop-operand.invariant.filling (ap (rect_chain_spans _) (moves_none _ _ c.in-None.ensures.steps.1.0)) (λ prefix kept. crossed_all _ _ _ prefix kept) c.memory_fault_if.ensures.ok c.memory_fault_if.ensures.err
+
+pub returns-clause-memory : goal.returns-clause-memory
+returns-clause-memory c = held _ _ _ _ _ _ c.loop-operand.invariant.held c.memory_fault_if.ensures.err
+
+pub returns-in_default-clause-memory : goal.returns-in_default-clause-memory
+returns-in_default-clause-memory c = (c.loop-operand.invariant.held.space, λ e. (let bad : ⊥ = cc in absurd bad))

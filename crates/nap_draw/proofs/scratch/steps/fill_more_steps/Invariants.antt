@@ -1,10 +1,4 @@
-use Rattle.std.proofs.Common.{◌≡◌, List, Option}
-use Rattle.std.specs.Slice.Iter.{chunks_rest, chunks_size}
-use Rattle.nap_values.specs.Coordinates.{Coordinates}
-use Rattle.nap_values.specs.Operands.{operand_words}
-use Rattle.nap_draw.specs.Operands.{moves}
-use Rattle.nap_draw.specs.Geometry.{points_reached}
-use Rattle.nap_draw.specs.Execution.{Filling}
+use Rattle.nap_draw.proofs.Common.{Coordinates, Filling, List, Option, chunks_rest, chunks_size, length, moves, operand_words, points_reached, true, vec_capacity, vec_len, ◌+◌, ◌<◌, ◌≡◌, ◌≤◌, ◌⊎◌}
 use Rattle.nap_draw.proofs.scratch.steps.fill_more_steps.Given as goal
 
 abbrev pub invariant-loop-operand : goal.invariant-loop-operand
@@ -14,4 +8,7 @@ invariant-loop-operand l = record {
   size : chunks_size l.operand-iterator ≡ l.fn.domain.multi;
   filling : (all : Option (List Coordinates)) → Filling all (points_reached l.fn.from (moves l.fn.domain.multi (operand_words l.fn.run))) l.fn.lacks (λ prefix. l.fn.scratch.items ≡ prefix) →
       Filling all (points_reached l.at (moves l.fn.domain.multi (operand_words (chunks_rest l.operand-iterator)))) l.full (λ prefix. l.scratch.items ≡ prefix);
+  space : vec_capacity l.fn.scratch ≤ vec_capacity l.scratch;
+  few : vec_len l.scratch + length (chunks_rest l.operand-iterator) ≤ vec_len l.fn.scratch + length l.fn.run;
+  memory : l.full ≡ true → (l.fn.lacks ≡ true) ⊎ (vec_capacity l.fn.scratch < vec_len l.fn.scratch + length l.fn.run);
 }

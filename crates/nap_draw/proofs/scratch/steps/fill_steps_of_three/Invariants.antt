@@ -1,8 +1,4 @@
-use Rattle.std.proofs.Common.{◌≡◌, ◌+◌, ◌*◌, ◌≤◌, false, length}
-use Rattle.nap_values.specs.Operands.{operand_words}
-use Rattle.nap_draw.specs.Operands.{moves}
-use Rattle.nap_draw.specs.Geometry.{points_reached}
-use Rattle.nap_draw.specs.Execution.{Filling}
+use Rattle.nap_draw.proofs.Common.{Filling, false, length, moves, operand_words, points_reached, ◌*◌, ◌+◌, ◌≡◌, ◌≤◌}
 use Rattle.nap_draw.proofs.scratch.steps.fill_steps_of_three.Given as goal
 
 abbrev pub invariant-loop-block : goal.invariant-loop-block
@@ -10,6 +6,8 @@ invariant-loop-block l = record {
   current : l.walk ≡ l.last;
   vacant : l.scratch.cap ≡ 0;
   places : length l.rest + 3 * l.points.len ≤ 3 * l.points.cap + 2;
+  few : l.points.len + length l.rest ≤ length l.fn.run;
+  space : l.points.cap ≡ l.fn.scratch.cap;
   filling : Filling (points_reached l.fn.at (moves 3 (operand_words l.fn.run))) (points_reached l.last (moves 3 (operand_words l.rest))) false (λ prefix. l.points.items ≡ prefix);
 }
 
@@ -21,6 +19,8 @@ invariant-loop-rest l = record {
   current : l.walk ≡ l.last;
   vacant : l.scratch.cap ≡ 0;
   places : length l.rest + 3 * l.points.len ≤ 3 * l.points.cap + 2;
+  few : l.points.len + length l.rest ≤ length l.fn.run;
+  space : l.points.cap ≡ l.fn.scratch.cap;
   filling : Filling (points_reached l.fn.at (moves 3 (operand_words l.fn.run))) (points_reached l.last (moves 3 (operand_words l.rest))) false (λ prefix. l.points.items ≡ prefix);
 }
 

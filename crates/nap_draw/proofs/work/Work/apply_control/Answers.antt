@@ -1,9 +1,6 @@
-use Rattle.std.proofs.Common.{◌≡◌, [], Ok, refl, ap}
+use Rattle.nap_draw.proofs.Common.{Ok, [], ap, code_rule, refl, rule_result, walk, ◌≡◌}
 use Rattle.nap_codes.specs.declared.code.Code.{Code}
 use Rattle.nap_codes.specs.declared.code.Code.TheVariants as codes
-use Rattle.nap_list.specs.State.{walk}
-use Rattle.nap_draw.specs.Codes.{code_rule}
-use Rattle.nap_draw.specs.Rule.{rule_result}
 use Rattle.nap_draw.proofs.Acting.{obeys_quietly}
 use Rattle.nap_draw.proofs.work.Work.apply_control.Goals as goal
 

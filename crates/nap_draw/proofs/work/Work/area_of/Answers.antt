@@ -1,10 +1,4 @@
-use Rattle.std.proofs.Common.{◌≡◌, ℕ, List, map, Some, Result, refl, sym, ap, ◌∙◌}
-use Rattle.std.proofs.lemmas.Result.{err_from_is_err_and}
-use Rattle.nap_values.specs.Coordinates.{Coordinates, point_at}
-use Rattle.nap_values.specs.Operands.{operand_words, multi_of}
-use Rattle.nap_draw.specs.declared.fault.DrawFault.{DrawFault}
-use Rattle.nap_draw.specs.Operands.{moves}
-use Rattle.nap_draw.specs.Rule.{and_then, area_of, area_part}
+use Rattle.nap_draw.proofs.Common.{Coordinates, DrawFault, List, Result, Some, and_then, ap, area_of, area_part, err_from_is_err_and, map, moves, multi_of, operand_words, point_at, refl, sym, ℕ, ◌∙◌, ◌≡◌}
 use Rattle.nap_draw.proofs.ByteRuns.{moves_none, only_operand, two_operands}
 use Rattle.nap_draw.proofs.work.Work.area_of.Goals as goal
 

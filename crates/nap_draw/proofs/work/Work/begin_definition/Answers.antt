@@ -1,7 +1,4 @@
-use Rattle.std.proofs.Common.{refl}
-use Rattle.nap_list.specs.State.{walk}
-use Rattle.nap_draw.specs.Codes.{definition_ended}
-use Rattle.nap_draw.specs.Execution.{definition_start}
+use Rattle.nap_draw.proofs.Common.{definition_ended, definition_start, refl, walk}
 use Rattle.nap_draw.proofs.Acting.{obeys_put, obeys_stop}
 use Rattle.nap_draw.proofs.Endings.{start_fits, one_after}
 use Rattle.nap_draw.proofs.work.Work.begin_definition.Goals as goal

@@ -1,13 +1,6 @@
-use Rattle.std.proofs.Common.{[], ◌∷◌, Ok, Result, Some, false, sym, ap, ◌∙◌}
-use Rattle.nap_list.specs.declared.attribute.Hand.{Hand}
+use Rattle.nap_draw.proofs.Common.{DrawFault, Hand, LastChar, Ok, Result, RuleResult, Some, State, [], ap, false, hand_of, rule_result, sym, walk, with_pen, ◌∙◌, ◌∷◌}
 use Rattle.nap_list.specs.declared.attribute.Pen.TheVariants as pens
 use Rattle.nap_list.specs.declared.entry.Entry.TheVariants as entries
-use Rattle.nap_list.specs.declared.state.LastChar.{LastChar}
-use Rattle.nap_list.specs.declared.state.State.{State}
-use Rattle.nap_list.specs.State.{walk, with_pen}
-use Rattle.nap_draw.specs.declared.fault.DrawFault.{DrawFault}
-use Rattle.nap_list.specs.State.{hand_of}
-use Rattle.nap_draw.specs.Rule.{RuleResult, rule_result}
 use Rattle.nap_draw.proofs.Acting.{obeys_put, obeys_stop}
 use Rattle.nap_draw.proofs.Copies.{char_holds, char_left}
 use Rattle.nap_draw.proofs.work.Work.character.Goals as goal

@@ -1,8 +1,4 @@
-use Rattle.std.proofs.Common.{List, sym, ap, subst}
-use Rattle.std.proofs.lemmas.Result.{err_from_is_err_and}
-use Rattle.nap_list.specs.declared.entry.Entry.{Entry}
-use Rattle.nap_list.specs.declared.state.State.{State}
-use Rattle.nap_list.specs.State.{AllFit}
+use Rattle.nap_draw.proofs.Common.{AllFit, Entry, List, State, ap, err_from_is_err_and, subst, sym}
 use Rattle.nap_draw.proofs.Texts.{text_is, text_left, text_fits, text_agrees, text_none, no_codes}
 use Rattle.nap_draw.proofs.work.Work.characters.Goals as goal
 

@@ -1,5 +1,4 @@
-use Rattle.nap_draw.specs.Codes.{code_rule}
-use Rattle.nap_draw.specs.Execution.{clears_nothing}
+use Rattle.nap_draw.proofs.Common.{clears_nothing, code_rule}
 use Rattle.nap_draw.proofs.Acting.{does_acts}
 use Rattle.nap_draw.proofs.Fits.{code_fits}
 use Rattle.nap_draw.proofs.work.Work.control.Goals as goal
@@ -7,4 +6,4 @@ use Rattle.nap_draw.proofs.work.Work.control.Goals as goal
 pub returns-clause-acts : goal.returns-clause-acts
 returns-clause-acts g c =
     let w = c.args.self.now in
-    does_acts g.S.Sink clears_nothing (code_rule w c.args.code.now) w _ _ _ c.apply_control.result (λ d is. code_fits w c.args.code.now _ d is c.requires.made c.requires.agrees) c.apply_control.ensures.does
+    does_acts g.S.Sink clears_nothing ⊥ (code_rule w c.args.code.now) w _ _ _ c.apply_control.result (λ d is. code_fits w c.args.code.now _ d is c.requires.made c.requires.agrees) c.apply_control.ensures.does

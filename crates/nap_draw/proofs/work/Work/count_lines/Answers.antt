@@ -1,12 +1,4 @@
-use Rattle.std.proofs.Common.{◌≡◌, ◌∙◌, None, Ok, Result, Some, ap, false, length, map, sym}
-use Rattle.std.proofs.lemmas.List.{length-map}
-use Rattle.std.specs.Option.{option_map}
-use Rattle.nap_values.specs.Coordinates.{Coordinates}
-use Rattle.nap_draw.specs.declared.fault.DrawFault.{DrawFault}
-use Rattle.nap_draw.specs.declared.spans.Span.{Span}
-use Rattle.nap_draw.specs.declared.work.Work.{Work}
-use Rattle.nap_draw.specs.Geometry.{last_or, polyline_spans}
-use Rattle.nap_draw.specs.Rule.{RuleResult, entries_result, span_line_entry}
+use Rattle.nap_draw.proofs.Common.{Coordinates, DrawFault, None, Ok, Result, RuleResult, Some, Span, Work, ap, entries_result, false, last_or, length, length-map, map, option_map, polyline_spans, span_line_entry, sym, ◌∙◌, ◌≡◌}
 use Rattle.nap_draw.proofs.Counting.{leaves_last, line_again, spans_last, spans_many}
 use Rattle.nap_draw.proofs.Walks.{draws_end, line_lands}
 use Rattle.nap_draw.proofs.work.Work.count_lines.Goals as goal

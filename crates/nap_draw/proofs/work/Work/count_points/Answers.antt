@@ -1,10 +1,4 @@
-use Rattle.std.proofs.Common.{◌≡◌, ◌∙◌, None, Ok, Result, Some, ap, false, length, map, sym}
-use Rattle.std.proofs.lemmas.List.{length-map}
-use Rattle.nap_list.specs.Batches.{point_entry}
-use Rattle.nap_draw.specs.declared.fault.DrawFault.{DrawFault}
-use Rattle.nap_draw.specs.declared.work.Work.{Work}
-use Rattle.nap_draw.specs.Geometry.{last_or}
-use Rattle.nap_draw.specs.Rule.{RuleResult, entries_result}
+use Rattle.nap_draw.proofs.Common.{DrawFault, None, Ok, Result, RuleResult, Some, Work, ap, entries_result, false, last_or, length, length-map, map, point_entry, sym, ◌∙◌, ◌≡◌}
 use Rattle.nap_draw.proofs.Counting.{leaves_last, point_again}
 use Rattle.nap_draw.proofs.Walks.{draws_end, itself, point_lands}
 use Rattle.nap_draw.proofs.work.Work.count_points.Goals as goal

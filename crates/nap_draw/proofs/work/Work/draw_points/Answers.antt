@@ -1,9 +1,4 @@
-use Rattle.std.proofs.Common.{None, ◌∙◌, refl}
-use Rattle.nap_draw.specs.Geometry.{last_or}
-use Rattle.nap_list.specs.Batches.{point_entry}
-use Rattle.nap_list.specs.PuttingLaws.{some_put}
-use Rattle.nap_list.specs.SinkModels.{sink_model_of}
-use Rattle.nap_draw.specs.Execution.{clears_nothing}
+use Rattle.nap_draw.proofs.Common.{None, clears_nothing, last_or, point_entry, refl, sink_model_of, some_put, ◌∙◌}
 use Rattle.nap_draw.proofs.Acting.{does_put, does_stop}
 use Rattle.nap_draw.proofs.Fits.{all_fit}
 use Rattle.nap_draw.proofs.Walks.{point_lands, draws_end, end_is_last, itself}
@@ -13,11 +8,11 @@ pub put_batch-requires : goal.put_batch-requires
 put_batch-requires g c = (all_fit point_entry (λ p. p) point_lands c.args.self.now.state None c.args.points.now _ c.requires).0
 
 pub returns-in_err-put_batch : goal.returns-in_err-put_batch
-returns-in_err-put_batch g c = does_stop g.S.Sink clears_nothing _ _ _ _ _ _ _ c.from_residual.ensures.1 refl (some_put (sink_model_of g.S.Sink) (Unit {0}) _ _ _ _ _ c.in_err-put_batch.ensures)
+returns-in_err-put_batch g c = does_stop g.S.Sink clears_nothing _ _ _ _ _ _ _ _ c.from_residual.ensures.1 refl (some_put (sink_model_of g.S.Sink) (Unit {0}) _ _ _ _ _ c.in_err-put_batch.ensures)
 
 pub returns : goal.returns
 returns g c =
     let p = c.copied.result in
     let last = end_is_last c.args.points.now p (c.copied.ensures ∙ c.last.ensures.value) in
-    rw c.move_pen_to.ensures (does_put g.S.Sink clears_nothing _ c.args.self.now _ _ _ _ (tt {0})
+    rw c.move_pen_to.ensures (does_put g.S.Sink clears_nothing ⊥ _ c.args.self.now _ _ _ _ (tt {0})
     (draws_end point_entry (λ p. p) point_lands c.args.self.now c.args.points.now p c.requires.drawing.mode (last ∙ itself (last_or None c.args.points.now))) c.in_ok-put_batch.ensures)

@@ -1,11 +1,4 @@
-use Rattle.std.proofs.Common.{None, Ok, false, List, subst, ◌∙◌, ap}
-use Rattle.nap_list.specs.declared.entry.Entry.{Entry}
-use Rattle.nap_list.specs.State.{AllFit}
-use Rattle.nap_draw.specs.Geometry.{polyline_spans}
-use Rattle.nap_draw.specs.Rule.{rule_result, span_line_entry}
-use Rattle.nap_list.specs.PuttingLaws.{some_put}
-use Rattle.nap_list.specs.SinkModels.{sink_model_of}
-use Rattle.nap_draw.specs.Execution.{with_pen_moved_to, clears_nothing}
+use Rattle.nap_draw.proofs.Common.{AllFit, Entry, List, None, Ok, ap, clears_nothing, false, polyline_spans, rule_result, sink_model_of, some_put, span_line_entry, subst, with_pen_moved_to, ◌∙◌}
 use Rattle.nap_draw.proofs.Acting.{does_put, does_stop}
 use Rattle.nap_draw.proofs.Fits.{all_fit}
 use Rattle.nap_draw.proofs.Links.{joined_lines, joined_end}
@@ -22,7 +15,7 @@ pub returns-in_err-put_batch : goal.returns-in_err-put_batch
 returns-in_err-put_batch g c =
     let w = c.args.self.now in
     let by = ap (λ (list : List Entry). Ok (rule_result w list)) (joined_lines w.state.drawing c.args.from c.args.points.now) in
-    does_stop g.S.Sink clears_nothing _ _ _ _ _ _ _ c.from_residual.ensures.1 by (some_put (sink_model_of g.S.Sink) (Unit {0}) _ _ _ _ _ c.in_err-put_batch.ensures)
+    does_stop g.S.Sink clears_nothing _ _ _ _ _ _ _ _ c.from_residual.ensures.1 by (some_put (sink_model_of g.S.Sink) (Unit {0}) _ _ _ _ _ c.in_err-put_batch.ensures)
 
 pub returns : goal.returns
 returns g c =
@@ -31,4 +24,4 @@ returns g c =
     let last = end_is_last c.args.points.now p (c.copied.ensures ∙ c.last.ensures.value) in
     let by = draws_end span_line_entry (λ s. s.to) line_lands w (polyline_spans c.args.from c.args.points.now) p c.requires.drawing.mode (last ∙ joined_end None c.args.from c.args.points.now) in
     let lines = ap (λ (list : List Entry). Ok (record { entries = list; work = record w { state = with_pen_moved_to w.state p }; clears = false })) (joined_lines w.state.drawing c.args.from c.args.points.now) in
-    rw c.move_pen_to.ensures (does_put g.S.Sink clears_nothing _ w _ _ _ _ (tt {0}) (by ∙ lines) c.in_ok-put_batch.ensures)
+    rw c.move_pen_to.ensures (does_put g.S.Sink clears_nothing ⊥ _ w _ _ _ _ (tt {0}) (by ∙ lines) c.in_ok-put_batch.ensures)

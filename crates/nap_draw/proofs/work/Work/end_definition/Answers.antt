@@ -1,5 +1,4 @@
-use Rattle.std.proofs.Common.{Ok, ap}
-use Rattle.nap_list.specs.State.{walk}
+use Rattle.nap_draw.proofs.Common.{Ok, ap, walk}
 use Rattle.nap_draw.proofs.Acting.{obeys_quietly, obeys_stop}
 use Rattle.nap_draw.proofs.Endings.{not_ended, is_ended}
 use Rattle.nap_draw.proofs.work.Work.end_definition.Goals as goal

@@ -1,14 +1,6 @@
-use Rattle.std.proofs.Common.{refl, [], ◌∷◌, Ok, Some, Result, sym, ap, ◌∙◌}
-use Rattle.nap_list.specs.declared.attribute.Area.{Area}
-use Rattle.nap_list.specs.declared.attribute.Pen.{Pen}
+use Rattle.nap_draw.proofs.Common.{Area, DrawFault, EqualCurrent, Ok, Pen, Result, Some, [], and_then, ap, clears_nothing, entry_result, field_on, moves_of, operand_words, pen_only, refl, rule_result, sym, ◌∙◌, ◌∷◌}
 use Rattle.nap_list.specs.declared.entry.Entry.TheVariants as entries
-use Rattle.nap_values.specs.Operands.{operand_words}
-use Rattle.nap_draw.specs.declared.fault.DrawFault.{DrawFault}
-use Rattle.nap_draw.specs.Rule.{and_then, rule_result, entry_result, field_on, moves_of}
-use Rattle.nap_draw.specs.Execution.{clears_nothing}
 use Rattle.nap_draw.proofs.Acting.{does_as, does_refused}
-use Rattle.nap_list.specs.Entry.{pen_only}
-use Rattle.nap_list.specs.Agreement.{EqualCurrent}
 use Rattle.nap_draw.proofs.Walks.{left_by}
 use Rattle.nap_draw.proofs.Areas.{area_stream}
 use Rattle.nap_draw.proofs.work.Work.field.Goals as goal
@@ -27,11 +19,11 @@ pub returns-in_err-area : goal.returns-in_err-area
 returns-in_err-area g c =
     let w = c.args.self.now in
     let by = ap (λ (r : Result Area DrawFault). and_then r (λ area. entry_result w field_on (Some area))) (sym c.in_err-area.ensures) in
-    does_refused g.S.Sink _ (g.met.S.Sink.took_none _) _ _ _ _ c.from_residual.ensures.1 (area_stream w (moves_of w (operand_words c.args.run.now)) _ (sym c.in_err-area.ensures)) by
+    does_refused g.S.Sink _ (g.met.S.Sink.took_none _) _ _ _ _ _ c.from_residual.ensures.1 (area_stream w (moves_of w (operand_words c.args.run.now)) _ (sym c.in_err-area.ensures)) by
 
 pub returns : goal.returns
 returns g c =
     let w = c.args.self.now in
     let area = c.in_ok-area.area in
     let by = ap (λ (r : Result Area DrawFault). and_then r (λ area. entry_result w field_on (Some area))) (sym c.in_ok-area.ensures) in
-    does_as g.S.Sink clears_nothing _ _ _ _ _ _ _ (by ∙ ap (λ (pen : Pen). Ok (rule_result w (entries.Field area pen ∷ []))) (sym c.pen-pen.ensures)) c.put_and_set_pen.ensures.does
+    does_as g.S.Sink clears_nothing _ _ _ _ _ _ _ _ (by ∙ ap (λ (pen : Pen). Ok (rule_result w (entries.Field area pen ∷ []))) (sym c.pen-pen.ensures)) c.put_and_set_pen.ensures.does

@@ -1,15 +1,13 @@
-use Rattle.std.proofs.Common.{refl}
-use Rattle.nap_list.specs.Batches.{point_entry}
-use Rattle.nap_draw.specs.Rule.{entries_result}
+use Rattle.nap_draw.proofs.Common.{Err, ap, entries_result, point_entry, refl}
 use Rattle.nap_draw.proofs.Acting.{does_refused, does_unfilled, does_filled}
 use Rattle.nap_draw.proofs.work.Work.point_abs.Goals as goal
 
-pub returns-in_err-require_operand : goal.returns-in_err-require_operand
-returns-in_err-require_operand g c = does_refused g.S.Sink _ (g.met.S.Sink.took_none _) _ _ _ _ c.from_residual.ensures.1 c.in_err-require_operand.ensures.err.0 (c.in_err-require_operand.ensures.err.1 _)
+pub returns-in_err-require_operand-clause-acts : goal.returns-in_err-require_operand-clause-acts
+returns-in_err-require_operand-clause-acts g c = does_refused g.S.Sink _ (g.met.S.Sink.took_none _) _ _ _ _ _ c.from_residual.ensures.1 c.in_err-require_operand.ensures.err.0 (c.in_err-require_operand.ensures.err.1 _)
 
-pub returns-in_err-points_into : goal.returns-in_err-points_into
-returns-in_err-points_into g c =
-    does_unfilled g.S.Sink _ (g.met.S.Sink.took_none _) _ _ _ _ _ c.from_residual-in_err-points_into.ensures.1 (entries_result c.args.self.now point_entry) (c.in_ok-require_operand.ensures.ok _) refl (λ xs. (_, refl)) c.in_err-points_into.ensures
+pub returns-in_err-points_into-clause-acts : goal.returns-in_err-points_into-clause-acts
+returns-in_err-points_into-clause-acts g c =
+    does_unfilled g.S.Sink _ (g.met.S.Sink.took_none _) _ _ _ _ _ _ c.from_residual-in_err-points_into.ensures.1 (entries_result c.args.self.now point_entry) (c.in_ok-require_operand.ensures.ok _) refl (λ xs. (_, refl)) c.in_err-points_into.ensures.fills (λ e. c.in_err-points_into.ensures.memory.1 (ap Err e))
 
-pub returns : goal.returns
-returns g c = does_filled g.S.Sink _ _ _ _ _ _ (entries_result c.args.self.now point_entry) (λ ps. ps) _ _ _ (c.in_ok-require_operand.ensures.ok _) c.in_ok-points_into.ensures c.deref.ensures.value c.draw_points.ensures
+pub returns-clause-acts : goal.returns-clause-acts
+returns-clause-acts g c = does_filled g.S.Sink _ _ _ _ _ _ _ (entries_result c.args.self.now point_entry) (λ ps. ps) _ _ _ (c.in_ok-require_operand.ensures.ok _) c.in_ok-points_into.ensures.fills c.deref.ensures.value c.draw_points.ensures

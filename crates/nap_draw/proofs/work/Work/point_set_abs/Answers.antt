@@ -1,6 +1,4 @@
-use Rattle.std.proofs.Common.{[], refl, sym, ◌∙◌, ap, arith}
-use Rattle.nap_values.specs.Coordinates.{point_at}
-use Rattle.nap_values.specs.Operands.{operand_words}
+use Rattle.nap_draw.proofs.Common.{[], ap, arith, operand_words, point_at, refl, sym, ◌∙◌}
 use Rattle.nap_draw.proofs.ByteRuns.{one_of_three}
 use Rattle.nap_draw.proofs.Going.{goes_end, pen_after, sets_once}
 use Rattle.nap_draw.proofs.work.Work.point_set_abs.Goals as goal

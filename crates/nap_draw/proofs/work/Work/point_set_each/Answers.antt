@@ -1,10 +1,4 @@
-use Rattle.std.proofs.Common.{ℕ, List, sym, ◌∙◌, ap, arith, refl}
-use Rattle.std.specs.Slice.Iter.{chunks_rest, chunks_size}
-use Rattle.nap_values.specs.Coordinates.{point_at}
-use Rattle.nap_values.specs.Operands.{operand_words}
-use Rattle.nap_draw.specs.Operands.{moves}
-use Rattle.nap_draw.specs.Geometry.{points_at}
-use Rattle.nap_draw.specs.Rule.{pen_result}
+use Rattle.nap_draw.proofs.Common.{List, ap, arith, chunks_rest, chunks_size, moves, operand_words, pen_result, point_at, points_at, refl, sym, ℕ, ◌∙◌}
 use Rattle.nap_draw.proofs.Acting.{sets_refused}
 use Rattle.nap_draw.proofs.ByteRuns.{moves_chunk, moves_none}
 use Rattle.nap_draw.proofs.Decoding.{filling_begins, filling_more, filling_none, filling_end}

@@ -1,10 +1,4 @@
-use Rattle.std.proofs.Common.{◌≡◌, None, false}
-use Rattle.std.specs.Slice.Iter.{chunks_rest, chunks_size}
-use Rattle.nap_values.specs.Operands.{operand_words}
-use Rattle.nap_list.specs.State.{with_pen, with_pen_at}
-use Rattle.nap_draw.specs.Operands.{moves}
-use Rattle.nap_draw.specs.Geometry.{last_or, points_at}
-use Rattle.nap_draw.specs.Execution.{Filling}
+use Rattle.nap_draw.proofs.Common.{Filling, None, chunks_rest, chunks_size, false, last_or, moves, operand_words, points_at, with_pen, with_pen_at, ◌≡◌}
 use Rattle.nap_draw.proofs.work.Work.point_set_each.Given as goal
 
 abbrev pub invariant-loop-operand : goal.invariant-loop-operand

@@ -1,10 +1,4 @@
-use Rattle.std.proofs.Common.{ℕ, List, sym, ◌∙◌, ap, arith, refl}
-use Rattle.std.specs.Slice.Iter.{chunks_rest, chunks_size}
-use Rattle.nap_values.specs.Coordinates.{displaced_point}
-use Rattle.nap_values.specs.Operands.{operand_words}
-use Rattle.nap_draw.specs.Operands.{moves}
-use Rattle.nap_draw.specs.Geometry.{last_or, points_reached}
-use Rattle.nap_draw.specs.Rule.{pen_result}
+use Rattle.nap_draw.proofs.Common.{List, ap, arith, chunks_rest, chunks_size, displaced_point, last_or, moves, operand_words, pen_result, points_reached, refl, sym, ℕ, ◌∙◌}
 use Rattle.nap_draw.proofs.Acting.{sets_refused}
 use Rattle.nap_draw.proofs.ByteRuns.{moves_chunk, moves_none}
 use Rattle.nap_draw.proofs.Decoding.{filling_begins, filling_more, filling_none, filling_end}

@@ -1,9 +1,4 @@
-use Rattle.std.proofs.Common.{◌≡◌, Some, false}
-use Rattle.std.specs.Slice.Iter.{chunks_rest, chunks_size}
-use Rattle.nap_values.specs.Operands.{operand_words}
-use Rattle.nap_draw.specs.Operands.{moves}
-use Rattle.nap_draw.specs.Geometry.{last_or, points_reached}
-use Rattle.nap_draw.specs.Execution.{Filling}
+use Rattle.nap_draw.proofs.Common.{Filling, Some, chunks_rest, chunks_size, false, last_or, moves, operand_words, points_reached, ◌≡◌}
 use Rattle.nap_draw.proofs.work.Work.point_set_rel.Given as goal
 
 abbrev pub invariant-loop-operand : goal.invariant-loop-operand

@@ -1,6 +1,4 @@
-use Rattle.nap_list.proofs.PublicLaws.{agreeing_fits}
-use Rattle.nap_list.specs.SinkModels.{sink_model_of}
-use Rattle.nap_list.specs.PuttingLaws.{one_put}
+use Rattle.nap_draw.proofs.Common.{agreeing_fits, one_put, sink_model_of}
 use Rattle.nap_draw.proofs.work.Work.put.Goals as goal
 
 pub put-requires : goal.put-requires

@@ -1,8 +1,4 @@
-use Rattle.std.proofs.Common.{[], ◌∷◌, false, Ok, Result, refl, ap}
-use Rattle.nap_list.specs.State.{walk}
-use Rattle.nap_list.specs.declared.state.State.{State}
-use Rattle.nap_draw.specs.declared.fault.DrawFault.{DrawFault}
-use Rattle.nap_draw.specs.Rule.{RuleResult}
+use Rattle.nap_draw.proofs.Common.{DrawFault, Ok, Result, RuleResult, State, [], ap, false, refl, walk, ◌∷◌}
 use Rattle.nap_draw.proofs.Acting.{obeys_put, obeys_stop}
 use Rattle.nap_draw.proofs.work.Work.put_and_set_pen.Goals as goal
 

@@ -1,10 +1,5 @@
-use Rattle.std.proofs.Common.{List, [], ◌∷◌, Err, refl, subst}
-use Rattle.std.proofs.lemmas.Result.{err_from_is_err_and}
-use Rattle.nap_list.specs.declared.entry.Entry.{Entry}
+use Rattle.nap_draw.proofs.Common.{Entry, Err, List, PutsList, PutsSoFar, [], definition_start, err_from_is_err_and, one_goes, one_put, one_stops, put_begins, refl, rest_put, sink_model_of, subst, ◌∷◌}
 use Rattle.nap_list.specs.declared.entry.Entry.TheVariants as entries
-use Rattle.nap_draw.specs.Execution.{PutsList, PutsSoFar, definition_start}
-use Rattle.nap_list.specs.SinkModels.{sink_model_of}
-use Rattle.nap_list.specs.PuttingLaws.{put_begins, one_goes, one_stops, one_put, rest_put}
 use Rattle.nap_draw.proofs.Endings.{with_end}
 use Rattle.nap_draw.proofs.work.Work.put_start.Goals as goal
 

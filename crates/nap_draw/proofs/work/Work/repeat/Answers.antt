@@ -1,11 +1,4 @@
-use Rattle.std.proofs.Common.{◌≡◌, ◌<◌, Ok, Option, refl, ap, ◌∙◌, arith}
-use Rattle.std.proofs.lemmas.Bool.Decides.{nat_tests}
-use Rattle.nap_list.specs.declared.state.LastChar.{LastChar}
-use Rattle.nap_list.specs.PuttingLaws.{some_put}
-use Rattle.nap_list.specs.SinkModels.{sink_model_of}
-use Rattle.nap_list.specs.State.{walk}
-use Rattle.nap_draw.specs.Codes.{repeated_chars, with_last}
-use Rattle.nap_draw.specs.Rule.{rule_result}
+use Rattle.nap_draw.proofs.Common.{LastChar, Ok, Option, ap, arith, nat_tests, refl, repeated_chars, rule_result, sink_model_of, some_put, walk, with_last, ◌<◌, ◌∙◌, ◌≡◌}
 use Rattle.nap_draw.proofs.Acting.{obeys_put, obeys_stop, obeys_quietly}
 use Rattle.nap_draw.proofs.Copies.{prefix_some, prefix_typed, last_is_code, repeat_is}
 use Rattle.nap_draw.proofs.work.Work.repeat.Goals as goal

@@ -1,6 +1,4 @@
-use Rattle.std.proofs.Common.{sym, ap}
-use Rattle.nap_list.specs.State.{walk}
-use Rattle.nap_draw.specs.Rule.{RuleResult}
+use Rattle.nap_draw.proofs.Common.{RuleResult, ap, sym, walk}
 use Rattle.nap_draw.proofs.Endings.{not_ended, is_ended}
 use Rattle.nap_draw.proofs.work.Work.restore_saved.Goals as goal
 

@@ -1,6 +1,4 @@
-use Rattle.std.proofs.Common.{◌%◌, map, ◌∙◌, ap}
-use Rattle.nap_values.specs.Operands.{operand_words}
-use Rattle.nap_draw.specs.Rule.{domain_in}
+use Rattle.nap_draw.proofs.Common.{ap, domain_in, map, operand_words, ◌%◌, ◌∙◌}
 use Rattle.nap_draw.proofs.Domains.{domain_given}
 use Rattle.nap_draw.proofs.work.Work.set_domain.Goals as goal
 

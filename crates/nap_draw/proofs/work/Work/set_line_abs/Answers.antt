@@ -1,20 +1,17 @@
-use Rattle.std.proofs.Common.{refl, ◌∙◌, ap}
-use Rattle.std.specs.Option.{option_map}
-use Rattle.nap_draw.specs.Rule.{entries_result, span_line_entry}
-use Rattle.nap_draw.specs.Execution.{pair_spans}
+use Rattle.nap_draw.proofs.Common.{Err, ap, entries_result, option_map, pair_spans, refl, span_line_entry, ◌∙◌}
 use Rattle.nap_draw.proofs.Acting.{does_refused, does_unfilled, does_filled}
 use Rattle.nap_draw.proofs.Rows.{between_points}
 use Rattle.nap_draw.proofs.work.Work.set_line_abs.Goals as goal
 
-pub returns-in_err-require_pairs : goal.returns-in_err-require_pairs
-returns-in_err-require_pairs g c = does_refused g.S.Sink _ (g.met.S.Sink.took_none _) _ _ _ _ c.from_residual.ensures.1 c.in_err-require_pairs.ensures.err.0 (c.in_err-require_pairs.ensures.err.1 _)
+pub returns-in_err-require_pairs-clause-acts : goal.returns-in_err-require_pairs-clause-acts
+returns-in_err-require_pairs-clause-acts g c = does_refused g.S.Sink _ (g.met.S.Sink.took_none _) _ _ _ _ _ c.from_residual.ensures.1 c.in_err-require_pairs.ensures.err.0 (c.in_err-require_pairs.ensures.err.1 _)
 
-pub returns-in_err-points_into : goal.returns-in_err-points_into
-returns-in_err-points_into g c =
-    does_unfilled g.S.Sink _ (g.met.S.Sink.took_none _) _ _ _ _ _ c.from_residual-in_err-points_into.ensures.1 (λ o. entries_result c.args.self.now span_line_entry (option_map pair_spans o))
-    (c.in_ok-require_pairs.ensures.ok _ ∙ ap (entries_result c.args.self.now span_line_entry) (between_points _ c.in_ok-require_pairs.ensures.even)) refl (λ xs. (_, refl)) c.in_err-points_into.ensures
+pub returns-in_err-points_into-clause-acts : goal.returns-in_err-points_into-clause-acts
+returns-in_err-points_into-clause-acts g c =
+    does_unfilled g.S.Sink _ (g.met.S.Sink.took_none _) _ _ _ _ _ _ c.from_residual-in_err-points_into.ensures.1 (λ o. entries_result c.args.self.now span_line_entry (option_map pair_spans o))
+    (c.in_ok-require_pairs.ensures.ok _ ∙ ap (entries_result c.args.self.now span_line_entry) (between_points _ c.in_ok-require_pairs.ensures.even)) refl (λ xs. (_, refl)) c.in_err-points_into.ensures.fills (λ e. c.in_err-points_into.ensures.memory.1 (ap Err e))
 
-pub returns : goal.returns
-returns g c =
-    does_filled g.S.Sink _ _ _ _ _ _ (λ o. entries_result c.args.self.now span_line_entry (option_map pair_spans o)) (λ ps. ps) _ _ _
-    (c.in_ok-require_pairs.ensures.ok _ ∙ ap (entries_result c.args.self.now span_line_entry) (between_points _ c.in_ok-require_pairs.ensures.even)) c.in_ok-points_into.ensures c.deref.ensures.value c.draw_pairs.ensures
+pub returns-clause-acts : goal.returns-clause-acts
+returns-clause-acts g c =
+    does_filled g.S.Sink _ _ _ _ _ _ _ (λ o. entries_result c.args.self.now span_line_entry (option_map pair_spans o)) (λ ps. ps) _ _ _
+    (c.in_ok-require_pairs.ensures.ok _ ∙ ap (entries_result c.args.self.now span_line_entry) (between_points _ c.in_ok-require_pairs.ensures.even)) c.in_ok-points_into.ensures.fills c.deref.ensures.value c.draw_pairs.ensures

@@ -1,5 +1,4 @@
-use Rattle.std.proofs.Common.{refl}
-use Rattle.nap_list.specs.State.{walk}
+use Rattle.nap_draw.proofs.Common.{refl, walk}
 use Rattle.nap_draw.proofs.ByteRuns.{carried_rest}
 use Rattle.nap_draw.proofs.work.Work.set_text.Goals as goal
 

@@ -1,6 +1,4 @@
-use Rattle.std.proofs.Common.{◌≡◌, [], drop, arith}
-use Rattle.std.proofs.lemmas.List.{drop_all}
-use Rattle.std.proofs.lemmas.Str.{IsUtf8-nil}
+use Rattle.nap_lines.proofs.Common.{IsUtf8-nil, [], arith, drop, drop_all, ◌≡◌}
 use Rattle.nap_lines.proofs.backward_buffer.BackwardBuffer.clear.Goals as goal
 
 pub invariant_of-self : goal.invariant_of-self

@@ -1,6 +1,4 @@
-use Rattle.std.proofs.Common.{◌≡◌, ◌≢◌, ℕ, ◌+◌, ◌-◌, length, take, drop, length-drop, arith, ap, ◌∙◌, subst}
-use Rattle.std.specs.Prelude.{MatchOption}
-use Rattle.std.specs.Array.{IsWholeChunk}
+use Rattle.nap_lines.proofs.Common.{IsWholeChunk, MatchOption, ap, arith, drop, length, length-drop, subst, take, ℕ, ◌+◌, ◌-◌, ◌∙◌, ◌≡◌, ◌≢◌}
 use Rattle.nap_lines.proofs.KeptLemmas.{first_copied}
 use Rattle.nap_lines.proofs.backward_buffer.BackwardBuffer.copy_of_first.Goals as goal
 

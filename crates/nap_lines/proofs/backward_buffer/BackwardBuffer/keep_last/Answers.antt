@@ -1,5 +1,4 @@
-use Rattle.std.proofs.Common.{◌≡◌, ◌+◌, ◌-◌, length, drop, arith, length-drop, ap, sym, ◌∙◌}
-use Rattle.std.proofs.lemmas.List.{drop-drop}
+use Rattle.nap_lines.proofs.Common.{ap, arith, drop, drop-drop, length, length-drop, sym, ◌+◌, ◌-◌, ◌∙◌, ◌≡◌}
 use Rattle.nap_lines.proofs.backward_buffer.BackwardBuffer.keep_last.Goals as goal
 
 pub invariant_of-self : goal.invariant_of-self

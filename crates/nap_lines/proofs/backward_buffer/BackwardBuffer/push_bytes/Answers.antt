@@ -1,6 +1,4 @@
-use Rattle.std.proofs.Common.{◌≡◌, ◌-◌, ◌++◌, length, drop, arith}
-use Rattle.std.proofs.lemmas.Grind.{common_steps}
-use Rattle.std.proofs.lemmas.Str.{IsUtf8-append}
+use Rattle.nap_lines.proofs.Common.{IsUtf8-append, arith, common_steps, drop, length, ◌++◌, ◌-◌, ◌≡◌}
 use borrow.Rule.Slice.PartMut.{put_mid}
 use Rattle.nap_lines.proofs.backward_buffer.BackwardBuffer.push_bytes.Goals as goal
 

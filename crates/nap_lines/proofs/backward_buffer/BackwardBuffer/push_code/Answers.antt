@@ -1,7 +1,4 @@
-use Rattle.std.proofs.Common.{◌<◌, [], ◌∷◌, arith}
-use Rattle.std.proofs.lemmas.Bool.Decides.{nat_tests}
-use Rattle.std.proofs.lemmas.Str.{IsUtf8-from_ascii}
-use Rattle.std.proofs.lemmas.Str.Ascii.{IsAscii-nil, IsAscii-cons}
+use Rattle.nap_lines.proofs.Common.{IsAscii-cons, IsAscii-nil, IsUtf8-from_ascii, [], arith, nat_tests, ◌<◌, ◌∷◌}
 use Rattle.nap_lines.proofs.backward_buffer.BackwardBuffer.push_code.Goals as goal
 
 pub push_bytes-requires-clause-utf8 : goal.push_bytes-requires-clause-utf8

@@ -1,5 +1,4 @@
-use Rattle.std.proofs.Common.{◌≡◌, ◌-◌, ◌++◌, ℕ, List, length, drop, length-drop, arith, ap, ◌∙◌}
-use Rattle.std.proofs.lemmas.Str.{IsUtf8-append}
+use Rattle.nap_lines.proofs.Common.{IsUtf8-append, List, ap, arith, drop, length, length-drop, ℕ, ◌++◌, ◌-◌, ◌∙◌, ◌≡◌}
 use borrow.Rule.Slice.PartMut.{put_mid}
 use Rattle.nap_lines.proofs.KeptLemmas.{last_put}
 use Rattle.nap_lines.proofs.backward_buffer.BackwardBuffer.push_copied.Goals as goal

@@ -1,7 +1,4 @@
-use Rattle.std.proofs.Common.{◌≡◌, ◌+◌, ◌-◌, ℕ, List, [], ◌∷◌, ◌++◌, codes, length, drop, arith, length-drop, ap, ◌∙◌}
-use Rattle.std.proofs.lemmas.Str.{IsUtf8-append, IsUtf8-from_ascii}
-use Rattle.std.proofs.lemmas.Str.Ascii.{IsAscii-cons, IsAscii-nil}
-use Rattle.std.specs.Str.{IsAscii}
+use Rattle.nap_lines.proofs.Common.{IsAscii, IsAscii-cons, IsAscii-nil, IsUtf8-append, IsUtf8-from_ascii, List, [], ap, arith, codes, drop, length, length-drop, ℕ, ◌++◌, ◌+◌, ◌-◌, ◌∙◌, ◌∷◌, ◌≡◌}
 use Rattle.nap_lines.proofs.KeptLemmas.{five_put}
 use Rattle.nap_lines.proofs.backward_buffer.BackwardBuffer.push_line_name.Goals as goal
 

@@ -1,6 +1,4 @@
-use Rattle.std.proofs.Common.{arith, ap, length, drop, decimal, length-append, length-drop}
-use Rattle.std.proofs.lemmas.Fmt.{length-decimal-le, IsAscii-decimal}
-use Rattle.std.proofs.lemmas.Str.{IsUtf8-from_ascii, IsUtf8-append}
+use Rattle.nap_lines.proofs.Common.{IsAscii-decimal, IsUtf8-append, IsUtf8-from_ascii, ap, arith, decimal, drop, length, length-append, length-decimal-le, length-drop}
 use Rattle.nap_lines.proofs.backward_buffer.BackwardBuffer.push_number.Goals as goal
 
 pub write_digits-self-inside-requires : goal.write_digits-self-inside-requires

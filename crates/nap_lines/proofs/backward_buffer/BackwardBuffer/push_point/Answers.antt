@@ -1,4 +1,4 @@
-use Rattle.std.proofs.Common.{arith}
+use Rattle.nap_lines.proofs.Common.{arith}
 use Rattle.nap_lines.proofs.KeptLemmas.{point_few, point_utf8}
 use Rattle.nap_lines.proofs.backward_buffer.BackwardBuffer.push_point.Goals as goal
 

@@ -1,5 +1,4 @@
-use Rattle.std.proofs.Common.{◌-◌, arith}
-use Rattle.nap_lines.specs.Lines.{point_text}
+use Rattle.nap_lines.proofs.Common.{arith, point_text, ◌-◌}
 use Rattle.nap_lines.proofs.KeptLemmas.{last_pushed}
 use Rattle.nap_lines.proofs.backward_buffer.BackwardBuffer.push_point_copied.Goals as goal
 

@@ -1,5 +1,4 @@
-use Rattle.std.proofs.Common.{◌≡◌, ◌+◌, ◌-◌, ◌*◌, ◌≤◌, ◌++◌, length, drop}
-use Rattle.nap_lines.specs.Lines.{points_text}
+use Rattle.nap_lines.proofs.Common.{drop, length, points_text, ◌*◌, ◌++◌, ◌+◌, ◌-◌, ◌≡◌, ◌≤◌}
 use Rattle.nap_lines.proofs.backward_buffer.BackwardBuffer.push_points.Given as goal
 
 -- the last points so far

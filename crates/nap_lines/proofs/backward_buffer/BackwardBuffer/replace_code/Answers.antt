@@ -1,10 +1,4 @@
-use Rattle.std.proofs.Common.{ℕ, ◌≡◌, ◌+◌, ◌-◌, ◌/◌, ◌<◌, ◌≤◌, List, [], ◌∷◌, ◌++◌, length, take, drop, refl, sym, arith, ap, ◌∙◌, length-drop}
-use Rattle.std.specs.Char.{digit_char}
-use Rattle.std.proofs.lemmas.Bool.Decides.{nat_tests}
-use Rattle.std.proofs.lemmas.List.{drop-append-le, drop-drop, drop-take, length-take-le}
-use Rattle.std.proofs.lemmas.Grind.{common_steps}
-use Rattle.std.proofs.lemmas.Str.{IsUtf8-append, IsUtf8-from_ascii}
-use Rattle.std.proofs.lemmas.Str.Ascii.{IsAscii-nil, IsAscii-cons}
+use Rattle.nap_lines.proofs.Common.{IsAscii-cons, IsAscii-nil, IsUtf8-append, IsUtf8-from_ascii, List, [], ap, arith, common_steps, digit_char, drop, drop-append-le, drop-drop, drop-take, length, length-drop, length-take-le, nat_tests, refl, sym, take, ℕ, ◌++◌, ◌+◌, ◌-◌, ◌/◌, ◌<◌, ◌∙◌, ◌∷◌, ◌≡◌, ◌≤◌}
 use borrow.Rule.Slice.PartMut.{put_mid}
 use Rattle.nap_lines.proofs.backward_buffer.BackwardBuffer.replace_code.Goals as goal
 

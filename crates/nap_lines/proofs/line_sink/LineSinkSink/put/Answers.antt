@@ -1,5 +1,4 @@
-use Rattle.std.proofs.Common.{◌∙◌, append-nil, append_assoc}
-use Rattle.nap_list.specs.State.{walk}
+use Rattle.nap_lines.proofs.Common.{append-nil, append_assoc, walk, ◌∙◌}
 use Rattle.nap_lines.proofs.line_sink.LineSinkSink.put.Goals as goal
 
 pub returns-clause-took : goal.returns-clause-took

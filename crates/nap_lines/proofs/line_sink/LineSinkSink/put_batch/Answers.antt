@@ -1,7 +1,4 @@
-use Rattle.std.proofs.Common.{refl, take}
-use Rattle.nap_list.specs.Batches.{batch_entries}
-use Rattle.nap_list.specs.PuttingLaws.{some_taken}
-use Rattle.nap_lines.specs.Listing.{TakesLinesOf}
+use Rattle.nap_lines.proofs.Common.{TakesLinesOf, batch_entries, refl, some_taken, take}
 use Rattle.nap_lines.proofs.BatchLemmas.{lines_shows}
 use Rattle.nap_lines.proofs.line_sink.LineSinkSink.put_batch.Goals as goal
 

@@ -1,4 +1,4 @@
-use Rattle.nap_list.specs.Shapes.{entry_of_shape}
+use Rattle.nap_lines.proofs.Common.{entry_of_shape}
 use Rattle.nap_lines.proofs.SinkLemmas.{shape_listed, shape_unlisted}
 use Rattle.nap_lines.proofs.line_sink.LineSinkSink.put_shape.Goals as goal
 

@@ -1,4 +1,4 @@
-use Rattle.std.proofs.Common.{arith}
+use Rattle.nap_list.proofs.Common.{arith}
 use Rattle.nap_list.proofs.Batches.{text_at}
 use Rattle.nap_list.proofs.batch.Batch.entry.Goals as goal
 use Rattle.nap_list.proofs.batch.Batch.entry.Goals.{then-index-eq0, else-index-eq0}

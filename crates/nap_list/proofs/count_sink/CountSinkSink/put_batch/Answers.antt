@@ -1,8 +1,4 @@
-use Rattle.std.proofs.Common.{◌≤◌, ◌∷◌, [], length, refl, take, length-append, arith}
-use Rattle.std.proofs.lemmas.List.{length-take-le}
-use Rattle.nap_list.specs.Batches.{batch_entries}
-use Rattle.nap_list.specs.Counting.{CountsEntries, count_sink_model}
-use Rattle.nap_list.specs.PuttingLaws.{some_taken}
+use Rattle.nap_list.proofs.Common.{CountsEntries, [], arith, batch_entries, count_sink_model, length, length-append, length-take-le, refl, some_taken, take, ◌∷◌, ◌≤◌}
 use Rattle.nap_list.proofs.count_sink.CountSinkSink.put_batch.Goals as goal
 
 pub returns : goal.returns

@@ -1,9 +1,5 @@
-use Rattle.std.proofs.Common.{◌∷◌, [], Err, refl, arith}
+use Rattle.nap_list.proofs.Common.{CountsEntries, Err, [], arith, count_sink_model, counts_none, entry_of_shape, refl, walk, wanting_put, ◌∷◌}
 use Rattle.nap_list.specs.declared.sink.SinkFault.TheVariants.{Memory}
-use Rattle.nap_list.specs.Counting.{CountsEntries, count_sink_model, counts_none}
-use Rattle.nap_list.specs.PuttingLaws.{wanting_put}
-use Rattle.nap_list.specs.Shapes.{entry_of_shape}
-use Rattle.nap_list.specs.State.{walk}
 use Rattle.nap_list.proofs.count_sink.CountSinkSink.put_shape.Goals as goal
 
 pub returns-in_default : goal.returns-in_default

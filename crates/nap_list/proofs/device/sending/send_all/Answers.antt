@@ -1,7 +1,4 @@
-use Rattle.std.proofs.Common.{◌≤◌, ◌∙◌, ℕ, List, arith, subst, take, drop, length, length-drop}
-use Rattle.std.specs.Io.KnownBytes.{Appends}
-use Rattle.std.proofs.Math.Bool.{or-false, or-true}
-use Rattle.nap_list.specs.Sending.{rest_of, sending, write_fails, write_grows}
+use Rattle.nap_list.proofs.Common.{Appends, List, arith, drop, length, length-drop, or-false, or-true, rest_of, sending, subst, take, write_fails, write_grows, ℕ, ◌∙◌, ◌≤◌}
 use Rattle.nap_list.proofs.device.sending.send_all.Goals as goal
 
 pub loop-taken-preserved : goal.loop-taken-preserved

@@ -1,5 +1,4 @@
-use Rattle.std.proofs.Common.{◌≡◌, ◌-◌, ◌≤◌, length, take}
-use Rattle.nap_list.specs.Sending.{SendsAll, sending}
+use Rattle.nap_list.proofs.Common.{SendsAll, length, sending, take, ◌-◌, ◌≡◌, ◌≤◌}
 use Rattle.nap_list.proofs.device.sending.send_all.Given as goal
 
 abbrev pub invariant-loop-taken : goal.invariant-loop-taken

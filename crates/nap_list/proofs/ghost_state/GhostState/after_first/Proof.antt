@@ -1,25 +1,6 @@
 -- `after_first` picks the state of the new one. Assumes `Logic`.
-use Rattle.std.proofs.Common.{[], ◌∷◌, refl, take, w64}
-use Rattle.std.proofs.raw_atomic.Walks.{proved}
-use mir.Syntax.{named}
-use mir.Val.{Val, vint, vptr}
-use contract.Running.{tables}
-use types.Kit.{‵, raw, ◌⊛◌, ◌$◌, ◌∵◌, !, qed, move, keep, split, fjoin, suffices, done}
-use types.Part.{agg}
-use types.Run.{enter, returns, no_more}
-use types.ByLocal.{alloc_all, pass_all, free_all, look_at, sets}
-use denote.Builtin.{RefOf, usize}
-use denote.Exit.{yes}
-use denote.Plain.{uint_vals, uint_Tells}
-use denote.RattleType.{owns}
-use denote.Ref.{shr_vals, shr_Tells}
-use denote.Signature.{plain, types_at, named_lft}
-use denote.Steps.{nothing}
-use denote.Triple.Entry.{alive}
-use denote.Triple.Walked.{Stays, stay_dropped, says, walk_of, ends_at, Goes-dropped}
-use Rattle.nap_list.proofs.FieldlessStructs.{none, none_made}
-use Rattle.nap_list.specs.Batches.{batch_entries}
-use Rattle.nap_list.specs.State.{walk}
+use Rattle.nap_list.proofs.FieldlessStructs.{none, none_made, [], ◌∷◌, refl, take, w64, proved, named, Val, vint, vptr, tables, ‵, raw, ◌⊛◌, ◌$◌, ◌∵◌, !, qed, move, keep, split, fjoin, suffices, done, agg, enter, returns, no_more, alloc_all, pass_all, free_all, look_at, sets, RefOf, usize, yes, uint_vals, uint_Tells, owns, shr_vals, shr_Tells, plain, types_at, named_lft, nothing, alive, Stays, stay_dropped, says, walk_of, ends_at, Goes-dropped}
+use Rattle.nap_list.proofs.Common.{batch_entries, walk}
 use Rattle.nap_list.specs.contracts.batch.Batch as Batch
 use Rattle.nap_list.specs.contracts.ghost_state.GhostState as GhostState
 use Rattle.nap_list.specs.contracts.ghost_state.GhostState.after_first.{ended, clauses}

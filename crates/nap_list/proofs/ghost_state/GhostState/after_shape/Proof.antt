@@ -1,24 +1,6 @@
 -- `after_shape` picks the state of the new one. Assumes `Logic`.
-use Rattle.std.proofs.Common.{[], ◌∷◌, refl}
-use Rattle.std.proofs.raw_atomic.Walks.{proved}
-use mir.Syntax.{named}
-use mir.Val.{Val, vptr}
-use contract.Running.{tables}
-use types.Kit.{‵, raw, ◌⊛◌, ◌$◌, ◌∵◌, !, qed, move, keep, split, fjoin, suffices, done}
-use types.Part.{agg}
-use types.Run.{enter, returns, no_more}
-use types.ByLocal.{alloc_all, pass_all, free_all, look_at, sets}
-use denote.Builtin.{RefOf}
-use denote.Exit.{yes}
-use denote.RattleType.{owns}
-use denote.Ref.{shr_vals, shr_Tells}
-use denote.Signature.{plain, types_at, named_lft}
-use denote.Steps.{nothing}
-use denote.Triple.Entry.{alive}
-use denote.Triple.Walked.{Stays, stay_dropped, says, walk_of, ends_at, Goes-dropped}
-use Rattle.nap_list.proofs.FieldlessStructs.{none, none_made}
-use Rattle.nap_list.specs.State.{after}
-use Rattle.nap_list.specs.Shapes.{entry_of_shape}
+use Rattle.nap_list.proofs.FieldlessStructs.{none, none_made, [], ◌∷◌, refl, proved, named, Val, vptr, tables, ‵, raw, ◌⊛◌, ◌$◌, ◌∵◌, !, qed, move, keep, split, fjoin, suffices, done, agg, enter, returns, no_more, alloc_all, pass_all, free_all, look_at, sets, RefOf, yes, owns, shr_vals, shr_Tells, plain, types_at, named_lft, nothing, alive, Stays, stay_dropped, says, walk_of, ends_at, Goes-dropped}
+use Rattle.nap_list.proofs.Common.{after, entry_of_shape}
 use Rattle.nap_list.specs.contracts.shape.Shape as Shape
 use Rattle.nap_list.specs.contracts.ghost_state.GhostState as GhostState
 use Rattle.nap_list.specs.contracts.ghost_state.GhostState.after_shape.{ended, clauses}

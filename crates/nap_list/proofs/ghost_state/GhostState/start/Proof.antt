@@ -1,18 +1,6 @@
 -- `start` picks the state. Assumes `Logic`.
-use Rattle.std.proofs.Common.{[], ◌∷◌, refl}
-use Rattle.std.proofs.raw_atomic.Walks.{proved}
-use contract.Running.{tables}
-use types.Kit.{‵, raw, ◌⊛◌, ◌$◌, ◌∵◌, !, qed, move, keep, split, fjoin, suffices, done}
-use types.Part.{agg}
-use types.Run.{enter, returns, no_more}
-use types.ByLocal.{alloc_all, pass_all, free_all, look_at, sets}
-use denote.RattleType.{owns}
-use denote.Signature.{types_at}
-use denote.Steps.{nothing}
-use denote.Triple.Entry.{alive}
-use denote.Triple.Walked.{Stays, says, walk_of, ends_at}
-use Rattle.nap_list.proofs.FieldlessStructs.{none, none_made}
-use Rattle.nap_list.specs.State.{start}
+use Rattle.nap_list.proofs.FieldlessStructs.{none, none_made, [], ◌∷◌, refl, proved, tables, ‵, raw, ◌⊛◌, ◌$◌, ◌∵◌, !, qed, move, keep, split, fjoin, suffices, done, agg, enter, returns, no_more, alloc_all, pass_all, free_all, look_at, sets, owns, types_at, nothing, alive, Stays, says, walk_of, ends_at}
+use Rattle.nap_list.proofs.Common.{start}
 use Rattle.nap_list.specs.contracts.ghost_state.GhostState as GhostState
 use Rattle.nap_list.specs.contracts.ghost_state.GhostState.start.{ended, clauses}
 use Rattle.nap_list.specs.contracts.ghost_state.GhostState.start.Key.{name as #self}

@@ -1,8 +1,4 @@
-use Rattle.std.proofs.Common.{◌≡◌, List, ◌∷◌, take, ap, ◌∙◌, rules}
-use Rattle.std.specs.Prelude.{not, ◌==◌}
-use Rattle.arrayvec.proofs.ArrayVecLemmas.{filter-from_retain}
-use Rattle.nap_list.specs.declared.known.MapColour.{MapColour}
-use Rattle.nap_list.specs.Known.{without_address}
+use Rattle.nap_list.proofs.Common.{List, MapColour, ap, filter-from_retain, not, rules, take, without_address, ◌==◌, ◌∙◌, ◌∷◌, ◌≡◌}
 use Rattle.nap_list.proofs.known.Known.set.Goals as goal
 
 pub returns : goal.returns

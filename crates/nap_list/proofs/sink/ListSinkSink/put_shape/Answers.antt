@@ -1,9 +1,5 @@
-use Rattle.std.proofs.Common.{◌≡◌, List, [], ◌∷◌, ◌++◌, false, refl, sym, append-nil, subst}
+use Rattle.nap_list.proofs.Common.{List, PutSome, SinkModel, [], append-nil, entry_of_shape, false, one_put, refl, sink_model, start, subst, sym, walk, wanting_put, ◌++◌, ◌∷◌, ◌≡◌}
 use Rattle.nap_list.specs.declared.entry.Entry.{Entry}
-use Rattle.nap_list.specs.PuttingLaws.{one_put, wanting_put}
-use Rattle.nap_list.specs.Putting.{PutSome, SinkModel, sink_model}
-use Rattle.nap_list.specs.Shapes.{entry_of_shape}
-use Rattle.nap_list.specs.State.{start, walk}
 use Rattle.nap_list.proofs.sink.ListSinkSink.put_shape.Goals as goal
 
 abbrev listing : SinkModel (List Entry)

@@ -1,8 +1,4 @@
-use Rattle.std.proofs.Common.{arith}
-use Rattle.nap_list.specs.SinkModels.{sink_model_of}
-use Rattle.nap_list.specs.Batches.{batch_entries}
-use Rattle.nap_list.specs.Putting.{NotTaken}
-use Rattle.nap_list.specs.PuttingLaws.{put_begins, one_fits, one_goes, next_stops}
+use Rattle.nap_list.proofs.Common.{NotTaken, arith, batch_entries, next_stops, one_fits, one_goes, put_begins, sink_model_of}
 use Rattle.nap_list.proofs.sink.Sink.put_batch.Goals as goal
 
 pub loop-taken-init : goal.loop-taken-init

@@ -1,7 +1,4 @@
-use Rattle.std.proofs.Common.{drop}
-use Rattle.nap_list.specs.SinkModels.{sink_model_of}
-use Rattle.nap_list.specs.Batches.{batch_entries}
-use Rattle.nap_list.specs.Putting.{Putting}
+use Rattle.nap_list.proofs.Common.{Putting, batch_entries, drop, sink_model_of}
 use Rattle.nap_list.proofs.sink.Sink.put_batch.Given as goal
 
 abbrev pub invariant-loop-taken : goal.invariant-loop-taken

@@ -1,4 +1,4 @@
-use Rattle.std.proofs.Common.{arith}
+use Rattle.nap_list.proofs.Common.{arith}
 use Rattle.nap_list.proofs.Batches.{batch_passes}
 use Rattle.nap_list.proofs.state.State.step_from.Goals as goal
 

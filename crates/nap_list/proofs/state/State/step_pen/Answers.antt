@@ -1,8 +1,6 @@
-use Rattle.std.proofs.Common.{ℕ, zero, suc, ◌≡◌, ◌∙◌, ◌<◌, refl, inl, inr, arith}
+use Rattle.nap_list.proofs.Common.{arith, hand_of, inl, inr, refl, sized_lines, sized_points, suc, zero, ℕ, ◌<◌, ◌∙◌, ◌≡◌}
 use Rattle.nap_list.specs.declared.attribute.Pen.{Pen}
 use Rattle.nap_list.specs.declared.attribute.Pen.TheVariants.{After}
-use Rattle.nap_list.specs.State.{hand_of}
-use Rattle.nap_list.specs.BatchLaws.{sized_points, sized_lines}
 use Rattle.nap_list.proofs.Batches.{points_at, lines_at, text_at, typed_mark, same_mark}
 use Rattle.nap_list.proofs.state.State.step_pen.Goals as goal
 

@@ -1,8 +1,4 @@
-use Rattle.std.proofs.Common.{◌≡◌, ◌∙◌, [], ap, refl, subst, sym}
-use Rattle.std.proofs.KnownBytes.{Consumes-nil}
-use Rattle.nap_list.specs.Device.{WritingTo}
-use Rattle.nap_list.specs.Reading.{reading}
-use Rattle.nap_make.specs.Texts.{DeniesInput}
+use Rattle.nap_make.proofs.Common.{Consumes-nil, DeniesInput, WritingTo, [], ap, reading, refl, subst, sym, ◌∙◌, ◌≡◌}
 use Rattle.nap_make.proofs.TextLemmas.{text_written}
 use Rattle.nap_make.proofs.DenyLemmas.{makes_none, makes_page}
 use Rattle.nap_make.proofs.page.memory.page_of_input.Goals as goal

@@ -1,6 +1,4 @@
-use Rattle.std.proofs.Common.{◌≡◌, ◌∙◌, ap, refl, subst, sym}
-use Rattle.nap_list.specs.Device.{WritingTo}
-use Rattle.nap_make.specs.Texts.{DeniesLines}
+use Rattle.nap_make.proofs.Common.{DeniesLines, WritingTo, ap, refl, subst, sym, ◌∙◌, ◌≡◌}
 use Rattle.nap_make.proofs.TextLemmas.{text_written}
 use Rattle.nap_make.proofs.DenyLemmas.{puts_none, puts_page}
 use Rattle.nap_make.proofs.page.memory.page_of_lines.Goals as goal

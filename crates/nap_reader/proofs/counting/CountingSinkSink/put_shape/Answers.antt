@@ -1,6 +1,5 @@
 use Rattle.nap_reader.proofs.{CountedSink, Err, PutSome, [], err_from_is_err_and, made, puts_none, subst, ◌∷◌}
-use Rattle.nap_reader.proofs.Common.{counting, sink_model_of}
-use Rattle.nap_list.specs.Shapes.{entry_of_shape}
+use Rattle.nap_reader.proofs.Common.{counting, entry_of_shape, sink_model_of}
 use Rattle.nap_reader.proofs.counting.CountingSinkSink.put_shape.Goals as goal
 
 pub returns-in_err-put_shape : goal.returns-in_err-put_shape

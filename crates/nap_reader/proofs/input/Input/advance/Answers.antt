@@ -21,6 +21,7 @@ returns-then-is_empty c =
       turns = refl;
       budget = refl;
       charged = omega arith;
+      promise = refl;
       store_is = refl;
       body = refl;
     }
@@ -47,4 +48,4 @@ invariant_of-self-else-is_empty-clause-framed c = subst (λ (stored : List ℕ).
 pub returns-else-is_empty : goal.returns-else-is_empty
 returns-else-is_empty c =
     let (rest, few) = given (goal.at.returns-else-is_empty c).After-take_from_innermost in
-    record { rest = rest; at = omega (arith, few); fed = omega (arith, few); turns = refl; budget = refl; charged = omega arith; store_is = refl; body = refl }
+    record { rest = rest; at = omega (arith, few); fed = omega (arith, few); turns = refl; budget = refl; charged = omega arith; promise = refl; store_is = refl; body = refl }

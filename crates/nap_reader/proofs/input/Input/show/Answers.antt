@@ -1,4 +1,4 @@
-use Rattle.nap_reader.proofs.{Frame, FramesIn, IsFrame, List, Placed, StoreState, [], all_at, ap, arith, frame_bytes, frames-push, frames-store, grown, length, length-append, refl, sublist_at, unread, unread-push, unread-store, unread_of, ℕ, ◌++◌, ◌+◌, ◌∙◌, ◌∷◌, ◌≡◌}
+use Rattle.nap_reader.proofs.{Frame, FramesIn, IsFrame, List, Placed, StoreState, [], all_at, ap, arith, frame_bytes, frames-push, frames-store, grown, length, length-append, refl, sublist_at, unread, unread-push, unread-store, unread_of, ℕ, ◌++◌, ◌+◌, ◌∙◌, ◌∷◌, ◌≡◌, frames-unread, inr, rules}
 use Rattle.nap_reader.proofs.StreamLemmas.{length-all_at}
 use Rattle.nap_reader.proofs.input.Input.show.Goals as goal
 
@@ -15,7 +15,7 @@ invariant_of-self-2 c =
     let input = c.args.self.now in
     let ok = c.in-Ok-show.ensures.ok in
     let end : List ℕ = 0x1B ∷ c.args.ender ∷ [] in
-    let read = next_read input.store c.show.new.self _ _ _ _ (ap (λ (t : StoreState). t.bytes) ok) (rw c.reserve.ensures.items at c.push_reserved.ensures) input.framed c.in-Ok-show.ensures.within in
+    let read = next_read input.store c.show.new.self _ _ _ _ (ap (λ (t : StoreState). t.bytes) ok) (rw c.reserve.ensures.items at c.push_reserved.ensures.items) input.framed c.in-Ok-show.ensures.within in
     let sizes = ap (λ (t : StoreState). t.stored + length t.body) ok in
     let more = ap (λ (t : StoreState). length t.bytes) ok ∙ length-append input.store.bytes end in
     let bytes = ap length c.in-Ok-show.ensures.next ∙ length-append input.store.body end in
@@ -28,6 +28,7 @@ invariant_of-self-2 c =
       counted = input.counted;
       few = omega (arith, sizes, input.few);
       paired = omega (arith, input.paired, sizes, more);
+      deep = omega (arith, input.deep, ap (λ (t : StoreState). t.promise.charged) ok, c.reserve.ensures.memory, c.push_reserved.ensures.memory);
     }
 
 pub returns : goal.returns
@@ -35,7 +36,7 @@ returns c =
     let input = c.args.self.now in
     let ok = c.in-Ok-show.ensures.ok in
     let many = length-append input.store.body (0x1B ∷ c.args.ender ∷ []) in
-    let read = next_read input.store c.show.new.self _ _ _ _ (ap (λ (t : StoreState). t.bytes) ok) (rw c.reserve.ensures.items at c.push_reserved.ensures) input.framed c.in-Ok-show.ensures.within in
+    let read = next_read input.store c.show.new.self _ _ _ _ (ap (λ (t : StoreState). t.bytes) ok) (rw c.reserve.ensures.items at c.push_reserved.ensures.items) input.framed c.in-Ok-show.ensures.within in
     record {
       rest = read.1 ∙ ap (λ (bs : List ℕ). all_at c.args.place bs ++ unread_of input) c.in-Ok-show.ensures.next;
       at = omega arith;
@@ -43,6 +44,17 @@ returns c =
       turns = omega arith;
       budget = refl;
       charged = omega (arith, many, c.open_len.ensures.count, length-all_at c.args.place (input.store.body ++ 0x1B ∷ c.args.ender ∷ []));
+      promise = ap (λ (t : StoreState). t.promise) ok;
       store_is = ok;
       body = refl;
+    }
+
+pub returns-in_default : goal.returns-in_default
+returns-in_default c =
+    let input = c.args.self.now in
+    let many = length-append input.store.body (0x1B ∷ c.args.ender ∷ []) in
+    record {
+      reason = inr (refl, omega (arith, many), omega (arith, many, c.open_len.ensures.count, c.budget_left.ensures.left, c.if-count-budget_left.false));
+      lacks = λ _. inr (omega (arith, input.deep, c.in_default.ensures.full, frames-unread input.store.bytes input.frames.stack.items input.framed, input.turned, input.counted, many));
+      still = search rules;
     }

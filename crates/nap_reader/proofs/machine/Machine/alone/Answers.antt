@@ -1,4 +1,4 @@
-use Rattle.nap_reader.proofs.{All, All-head, CharSet, CodeSets, Lexes, List, None, Option, Some, TextStep, AreCharacters, IsTextByte, alone_acts, alone_stops, ap, are_typed, arith, code_as, first_byte, format_effector, lexes_alone, refl, slice_get, subst, sym, text_code, ℕ, [], ◌++◌, ◌∙◌, ◌∷◌, ◌≡◌}
+use Rattle.nap_reader.proofs.{All, All-head, CharSet, Lexes, List, None, Option, Some, TextStep, AreCharacters, IsTextByte, alone_acts, alone_stops, ap, are_typed, arith, code_as, first_byte, format_effector, lexes_alone, refl, slice_get, subst, sym, ℕ, [], ◌++◌, ◌∙◌, ◌∷◌, ◌≡◌}
 use Rattle.nap_codes.specs.Front as codes
 use Rattle.nap_codes.specs.Lexer.{LexerState}
 use Rattle.nap_codes.specs.declared.code.Code.TheVariants as code
@@ -31,7 +31,7 @@ pub returns-in-Ok : goal.returns-in-Ok
 returns-in-Ok g c = λ ended following.
     let acted = c.in-Ok.ensures.acts in
     let begins = first c.args.text.now following c.in-Some.byte.now (sym c.in-Some.ensures.value) in
-    alone_acts begins (character g (goal.at.returns-in-Ok g c).In_default-format_effector) (grind arith) refl {entries = acted.0} (grind arith) (grind arith) g.met.S.Sink.took_more
+    alone_acts begins (character g (goal.at.returns-in-Ok g c).In_default-format_effector) (grind arith) refl {entries = acted.0} (grind arith) (grind arith) g.met.S.Sink.took_more g.met.S.Sink.wants_more
 
 pub returns-in-Err : goal.returns-in-Err
 returns-in-Err g c = λ ended following.

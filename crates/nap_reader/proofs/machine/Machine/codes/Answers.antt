@@ -1,4 +1,4 @@
-use Rattle.nap_reader.proofs.{Bool, Ghosts, List, Nothing, Request, Takes, ap, arith, byte-placed_by_step, drop, get_or, idle_lives, idle_takes, length, length-drop, next_in_slice, place_at-drop, place_at-placed_by_step, placed_at, placed_by_step, refl, sym, take_all, takes_none, takes_then, ℕ, ◌*◌, ◌+◌, ◌-◌, ◌<◌, ◌∙◌, ◌∷◌, ◌≡◌}
+use Rattle.nap_reader.proofs.{kept_as, Bool, Ghosts, List, Nothing, Request, Takes, ap, arith, byte-placed_by_step, drop, get_or, idle_takes, length, length-drop, next_in_slice, place_at-drop, place_at-placed_by_step, placed_at, placed_by_step, refl, sym, take_all, takes_none, takes_then, ℕ, ◌*◌, ◌+◌, ◌-◌, ◌<◌, ◌∙◌, ◌∷◌, ◌≡◌}
 use Rattle.nap_reader.specs.declared.machine.Machine.{Machine}
 use Rattle.nap_reader.proofs.machine.Machine.codes.Goals as goal
 
@@ -8,7 +8,7 @@ further : {S : Type 0} {g : Ghosts S} {old mid new : Machine S g} {ended : Bool}
 further {count = count} place step bytes t less takes is = takes_then t (rw (byte-placed_by_step place step bytes count less) takes) is
 
 pub loop-count-init : goal.loop-count-init
-loop-count-init g c = record { takes = takes_none (record { before = c.requires.closed; closed = c.requires.closed; work_is = refl; lexer_is = refl }) refl c.requires.live; closed = λ less. c.requires.closed }
+loop-count-init g c = record { takes = takes_none (record { before = c.requires.closed; closed = c.requires.closed; work_is = refl; lexer_is = refl; kept = kept_as refl refl }) refl c.requires.live; closed = λ less. c.requires.closed }
 
 pub code-requires-clause-closed : goal.code-requires-clause-closed
 code-requires-clause-closed g c = c.loop-count.invariant.closed c.loop-count-test.true

@@ -1,4 +1,4 @@
-use Rattle.nap_reader.proofs.{Lexes, alone_acts, alone_stops, arith, front_made, lexes_alone, refl}
+use Rattle.nap_reader.proofs.{alone_acts, alone_stops, arith, front_made, lexes_alone, refl}
 use Rattle.nap_codes.specs.declared.code.Code.TheVariants as code
 use Rattle.nap_reader.proofs.machine.Machine.effector.Goals as goal
 
@@ -8,7 +8,7 @@ control-requires-clause-made g c = front_made _ _ (code.Step c.args.step) _ _ c.
 pub returns-in-Ok : goal.returns-in-Ok
 returns-in-Ok g c = λ ended following.
     let acted = c.in-Ok.ensures.acts in
-    alone_acts refl (lexes_alone c.requires.closed c.requires.rested c.requires.is) (grind arith) refl {entries = acted.0} (grind arith) (grind arith) g.met.S.Sink.took_more
+    alone_acts refl (lexes_alone c.requires.closed c.requires.rested c.requires.is) (grind arith) refl {entries = acted.0} (grind arith) (grind arith) g.met.S.Sink.took_more g.met.S.Sink.wants_more
 
 pub returns-in-Err : goal.returns-in-Err
 returns-in-Err g c = λ ended following.

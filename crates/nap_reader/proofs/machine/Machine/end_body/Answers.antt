@@ -1,5 +1,5 @@
-use Rattle.nap_reader.proofs.{CannotShow, Lawful, Moves, None, StoreState, [], all_at, ap, arith, bound_goes, byte_stops, can_pass, moves_then, own_fault, refl, shown_goes, shown_stops, store_shown, stores_moves, subst, ◌++◌, ◌∷◌}
-use Rattle.std.proofs.lemmas.Bool.{not-false, not-true}
+use Rattle.nap_reader.proofs.{CannotShow, Lawful, Moves, None, StoreState, [], all_at, ap, arith, bound_goes, byte_stops, can_pass, moves_then, own_fault, refl, shown_goes, shown_lacks, shown_stops, store_shown, stores_moves, subst, ◌++◌, ◌∷◌}
+use Rattle.nap_reader.proofs.Common.{not-false, not-true}
 use Rattle.nap_reader.proofs.machine.Machine.end_body.Goals as goal
 
 pub advance-requires : goal.advance-requires
@@ -8,7 +8,7 @@ advance-requires g c = can_pass c.requires.next.1
 pub returns-then-not-body-clause-goes : goal.returns-then-not-body-clause-goes
 returns-then-not-body-clause-goes g c = λ piece next.
     bound_goes c.args.self.now c.requires.following next c.step.result (not-true c.args.body.show c.if-not-body.true) c.bind.ensures
-    (record { live = record { live = c.requires.live.live; agrees = c.requires.live.agrees }; clear = λ clear. clear }) (refl, refl, refl) c.step.ensures.steps
+    (record { live = record { live = c.requires.live.live; agrees = c.requires.live.agrees }; clear = λ clear. clear; spares = λ spared. spared }) (refl, refl, refl) c.step.ensures.steps
 
 pub returns-in-Ok-clause-goes : goal.returns-in-Ok-clause-goes
 returns-in-Ok-clause-goes g c = λ piece next.
@@ -16,7 +16,7 @@ returns-in-Ok-clause-goes g c = λ piece next.
     let shown = subst (λ (store : StoreState). Moves c.args.input.now c.show.new.self 1 (all_at c.args.next.place (store.body ++ 0x1B ∷ c.args.next.byte ∷ [])) (store_shown c.args.input.now.store c.args.body.name c.args.next.byte) None) adv.store_is
     (moves_then 1 (omega arith) adv c.in-Ok.ensures (ap (λ (store : StoreState). store_shown store c.args.body.name c.args.next.byte) adv.store_is) refl) in
     shown_goes c.args.self.now c.requires.following next (not-false c.args.body.show c.if-not-body.false) shown
-    (record { live = record { live = c.requires.live.live; agrees = c.requires.live.agrees }; clear = λ clear. clear }) (refl, refl, refl) refl
+    (record { live = record { live = c.requires.live.live; agrees = c.requires.live.agrees }; clear = λ clear. clear; spares = λ spared. spared }) (refl, refl, refl) refl
 
 pub returns-in-Err-clause-goes : goal.returns-in-Err-clause-goes
 returns-in-Err-clause-goes g c =
@@ -25,5 +25,6 @@ returns-in-Err-clause-goes g c =
     let adv = c.advance.ensures in
     let cannot = subst (λ (store : StoreState). CannotShow c.advance.new.self c.show.new.self (store.body ++ 0x1B ∷ c.args.next.byte ∷ []) c.in-Err.fault) adv.store_is c.in-Err.ensures in
     byte_stops laws next c.refuse.ensures.latched.is c.refuse.ensures.latched.sink (own_fault cannot)
+    (shown_lacks c.args.self.now c.requires.following next (not-false c.args.body.show c.if-not-body.false) adv cannot)
     (moves_then 1 (omega arith) adv (stores_moves c.in-Err.ensures.still refl) refl refl)
     (shown_stops c.args.self.now c.requires.following next (not-false c.args.body.show c.if-not-body.false) adv cannot))

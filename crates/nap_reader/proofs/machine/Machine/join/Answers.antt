@@ -1,4 +1,5 @@
-use Rattle.nap_reader.proofs.{Joins, List, ap, arith, bytes_of-placed_by_step, clear_request_if, is_operand_byte, length, length-placed_by_step, length-take-le, operands_in, over_after, place_at, place_at-placed_by_step, placed_by_step, prefix_len, prefix_len-le-length, refl, run_acts, run_lacks, run_stops, run_too_long, run_waits, sym, takes_then, true, ℕ, ◌<◌, ◌∙◌, ◌≡◌}
+use Rattle.nap_reader.proofs.{Joins, List, ap, arith, bytes_of-placed_by_step, clear_request_if, is_operand_byte, length, length-placed_by_step, length-take-le, operands_in, over_after, place_at, place_at-placed_by_step, placed_by_step, prefix_len, prefix_len-le-length, refl, run_acts, run_lacks, run_stops, run_too_long, run_waits, sym, takes_then, true, ℕ, ◌+◌, ◌<◌, ◌∙◌, ◌≡◌}
+use Rattle.nap_reader.proofs.Common.{vec_capacity, vec_len}
 use Rattle.nap_reader.specs.declared.machine.Machine.{Machine}
 use Rattle.nap_reader.proofs.machine.Machine.join.Goals as goal
 use Rattle.nap_reader.proofs.machine.Machine.join.Goals.{After-execute, Else-is_err}
@@ -24,7 +25,8 @@ returns-then-is_err-clause-takes g c =
     let less : 0 < count.result = grind (arith, length-take-le count.result bytes (omega (arith, count.ensures, most))) in
     let first : slice.place ≡ place_at (placed_by_step slice.place slice.step bytes) 0 = rw (place_at-placed_by_step slice.place slice.step bytes 0 (omega (arith, less, count.ensures, most))) (grind arith) in
     let kept = rw first at c.stop-then-is_err.ensures.kept in
-    rw c.stop-then-is_err.ensures.answer (run_lacks c.args.ended c.requires.run (omega (arith, n, less)) (omega (arith, n, c.if-count-most.false, m.short)) kept.is kept.sink)
+    let full : vec_capacity m.run < vec_len m.run + count.result = grind (arith, length-take-le count.result bytes (omega (arith, count.ensures, most))) in
+    rw c.stop-then-is_err.ensures.answer (run_lacks c.args.ended c.requires.run (omega (arith, n, less)) (omega (arith, n, c.if-count-most.false, m.short)) kept.is kept.sink (λ space. omega (arith, space.0, full, c.if-count-most.false, m.short)))
 
 -- the machine with the operand bytes
 abbrev mid : (g : _) → Else-is_err g → Machine g.row.S.Denot g.S.Sink
@@ -37,6 +39,7 @@ join_of g c = record {
   short = omega (arith, c.if-count-most.false, c.args.self.now.short);
   items = rw bytes_of-placed_by_step (grind arith);
   same = (refl, refl, refl, refl);
+  kept = (c.append.ensures.kept, omega arith);
 }
 
 pub returns-then-not-ended-clause-takes : goal.returns-then-not-ended-clause-takes

@@ -1,4 +1,4 @@
-use Rattle.nap_reader.proofs.{All-cons, All-nil, IsPlain, Lawful, Some, Store, [], adds_none, ap, arith, body_fills, body_goes, body_lacks, can_pass, fill_passes, goes_less, is_of_body, lone_escape, moves_then, next_same, own_tells, passes_next, placed_at, plain_added, plain_slice, prefix_len-le-length, refl, refusal, same_input, slice_passes, some_plain, stops_from, stores_moves, take, ℕ, ◌+◌, ◌∙◌, ◌∷◌}
+use Rattle.nap_reader.proofs.{All-cons, All-nil, IsPlain, Lawful, Some, Store, [], adds_none, ap, arith, body_fills, body_goes, body_lacks, can_pass, fill_passes, goes_less, is_of_body, keep_lacks, lone_escape, moves_then, next_same, other_lacks, own_tells, passes_next, placed_at, plain_added, plain_slice, prefix_len-le-length, refl, refusal, same_input, slice_passes, some_plain, stops_from, stores_moves, take, ℕ, ◌+◌, ◌∙◌, ◌∷◌}
 use Rattle.nap_reader.proofs.machine.Machine.keep.Goals as goal
 
 pub advance-requires : goal.advance-requires
@@ -27,7 +27,7 @@ returns-then-count-space-clause-goes g c =
     let space = c.space_left-space.result in
     let is = c.refuse.ensures.latched.is ∙ ap (λ (n : ℕ). Some (refusal Store n)) c.place_of-place.ensures in
     rw c.refuse.ensures.answer
-    (stops_from laws is (rw c.refuse.ensures.latched.sink (own_tells g.S.Sink m.sink {fault = Store} (λ own. cc))) (moves_then (space + 1) refl c.advance-then-count-space.ensures c.advance-then-count-space-2.ensures refl refl)
+    (stops_from laws is (rw c.refuse.ensures.latched.sink (own_tells g.S.Sink m.sink {fault = Store} (λ own. cc))) (other_lacks {fault = Store} (λ own. cc)) (moves_then (space + 1) refl c.advance-then-count-space.ensures c.advance-then-count-space-2.ensures refl refl)
     (rw c.refuse.ensures.latched.sink
     (body_fills m c.requires.open next space (omega (arith, c.body_prefix_len-count.ensures, c.if-count-space.true)) (omega (arith, c.space_left-space.ensures)))))
 
@@ -39,6 +39,7 @@ returns-in_default-keep-clause-goes g c =
     let plain : IsPlain c.args.next.byte = record { low = c.requires.low; other = c.if-next-eq27.false } in
     let some = some_plain c.requires.next.reads c.in-Some.ensures c.requires.next plain in
     (c.refuse_next.ensures.stops 1 _ _ _ _ _ _ (same_input c.in_default-keep.ensures.err) c.requires.next (λ own. cc)
+    (keep_lacks c.args.input.now _ refl refl c.in_default-keep.ensures.full (omega (arith, c.space_left-space.ensures, c.if-count-space.false)))
     (body_lacks c.requires.open (plain_added _ (placed_at c.args.next.byte c.args.next.place ∷ []) (All-cons IsPlain c.args.next.byte [] plain (All-nil IsPlain))
     (omega (arith, some, c.body_prefix_len-count.ensures, c.space_left-space.ensures, c.if-count-space.false)))))
 

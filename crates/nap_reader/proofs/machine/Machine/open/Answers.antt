@@ -1,4 +1,4 @@
-use Rattle.nap_reader.proofs.{List, Some, ap, arith, drop, length, length-drop, length-placed_by_step, refl, run_starts, take, take_all, takes_then, ℕ, ◌+◌, ◌-◌, ◌≡◌}
+use Rattle.nap_reader.proofs.{List, Some, ap, arith, drop, kept_as, length, length-drop, length-placed_by_step, refl, run_starts, take, take_all, takes_then, ℕ, ◌+◌, ◌-◌, ◌≡◌}
 use Rattle.nap_reader.proofs.machine.Machine.open.Goals as goal
 
 -- the bytes after the opcode
@@ -17,5 +17,5 @@ returns-clause-takes g c =
       1 + c.join-taken.result.count,
       omega arith,
       takes_then
-          (run_starts c.requires.closed c.requires.is (ap (λ (place : ℕ). Some (record { op = c.args.op; place = place })) c.place_of.ensures) c.clear.ensures.items (refl, refl, refl) c.requires.live) takes refl,
+          (run_starts c.requires.closed c.requires.is (ap (λ (place : ℕ). Some (record { op = c.args.op; place = place })) c.place_of.ensures) c.clear.ensures.items (refl, refl, refl) (kept_as c.clear.ensures.capacity refl) c.requires.live) takes refl,
     )

@@ -1,11 +1,11 @@
-use Rattle.nap_reader.proofs.{MatchResult-weaker, body_stops, eighth_front, err_from_is_err_and, goes_then, inr, next_byte, no_some, refl, same_input, smaller, stops_then, sym, ◌∙◌}
+use Rattle.nap_reader.proofs.{MatchResult-weaker, body_stops, eighth_front, err_from_is_err_and, goes_then, inr, next_byte, no_some, other_lacks, refl, same_input, smaller, stops_then, sym, ◌∙◌}
 use Rattle.nap_reader.proofs.machine.Machine.take_body.Goals as goal
 
 pub returns-then-next-ge128-clause-goes : goal.returns-then-next-ge128-clause-goes
 returns-then-next-ge128-clause-goes g c =
     let so = c.loop-input.invariant.goes in
     MatchResult-weaker c.refuse_next.result
-    (c.refuse_next.ensures.stops 0 _ _ _ _ _ _ (same_input refl) (next_byte so.counts.reads c.in-Some-next_slice.ensures refl) (λ own. cc) (body_stops c.in-Some.is _ refl (λ more. eighth_front _ _ c.in-Some.body.escape more c.if-next-ge128.true)))
+    (c.refuse_next.ensures.stops 0 _ _ _ _ _ _ (same_input refl) (next_byte so.counts.reads c.in-Some-next_slice.ensures refl) (λ own. cc) (other_lacks (λ own. cc)) (body_stops c.in-Some.is _ refl (λ more. eighth_front _ _ c.in-Some.body.escape more c.if-next-ge128.true)))
     (λ _ later. goes_then so later) (λ _ later. stops_then so.on later)
 
 pub keep-requires-clause-next : goal.keep-requires-clause-next

@@ -1,4 +1,4 @@
-use Rattle.nap_reader.proofs.{All, All-head, Codes, IsGraphic, IsTextByte, IsTextOf, List, None, Option, Some, TextStep, ap, arith, drop, first_byte, format_effector, format_effector_front, get_or, is_of_text, prefix_len, refl, subst, sym, take, take-append-drop, text_halts, text_taken, ℕ, ◌++◌, ◌∙◌, ◌≡◌, ◌≤◌}
+use Rattle.nap_reader.proofs.{kept_as, Codes, IsTextOf, List, ap, arith, drop, refl, subst, take, take-append-drop, text_halts, text_taken, ℕ, ◌++◌, ◌∙◌, ◌≡◌}
 use Rattle.nap_reader.proofs.machine.Machine.text.Goals as goal
 use Rattle.nap_reader.proofs.machine.Machine.text.Goals.{Else-text-lt2}
 
@@ -24,8 +24,8 @@ is_text g c = record {
 pub returns-in-Ok : goal.returns-in-Ok
 returns-in-Ok g c = λ ended.
     let put = c.in-Ok.ensures.put in
-    text_taken (is_text g (goal.at.returns-in-Ok g c).Else-text-lt2) (record { before = c.requires.closed; closed = c.requires.closed; work_is = c.in-Ok.ensures.work; lexer_is = refl }) put.took put.works
-    (record { live = c.requires.live.live; agrees = c.in-Ok.ensures.agree }) g.met.S.Sink.took_more
+    text_taken (is_text g (goal.at.returns-in-Ok g c).Else-text-lt2) (record { before = c.requires.closed; closed = c.requires.closed; work_is = c.in-Ok.ensures.work; lexer_is = refl; kept = kept_as refl refl }) put.took put.works
+    (record { live = c.requires.live.live; agrees = c.in-Ok.ensures.agree }) g.met.S.Sink.took_more g.met.S.Sink.wants_more
 
 pub returns-in-Err : goal.returns-in-Err
 returns-in-Err g c = λ ended. rw c.from.ensures (text_halts (is_text g (goal.at.returns-in-Err g c).Else-text-lt2) c.in-Err.short.fault refl c.in-Err.ensures.put.0 c.in-Err.ensures.put.1)

@@ -1,4 +1,4 @@
-use Rattle.nap_reader.proofs.{Define, Nothing, acting, arith, call_found, defining, found_acts, found_call, found_defines, found_nothing, found_stops, found_within, front_made, nothing_found, refl}
+use Rattle.nap_reader.proofs.{kept_as, Define, Nothing, acting, arith, call_found, defining, found_acts, found_call, found_defines, found_nothing, found_stops, found_within, front_made, nothing_found, refl}
 use Rattle.nap_codes.specs.declared.code.Code.TheVariants as code
 use Rattle.nap_reader.proofs.WholeCodeLemmas.{Drawing}
 use Rattle.nap_reader.proofs.machine.Machine.whole_code.Goals as goal
@@ -37,7 +37,7 @@ pub returns-in-Ok : goal.returns-in-Ok
 returns-in-Ok g c = λ ended.
     let drawn = acts g (goal.at.returns-in-Ok g c).In-Acts in
     let acted = c.in-Ok.ensures.acts in
-    found_acts c.requires.closed drawn.rests drawn.found {entries = acted.0} (record { before = c.requires.closed; closed = c.requires.closed; work_is = refl; lexer_is = drawn.after }) drawn.ruled (grind arith) (grind arith) g.met.S.Sink.took_more
+    found_acts c.requires.closed drawn.rests drawn.found {entries = acted.0} (record { before = c.requires.closed; closed = c.requires.closed; work_is = refl; lexer_is = drawn.after; kept = kept_as refl refl }) drawn.ruled (grind arith) (grind arith) g.met.S.Sink.took_more g.met.S.Sink.wants_more
 
 pub returns-in-Err : goal.returns-in-Err
 returns-in-Err g c = λ ended.
@@ -62,7 +62,7 @@ pub returns-in-Ok-control : goal.returns-in-Ok-control
 returns-in-Ok-control g c = λ ended.
     let drawn = defines g (goal.at.returns-in-Ok-control g c).In-Defines in
     let acted = c.in-Ok-control.ensures.acts in
-    found_defines c.requires.closed drawn.rests drawn.found {entries = acted.0} (record { before = c.requires.closed; closed = c.requires.closed; work_is = refl; lexer_is = drawn.after }) drawn.ruled (grind arith) (grind arith) g.met.S.Sink.took_more
+    found_defines c.requires.closed drawn.rests drawn.found {entries = acted.0} (record { before = c.requires.closed; closed = c.requires.closed; work_is = refl; lexer_is = drawn.after; kept = kept_as refl refl }) drawn.ruled (grind arith) (grind arith) g.met.S.Sink.took_more g.met.S.Sink.wants_more
 
 pub returns-in-Err-control : goal.returns-in-Err-control
 returns-in-Err-control g c = λ ended.
@@ -70,4 +70,4 @@ returns-in-Err-control g c = λ ended.
     rw c.from-in-Err-control.ensures (found_stops c.requires.closed drawn.rests drawn.found {fault = c.in-Err-control.fault} refl drawn.ruled (grind arith) (grind arith))
 
 pub returns-in-Other : goal.returns-in-Other
-returns-in-Other g c = λ ended. record { within = record { work = refl; lexer = c.in-Other.ensures; sink = refl; refusal = refl }; closed = refl; by = λ x ys is. tt }
+returns-in-Other g c = λ ended. record { within = record { kept = kept_as refl refl; work = refl; lexer = c.in-Other.ensures; sink = refl; refusal = refl }; closed = refl; by = λ x ys is. tt }

@@ -1,4 +1,4 @@
-use Rattle.nap_reader.specs.Below.{IsOpcode}
+use Rattle.nap_reader.proofs.Common.{IsOpcode}
 use Rattle.nap_reader.specs.declared.reader.ahead.Ahead.TheVariants as answer
 use Rattle.nap_reader.proofs.{AllCharacters, List, None, Some, ap, arith, at_prefix, budget_of, first_byte, is_of_text, is_operand_byte, opcode_alone, prefix_len, slice_get, subst, sym, ℕ, ◌+◌, ◌∙◌, ◌≡◌}
 use Rattle.nap_reader.proofs.AheadLemmas.{after_first, closed_by_characters, no_operand, opcode_adds, text_adds}

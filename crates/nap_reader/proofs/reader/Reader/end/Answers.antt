@@ -1,4 +1,4 @@
-use Rattle.nap_reader.proofs.{Ends, EndsRun, IsTaken, Lawful, List, None, Option, Outcome, Refusal, Some, HasRead, ap, begun, body_ended, cause_of, device, ended_is, false, reading_state, if_err_map, leads_unrefused, means, on_ok_map, run_breaks, run_refused, stream, subst, sym, true, with_code, with_run, ℕ, ◌∙◌, ◌≡◌}
+use Rattle.nap_reader.proofs.{Ends, EndsRun, IsTaken, Lawful, List, None, Option, Outcome, Refusal, Some, HasRead, ap, begun, body_ended, cause_of, device, ended_is, false, reading_state, if_err_map, leads_unrefused, means, on_ok_map, own_spares, run_breaks, run_refused, stream, subst, sym, true, with_code, with_run, ℕ, ◌∙◌, ◌≡◌}
 use Rattle.nap_reader.proofs.reader.Reader.end.Goals as goal
 use Rattle.nap_reader.proofs.reader.Reader.end.Goals.{After-check_finished, In_default-end_run}
 
@@ -45,3 +45,9 @@ returns-clause-kept g c =
 pub returns-clause-clear : goal.returns-clause-clear
 returns-clause-clear g c =
     on_ok_map c.check_finished.result c.check_finished.ensures.ended (λ so working. ap g.S.Sink.failed c.check_finished.ensures.sink ∙ c.in_default-end_run.ensures.works.clear working)
+
+pub returns-in-Err-clause-lacks : goal.returns-in-Err-clause-lacks
+returns-in-Err-clause-lacks g c = λ live spared. c.in-Err.ensures.ends.2 spared
+
+pub returns-clause-lacks : goal.returns-clause-lacks
+returns-clause-lacks g c = if_err_map c.check_finished.result c.check_finished.ensures.refused (λ f so live spared. own_spares so.0)

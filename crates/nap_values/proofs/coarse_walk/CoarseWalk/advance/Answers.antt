@@ -1,9 +1,5 @@
-use Rattle.std.proofs.Common.{◌∙◌, ◌≡◌, ◌<◌, ◌+◌, ◌%◌, Some, ap, ap₂, arith, subst, sym, take, true}
-use Rattle.nap_values.specs.Coarse.{IsInside, coarse_part, coarse_point, coarse_words}
-use Rattle.nap_values.specs.Coordinates.{displaced_point}
-use Rattle.nap_values.specs.Operands.{multi_of, operand_words}
-use Rattle.nap_values.specs.PackedCoordinates.{x_in}
-use Rattle.nap_values.proofs.CourseLemmas.{block_words, clear_before, course_moves, inside_of, words_fit}
+use Rattle.nap_values.proofs.Common.{IsInside, Some, ap, arith, coarse_part, coarse_point, coarse_words, operand_words, subst, sym, take, x_in, ◌%◌, ◌+◌, ◌∙◌, ◌≡◌}
+use Rattle.nap_values.proofs.CoarseWalkLemmas.{block_words, clear_before, course_moves, inside_of, words_fit}
 use Rattle.nap_values.proofs.MovingPointLemmas.{x_again, x_value}
 use Rattle.nap_values.proofs.coarse_walk.CoarseWalk.advance.Goals as goal
 

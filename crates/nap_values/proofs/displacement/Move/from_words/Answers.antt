@@ -1,6 +1,4 @@
-use Rattle.std.proofs.Common.{ap}
-use Rattle.nap_values.specs.Operands.{multi_of}
-use Rattle.nap_values.specs.PackedCoordinates.{words_in, x_in, y_in}
+use Rattle.nap_values.proofs.Common.{ap, multi_of, words_in, x_in, y_in}
 use Rattle.nap_values.proofs.PackedLemmas.{move_words}
 use Rattle.nap_values.proofs.displacement.Move.from_words.Goals as goal
 

@@ -1,7 +1,4 @@
-use Rattle.std.proofs.Common.{◌∙◌, ap₂}
-use Rattle.nap_values.specs.Coordinates.{point_at, point_with}
-use Rattle.nap_values.specs.Operands.{multi_of}
-use Rattle.nap_values.specs.PackedCoordinates.{x_in, y_in}
+use Rattle.nap_values.proofs.Common.{ap₂, multi_of, point_at, point_with, x_in, y_in, ◌∙◌}
 use Rattle.nap_values.proofs.displacement.Move.point.Goals as goal
 
 pub returns : goal.returns

@@ -1,6 +1,4 @@
-use Rattle.std.proofs.Common.{refl}
-use Rattle.nap_values.specs.Digits.{value_of, digits_of}
-use Rattle.nap_values.specs.PackedCoordinates.{words_in, x_in, y_in}
+use Rattle.nap_values.proofs.Common.{digits_of, refl, value_of, words_in, x_in, y_in}
 use Rattle.nap_values.proofs.PackedLemmas.{zero_words, move_words}
 use Rattle.nap_values.proofs.displacement.Move.zero.Goals as goal
 

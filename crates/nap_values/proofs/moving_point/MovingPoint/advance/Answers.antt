@@ -1,5 +1,4 @@
-use Rattle.std.proofs.Common.{◌∙◌, sym, ap₂, arith}
-use Rattle.nap_values.specs.Coordinates.{displaced_point}
+use Rattle.nap_values.proofs.Common.{ap₂, arith, displaced_point, sym, ◌∙◌}
 use Rattle.nap_values.proofs.MovingPointLemmas.{x_again, y_again, result_at, result_is}
 use Rattle.nap_values.proofs.moving_point.MovingPoint.advance.Goals as goal
 

@@ -1,4 +1,4 @@
-use Rattle.std.proofs.Common.{◌∙◌, ap, bit_and, sym, ◌*◌, ◌%◌}
+use Rattle.nap_values.proofs.Common.{ap, bit_and, ◌%◌, ◌*◌, ◌∙◌}
 use Rattle.nap_values.proofs.CoarseLemmas.{block_kept}
 use Rattle.nap_values.proofs.MovingPointLemmas.{x_words}
 use Rattle.nap_values.proofs.packed.PackedWords.coarse.Goals as goal

@@ -1,4 +1,4 @@
-use Rattle.std.proofs.Common.{arith}
+use Rattle.nap_values.proofs.Common.{arith}
 use Rattle.nap_values.proofs.CoarseLemmas.{part_kept}
 use Rattle.nap_values.proofs.MovingPointLemmas.{x_words}
 use Rattle.nap_values.proofs.PackedLemmas.{x_in-below}

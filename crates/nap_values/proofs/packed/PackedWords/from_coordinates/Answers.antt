@@ -1,5 +1,4 @@
-use Rattle.std.proofs.Common.{◌≡◌, ◌+◌, ◌*◌, sym, subst}
-use Rattle.nap_values.specs.PackedCoordinates.{packed_coordinates, HoldsWords}
+use Rattle.nap_values.proofs.Common.{HoldsWords, packed_coordinates, subst, sym, ◌*◌, ◌+◌, ◌≡◌}
 use Rattle.nap_values.proofs.PackedLemmas.{packed_coordinates-parts, packed_coordinates-words}
 use Rattle.nap_values.proofs.packed.PackedWords.from_coordinates.Goals as goal
 

@@ -1,4 +1,4 @@
-use Rattle.std.proofs.Common.{rules}
+use Rattle.nap_values.proofs.Common.{rules}
 use Rattle.nap_values.proofs.SignLemmas.{signs_clear, clear_x, clear_y}
 use Rattle.nap_values.proofs.packed.PackedWords.is_inside.Goals as goal
 

@@ -1,5 +1,4 @@
-use Rattle.std.proofs.Common.{sym, subst}
-use Rattle.nap_values.specs.PackedCoordinates.{HoldsWords}
+use Rattle.nap_values.proofs.Common.{HoldsWords, subst, sym}
 use Rattle.nap_values.proofs.MotionLemmas.{added-parts, kept-words}
 use Rattle.nap_values.proofs.packed.PackedWords.sum.Goals as goal
 

@@ -1,6 +1,4 @@
-use Rattle.std.proofs.Common.{◌<◌, ◌∙◌, All, ap, sym, subst}
-use Rattle.nap_values.specs.Digits.{value_of}
-use Rattle.nap_values.specs.PackedCoordinates.{words_in, x_in}
+use Rattle.nap_values.proofs.Common.{All, ap, subst, sym, value_of, words_in, x_in, ◌<◌, ◌∙◌}
 use Rattle.nap_values.proofs.SpellingLemmas.{x_digits-below}
 use Rattle.nap_values.proofs.PackedLemmas.{x_digits_are, x_in-below}
 use Rattle.nap_values.proofs.packed.PackedWords.x_bits.Goals as goal

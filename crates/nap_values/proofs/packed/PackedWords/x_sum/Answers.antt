@@ -1,4 +1,4 @@
-use Rattle.std.proofs.Common.{arith}
+use Rattle.nap_values.proofs.Common.{arith}
 use Rattle.nap_values.proofs.MovingPointLemmas.{x_advanced, x_words}
 use Rattle.nap_values.proofs.packed.PackedWords.x_sum.Goals as goal
 

@@ -1,6 +1,4 @@
-use Rattle.std.proofs.Common.{◌<◌, ◌∙◌, All, ap, sym, subst}
-use Rattle.nap_values.specs.Digits.{value_of}
-use Rattle.nap_values.specs.PackedCoordinates.{words_in, y_in}
+use Rattle.nap_values.proofs.Common.{All, ap, subst, sym, value_of, words_in, y_in, ◌<◌, ◌∙◌}
 use Rattle.nap_values.proofs.SpellingLemmas.{y_digits-below}
 use Rattle.nap_values.proofs.PackedLemmas.{y_digits_are, y_in-below}
 use Rattle.nap_values.proofs.packed.PackedWords.y_bits.Goals as goal

@@ -1,4 +1,4 @@
-use Rattle.std.proofs.Common.{arith}
+use Rattle.nap_values.proofs.Common.{arith}
 use Rattle.nap_values.proofs.MovingPointLemmas.{y_advanced, y_words}
 use Rattle.nap_values.proofs.packed.PackedWords.y_sum.Goals as goal
 

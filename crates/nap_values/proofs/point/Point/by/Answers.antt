@@ -1,8 +1,4 @@
-use Rattle.std.proofs.Common.{◌∙◌, refl, ap, ap₂}
-use Rattle.nap_values.specs.Coordinates.{point_at, point_with, displaced_point}
-use Rattle.nap_values.specs.Operands.{multi_of}
-use Rattle.nap_values.specs.TwosComplement.{signed_of}
-use Rattle.nap_values.specs.PackedCoordinates.{x_in, y_in}
+use Rattle.nap_values.proofs.Common.{ap, ap₂, displaced_point, multi_of, point_at, point_with, refl, signed_of, x_in, y_in, ◌∙◌}
 use Rattle.nap_values.proofs.PackedLemmas.{x_in-below, y_in-below}
 use Rattle.nap_values.proofs.MotionLemmas.{kept-x, kept-y}
 use Rattle.nap_values.proofs.InsideLemmas.{sum_point}

@@ -1,5 +1,4 @@
-use Rattle.std.proofs.Common.{rules, sym, ◌<◌}
-use Rattle.nap_values.specs.PackedCoordinates.{HoldsWords, x_in, y_in}
+use Rattle.nap_values.proofs.Common.{HoldsWords, rules, sym, x_in, y_in, ◌<◌}
 use Rattle.nap_values.proofs.PackedLemmas.{packed_coordinates-in}
 use Rattle.nap_values.proofs.InsideLemmas.{spelled_inside, spelled_outside}
 use Rattle.nap_values.proofs.point.Point.from_words.Goals as goal

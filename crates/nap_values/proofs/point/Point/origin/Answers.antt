@@ -1,6 +1,4 @@
-use Rattle.std.proofs.Common.{refl, arith}
-use Rattle.nap_values.specs.Digits.{value_of, digits_of}
-use Rattle.nap_values.specs.PackedCoordinates.{words_in, x_in, y_in}
+use Rattle.nap_values.proofs.Common.{arith, digits_of, refl, value_of, words_in, x_in, y_in}
 use Rattle.nap_values.proofs.PackedLemmas.{zero_words, packed_coordinates-in}
 use Rattle.nap_values.proofs.point.Point.origin.Goals as goal
 

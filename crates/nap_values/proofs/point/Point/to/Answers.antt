@@ -1,8 +1,4 @@
-use Rattle.std.proofs.Common.{◌∙◌, refl, ap, ap₂}
-use Rattle.nap_values.specs.Coordinates.{displacement_to}
-use Rattle.nap_values.specs.Operands.{multi_of}
-use Rattle.nap_values.specs.TwosComplement.{signed_of}
-use Rattle.nap_values.specs.PackedCoordinates.{x_in, y_in}
+use Rattle.nap_values.proofs.Common.{ap, ap₂, displacement_to, multi_of, refl, signed_of, x_in, y_in, ◌∙◌}
 use Rattle.nap_values.proofs.MotionLemmas.{kept-x, kept-y}
 use Rattle.nap_values.proofs.InsideLemmas.{way_is}
 use Rattle.nap_values.proofs.point.Point.to.Goals as goal

@@ -1,12 +1,10 @@
-use Rattle.std.proofs.Common.{rules, ◌≡◌, ◌<◌, ◌∙◌, arith}
-use Rattle.nap_values.specs.PackedCoordinates.{packed_coordinates}
+use Rattle.nap_values.proofs.Common.{arith, packed_coordinates, rules, ◌<◌, ◌∙◌, ◌≡◌}
 use Rattle.nap_values.proofs.PackedLemmas.{x_in-packed_coordinates, y_in-packed_coordinates, packed_coordinates-in}
 use Rattle.nap_values.proofs.point.Point.try_new.Goals as goal
 
 pub invariant_of-result : goal.invariant_of-result
 invariant_of-result c =
-    let x_below : c.args.x < 8388608 = search rules in
-    let y_below : c.args.y < 8388608 = search rules in
+    let (x_below, y_below) : (c.args.x < 8388608) × (c.args.y < 8388608) = (search rules, search rules) in
     let is : c.get.result ≡ packed_coordinates c.args.x c.args.y = c.get.ensures.value ∙ c.from_coordinates.ensures in (
       c.get.ensures.words,
       packed_coordinates-in c.get.result c.get.ensures.words,
@@ -16,9 +14,6 @@ invariant_of-result c =
 
 pub returns-then-y-lt-LIMIT-clause-value : goal.returns-then-y-lt-LIMIT-clause-value
 returns-then-y-lt-LIMIT-clause-value c =
-    let x_below : c.args.x < 8388608 = search rules in
-    let y_below : c.args.y < 8388608 = search rules in
+    let (x_below, y_below) : (c.args.x < 8388608) × (c.args.y < 8388608) = (search rules, search rules) in
     let is : c.get.result ≡ packed_coordinates c.args.x c.args.y = c.get.ensures.value ∙ c.from_coordinates.ensures in
-    let x_is = x_in-packed_coordinates c.args.x c.args.y (omega arith) (omega arith) in
-    let y_is = y_in-packed_coordinates c.args.x c.args.y (omega arith) (omega arith) in
-    rw (is, x_is, y_is) (search rules)
+    rw (is, x_in-packed_coordinates c.args.x c.args.y (omega arith) (omega arith), y_in-packed_coordinates c.args.x c.args.y (omega arith) (omega arith)) (search rules)

@@ -1,5 +1,4 @@
-use Rattle.std.proofs.Common.{◌≡◌, ◌∙◌, ap, ap₂}
-use Rattle.nap_values.specs.PackedCoordinates.{packed_coordinates, x_in, y_in}
+use Rattle.nap_values.proofs.Common.{ap, ap₂, packed_coordinates, x_in, y_in, ◌∙◌, ◌≡◌}
 use Rattle.nap_values.proofs.PackedLemmas.{packed_coordinates-in, x_in-packed_coordinates, y_in-packed_coordinates, x_in-below, y_in-below}
 use Rattle.nap_values.proofs.point.Point.with_x_of.Goals as goal
 

@@ -1,7 +1,5 @@
-use Rattle.std.proofs.Common.{ℕ, ◌+◌, ◌-◌, ◌≡◌, ◌≤◌, List, [], ◌∷◌, ◌++◌, length, take, drop, refl, sym, ap, ◌∙◌, append-nil, arith, length-drop}
-use Rattle.std.proofs.lemmas.List.{take_all}
+use Rattle.nap_command.proofs.Common.{List, ap, append-nil, arith, drop, length, length-drop, lines_on, refl, sym, take, take_all, ℕ, ◌++◌, ◌+◌, ◌-◌, ◌∙◌, ◌≡◌, ◌≤◌}
 use Rattle.nap_list.specs.declared.entry.Entry.{Entry}
-use Rattle.nap_command.specs.Placing.{lines_on}
 use Rattle.nap_command.proofs.WriteLemmas.{all_known, none_left, one_less}
 use Rattle.nap_command.proofs.batch.written.Written.write_new.Goals as goal
 

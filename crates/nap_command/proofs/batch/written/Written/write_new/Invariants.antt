@@ -1,4 +1,4 @@
-use Rattle.std.proofs.Common.{◌≡◌, ◌≤◌, ◌+◌, ◌-◌, length}
+use Rattle.nap_command.proofs.Common.{length, ◌+◌, ◌-◌, ◌≤◌}
 use Rattle.nap_command.proofs.WriteLemmas.{Goes}
 use Rattle.nap_command.proofs.batch.written.Written.write_new.Given as goal
 

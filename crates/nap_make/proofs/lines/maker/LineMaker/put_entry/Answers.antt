@@ -1,7 +1,4 @@
-use Rattle.std.proofs.Common.{List, [], Err, ap, append-nil, subst}
-use Rattle.nap_list.specs.declared.entry.Entry.{Entry}
-use Rattle.nap_list.specs.declared.state.State.{State}
-use Rattle.nap_list.specs.State.{Fits}
+use Rattle.nap_make.proofs.Common.{Entry, Err, Fits, List, State, [], ap, append-nil, subst}
 use Rattle.nap_make.proofs.MakerLemmas.{put_more}
 use Rattle.nap_make.proofs.lines.maker.LineMaker.put_entry.Goals as goal
 

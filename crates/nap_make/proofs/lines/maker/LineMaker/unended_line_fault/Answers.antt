@@ -1,6 +1,4 @@
-use Rattle.std.proofs.Common.{Err, arith, subst}
-use Rattle.nap_make.specs.declared.fault.LineFault.{LineFault}
-use Rattle.nap_make.specs.Entries.{TellsLine}
+use Rattle.nap_make.proofs.Common.{Err, LineFault, TellsLine, arith, subst}
 use Rattle.nap_make.proofs.NoLineLemmas.{column_after}
 use Rattle.nap_make.proofs.lines.maker.LineMaker.unended_line_fault.Goals as goal
 use Rattle.nap_make.proofs.lines.maker.LineMaker.unended_line_fault.Goals.{in-Ok, in-Err-Line, in-Err-Memory}

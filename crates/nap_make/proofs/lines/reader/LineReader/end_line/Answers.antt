@@ -1,24 +1,48 @@
-use Rattle.std.proofs.Common.{◌≡◌, ◌≢◌, ◌∙◌, ◌++◌, ℕ, List, Err, Ok, sym, subst}
-use Rattle.std.proofs.lemmas.List.Elements.{All-append}
-use Rattle.std.proofs.lemmas.Result.{err_from_is_err_and}
-use Rattle.nap_make.specs.declared.lines.maker.LineMaker.{LineMaker}
-use Rattle.nap_make.specs.ListMaking.{MakerHasPut, TakesLine}
-use Rattle.nap_make.proofs.FeedLemmas.{ends_taken}
+use Rattle.nap_make.proofs.Common.{All, All-append, LineMaker, List, MakerHasPut, MatchResult, StopsLines, TakesLines, [], ap, arith, err_from_is_err_and, lines, nil_from_length, refl, subst, sym, ℕ, ◌++◌, ◌∙◌, ◌∷◌, ◌≡◌, ◌≢◌}
+use Rattle.nap_make.proofs.FeedLemmas.{part_refused, refused_stops}
+use Rattle.nap_make.proofs.RunLemmas.{always_ok}
 use Rattle.nap_make.proofs.lines.reader.LineReader.end_line.Goals as goal
 
-pub returns-in_err-take_line-clause-ends : goal.returns-in_err-take_line-clause-ends
-returns-in_err-take_line-clause-ends g c s es holds =
+pub returns-then-len-eq0-clause-part : goal.returns-then-len-eq0-clause-part
+returns-then-len-eq0-clause-part g c =
+    let part = c.args.self.now.part.items in
+    always_ok c.take_line.result (nil_from_length part (omega (arith, c.len.ensures, c.if-len-eq0.true)))
+
+pub returns-then-len-eq0-clause-takes : goal.returns-then-len-eq0-clause-takes
+returns-then-len-eq0-clause-takes g c s es holds =
     let part = c.args.self.now.part.items in
     let bytes = c.args.bytes.now in
-    let f = c.in_err-take_line.field-0.0 in
-    let e = err_from_is_err_and c.from_residual-in_err-take_line.result c.from_residual-in_err-take_line.ensures.1 in
-    let same : c.as_slice.result.now ≡ part ++ bytes = c.as_slice.ensures.value ∙ c.in_ok-keep_part.ensures.part in
-    let before = subst (λ (m : LineMaker _). MakerHasPut g.S.Sink s es m) (sym c.in_ok-keep_part.ensures.maker) holds in
-    rw (e.1, e.2) (ends_taken g.S.Sink s es (part ++ bytes) c.take_line.new.self (Err f) (All-append (λ b. b ≢ 10) part bytes c.requires.0.whole c.requires.1)
-    (subst (λ (xs : List ℕ). TakesLine g.S.Sink s es xs c.take_line.new.self (Err f)) same (c.in_err-take_line.ensures.takes s es before)))
+    let more = c.args.more.now in
+    let m = c.take_line.new.self in
+    let empty : part ≡ [] = nil_from_length part (omega (arith, c.len.ensures, c.if-len-eq0.true)) in
+    subst (λ (xs : List ℕ). MatchResult c.take_line.result (λ rest. TakesLines g.S.Sink s es (xs ++ 10 ∷ more) m rest.now) (StopsLines g.S.Sink s (lines es ++ (xs ++ 10 ∷ more)) m.sink))
+    (ap (λ (xs : List ℕ). xs ++ bytes) (sym empty)) (c.take_line.ensures.takes s es holds)
 
-pub returns-clause-ends : goal.returns-clause-ends
-returns-clause-ends g c s es holds =
-    let same = c.as_slice.ensures.value ∙ c.in_ok-keep_part.ensures.part in
+pub returns-in_err-keep_part-clause-takes : goal.returns-in_err-keep_part-clause-takes
+returns-in_err-keep_part-clause-takes g c s es holds =
+    let bytes = c.args.self.now.part.items ++ c.args.bytes.now in
+    let more = c.args.more.now in
+    let m = c.keep_part.new.self.maker in
+    let f = c.in_err-keep_part.field-0.0 in
+    let e = err_from_is_err_and c.from_residual.result c.from_residual.ensures.1 in
+    rw (e.1, e.2) (refused_stops g.S.Sink s es c.args.self.now.maker holds (lines es ++ (bytes ++ 10 ∷ more)) bytes more m f refl (part_refused g.S.Sink s es bytes m f (c.in_err-keep_part.ensures.keeps s es holds)))
+
+pub take_line-requires-2-clause-whole : goal.take_line-requires-2-clause-whole
+take_line-requires-2-clause-whole g c =
+    subst (λ (xs : List ℕ). All (λ b. b ≢ 10) xs) (sym (c.as_slice.ensures.value ∙ c.in_ok-keep_part.ensures.part)) (All-append (λ b. b ≢ 10) c.args.self.now.part.items c.args.bytes.now c.requires.0.whole c.requires.1)
+
+pub returns-in_err-rest-clause-takes : goal.returns-in_err-rest-clause-takes
+returns-in_err-rest-clause-takes g c s es holds =
+    let more = c.args.more.now in
+    let f = c.in_err-rest.field-0.0 in
+    let e = err_from_is_err_and c.from_residual-in_err-rest.result c.from_residual-in_err-rest.ensures.1 in
     let before = subst (λ (m : LineMaker _). MakerHasPut g.S.Sink s es m) (sym c.in_ok-keep_part.ensures.maker) holds in
-    subst (λ (xs : List ℕ). TakesLine g.S.Sink s es xs c.take_line.new.self (Ok tt)) same (c.in_ok-take_line.ensures.takes s es before)
+    rw (e.1, e.2) (subst (λ (xs : List ℕ). StopsLines g.S.Sink s (lines es ++ (xs ++ 10 ∷ more)) c.take_line-2.new.self.sink f) (c.as_slice.ensures.value ∙ c.in_ok-keep_part.ensures.part)
+    (c.in_err-rest.ensures.takes s es before))
+
+pub returns-clause-takes : goal.returns-clause-takes
+returns-clause-takes g c s es holds =
+    let more = c.args.more.now in
+    let before = subst (λ (m : LineMaker _). MakerHasPut g.S.Sink s es m) (sym c.in_ok-keep_part.ensures.maker) holds in
+    subst (λ (xs : List ℕ). TakesLines g.S.Sink s es (xs ++ 10 ∷ more) c.take_line-2.new.self c.in_ok-rest.rest.now) (c.as_slice.ensures.value ∙ c.in_ok-keep_part.ensures.part)
+    (c.in_ok-rest.ensures.takes s es before)

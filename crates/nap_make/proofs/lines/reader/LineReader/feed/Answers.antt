@@ -1,36 +1,31 @@
-use Rattle.std.proofs.Common.{◌∙◌, ◌++◌, ◌∷◌, [], ℕ, List, ap, sym, subst, append_assoc}
-use Rattle.std.proofs.lemmas.Result.{err_from_is_err_and}
-use Rattle.nap_make.specs.ListMaking.{FeedsLines, StopsLines}
-use Rattle.nap_make.proofs.FeedLemmas.{fed_last, line_stops, line_taken, ready_last, uncut}
+use Rattle.nap_make.proofs.Common.{List, StopsLines, err_from_is_err_and, subst, sym, ℕ, ◌++◌}
+use Rattle.nap_make.proofs.FeedLemmas.{HasReadTo, ended_ready, next_parts, read_before, read_last, read_more, ready_last, uncut}
 use Rattle.nap_make.proofs.lines.reader.LineReader.feed.Goals as goal
 
-pub returns-in_err-end_line-clause-feeds : goal.returns-in_err-end_line-clause-feeds
-returns-in_err-end_line-clause-feeds g c s p has_read =
-    let (done, is, reads) = c.loop-next.invariant.read in
-    let f = c.in_err-end_line.field-0.0 in
+pub loop-next-init : goal.loop-next-init
+loop-next-init g c = record { ready = c.requires; read = λ s p has_read. read_before g.S.Sink s p c.args.piece.now c.args.self.now has_read }
+
+pub returns-in_err-rest-clause-feeds : goal.returns-in_err-rest-clause-feeds
+returns-in_err-rest-clause-feeds g c s p has_read =
+    let f = c.in_err-rest.field-0.0 in
     let e = err_from_is_err_and c.from_residual.result c.from_residual.ensures.1 in
     let prefix = c.in-Some.next.0.now in
     let more = c.in-Some.next.1.now in
-    let here = reads s p has_read in
-    let whole = is ∙ ap (λ (xs : List ℕ). done ++ xs) c.in-Some.ensures.joins in
-    rw (e.1, e.2) (subst (λ (xs : List ℕ). StopsLines g.S.Sink s (p ++ xs) c.end_line.new.self.maker.sink f) (sym whole)
-    (line_stops g.S.Sink s p done prefix more c.loop-next.self c.end_line.new.self.maker f here (c.in_err-end_line.ensures.ends s here.entries here.holds)))
+    let all = p ++ c.args.piece.now in
+    let here = subst (HasReadTo g.S.Sink s all c.loop-next.self) c.in-Some.ensures.joins (c.loop-next.invariant.read s p has_read) in
+    rw (e.1, e.2) (subst (λ (xs : List ℕ). StopsLines g.S.Sink s xs c.end_line.new.self.maker.sink f) (sym (next_parts g.S.Sink s all prefix more c.loop-next.self here))
+    (c.in_err-rest.ensures.takes s here.entries here.holds))
 
 pub loop-next-preserved : goal.loop-next-preserved
 loop-next-preserved g c =
-    let (done, is, reads) = c.loop-next.invariant.read in
     let prefix = c.in-Some.next.0.now in
     let more = c.in-Some.next.1.now in
     record {
-      ready = c.in_ok-end_line.ensures.ready;
-      read = (
-        done ++ (prefix ++ 10 ∷ []),
-        is ∙ ap (λ (xs : List ℕ). done ++ xs) c.in-Some.ensures.joins
-            ∙ sym (append_assoc done (prefix ++ 10 ∷ []) more ∙ ap (λ (xs : List ℕ). done ++ xs) (append_assoc prefix (10 ∷ []) more)),
-        λ s p has_read.
-            let here = reads s p has_read in
-            line_taken g.S.Sink s p done prefix c.loop-next.self c.end_line.new.self here (c.in_ok-end_line.ensures.ends s here.entries here.holds) c.in_ok-end_line.ensures.part,
-      );
+      ready = ended_ready g.S.Sink c.end_line.new.self c.in_ok-rest.ensures.part c.in_ok-rest.ensures.leaves.agrees;
+      read = λ s p has_read.
+          let all = p ++ c.args.piece.now in
+          let here = subst (HasReadTo g.S.Sink s all c.loop-next.self) c.in-Some.ensures.joins (c.loop-next.invariant.read s p has_read) in
+          read_more g.S.Sink s all prefix more _ c.loop-next.self c.end_line.new.self here (c.in_ok-rest.ensures.takes s here.entries here.holds) c.in_ok-rest.ensures.part;
     }
 
 pub keep_part-requires : goal.keep_part-requires
@@ -43,6 +38,5 @@ returns-clause-ready g c =
 
 pub returns-clause-feeds : goal.returns-clause-feeds
 returns-clause-feeds g c s p has_read =
-    let (done, is, reads) = c.loop-next.invariant.read in
-    subst (λ (xs : List ℕ). FeedsLines g.S.Sink s (p ++ xs) c.keep_part.new.self c.keep_part.result) (sym is)
-    (fed_last g.S.Sink s p done c.loop-next.rest.now c.loop-next.self c.keep_part.new.self c.keep_part.result (reads s p has_read) c.keep_part.ensures.part c.keep_part.ensures.maker c.keep_part.ensures.keeps)
+    read_last g.S.Sink s (p ++ c.args.piece.now) c.loop-next.rest.now c.loop-next.self c.keep_part.new.self c.keep_part.result (c.loop-next.invariant.read s p has_read)
+    c.keep_part.ensures.part c.keep_part.ensures.maker c.keep_part.ensures.keeps

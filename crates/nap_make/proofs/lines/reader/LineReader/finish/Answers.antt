@@ -1,9 +1,4 @@
-use Rattle.std.proofs.Common.{◌≡◌, ◌++◌, ◌∙◌, [], false, None, Some, Option, refl, List, ℕ, ap, eqb-true, length, sym, subst, arith}
-use Rattle.std.specs.Option.{is_some}
-use Rattle.std.proofs.lemmas.Bool.{eqb-false, false≢true}
-use Rattle.std.proofs.lemmas.List.{nil_from_length}
-use Rattle.nap_lines.specs.Listing.{lines}
-use Rattle.nap_make.specs.ListMaking.{IsUnendedLine}
+use Rattle.nap_make.proofs.Common.{IsUnendedLine, List, None, Option, Some, [], ap, arith, eqb-false, eqb-true, false, false≢true, is_some, length, lines, nil_from_length, refl, subst, sym, ℕ, ◌++◌, ◌∙◌, ◌≡◌}
 use Rattle.nap_make.proofs.FeedLemmas.{finishes_cut, finishes_list}
 use Rattle.nap_make.proofs.lines.reader.LineReader.finish.Goals as goal
 

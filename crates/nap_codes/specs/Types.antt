@@ -1,0 +1,19 @@
+-- The types of codes, and of the sets, controls and opcodes that they come from.
+pub use Rattle.nap_codes.specs.declared.control.Argument.{Argument}
+pub use Rattle.nap_codes.specs.declared.lexer.ByteOutcome.{ByteOutcome}
+pub use Rattle.nap_codes.specs.declared.code_set.CharSet.{CharSet}
+pub use Rattle.nap_codes.specs.declared.code.Code.{Code}
+pub use Rattle.nap_codes.specs.declared.code.CodeFault.{CodeFault}
+pub use Rattle.nap_codes.specs.declared.code_set.CodeSet.{CodeSet}
+pub use Rattle.nap_codes.specs.declared.code_set.CodeSets.{CodeSets}
+pub use Rattle.nap_codes.specs.declared.control.CursorKind.{CursorKind}
+pub use Rattle.nap_codes.specs.declared.code_set.GSet.{GSet}
+pub use Rattle.nap_codes.specs.declared.lexer.HalfRead.{HalfRead}
+pub use Rattle.nap_codes.specs.declared.opcode.Left.{Left}
+pub use Rattle.nap_codes.specs.declared.control.Mask.{Mask}
+pub use Rattle.nap_codes.specs.declared.next_code.NextCode.{NextCode}
+pub use Rattle.nap_codes.specs.declared.opcode.Opcode.{Opcode}
+pub use Rattle.nap_codes.specs.declared.control.Row.{Row}
+pub use Rattle.nap_codes.specs.declared.control.Size.{Size}
+pub use Rattle.nap_codes.specs.declared.code.Step.{Step}
+pub use Rattle.nap_codes.specs.declared.control.TextStep.{TextStep}

@@ -1,0 +1,22 @@
+-- The types of entries, of the state that they leave, and of sinks.
+pub use Rattle.nap_list.specs.declared.attribute.Area.{Area}
+pub use Rattle.nap_list.specs.declared.attribute.Attributes.{Attributes}
+pub use Rattle.nap_list.specs.declared.attribute.Base.{Base}
+pub use Rattle.nap_list.specs.declared.batch.Batch.{Batch}
+pub use Rattle.nap_list.specs.declared.attribute.CharSize.{CharSize}
+pub use Rattle.nap_list.specs.declared.attribute.Colour.{Colour}
+pub use Rattle.nap_list.specs.declared.state.Definition.{Definition}
+pub use Rattle.nap_list.specs.declared.state.Drawing.{Drawing}
+pub use Rattle.nap_list.specs.declared.entry.Entry.{Entry}
+pub use Rattle.nap_list.specs.declared.attribute.Hand.{Hand}
+pub use Rattle.nap_list.specs.declared.attribute.Ink.{Ink}
+pub use Rattle.nap_list.specs.declared.state.LastChar.{LastChar}
+pub use Rattle.nap_list.specs.declared.known.MapColour.{MapColour}
+pub use Rattle.nap_list.specs.declared.state.OpenDefinition.{OpenDefinition}
+pub use Rattle.nap_list.specs.declared.attribute.Pen.{Pen}
+pub use Rattle.nap_list.specs.declared.shape.Shape.{Shape}
+pub use Rattle.nap_list.specs.declared.shape.ShapeKind.{ShapeKind}
+pub use Rattle.nap_list.specs.declared.sink.SinkFault.{SinkFault}
+pub use Rattle.nap_list.specs.declared.state.State.{State}
+pub use Rattle.nap_list.specs.declared.attribute.TextLook.{TextLook}
+pub use Rattle.nap_list.specs.declared.attribute.Texture.{Texture}
