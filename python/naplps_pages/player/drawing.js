@@ -1465,7 +1465,7 @@ const HELD = {
 const INK = ["pel", "colour", "texture"], HAND = ["pen", "colour", "text"];
 
 const POINTS = (words, held = INK) => [words, (points) => ({ points: pointsOf(points) }), held];
-const TWO = ` (${PAIR} ${PAIR})`, MORE = `((?: ${PAIR}){3,})`, SOME = `((?: ${PAIR})+)`;
+const TWO = ` (${PAIR} ${PAIR})`, MORE = `((?: ${PAIR}){3,})`, SOME = `((?: ${PAIR}){2,})`;
 const NONE = () => ({});
 const READERS = {
   POINT: POINTS(` (${PAIR})`, ["pel", "colour"]), LINE: POINTS(TWO),
